@@ -5,6 +5,7 @@ use Rattle.pblk_model.specs.declared.run.Front.{Front}
 use Rattle.pblk_model.specs.declared.run.Place.{Place}
 use Rattle.pblk_model.specs.History.{after, users}
 use Rattle.pblk_model.specs.Image.{Image}
+use Rattle.unit_port.specs.Unit.{ModelUnit}
 use Rattle.block_port.specs.declared.port.WriteErr.{WriteErr}
 use Rattle.block_port.specs.declared.port.WriteErr.TheVariants as write
 use Rattle.block_port.specs.declared.port.ReadErr.{ReadErr}
@@ -15,9 +16,11 @@ use Rattle.block_port.specs.declared.rows.DriveAnswer.{DriveAnswer}
 use Rattle.block_port.specs.declared.rows.WornAnswer.{WornAnswer}
 use Rattle.block_port.specs.Own.{PlacedSector, OwnWrite, lines_of, sectors_of}
 
--- What no call changes of the drive under a target: the image that it had when it was handed in, with its numbers and those
--- of the target on it, and the wear level index of each chunk, by unit.
+-- What no call changes of the drive under a target: its units as they were when they were handed
+-- in, the image that they then had, with the drive's numbers and those of the target on it, and the
+-- wear level index of each chunk, by unit.
 pub record Footing : Type 0 where
+  pub handed : List ModelUnit
   pub image : Image
   pub wear : List (List ℕ)
 
@@ -25,7 +28,8 @@ pub record Footing : Type 0 where
 pub record ModelPort : Type 0 where
   -- the contents at the beginning
   pub start : List (List ℕ)
-  -- A prefix of the history of all writes, of this port and of others: the lines at positions below `taken`.
+  -- A prefix of the history of all writes, of this port and of others: the lines at positions below
+  -- `taken`.
   pub known : List PlacedSector
   pub taken : ℕ
   -- what its user has seen, as a position: all below it
@@ -95,7 +99,8 @@ pub record IsSameTarget (old new : ModelPort) : Type 0 where
   pub sector : new.sector ≡ old.sector
   pub footing : new.footing ≡ old.footing
 
--- What is known only grows, by lines at positions from the old `taken` on; and `flushed` never falls.
+-- What is known only grows, by lines at positions from the old `taken` on; and `flushed` never
+-- falls.
 pub record Learns (old new : ModelPort) : Type 0 where
   pub more : List PlacedSector
   pub known : new.known ≡ old.known ++ more
@@ -115,7 +120,8 @@ pub record IsWritten (lba : ℕ) (bytes : List ℕ) (place : Place) (old new : M
   -- what is seen passes it
   pub seen : new.seen ≡ place.first + place.count
 
--- What a read leaves, or a flush, that is answered a front: all that was seen is below the front, which is seen now.
+-- What a read leaves, or a flush, that is answered a front: all that was seen is below the front,
+-- which is seen now.
 pub record IsSeen (front : Front) (old new : ModelPort) : Type 0 where
   pub is : IsFront new front
   pub holds : old.seen ≤ front.position

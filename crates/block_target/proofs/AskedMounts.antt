@@ -1,41 +1,16 @@
--- A mount whose core was asked for a pad target.
-use Rattle.std.proofs.Common.{◌≡◌, ◌+◌, ◌*◌, ◌≤◌, length, refl, sym, ap, subst, ◌∙◌}
-use Rattle.pblk_model.specs.Frames.{PoolView}
-use Rattle.pblk_model.specs.Shape.{units}
-use Rattle.write_window.specs.Window as window
+-- A mount whose heart was asked for a pad target.
+use Rattle.std.proofs.Common.{◌≡◌, refl, sym, ap, ◌∙◌}
+use Rattle.std.specs.Prelude.{slice_get}
 use Rattle.pblk_core.specs.Filling.{Filling}
 use Rattle.pblk_core.specs.Named.{pad_of}
-use Rattle.pblk_core.specs.Stands.{Stands}
-use Rattle.pblk_core.specs.declared.target_core.Core.{Core}
-use Rattle.block_target.specs.Mount.{MountView, IsMount, with_pad, logs_in}
+use Rattle.pblk_world.specs.World.{log_of}
+use Rattle.block_target.specs.Heart.{IsHeart, OfItsMount}
+use Rattle.block_target.specs.Mount.{IsMount, MountView, world_in}
+use Rattle.block_target.specs.declared.heart.Heart.{Heart}
+use Rattle.block_target.proofs.GoingOn.{goes_none, mount_on, moved_on}
 
-pub mount_asked : (v : MountView) (c d : Core) (p : PoolView) (filling : Filling) → IsMount v c p filling → Stands v.image (logs_in v) d → d.window ≡ c.window
-    → IsMount (with_pad v (pad_of d)) d p filling
-mount_asked v c d p filling m stands same = record {
-  sound = record {
-    legal = m.sound.legal;
-    beginning = m.sound.beginning;
-    has_begun = m.sound.has_begun;
-    first_low = m.sound.first_low;
-    found_is =
-        m.sound.found_is;
-    count = m.sound.count;
-    each = λ number u there. let of =
-        m.sound.each number u there in record { shape = of.shape; media = of.media; unarmed = of.unarmed; fit = of.fit };
-  };
-  stands = stands;
-  pad = refl;
-  level = m.level;
-  known = m.known;
-  idle = m.idle;
-  drained = ap (λ w. w.freed) same ∙ m.drained;
-  own = subst (λ w. window.AreOf p.region w.entries) (sym same) m.own;
-  out = m.out ∙ ap (λ w. length w.entries) (sym same);
-  count = m.count;
-  size = m.size;
-  stripe = m.stripe;
-  granted = subst (λ w. v.granted + units v.image.shape * v.image.shape.ws_opt ≤ w.freed + v.image.shape.ring) (sym same) m.granted;
-  last = m.last;
-  room = m.room;
-  once = m.once;
-}
+pub mount_asked : {v : MountView} {h : Heart} {f : Filling} (m : IsMount v h f) (new : Heart) → OfItsMount h (λ i w. IsHeart i (log_of w) new)
+    → new.core.placer.units ≡ h.core.placer.units → IsMount (moved_on v v.deeds v.units v.wear new.granted (pad_of new.core)) new f
+mount_asked {v} {h} {f} m new beats rows = mount_on m.sound (goes_none v m.sound) v.deeds v.wear new f refl
+    (beats v.image (world_in v) m.sound.legal.mount m.heart) m.level m.known
+    (λ unit of is. m.resting unit of (ap (λ us. slice_get us unit) (sym rows) ∙ is)) m.stripe

@@ -1,94 +1,103 @@
 -- A mount that begins with what was found of its drive.
-use Rattle.std.proofs.Common.{◌≡◌, ℕ, ◌+◌, ◌-◌, ◌*◌, ◌^◌, ◌≤◌, min, max, Some, List, [], ◌∷◌, ◌++◌, drop, take, length, refl, sym, subst, ap, ap₂, ◌∙◌, arith, false}
+use Rattle.std.proofs.Common.{◌≡◌, ◌⊎◌, ℕ, ◌≤◌, Some, None, List, [], ◌∷◌, ◌++◌, drop, take, length, refl, sym, subst, ap, ap₂, ◌∙◌, arith}
 use Rattle.std.specs.Prelude.{map, slice_get}
 use Rattle.std.specs.List.{filter, flat_map}
 use Rattle.std.specs.Option.{option_map}
-use Rattle.std.proofs.Math.Seq.{drop-nil, take-append_seam}
-use Rattle.std.proofs.lemmas.Option.{slice_get-map}
+use Rattle.std.proofs.Math.Seq.{take-append_seam}
+use Rattle.std.proofs.lemmas.Option.{none-some, slice_get-map}
 use Rattle.pblk_model.specs.declared.found.Found.{Found}
 use Rattle.pblk_model.specs.declared.shape.Shape.{Shape}
 use Rattle.pblk_model.specs.Accepted.{IsAccepted}
-use Rattle.pblk_model.specs.Shape.{units}
-use Rattle.pblk_model.specs.Contents.{least_missing}
 use Rattle.pblk_model.specs.Found.{IsFitFound}
-use Rattle.pblk_model.specs.Frames.{PoolView, count_out}
 use Rattle.pblk_model.specs.Image.{Image}
-use Rattle.unit_port.specs.Armed.{IsUnarmed}
+use Rattle.pblk_model.specs.UnitLog.{UnitEvent}
+use Rattle.unit_port.specs.Armed.{Armed}
 use Rattle.unit_port.specs.Unit.{ModelUnit}
-use Rattle.unit_port.specs.Commands.{IsKept, AreUnarmed}
+use Rattle.unit_port.specs.Commands.{IsKept}
+use Rattle.scan_recovery.specs.MayStop.{AllMayStop, MayStop, MayStopFrom}
+use Rattle.scan_recovery.specs.Readying.{AreHandedBack, IsFoundAfter}
 use Rattle.scan_recovery.specs.Units.{AreFit, IsUnitOf, image_of}
 use Rattle.scan_recovery.proofs.PadLoops.{fit_image, fit_kept}
+use Rattle.pblk_world.specs.Commanding.{has_stopped}
 use Rattle.pblk_world.specs.Events.{Beginning, Begin, Decides as Event, Logged}
-use Rattle.pblk_world.specs.EngineLog.{Taken, begun, takes}
-use Rattle.pblk_world.specs.Fronts.{first_position, is_users}
+use Rattle.pblk_world.specs.EngineLog.{Taken, takes}
+use Rattle.pblk_world.specs.Fronts.{is_users}
 use Rattle.pblk_world.specs.Lines.{found_image}
 use Rattle.pblk_world.specs.Opening.{MayBegin}
-use Rattle.pblk_world.specs.World.{World, Logs, log_of, media}
-use Rattle.pblk_world.specs.Space.{freed, room, ring_limit, space_limit, position_limit}
-use Rattle.core_laws.specs.PlacerOf.{unanswered_on}
-use Rattle.core_laws.specs.FaultlessMounts.{IsFaultlessMount}
-use Rattle.core_laws.specs.WindowOf.{HeldSectors, held_of, without_frame}
+use Rattle.pblk_world.specs.World.{World, Logs, log_of, media, unit_events}
+use Rattle.pblk_world.specs.Space.{room}
+use Rattle.core_laws.specs.SimpleMounts.{IsSimpleMount}
 use Rattle.world_laws.specs.MountBeginnings.{beginning_of}
 use Rattle.world_laws.specs.Finding.{IsFoundOf, NoneOpen}
 use Rattle.world_laws.proofs.MayBegin.{may_begin}
 use Rattle.world_laws.proofs.FoundFits.{found_fits}
+use Rattle.step_laws.specs.Opened.{new_events, after_units}
 use Rattle.step_laws.specs.Whole.{knows_all, after_begin}
 use Rattle.step_laws.proofs.Beginning.{mount_begins, begun_is, found_is, known_is, begins_level}
 use Rattle.step_laws.proofs.EngineSteps.{engine_logs, media_still}
-use Rattle.scan_recovery.specs.Readying.{IsFoundAfter}
-use Rattle.step_laws.specs.Opened.{new_events, after_units}
-use Rattle.step_laws.proofs.Worlds.{faultless_mount, media_are, units_quiet}
-use Rattle.write_window.specs.declared.held.Held.{Held}
-use Rattle.write_window.specs.Window as window
+use Rattle.step_laws.proofs.Worlds.{logs_are, media_are, simple_mount, stops_there, units_quiet}
 use Rattle.pblk_core.specs.Filling.{Filling}
+use Rattle.pblk_core.specs.Landing.{IsResting}
 use Rattle.pblk_core.specs.Named.{pad_of}
-use Rattle.pblk_core.specs.Stands.{Stands, IsStanding}
-use Rattle.pblk_core.specs.declared.target_core.Core.{Core}
-use Rattle.pblk_core.proofs.FreedWindow.{unread_at_front}
-use Rattle.pblk_core.proofs.SmallGrant.{ring_kept as kept}
-use Rattle.block_target.specs.Begun.{HasBegun, AreBegun}
 use Rattle.block_port.specs.Own.{OwnWrite, lines_of}
+use Rattle.block_port.specs.declared.rows.DriveAnswer.{DriveAnswer}
 use Rattle.block_port.specs.declared.rows.WornAnswer.{WornAnswer}
+use Rattle.block_target.specs.Arm.{IsArm}
 use Rattle.block_target.specs.Deeds.{Deed, drive_before, drive_found, world_of}
-use Rattle.block_target.specs.Granted.{WasRoom}
-use Rattle.block_target.specs.Mount.{MountView, IsMount, IsSound, IsUnitIn, engine_log, logs_in}
+use Rattle.block_target.specs.Heart.{Begins, CanBegin, HasBegun}
+use Rattle.block_target.specs.Mount.{MountView, IsMount, IsSound, IsUnitIn, engine_log, logs_in, mount_view}
 use Rattle.block_target.specs.NothingLeft.{AreRefusals}
-use Rattle.block_target.specs.Opened.{IsOpened, first_deeds}
-use Rattle.block_target.specs.Serial.{IsSerial}
-use Rattle.block_target.specs.declared.mount.Parts.{Parts}
-use Rattle.block_target.proofs.GrantedRoom.{room_now}
+use Rattle.block_target.specs.Opened.{AreReadied, IsOpened, first_deeds, readied_world}
+use Rattle.block_target.specs.Serial.{AreNamed, IsSerial}
+use Rattle.block_target.specs.declared.heart.Heart.{Heart}
 use Rattle.block_target.proofs.GrantedTakes.{none_taken}
-
--- ---- numbers
-
-below_ring : (granted free ring less space last : ℕ) → granted ≡ min (min (free + ring - less) space) last → less ≤ ring → granted + less ≤ free + ring
-below_ring granted free ring less space last is low = omega arith
-
-below_last : (granted ring space first : ℕ) → granted ≡ min (min ring space) (max (2 ^ 61 - 2) first) → granted ≤ max (2 ^ 61 - 2) first
-below_last granted ring space first is = omega arith
-
-no_less : (granted free : ℕ) → granted ≡ free → free ≤ granted
-no_less granted free is = omega arith
-
-between : (n low high at : ℕ) → low ≤ n → n ≤ high → low ≡ at → high ≡ at → n ≡ high
-between n low high at a b c d = omega arith
-
-nothing_held : (xs : List Held) → map without_frame xs ≡ [] → xs ≡ []
-nothing_held [] e = refl
-nothing_held (x ∷ xs) e = absurd cc
-
--- ---- a log that begins
-
-abbrev first_log : Beginning → List ℕ → List Logged
-first_log b knows = record { event = Event (Begin b); knows = knows } ∷ []
-
-nothing_freed : (s : Shape) (b : Beginning) (knows : List ℕ) → freed s (first_log b knows) ≡ b.first
-unfolding least_missing
-nothing_freed s b knows = refl
 
 -- ---- the world
 
-module _ (s : Shape) (us new : List ModelUnit) (f : Found) (accepted : IsAccepted s) (fit : AreFit s us) (unarmed : AreUnarmed us)
+-- the log of an engine that began
+abbrev first_log : Beginning → List ℕ → List Logged
+first_log b knows = record { event = Event (Begin b); knows = knows } ∷ []
+
+-- a unit that may be stopped, with more in its log
+may_stop_from : (old new : ModelUnit) → new.armed ≡ old.armed → MayStop old → MayStopFrom new (length old.log)
+may_stop_from old new same may = record {
+  plans = ap (λ (a : Armed). a.plans) same ∙ may.plans;
+  fuse = subst (λ (a : Armed). (a.fuse ≡ None) ⊎ (a.since ≤ length old.log)) (sym same) may.fuse;
+}
+
+-- ---- the drive is made ready, or its units are handed back
+
+module _ (s : Shape) (us new : List ModelUnit) (accepted : IsAccepted s) (fit : AreFit s us) (may : AllMayStop us) (back : AreHandedBack s us new) where
+  unit_readied : (number : ℕ) (u : ModelUnit) → slice_get new number ≡ Some u
+      → (was : ModelUnit) × (slice_get us number ≡ Some was) × IsArm (image_of s us) (log_of (readied_world s us new)) number was u
+  unit_readied number u there =
+      let of : IsUnitOf s u = (fit_kept s us new fit back.kept).each number u there in
+      let was : (o : ModelUnit) × (slice_get us number ≡ Some o) × IsKept o u = back.kept.each number u there in (
+        was.0,
+        was.1,
+        record {
+          shape = of.shape;
+          media = ap (λ (j : Image). slice_get j.units number) (media_are s us new back.readied fit)
+              ∙ slice_get-map (λ (x : ModelUnit). x.media) new number ∙ ap (option_map (λ (x : ModelUnit). x.media)) there;
+          fit = of.fits;
+          log = logs_are s us new back.readied number was.0 u was.1 there;
+          arms = was.2.armed;
+          armed = may_stop_from was.0 u was.2.armed (may number was.0 was.1);
+          stopped = stops_there s us new accepted fit may back.readied number u there;
+        },
+      )
+
+  -- what they did is of a legal world
+  pub are_readied : AreReadied s us new
+  are_readied = record {
+    legal = simple_mount s us new accepted fit may back.readied;
+    none = units_quiet s 0 [] (new_events us new);
+    each = unit_readied;
+  }
+
+-- ---- and a mount begins
+
+module _ (s : Shape) (us new : List ModelUnit) (f : Found) (accepted : IsAccepted s) (fit : AreFit s us) (may : AllMayStop us)
     (is : IsFoundAfter s us new f) where
   abbrev i : Image
   i = image_of s us
@@ -102,33 +111,30 @@ module _ (s : Shape) (us new : List ModelUnit) (f : Found) (accepted : IsAccepte
   abbrev pub first_world : World
   first_world = after_begin s b before
 
-  legal_before : IsFaultlessMount i before
-  legal_before = faultless_mount s us new accepted fit unarmed is.units.readied
+  readied : AreReadied s us new
+  readied = are_readied s us new accepted fit may is.units
+
+  legal_before : IsSimpleMount i before
+  legal_before = readied.legal
 
   none_before : log_of before 0 ≡ []
-  none_before = units_quiet s 0 [] (new_events us new)
+  none_before = readied.none
 
   media_before : media i (log_of before) ≡ image_of s new
-  media_before = media_are s us new accepted fit unarmed is.units.readied
+  media_before = media_are s us new is.units.readied fit
 
   begins : MayBegin i (log_of before) b
   begins = may_begin i (log_of before) f none_before (subst NoneOpen (sym media_before) is.closed)
       (subst (λ (j : Image). IsFoundOf j f) (sym media_before) is.found_is)
 
-  pub first_legal : IsFaultlessMount i first_world
+  first_legal : IsSimpleMount i first_world
   first_legal = mount_begins i before b legal_before begins
 
-  log_is : log_of first_world 0 ≡ first_log b (knows_all s before)
-  log_is = ap (λ (logs : Logs). logs 0) (engine_logs s (Begin b) before) ∙ ap (λ (log : List Logged). log ++ first_log b (knows_all s before)) none_before
-
   found_now : found_image i (log_of first_world) ≡ image_of s new
-  found_now = found_is i before b legal_before.simple.mount.legal none_before ∙ media_before
+  found_now = found_is i before b legal_before.mount.legal none_before ∙ media_before
 
-  media_now : media i (log_of first_world) ≡ image_of s new
-  media_now = media_still i s (Begin b) before ∙ media_before
-
-  first_begun : begun (log_of first_world 0) ≡ Some (record { beginning = b; knows = knows_all s before })
-  first_begun = begun_is s before b none_before
+  events_now : (number : ℕ) → unit_events (log_of first_world) number ≡ unit_events (log_of before) number
+  events_now number = ap (λ (logs : Logs). unit_events logs number) (engine_logs s (Begin b) before)
 
   fit_new : AreFit s new
   fit_new = fit_kept s us new fit is.units.kept
@@ -136,143 +142,87 @@ module _ (s : Shape) (us new : List ModelUnit) (f : Found) (accepted : IsAccepte
   pub found_fit : IsFitFound s f
   found_fit = found_fits (image_of s new) f accepted (fit_image s new fit_new) is.found_is
 
-  -- ---- the core
+  -- ---- the heart
 
-  pub core_stands : (c : Core) → HasBegun s f c → Stands i (log_of first_world) c
-  core_stands c has =
-      subst (λ (logs : Logs). Stands i logs c) (sym (engine_logs s (Begin b) before))
-      (has i before (knows_all s before) refl legal_before.simple.mount none_before
-      (subst (λ (j : Image). IsFoundOf j f) (sym (ap (found_image i) (sym (engine_logs s (Begin b) before)) ∙ found_now)) is.found_is))
+  begins_there : Begins s f i before (knows_all s before)
+  begins_there = record {
+    shape = refl;
+    nothing = none_before;
+    before = legal_before.mount;
+    legal = first_legal.mount;
+    found = subst (λ (j : Image). IsFoundOf j f) (sym found_now) is.found_is;
+  }
 
-  pub core_standing : (c : Core) → HasBegun s f c → IsStanding c
-  core_standing c has = record { image = i; world = first_world; legal = first_legal.simple.mount; stands = core_stands c has }
+  pub can_begin : CanBegin s f
+  can_begin = record { image = i; world = before; knows = knows_all s before; begins = begins_there }
 
-  pub first_freed : (c : Core) → HasBegun s f c → c.window.freed ≡ freed s (log_of first_world 0)
-  first_freed c has =
-      between c.window.freed (first_position (log_of first_world 0)) (freed s (log_of first_world 0)) b.first (core_stands c has).from_first
-      (core_stands c has).to_freed
-      (ap first_position log_is) (ap (freed s) log_is ∙ nothing_freed s b (knows_all s before))
-
-  pub first_unread : (c : Core) → HasBegun s f c → window.is_readable_at c.window c.window.freed ≡ false
-  first_unread c has = unread_at_front i first_world c first_legal.simple (core_stands c has) (first_freed c has)
-
-  no_entries : (c : Core) → HasBegun s f c → c.window.entries ≡ []
-  no_entries c has = nothing_held c.window.entries
-      (ap (λ (h : HeldSectors). h.entries) (core_stands c has).window
-      ∙ ap (λ (log : List Logged). map (held_of s log) (drop (c.window.freed - first_position log) (takes log))) log_is
-      ∙ ap (map _) (drop-nil (c.window.freed - b.first)))
+  pub first_grant : (h : Heart) → HasBegun s f h → h.granted ≡ room i (log_of first_world)
+  first_grant h has = (has i before (knows_all s before) begins_there).1
 
   -- ---- the mount
 
-  abbrev pub first_view : List ModelUnit → List Deed → List (List ℕ) → ℕ → ℕ → MountView
-  first_view found deeds wear granted pad =
-      record { image = i; found = image_of s found; deeds = deeds; units = new; wear = wear; granted = granted; pad = pad }
+  abbrev first_view : List (List ℕ) → ℕ → ℕ → MountView
+  first_view wear granted pad = mount_view s (us ∷ new ∷ []) (first_deeds us new f) new wear granted pad
 
   unit_begins : (wear : List (List ℕ)) (granted pad number : ℕ) (u : ModelUnit) → slice_get new number ≡ Some u
-      → IsUnitIn (first_view new (first_deeds us new f) wear granted pad) number u
+      → IsUnitIn (first_view wear granted pad) number u
   unit_begins wear granted pad number u there =
-      let of : IsUnitOf s u = fit_new.each number u there in
-      let was : (o : ModelUnit) × (slice_get us number ≡ Some o) × IsKept o u = is.units.kept.each number u there in
-      record {
-        shape = of.shape;
-        media = ap (λ (j : Image). slice_get j.units number) media_now ∙ slice_get-map (λ (x : ModelUnit). x.media) new number
-            ∙ ap (option_map (λ (x : ModelUnit). x.media)) there;
-        unarmed = subst IsUnarmed (sym was.2.armed) (unarmed number was.0 was.1);
-        fit = of.fits;
-      }
+      let was : (o : ModelUnit) × (slice_get us number ≡ Some o) × IsArm i (log_of before) number o u = readied.each number u there in (
+        was.0,
+        was.1,
+        record {
+          shape = was.2.shape;
+          media = ap (λ (j : Image). slice_get j.units number) (media_still i s (Begin b) before) ∙ was.2.media;
+          fit = was.2.fit;
+          log = was.2.log ∙ ap (λ (es : List UnitEvent). was.0.log ++ es) (sym (events_now number));
+          arms = was.2.arms;
+          armed = was.2.armed;
+          stopped = λ stops. was.2.stopped (sym (ap has_stopped (events_now number)) ∙ stops);
+        },
+      )
 
-  first_sound : (wear : List (List ℕ)) (granted pad : ℕ) → IsSound (first_view new (first_deeds us new f) wear granted pad)
+  first_sound : (wear : List (List ℕ)) (granted pad : ℕ) → IsSound (first_view wear granted pad)
   first_sound wear granted pad = record {
     legal = first_legal;
     beginning = record { beginning = b; knows = knows_all s before };
-    has_begun = first_begun;
+    has_begun = begun_is s before b none_before;
     first_low = found_fit.end;
     found_is = found_now;
+    handed = refl;
     count = fit_new.count;
     each = λ number u there. unit_begins wear granted pad number u there;
   }
 
-  begun_mount : (wear : List (List ℕ)) (granted : ℕ) (c : Core) (p : PoolView) (filling : Filling) → HasBegun s f c
-      → granted ≡ room i (log_of first_world) → count_out p.left ≡ 0 → p.region.count ≡ s.ring → p.region.size ≡ s.sector → filling.shape ≡ s
-      → IsMount (first_view new (first_deeds us new f) wear granted (pad_of c)) c p filling
-  begun_mount wear granted c p filling has grants out count size stripe = record {
-    sound = first_sound wear granted (pad_of c);
-    stands = core_stands c has;
+  begun_mount : (wear : List (List ℕ)) (h : Heart) (filling : Filling) → HasBegun s f h → IsResting h.core → filling.shape ≡ s
+      → IsMount (first_view wear h.granted (pad_of h.core)) h filling
+  begun_mount wear h filling has resting stripe = record {
+    sound = first_sound wear h.granted (pad_of h.core);
+    heart = (has i before (knows_all s before) begins_there).0;
     pad = refl;
-    level = begins_level i before b legal_before.simple.mount.legal none_before;
-    known = known_is i before b legal_before.simple.mount.legal none_before;
-    idle = λ unit. ap (λ (log : List Logged). unanswered_on log unit) log_is;
-    drained = first_freed c has;
-    own = subst (λ (held : List Held). window.AreOf p.region held) (sym (no_entries c has)) tt;
-    out = out ∙ ap (λ (held : List Held). length held) (sym (no_entries c has));
-    count = count;
-    size = size;
+    granted = refl;
+    level = begins_level i before b legal_before.mount.legal none_before;
+    known = known_is i before b legal_before.mount.legal none_before;
+    resting = resting;
     stripe = stripe;
-    granted = below_ring granted c.window.freed s.ring (units s * s.ws_opt) (space_limit i (log_of first_world)) (position_limit (log_of first_world 0))
-        (grants ∙ ap (λ n. min (min (n + s.ring - units s * s.ws_opt) (space_limit i (log_of first_world))) (position_limit (log_of first_world 0)))
-        (sym (first_freed c has)))
-        (kept s accepted);
-    last = below_last granted (ring_limit s (log_of first_world 0)) (space_limit i (log_of first_world)) (first_position (log_of first_world 0)) grants;
-    room = no_less granted (room i (log_of first_world)) grants;
-    once = subst (λ n. WasRoom i (log_of first_world) (length (log_of first_world 0)) n) (sym grants)
-        (room_now i (first_deeds us new f) (record { beginning = b; knows = knows_all s before }) first_legal.simple first_begun);
   }
 
   -- by the lists that are kept of it
-  pub mount_opens : (drives : List (List ModelUnit)) (deeds : List Deed) (wear : List (List ℕ)) (granted : ℕ) (parts : Parts) → drives ≡ us ∷ new ∷ []
-      → deeds ≡ first_deeds us new f → AreBegun s f parts
-      → granted ≡ room i (log_of first_world)
-      → IsMount (record {
-        image = image_of s (drive_before drives);
-        found = image_of s (drive_found drives);
-        deeds = deeds;
-        units = new;
-        wear = wear;
-        granted =
-            granted;
-        pad = pad_of parts.core;
-      }) parts.core parts.pool parts.stripe
-  mount_opens drives deeds wear granted parts rows done begun grants =
-      subst (λ (ds : List Deed). IsMount
-      (record {
-        image = image_of s (drive_before drives);
-        found = image_of s (drive_found drives);
-        deeds = ds;
-        units = new;
-        wear = wear;
-        granted =
-            granted;
-        pad = pad_of parts.core;
-      }) parts.core parts.pool parts.stripe) (sym done)
-      (subst (λ (rs : List (List ModelUnit)). IsMount
-      (record {
-        image = image_of s (drive_before rs);
-        found = image_of s (drive_found rs);
-        deeds = first_deeds us new f;
-        units = new;
-        wear = wear;
-        granted =
-            granted;
-        pad = pad_of parts.core;
-      }) parts.core parts.pool parts.stripe) (sym rows)
-      (begun_mount wear granted parts.core parts.pool parts.stripe begun.core grants begun.out begun.count begun.size begun.stripe))
+  pub mount_opens : (drives : List (List ModelUnit)) (deeds : List Deed) (wear : List (List ℕ)) (h : Heart) (filling : Filling) → drives ≡ us ∷ new ∷ []
+      → deeds ≡ first_deeds us new f → HasBegun s f h → IsResting h.core → filling.shape ≡ s
+      → IsMount (mount_view s drives deeds new wear h.granted (pad_of h.core)) h filling
+  mount_opens drives deeds wear h filling rows done has resting stripe =
+      subst (λ (ds : List Deed). IsMount (mount_view s drives ds new wear h.granted (pad_of h.core)) h filling) (sym done)
+      (subst (λ (rs : List (List ModelUnit)). IsMount (mount_view s rs (first_deeds us new f) new wear h.granted (pad_of h.core)) h filling) (sym rows)
+      (begun_mount wear h filling has resting stripe))
 
 -- and nothing else was done
 pub opened_view : (s : Shape) (us new : List ModelUnit) (f : Found) (drives : List (List ModelUnit)) (deeds : List Deed) (wear : List (List ℕ))
     (granted pad : ℕ) → IsFoundAfter s us new f → drives ≡ us ∷ new ∷ [] → deeds ≡ first_deeds us new f
     → granted ≡ room (image_of s us) (log_of (world_of s (first_deeds us new f))) → pad ≡ 0
-    → IsOpened s us (record {
-      image = image_of s (drive_before drives);
-      found = image_of s (drive_found drives);
-      deeds = deeds;
-      units = new;
-      wear =
-          wear;
-      granted = granted;
-      pad = pad;
-    })
+    → IsOpened s us (mount_view s drives deeds new wear granted pad)
 opened_view s us new f drives deeds wear granted pad is rows done grants none = record {
   image = ap (λ (rs : List (List ModelUnit)). image_of s (drive_before rs)) rows;
+  handed = ap drive_before rows;
   found_is = ap (λ (rs : List (List ModelUnit)). image_of s (drive_found rs)) rows;
   found = f;
   is = is;
@@ -298,16 +248,27 @@ nothing_taken s us v is = ap (λ (ds : List Deed). takes (log_of (world_of v.ima
         ap (λ (logs : Logs). takes (logs 0)) (engine_logs t (Begin (beginning_of is.found)) before)
         ∙ ap (λ (log : List Logged). takes (log ++ first_log (beginning_of is.found) (knows_all t before))) (units_quiet t 0 [] (new_events us v.units))
 
+-- no call answered Drive
+none_named : (v : MountView) → AreNamed v []
+none_named v = record {
+  indices = [];
+  count = refl;
+  each = λ k index a there index_is. absurd (none-some a there);
+  apart = λ j k at later a b less first second first_is second_is same. absurd (none-some a first);
+}
+
 -- and the port over it is new
-pub new_serial : (s : Shape) (us : List ModelUnit) (v : MountView) (own : List OwnWrite) (worns : List WornAnswer) → IsOpened s us v → IsSound v → own ≡ []
-    → worns ≡ [] → IsSerial (record { mount = v; seen = 0; own = own; worns = worns })
-new_serial s us v own worns is sound a b = record {
+pub new_serial : (s : Shape) (us : List ModelUnit) (v : MountView) (own : List OwnWrite) (faults : List DriveAnswer) (worns : List WornAnswer)
+    → IsOpened s us v → IsSound v → own ≡ [] → faults ≡ [] → worns ≡ []
+    → IsSerial (record { mount = v; seen = 0; own = own; faults = faults; worns = worns })
+new_serial s us v own faults worns is sound a c b = record {
   sound = sound;
   alone =
       ap (λ (ts : List Taken). map (λ (t : Taken). record { position = t.entry.position; write = record { lba = t.entry.lba; sector = t.entry.sector } })
       (filter (λ (t : Taken). is_users t.entry.source) ts)) (nothing_taken s us v is)
       ∙ sym (ap (flat_map lines_of) a);
   small = omega arith;
+  faults = subst (AreNamed v) (sym c) (none_named v);
   worns = subst (λ (ws : List WornAnswer). AreRefusals v.image (logs_in v) 0 ws) (sym b) tt;
   granted = record { each = λ k knows entry mark at users. absurd (none_taken (engine_log v) k knows entry mark (nothing_taken s us v is) at) };
 }

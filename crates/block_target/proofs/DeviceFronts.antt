@@ -1,5 +1,6 @@
--- The device that a port for one session is: what it learns where nothing more was taken, and its fronts.
-use Rattle.std.proofs.Common.{◌≡◌, ℕ, ◌+◌, ◌<◌, ◌≤◌, ◌^◌, nat_lt, suc, Some, Bool, true, false, cond, List, [], ◌∷◌, length, refl, sym, ap, ap₂, subst, ◌∙◌, arith, append-nil}
+-- The device that a port for one session is: what it learns where nothing more was taken, and its
+-- fronts.
+use Rattle.std.proofs.Common.{◌≡◌, ℕ, ◌+◌, ◌<◌, ◌≤◌, ◌^◌, nat_lt, suc, Some, Bool, true, false, cond, List, [], ◌∷◌, length, refl, sym, ap, ap₂, subst, ◌∙◌, arith}
 use Rattle.std.specs.Prelude.{map, slice_get}
 use Rattle.std.proofs.lemmas.Option.{slice_get_within}
 use Rattle.std.specs.List.{filter, flat_map}
@@ -15,9 +16,9 @@ use Rattle.block_port.specs.Own.{PlacedSector, lines_of}
 use Rattle.block_port.specs.Port.{Learns, IsFront, IsSeen, positions}
 use Rattle.block_target.specs.Mount.{MountView, IsSound, IsSameMount, engine_log, logs_in, world_in, taken_in, synced_in, front_taken, front_synced}
 use Rattle.block_target.specs.NothingLeft.{AreRefusals}
-use Rattle.block_target.specs.Serial.{SerialView, IsSerial, lines_in, device}
-use Rattle.block_target.proofs.Beginnings.{first_same}
+use Rattle.block_target.specs.Serial.{SerialView, AreNamed, IsSerial, lines_in, device}
 use Rattle.block_target.proofs.GrantedTakes.{granted_same}
+use Rattle.block_target.proofs.NamedAnswers.{all_named_later}
 use Rattle.block_target.proofs.Refusals.{refusals_grown}
 use Rattle.block_target.proofs.MountLemmas.{taken_small}
 use Rattle.lemmas.proofs.Tests.{lt_true}
@@ -81,7 +82,7 @@ front_taken_is s sound =
     within k t there =
         let at : t.entry.position ≡ first_position (engine_log s.mount) + k =
         numbered_at (first_position (engine_log s.mount)) (length (takes (engine_log s.mount))) (takes (engine_log s.mount)) k t
-        (numbered_in s.mount.image (world_in s.mount) sound.legal.simple) there in
+        (numbered_in s.mount.image (world_in s.mount) sound.legal) there in
         let low : k < length (takes (engine_log s.mount)) = slice_get_within (takes (engine_log s.mount)) k t there in
         omega arith
 
@@ -94,12 +95,13 @@ front_synced_is s =
     }
 
 -- the session's own writes are the history still, where what it has seen is small
-pub same_serial : (old new : SerialView) → IsSound new.mount → IsSerial old → IsSameMount old.mount new.mount → new.own ≡ old.own → new.worns ≡ old.worns
-    → new.seen < 2 ^ 63 → IsSerial new
-same_serial old new sound is same own worns small = record {
+pub same_serial : (old new : SerialView) → IsSound new.mount → IsSerial old → IsSameMount old.mount new.mount → new.own ≡ old.own
+    → new.faults ≡ old.faults → new.worns ≡ old.worns → new.seen < 2 ^ 63 → IsSerial new
+same_serial old new sound is same own faults worns small = record {
   sound = sound;
   alone = lines_kept old.mount new.mount same ∙ is.alone ∙ ap (flat_map lines_of) (sym own);
   small = small;
+  faults = subst (AreNamed new.mount) (sym faults) (all_named_later old.mount new.mount old.faults is.sound sound same is.faults);
   worns = subst (λ (ws : List WornAnswer). AreRefusals new.mount.image (logs_in new.mount) 0 ws) (sym worns)
       (refusals_grown old.mount new.mount same.more 0 old.worns is.sound same.image same.deeds is.worns);
   granted = granted_same old.mount new.mount is.sound same is.granted;

@@ -1,6 +1,6 @@
--- The logs at a length of the engine's: they stay as the world grows, and at the whole length they are those of the world
--- as the engine's last event left it.
-use Rattle.std.proofs.Common.{◌≡◌, ℕ, ◌+◌, ◌-◌, ◌<◌, ◌≤◌, zero, suc, Some, None, Option, List, [], ◌∷◌, ◌++◌, length, take, refl, sym, subst, ap, ap₂, ◌∙◌, arith, length-append, append_assoc}
+-- The logs at a length of the engine's: they stay as the world grows, and at the whole length they
+-- are those of the world as the engine's last event left it.
+use Rattle.std.proofs.Common.{◌≡◌, ℕ, ◌+◌, ◌-◌, ◌≤◌, zero, suc, Some, None, Option, List, [], ◌∷◌, ◌++◌, length, take, refl, sym, subst, ap, ap₂, ◌∙◌, arith, length-append, append_assoc}
 use Rattle.std.specs.Prelude.{slice_get}
 use Rattle.std.specs.List.{fold}
 use Rattle.std.proofs.Math.Seq.{take-length}
@@ -8,55 +8,27 @@ use Rattle.std.proofs.lemmas.List.{take-append-le}
 use Rattle.pblk_model.specs.declared.shape.Shape.{Shape}
 use Rattle.pblk_model.specs.Image.{Image}
 use Rattle.pblk_model.specs.UnitLog.{UnitEvent}
-use Rattle.pblk_world.specs.Events.{EngineEvent, Landed, ResetDone, Maker, Logged}
+use Rattle.pblk_world.specs.Events.{EngineEvent, Again, Landed, ResetDone, Maker, Logged}
 use Rattle.pblk_world.specs.World.{World, log_of, known}
-use Rattle.pblk_world.specs.Legal.{IsLegal}
 use Rattle.pblk_world.specs.AtRest.{knows_last, logs_at}
 use Rattle.pblk_world.specs.Space.{room}
 use Rattle.pblk_world.proofs.Growing.{grows}
 use Rattle.core_laws.specs.SimpleMounts.{IsSimpleMount}
-use Rattle.core_laws.specs.StripePrograms.{HasHappened}
-use Rattle.core_laws.proofs.Happened.{happened}
 use Rattle.step_laws.specs.Whole.{engine_step, unit_step, next_maker, opening_maker}
 use Rattle.step_laws.proofs.Knowing.{known_whole}
 use Rattle.step_laws.proofs.UnitSteps.{engine_log}
 use Rattle.step_laws.proofs.UnitStays.{room_stays}
 use Rattle.step_laws.specs.Opened.{after_events, after_units}
 use Rattle.pblk_core.specs.Named.{work_of}
-use Rattle.block_target.specs.Deeds.{Deed, Readies, Decides, Does, Lands, NotesReset, after_deed, world_of, last_event}
+use Rattle.block_target.specs.Deeds.{Deed, Readies, Decides, Does, Lands, NotesReset, Offers, after_deed, world_of, last_event}
+use Rattle.block_target.proofs.OnceRoom.{last_within}
 use Rattle.block_target.proofs.UnitStands.{work_beside}
 use Rattle.core_laws.proofs.SimpleMounts.{simple_before as simple_tail}
 use Rattle.lemmas.proofs.Numbers.{fun_same}
-use Rattle.lemmas.proofs.Parts.{get_first, get_last}
+use Rattle.lemmas.proofs.Parts.{get_last}
 use Rattle.pblk_world.proofs.WorldLemmas.{log_elsewhere, log_here}
 
--- ---- what the last event of a prefix knew is there
-
-last_within : (i : Image) (w : World) (n author : ℕ) → IsLegal i w → knows_last (slice_get (log_of w 0) n) author ≤ length (log_of w author)
-last_within i w n author legal = go (slice_get (log_of w 0) n) refl
-  where
-    go : (o : Option Logged) → slice_get (log_of w 0) n ≡ o → knows_last o author ≤ length (log_of w author)
-    go None e = omega arith
-    go (Some l) e = let is : HasHappened i (log_of w) 0 n l = happened i w 0 legal n l e in is.within author
-
 -- ---- a longer world
-
-pub same_lengths : (i : Image) (later w : World) (n : ℕ) → IsLegal i w → 0 < n → n ≤ length (log_of w 0)
-    → logs_at n (log_of (later ++ w)) ≡ logs_at n (log_of w)
-same_lengths i later w n legal some within = fun_same (logs_at n (log_of (later ++ w))) (logs_at n (log_of w)) each
-  where
-    engine : (more : List Logged) × (log_of (later ++ w) 0 ≡ log_of w 0 ++ more)
-    engine = grows later w 0
-
-    last : slice_get (log_of (later ++ w) 0) (n - 1) ≡ slice_get (log_of w 0) (n - 1)
-    last = ap (λ (log : List Logged). slice_get log (n - 1)) engine.1 ∙ get_first (log_of w 0) engine.0 (n - 1) (omega arith)
-
-    each : (author : ℕ) → logs_at n (log_of (later ++ w)) author ≡ logs_at n (log_of w) author
-    each zero = ap (take n) engine.1 ∙ take-append-le n (log_of w 0) engine.0 within
-    each (suc unit) =
-        let more : (more : List Logged) × (log_of (later ++ w) (suc unit) ≡ log_of w (suc unit) ++ more) = grows later w (suc unit) in
-        ap₂ (λ (o : Option Logged) (log : List Logged). take (knows_last o (suc unit)) log) last more.1
-        ∙ take-append-le (knows_last (slice_get (log_of w 0) (n - 1)) (suc unit)) (log_of w (suc unit)) more.0 (last_within i w (n - 1) (suc unit) legal)
 
 pub no_shorter : (later w : World) (author : ℕ) → length (log_of w author) ≤ length (log_of (later ++ w) author)
 no_shorter later w author =
@@ -88,8 +60,10 @@ units_later s unit w (events ∷ all) =
 deed_later : (s : Shape) (w : World) (d : Deed) → (later : World) × (after_deed s w d ≡ later ++ w)
 deed_later s w (Readies all) = units_later s 0 w all
 deed_later s w (Decides e) = (engine_step s e w ∷ [], refl)
-deed_later s w (Does unit e) = (unit_step s unit e (next_maker w) w ∷ [], refl)
+deed_later s w (Does unit None) = ([], refl)
+deed_later s w (Does unit (Some e)) = (unit_step s unit e (next_maker w) w ∷ [], refl)
 deed_later s w (Lands unit) = (engine_step s (Landed unit (last_event w unit)) w ∷ [], refl)
+deed_later s w (Offers unit) = (engine_step s (Again unit (last_event w unit)) w ∷ [], refl)
 deed_later s w (NotesReset unit) = (engine_step s (ResetDone unit (last_event w unit)) w ∷ [], refl)
 
 pub deeds_later : (i : Image) (w : World) (deeds : List Deed) → (later : World) × (with_deeds i w deeds ≡ later ++ w)
@@ -110,7 +84,8 @@ simple_before i w deeds simple = simple_then i w (with_deeds i w deeds) (deeds_l
 
 -- ---- as the engine's last event left the world
 
--- The world as it was then: after it units alone made steps, which changed nothing of what is to be done.
+-- The world as it was then: after it units alone made steps, which changed nothing of what is to be
+-- done.
 pub record IsLeft (i : Image) (w : World) : Type 0 where
   pub left : World
   pub simple : IsSimpleMount i left
@@ -214,8 +189,11 @@ units_left i unit w (events ∷ all) simple was =
 one_left : (i : Image) (w : World) (d : Deed) → IsSimpleMount i (after_deed i.shape w d) → IsLeft i w → IsLeft i (after_deed i.shape w d)
 one_left i w (Readies all) simple was = units_left i 0 w all simple was
 one_left i w (Decides e) simple was = engine_left i w e simple
-one_left i w (Does unit e) simple was = unit_left i w unit e (next_maker w) (simple_tail i (unit_step i.shape unit e (next_maker w) w) w simple) was
+one_left i w (Does unit None) simple was = was
+one_left i w (Does unit (Some e)) simple was =
+    unit_left i w unit e (next_maker w) (simple_tail i (unit_step i.shape unit e (next_maker w) w) w simple) was
 one_left i w (Lands unit) simple was = engine_left i w (Landed unit (last_event w unit)) simple
+one_left i w (Offers unit) simple was = engine_left i w (Again unit (last_event w unit)) simple
 one_left i w (NotesReset unit) simple was = engine_left i w (ResetDone unit (last_event w unit)) simple
 
 all_left : (i : Image) (w : World) (deeds : List Deed) → IsSimpleMount i (with_deeds i w deeds) → IsLeft i w → IsLeft i (with_deeds i w deeds)

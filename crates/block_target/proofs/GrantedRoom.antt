@@ -1,9 +1,8 @@
 -- What was granted there was room for once, and that stays so as the world grows.
-use Rattle.std.proofs.Common.{◌≡◌, ◌⊎◌, inl, inr, ℕ, ◌+◌, ◌<◌, ◌≤◌, max, Some, List, ◌++◌, length, length-append, sym, subst, ap, ap₂, ◌∙◌, arith, le_trans, le_refl}
-use Rattle.std.proofs.lemmas.Bool.{cases_order}
+use Rattle.std.proofs.Common.{◌≡◌, ℕ, ◌+◌, ◌≤◌, Some, List, ◌++◌, length, length-append, sym, subst, ap, ap₂, ◌∙◌, arith, le_refl}
 use Rattle.pblk_model.specs.Image.{Image}
 use Rattle.pblk_world.specs.Events.{Logged}
-use Rattle.pblk_world.specs.World.{World, Logs, log_of}
+use Rattle.pblk_world.specs.World.{World, log_of}
 use Rattle.pblk_world.specs.Legal.{IsLegal}
 use Rattle.pblk_world.specs.Space.{room}
 use Rattle.pblk_world.specs.AtRest.{logs_at}
@@ -15,26 +14,8 @@ use Rattle.block_target.specs.Deeds.{Deed, world_of}
 use Rattle.block_target.specs.Granted.{WasRoom}
 use Rattle.block_target.specs.Mount.{MountView, world_in, logs_in, engine_log}
 use Rattle.block_target.proofs.Beginnings.{world_grown}
-use Rattle.block_target.proofs.EngineLengths.{IsLeft, deeds_left, same_lengths}
-
--- there was room for less
-pub room_less : (i : Image) (logs : Logs) (n m upto less : ℕ) → WasRoom i logs n upto → n ≤ m → less ≤ upto → WasRoom i logs m less
-room_less i logs n m upto less was later low = record {
-  at = was.at;
-  has_begun = was.has_begun;
-  within = le_trans was.within later;
-  room = le_trans low was.room;
-}
-
--- a longer world
-pub room_later : (i : Image) (later w : World) (n upto : ℕ) → IsLegal i w → n ≤ length (log_of w 0) → WasRoom i (log_of w) n upto
-    → WasRoom i (log_of (later ++ w)) n upto
-room_later i later w n upto legal long was = record {
-  at = was.at;
-  has_begun = was.has_begun;
-  within = was.within;
-  room = subst (λ (logs : Logs). upto ≤ room i logs) (sym (same_lengths i later w was.at legal was.has_begun (le_trans was.within long))) was.room;
-}
+use Rattle.block_target.proofs.EngineLengths.{IsLeft, deeds_left}
+use Rattle.block_target.proofs.OnceRoom.{room_later, room_less}
 
 -- there is room now
 pub room_now : (i : Image) (deeds : List Deed) (b : Begun) → IsSimpleMount i (world_of i.shape deeds) → begun (log_of (world_of i.shape deeds) 0) ≡ Some b
@@ -78,21 +59,3 @@ room_grown old new more upto legal image deeds was =
     let long : length (engine_log new) ≡ length (engine_log old) + length longer.0 = ap (λ (log : List Logged). length log) longer.1
     ∙ length-append (engine_log old) longer.0 in
     room_at old new more upto (length (engine_log new)) upto legal image deeds (omega arith) (le_refl upto) was
-
-greater : (i : Image) (logs : Logs) (n a b : ℕ) → WasRoom i logs n a → WasRoom i logs n b → WasRoom i logs n (max a b)
-greater i logs n a b x y = go (cases_order a b)
-  where
-    go : (a ≡ b) ⊎ ((a < b) ⊎ (b < a)) → WasRoom i logs n (max a b)
-    go (inl same) = room_less i logs n n a (max a b) x (le_refl n) (omega (arith, same))
-    go (inr (inl less)) = room_less i logs n n b (max a b) y (le_refl n) (omega arith)
-    go (inr (inr more)) = room_less i logs n n a (max a b) x (le_refl n) (omega arith)
-
--- the greater of what was granted and of the room there is
-pub once_granted : (old new : MountView) (more : List Deed) (b : Begun) → IsLegal old.image (world_in old) → IsSimpleMount new.image (world_in new)
-    → begun (engine_log new) ≡ Some b
-    → new.image ≡ old.image → new.deeds ≡ old.deeds ++ more → new.granted ≡ max old.granted (room new.image (logs_in new))
-    → WasRoom old.image (logs_in old) (length (engine_log old)) old.granted → WasRoom new.image (logs_in new) (length (engine_log new)) new.granted
-once_granted old new more b was simple has image deeds is once =
-    subst (λ g. WasRoom new.image (logs_in new) (length (engine_log new)) g) (sym is)
-    (greater new.image (logs_in new) (length (engine_log new)) old.granted (room new.image (logs_in new))
-    (room_grown old new more old.granted was image deeds once) (room_now new.image new.deeds b simple has))

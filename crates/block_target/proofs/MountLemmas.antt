@@ -1,38 +1,54 @@
 -- Lemmas on the words of Mount.
-use Rattle.std.proofs.Common.{Bool, [], false, true, ap, append-nil, append_assoc, le_refl, le_trans, refl, subst, sym, ◌++◌, ◌+◌, ◌-◌, ◌^◌, ◌∙◌, ◌≡◌, ◌≤◌}
-use Rattle.block_target.specs.Mount.{IsMount, IsSameMount, IsSound, MountView, engine_log, logs_in, taken_in, world_in}
+use Rattle.std.proofs.Common.{List, [], ap, append-nil, append_assoc, le_refl, le_trans, refl, subst, sym, ◌++◌, ◌^◌, ◌∙◌, ◌≡◌, ◌≤◌}
+use Rattle.block_target.specs.Heart.{IsBeating}
+use Rattle.block_target.specs.Mount.{HaveGrown, IsMount, IsSameMount, IsSound, MountView, engine_log, logs_in, taken_in, work_in, world_in}
+use Rattle.block_target.specs.declared.heart.Heart.{Heart}
+use Rattle.block_target.proofs.RestingCores.{work_rests}
 use Rattle.pblk_core.specs.Filling.{Filling}
-use Rattle.pblk_core.specs.Landing.{WasStopped}
-use Rattle.pblk_core.specs.Mounts.{InItsMount}
-use Rattle.pblk_core.specs.Named.{pad_of, work_of}
-use Rattle.pblk_core.specs.Stands.{IsStanding, Stands}
-use Rattle.pblk_core.specs.declared.target_core.Core.{Core}
-use Rattle.pblk_model.specs.Frames.{PoolView}
-use Rattle.pblk_world.specs.World.{log_of}
-use Rattle.core_laws.specs.PlacerOf.{was_stopped_on}
-use Rattle.core_laws.proofs.FaultlessMounts.{never_again}
-use Rattle.core_laws.proofs.PlacerOfLemmas.{none_stopped}
+use Rattle.pblk_core.specs.Named.{named, pad_of, work_of}
+use Rattle.pblk_core.specs.Stands.{IsStanding}
+use Rattle.pblk_core.specs.declared.work.Work.{Work}
 use Rattle.pblk_core.proofs.SmallPositions.{taken_bounded}
-use Rattle.pblk_core.proofs.WorkOf.{work_unstopped}
+use Rattle.pblk_core.proofs.WorkOf.{work_is}
+use Rattle.pblk_model.specs.UnitLog.{UnitEvent}
+use Rattle.unit_port.specs.Unit.{ModelUnit}
 use Rattle.world_laws.proofs.Begun.{first_is as first_of}
+
+-- ---- mounts of which nothing more was taken
+
+pub grown_none : (us : List ModelUnit) → HaveGrown us us
+grown_none us number v there = (v, there, [], sym (append-nil v.log))
+
+pub grown_then : (a b c : List ModelUnit) → HaveGrown a b → HaveGrown b c → HaveGrown a c
+grown_then a b c x y number w there =
+    let second = y number w there in
+    let first = x number second.0 second.1 in (
+      first.0,
+      first.1,
+      first.2 ++ second.2,
+      second.3 ∙ ap (λ (log : List UnitEvent). log ++ second.2) first.3 ∙ append_assoc first.0.log first.2 second.2,
+    )
 
 pub same_mount : (v : MountView) → IsSameMount v v
 same_mount v = record {
   image = refl;
+  handed = refl;
+  grown = grown_none v.units;
   found = refl;
   wear = refl;
   more = [];
   deeds = sym (append-nil v.deeds);
   takes = refl;
   synced = le_refl _;
-  granted =
-      le_refl v.granted;
+  granted = le_refl v.granted;
   pad = le_refl v.pad;
 }
 
 pub same_then : (a b c : MountView) → IsSameMount a b → IsSameMount b c → IsSameMount a c
 same_then a b c x y = record {
   image = y.image ∙ x.image;
+  handed = y.handed ∙ x.handed;
+  grown = grown_then a.units b.units c.units x.grown y.grown;
   found = y.found ∙ x.found;
   wear = y.wear ∙ x.wear;
   more = x.more ++ y.more;
@@ -43,35 +59,26 @@ same_then a b c x y = record {
   pad = le_trans x.pad y.pad;
 }
 
+pub same_from : {old v new : MountView} → v ≡ old → IsSameMount v new → IsSameMount old new
+same_from {old} {v} {new} is same = subst (λ (x : MountView). IsSameMount x new) is same
+
+-- ---- a mount
+
 pub taken_small : (v : MountView) → IsSound v → taken_in v ≤ 2 ^ 62
-taken_small v sound = taken_bounded v.image (world_in v) sound.legal.simple
+taken_small v sound = taken_bounded v.image (world_in v) sound.legal
     (subst (λ n. n ≤ 2 ^ 62) (sym (first_of (engine_log v) sound.beginning sound.has_begun)) sound.first_low)
 
--- a mount's core stands for the logs of a simple mount
-pub stands_in_mount : (v : MountView) (c : Core) (p : PoolView) (f : Filling) → IsMount v c p f → IsStanding c
-stands_in_mount v c p f m = record {
-  image = v.image;
-  world = world_in v;
-  legal = m.sound.legal.simple.mount;
-  stands = m.stands;
-}
+module _ {v : MountView} {h : Heart} {f : Filling} (m : IsMount v h f) where
+  pub beating_in : IsBeating h
+  beating_in = record { image = v.image; world = world_in v; legal = m.sound.legal.mount; stands = m.heart }
 
--- ---- no stripe is offered again
+  pub standing_in : IsStanding h.core
+  standing_in = record { image = v.image; world = world_in v; legal = m.sound.legal.mount; stands = m.heart.stands }
 
-pub named_work : (v : MountView) (c : Core) (p : PoolView) (f : Filling) (m : IsMount v c p f)
-    → work_of v.image (logs_in v) (pad_of c) m.stands.again ≡ work_of v.image (logs_in v) (pad_of c) []
-named_work v c p f m = work_unstopped v.image (logs_in v) (pad_of c) m.stands.again (never_again v.image (world_in v) m.sound.legal)
+  -- what the core names is what comes next
+  pub named_work : work_of v.image (logs_in v) (pad_of h.core) m.heart.stands.again ≡ work_in v
+  named_work = work_rests v.image (logs_in v) h.core m.heart.stands m.resting (pad_of h.core)
+      ∙ ap (λ pad. work_of v.image (logs_in v) pad []) (sym m.pad)
 
--- so each stripe is placed for the first time
-pub placed_once : (v : MountView) (c : Core) (p : PoolView) (f : Filling) (m : IsMount v c p f) (new : Core) (into : Filling)
-    → (into.again ≡ true → InItsMount c (λ i w. WasStopped (log_of w 0) into.stripe × Stands i (log_of w) new)) → into.again ≡ false
-placed_once v c p f m new into again = go into.again refl
-  where
-    go : (b : Bool) → into.again ≡ b → b ≡ false
-    go false e = refl
-    go true e =
-        let was = (again e v.image (world_in v) m.sound.legal.simple.mount m.stands).0 in
-        let none : was_stopped_on (engine_log v) into.stripe.unit ≡ false =
-        none_stopped (engine_log v) into.stripe.unit (never_again v.image (world_in v) m.sound.legal) in
-        let wrong : true ≡ false = sym was.stopped ∙ none in
-        absurd cc
+  pub is_named : (work : Work) → work_in v ≡ work → named h.core ≡ work
+  is_named work is = work_is v.image (world_in v) h.core m.sound.legal m.heart.stands ∙ named_work ∙ is

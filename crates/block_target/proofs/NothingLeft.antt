@@ -1,7 +1,8 @@
 -- Where the logs name no work, and no stripe is under way, there is nothing left to do.
-use Rattle.std.proofs.Common.{◌≡◌, ◌⊎◌, inl, inr, ℕ, ◌+◌, ◌<◌, ◌≤◌, ◌^◌, ◌==◌, ◌&&◌, nat_lt, Bool, true, false, Some, None, Option, List, [], ◌∷◌, length, refl, sym, ap, ap₂, ◌∙◌, arith}
-use Rattle.std.specs.Prelude.{slice_get, position}
-use Rattle.std.specs.List.{Contains}
+use Rattle.std.proofs.Common.{◌≡◌, ◌⊎◌, inl, inr, ℕ, ◌+◌, ◌<◌, ◌≤◌, ◌^◌, ◌==◌, ◌&&◌, not, nat_lt, Bool, true, false, Some, None, Option, List, [], ◌∷◌, length, refl, sym, ap, ap₂, ◌∙◌, arith}
+use Rattle.std.specs.Prelude.{nat_eq, slice_get, position}
+use Rattle.std.specs.List.{Contains, filter_map}
+use Rattle.std.proofs.lemmas.Nat.Bits.{bit_at-zero}
 use Rattle.std.specs.Option.{is_some, option_map_or}
 use Rattle.std.proofs.lemmas.Bool.{cases_order}
 use Rattle.std.proofs.lemmas.List.{length-map}
@@ -18,10 +19,10 @@ use Rattle.pblk_world.specs.Space.{open_addresses}
 use Rattle.pblk_world.specs.AtRest.{IsDue}
 use Rattle.line_table.specs.Rows.{is_free}
 use Rattle.stripe_placer.specs.OpenLines.{has_left}
-use Rattle.stripe_placer.specs.Placing.{next_stripe}
-use Rattle.stripe_placer.specs.Placing.UnitRow.{Idle}
+use Rattle.stripe_placer.specs.Placing.{Placing, Program, UnitRow, is_ready, is_under_way, next_in, next_stripe, offers, stopped_in}
+use Rattle.stripe_placer.specs.Placing.UnitRow.{Idle, Stopped, UnderWay}
 use Rattle.core_laws.specs.OpenedLines.{open_line, open_lines, standing}
-use Rattle.core_laws.specs.PlacerOf.{placing_of, row_in, unanswered_on, waits_again}
+use Rattle.core_laws.specs.PlacerOf.{placing_of, row_of}
 use Rattle.core_laws.specs.SimpleMounts.{IsSimpleMount}
 use Rattle.core_laws.specs.RowsOf.{rows_of}
 use Rattle.core_laws.proofs.UnitTurns.{filtered_is}
@@ -29,9 +30,9 @@ use Rattle.core_laws.proofs.NextLine.{none_free}
 use Rattle.core_laws.specs.LeftOpenings.{left_openings}
 use Rattle.core_laws.proofs.LeftLines.{lines_of_left, left_opened, left_apart}
 use Rattle.core_laws.proofs.TwoLines.{chunks_left}
-use Rattle.core_laws.proofs.NoneDue.{none_due, idle_answered}
+use Rattle.core_laws.proofs.NoneDue.{none_at, none_due, idle_answered}
 use Rattle.core_laws.proofs.Followed.{follow}
-use Rattle.core_laws.proofs.IdleRows.{row_there}
+use Rattle.core_laws.proofs.IdleRows.{its_row, row_there}
 use Rattle.core_laws.proofs.PlainOpenings.{opened_lines}
 use Rattle.pblk_core.specs.Named.{choice, reset_or, work_of, first_seq_of}
 use Rattle.pblk_core.specs.Resets.{resets_of}
@@ -42,8 +43,11 @@ use Rattle.pblk_core.proofs.Laws.{reset_empty}
 use Rattle.pblk_core.specs.declared.work.Work.TheVariants as works
 use Rattle.pblk_core.specs.declared.work.Why.{Why}
 use Rattle.block_target.specs.NothingLeft.{HasNothingLeft}
+use Rattle.block_target.proofs.RestingCores.{is_way_on, way_of}
+use Rattle.lemmas.proofs.Lists.{IsAmong}
+use Rattle.lemmas.proofs.Maps.{given_at}
 use Rattle.lemmas.proofs.Options.{none_there}
-use Rattle.lemmas.proofs.Parts.{all_at, got_within}
+use Rattle.lemmas.proofs.Parts.{all_at, get_more, got_within}
 use Rattle.lemmas.proofs.Tests.{lt_true, not_both}
 
 -- ---- what is chosen
@@ -66,7 +70,13 @@ none_first : {X : Type 0} (xs : List X) → slice_get xs 0 ≡ None → xs ≡ [
 none_first [] e = refl
 none_first (x ∷ xs) e = absurd cc
 
-module _ (i : Image) (w : World) (pad : ℕ) (reason : Why) (simple : IsSimpleMount i w) (idle : (unit : ℕ) → unanswered_on (log_of w 0) unit ≡ None)
+idle_of : (r : UnitRow) → is_under_way r ≡ false → stopped_in r ≡ None → r ≡ Idle
+idle_of Idle rests none = refl
+idle_of (UnderWay of) rests none = absurd cc
+idle_of (Stopped of) rests none = absurd cc
+
+module _ (i : Image) (w : World) (pad : ℕ) (reason : Why) (simple : IsSimpleMount i w)
+    (rests : (unit : ℕ) → unit < units i.shape → is_way_on (log_of w 0) unit ≡ false)
     (none : work_of i (log_of w) pad [] ≡ works.Nothing reason) where
   abbrev otherwise : Work
   otherwise = choice
@@ -90,10 +100,37 @@ module _ (i : Image) (w : World) (pad : ℕ) (reason : Why) (simple : IsSimpleMo
       (nat_lt (first_seq_of (log_of w) + length (openings (log_of w 0))) (2 ^ 61) && nat_lt (synced i.shape (log_of w 0)) (2 ^ 61))) ≡ false))
   chosen = not_chosen _ _ _ _ _ reason named.1
 
-  row_idle : (unit : ℕ) → unit < units i.shape → slice_get (placing_of i (log_of w) pad []).units unit ≡ Some Idle
-  row_idle unit inside =
-      row_there i (log_of w) [] unit inside
-      ∙ ap (λ (o : Option Placed). Some (option_map_or (λ (p : Placed). row_in i (log_of w) (waits_again (log_of w 0) [] unit) p.life p) o Idle)) (idle unit)
+  abbrev row : ℕ → UnitRow
+  row unit = row_of i (log_of w) [] unit
+
+  abbrev offered : Placing
+  offered = placing_of i (log_of w) pad []
+
+  not_on_way : (unit : ℕ) → unit < units i.shape → is_under_way (row unit) ≡ false
+  not_on_way unit inside = way_of i (log_of w) unit ∙ rests unit inside
+
+  ready : (unit : ℕ) → unit < units i.shape → is_ready offered.units 0 unit ≡ true
+  ready unit inside = ap₂ (λ b (r : Option UnitRow). not (nat_eq b 1) && not (option_map_or is_under_way r false)) (bit_at-zero unit)
+      (row_there i (log_of w) [] unit inside) ∙ ap not (not_on_way unit inside)
+
+  -- a stopped stripe would be offered
+  none_stopped : (unit : ℕ) → unit < units i.shape → stopped_in (row unit) ≡ None
+  none_stopped unit inside = go (stopped_in (row unit)) refl
+    where
+      go : (o : Option Program) → stopped_in (row unit) ≡ o → o ≡ None
+      go None is = refl
+      go (Some of) is =
+          let own : of.unit ≡ unit = its_row i (log_of w) [] unit of is in
+          let among : IsAmong (filter_map stopped_in offered.units) of = given_at stopped_in offered.units (row unit) of unit
+          (row_there i (log_of w) [] unit inside) is in
+          let refused : is_ready offered.units 0 of.unit ≡ false =
+          none_at (λ (x : Program). is_ready offered.units 0 x.unit) (offers offered) among.0 of (none_there (next_stripe offered 0) chosen.0)
+          (get_more (filter_map stopped_in offered.units) (filter_map (next_in offered.shape offered.entries) offered.lines) among.0 of among.1) in
+          absurd (not_both (is_ready offered.units 0 of.unit) (ap (is_ready offered.units 0) own ∙ ready unit inside) refused)
+
+  row_idle : (unit : ℕ) → unit < units i.shape → slice_get offered.units unit ≡ Some Idle
+  row_idle unit inside = row_there i (log_of w) [] unit inside
+      ∙ ap (λ (r : UnitRow). Some r) (idle_of (row unit) (not_on_way unit inside) (none_stopped unit inside))
 
   answered : (p : Placed) → Contains (placements (log_of w 0)) p → is_answered (log_of w 0) p ≡ true
   answered p there = idle_answered i (line_units (known_image i (log_of w))) w pad [] p (follow i w simple) row_idle there

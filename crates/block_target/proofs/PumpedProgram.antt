@@ -1,199 +1,336 @@
--- A stripe is placed, its unit programs it, and that is noted as landed: the worlds that these make.
-use Rattle.std.proofs.Common.{◌≡◌, ◌≢◌, ◌⊎◌, inl, inr, ℕ, ◌+◌, ◌-◌, ◌≤◌, ◌<◌, suc, true, false, Some, None, List, [], ◌∷◌, ◌++◌, length, refl, sym, subst, ap, ap₂, ◌∙◌, arith, append-nil}
-use Rattle.std.specs.Prelude.{slice_get}
-use Rattle.std.proofs.lemmas.Bool.{cases_order}
+-- A mount that has a stripe programmed: what it asks of the unit, and the mount that this leaves.
+use Rattle.std.proofs.Common.{◌≡◌, ◌≢◌, Bool, ℕ, ◌+◌, ◌-◌, ◌<◌, ◌≤◌, ◌^◌, ◌&&◌, ◌||◌, min, true, false, Some, Option, List, [], ◌∷◌, ◌++◌, length, refl, sym, subst, ap, ap₂, ◌∙◌, arith, append-nil, append_assoc}
+use native.Mathlib.Decide.{ℕ_discrete}
+use Rattle.std.specs.Prelude.{slice_get, slice_set}
+use Rattle.pblk_model.specs.ChunkStep.{Done, Write}
 use Rattle.pblk_model.specs.Image.{Image}
-use Rattle.pblk_model.specs.Chunk.{Chunk}
-use Rattle.pblk_model.specs.ChunkStep.{Write, refusal}
-use Rattle.pblk_model.specs.Shape.{units}
-use Rattle.pblk_world.specs.Events.{Place, Landed, Stripe, Logged}
-use Rattle.pblk_world.specs.World.{World, Logs, log_of, media, unit_events}
-use Rattle.pblk_world.specs.EngineLog.{Begun, begun, Placed, placed_on, answers}
-use Rattle.pblk_world.specs.Lines.{found_image}
-use Rattle.pblk_world.specs.Answering.{MayLand}
-use Rattle.pblk_world.specs.Placing.{MayPlace}
+use Rattle.pblk_model.specs.UnitLog.{Answered, Stopped, UnitEvent, UnitOutcome}
 use Rattle.pblk_world.proofs.Answered.{answers_fit}
-use Rattle.core_laws.specs.FaultlessMounts.{IsFaultlessMount}
-use Rattle.core_laws.specs.PlacerOf.{unanswered_on}
-use Rattle.core_laws.specs.Stepping.{after}
-use Rattle.core_laws.proofs.Placing.{IsPlacing, new_placed, placed_on_now, answers_now}
+use Rattle.pblk_world.proofs.WorldLemmas.{log_here}
+use Rattle.pblk_world.specs.Answering.{MayLand, MayOfferAgain}
+use Rattle.pblk_world.specs.EngineLog.{Answer, Placed, answers, placed_on, takes}
+use Rattle.pblk_world.specs.Events.{Again, EngineEvent, Landed, Logged, Place, Stripe}
+use Rattle.pblk_world.specs.Placing.{MayPlace}
+use Rattle.pblk_world.specs.World.{World, log_of}
+use Rattle.core_laws.proofs.IdleUnits.{idle_fits}
+use Rattle.core_laws.proofs.Placing.{answers_now, new_placed, placed_on_now, with_place}
 use Rattle.core_laws.proofs.PlacedLines.{get_last as got_end}
-use Rattle.core_laws.proofs.PlainStripes.{one_unanswered}
-use Rattle.pblk_laws.specs.LineBlocks.{chunk_in}
-use Rattle.step_laws.specs.Whole.{IsLevel, IsKnown, knows_all, engine_step, unit_step, next_maker, program_of, after_program, after_landing}
-use Rattle.step_laws.proofs.EngineSteps.{engine_next, engine_logs}
+use Rattle.core_laws.specs.PlacerOf.{unanswered_on}
+use Rattle.core_laws.specs.SimpleMounts.{IsSimpleMount}
+use Rattle.world_laws.specs.LegalMounts.{IsLegalMount}
+use Rattle.step_laws.proofs.EngineSteps.{engine_next}
 use Rattle.step_laws.proofs.Known.{known_still}
-use Rattle.step_laws.proofs.NextProgram.{program_is_taken}
-use Rattle.step_laws.proofs.Levels.{level_by, landing_legal, landing_level, landing_known, own_waits, others_wait}
-use Rattle.step_laws.proofs.Programs.{program_legal, unit_in_range}
-use Rattle.step_laws.proofs.UnitStays.{found_stays}
-use Rattle.step_laws.proofs.UnitSteps.{unit_log, may_land, none_stopped}
-use Rattle.pblk_core.specs.Stands.{Stands}
+use Rattle.step_laws.proofs.Levels.{level_by}
+use Rattle.step_laws.proofs.Noted.{landing_known, landing_legal, landing_level, stopping_known, stopping_legal, stopping_level}
+use Rattle.step_laws.proofs.Programs.{may_land, may_offer_again, unit_in_range}
+use Rattle.step_laws.specs.NextEvents.{CanProgram}
+use Rattle.step_laws.specs.Whole.{IsKnown, IsLevel, after_unit, engine_step, knows_all, next_event, next_maker, noted}
+use Rattle.stripe_placer.specs.Placing.{Program}
+use Rattle.stripe_placer.specs.Placing.UnitRow.{UnderWay}
+use Rattle.unit_port.specs.Armed.{is_fail, is_stop}
+use Rattle.unit_port.specs.Unit.{ModelUnit}
+use Rattle.pblk_core.specs.Filling.{Filling}
+use Rattle.pblk_core.specs.Landing.{AreKeptBeside, IsIdleOn, IsOfferedOn, IsResting, WasStopped}
+use Rattle.pblk_core.specs.Named.{pad_of}
 use Rattle.pblk_core.specs.declared.target_core.Core.{Core}
-use Rattle.block_target.specs.Deeds.{Deed, Decides, Does, Lands, after_deed, world_of}
-use Rattle.block_target.proofs.PumpedSteps.{found_next}
-use Rattle.block_target.proofs.UnitStands.{stands_beside}
-use Rattle.block_target.proofs.DeedsLemmas.{logs_decided, world_more}
-use Rattle.core_laws.proofs.SteppingLemmas.{found_kept}
-use Rattle.lemmas.proofs.Parts.{none_past}
-use Rattle.lemmas.proofs.Tests.{other_number, same_number}
-use Rattle.pblk_world.proofs.EventsLemmas.{one_less}
+use Rattle.block_target.specs.Arm.{IsStripeThere, WasGiven, last_of}
+use Rattle.block_target.specs.Deeds.{Decides, Deed, Does, Lands, Offers, world_of}
+use Rattle.block_target.specs.Heart.{BeatsAfter, IsBeating, IsHeart, OfItsMount, decided}
+use Rattle.scan_recovery.specs.Lost.{IsLostAt, NoneLost, is_fetch}
+use Rattle.block_target.specs.Mount.{IsMount, MountView, engine_log, world_in}
+use Rattle.block_target.specs.declared.heart.Heart.{Heart}
+use Rattle.block_target.proofs.DeedsLemmas.{landed_world, stopped_world, world_more}
+use Rattle.block_target.proofs.GivenCommands.{can_program}
+use Rattle.block_target.proofs.GoingOn.{GoesOn, Leaves, goes_decided, goes_given, goes_none, leaves_on, longer_decided, moved_on, no_less, one_more, takes_beside, takes_still}
+use Rattle.block_target.proofs.HeartBeside.{heart_beside}
+use Rattle.block_target.proofs.LostCommands.{is_lost_one, none_lost_one}
+use Rattle.lemmas.proofs.Tests.{same_number}
 
-module _ (i : Image) (deeds : List Deed) (stripe : Stripe) where
-  abbrev pub before : World
-  before = world_of i.shape deeds
+-- ---- no program is under way, but maybe on one unit
 
-  abbrev pub placed_deeds : List Deed
-  placed_deeds = deeds ++ Decides (Place stripe) ∷ []
+rests_by : (old mid new : Core) (unit : ℕ) → IsResting old → AreKeptBeside unit old mid → AreKeptBeside unit mid new
+    → ((of : Program) → slice_get new.placer.units unit ≢ Some (UnderWay of)) → IsResting new
+rests_by old mid new unit rests first second own other of is = go (ℕ_discrete other unit)
+  where
+    go : Dec (other ≡ unit) → ⊥
+    go (yes same) = own of (ap (slice_get new.placer.units) (sym same) ∙ is)
+    go (no apart) = rests other of (sym (first other apart) ∙ sym (second other apart) ∙ is)
 
-  abbrev pub placed_world : World
-  placed_world = world_of i.shape placed_deeds
+pub rests_idle : (old mid new : Core) (unit : ℕ) → IsResting old → AreKeptBeside unit old mid → AreKeptBeside unit mid new → IsIdleOn new unit → IsResting new
+rests_idle old mid new unit rests first second idle = rests_by old mid new unit rests first second (λ of is. absurd cc)
 
-  abbrev pub done_deeds : List Deed
-  done_deeds = placed_deeds ++ Does stripe.unit (program_of stripe) ∷ []
+pub rests_offered : (old mid new : Core) (unit : ℕ) → IsResting old → AreKeptBeside unit old mid → AreKeptBeside unit mid new → IsOfferedOn new unit
+    → IsResting new
+rests_offered old mid new unit rests first second offered =
+    let there = offered.1 in
+    rests_by old mid new unit rests first second (λ of is. absurd cc)
 
-  abbrev pub landed_deeds : List Deed
-  landed_deeds = done_deeds ++ Lands stripe.unit ∷ []
+-- ---- the stripe is placed, or was
 
-  abbrev done_world : World
-  done_world = after_program i.shape stripe.unit stripe (next_maker placed_world) placed_world
+-- what a heart's call says that placed it
+pub record IsPlacedBy (h : Heart) (into : Filling) (mid : Heart) : Type 0 where
+  pub legal : into.again ≡ false → OfItsMount h (λ i w. MayPlace i (log_of w) into.stripe)
+  pub beats : into.again ≡ false → BeatsAfter h (Place into.stripe) mid
+  pub again : into.again ≡ true → OfItsMount h (λ i w. WasStopped (log_of w 0) into.stripe × IsHeart i (log_of w) mid)
 
-  pub done_is : world_of i.shape done_deeds ≡ done_world
-  done_is = world_more i.shape placed_deeds (Does stripe.unit (program_of stripe))
+-- It was placed and isn't answered, in a world that goes on from that of the mount.
+pub record IsToProgram (v : MountView) (mid : Heart) (stripe : Stripe) (w : World) : Type 0 where
+  pub goes : GoesOn v w v.units
+  pub heart : IsHeart v.image (log_of w) mid
+  pub level : IsLevel w
+  pub known : IsKnown v.image w
+  pub takes : takes (log_of w 0) ≡ takes (engine_log v)
+  pub placed : Placed
+  pub waits : unanswered_on (log_of w 0) stripe.unit ≡ Some placed
+  pub same : placed.stripe ≡ stripe
 
-  pub landed_is : world_of i.shape landed_deeds ≡ after_landing i.shape stripe.unit stripe (next_maker placed_world) placed_world
-  landed_is =
-      world_more i.shape done_deeds (Lands stripe.unit)
-      ∙ ap (λ (w : World). after_deed i.shape w (Lands stripe.unit)) done_is
-      ∙ ap (λ n. engine_step i.shape (Landed stripe.unit n) done_world ∷ done_world)
-      (ap (λ (log : List Logged). length log - 1) (unit_log i.shape stripe.unit (program_of stripe) (next_maker placed_world) placed_world)
-      ∙ one_less (log_of placed_world (suc stripe.unit)) (unit_step i.shape stripe.unit (program_of stripe) (next_maker placed_world) placed_world).logged)
+-- what was done of that
+pub record WerePlaced (v : MountView) (into : Filling) (deeds : List Deed) : Type 0 where
+  pub new : into.again ≡ false → deeds ≡ v.deeds ++ Decides (Place into.stripe) ∷ []
+  pub again : into.again ≡ true → deeds ≡ v.deeds
 
-  log_is : log_of placed_world 0 ≡ after (log_of before) (Place stripe) (knows_all i.shape before) 0
-  log_is = ap (λ (logs : Logs). logs 0) (logs_decided i.shape deeds (Place stripe))
+pub placed_more : (v : MountView) (into : Filling) (deeds : List Deed) → WerePlaced v into deeds → (more : List Deed) × (deeds ≡ v.deeds ++ more)
+placed_more v into deeds were = go into.again refl
+  where
+    go : (b : Bool) → into.again ≡ b → (more : List Deed) × (deeds ≡ v.deeds ++ more)
+    go false fresh = (Decides (Place into.stripe) ∷ [], were.new fresh)
+    go true again = ([], were.again again ∙ sym (append-nil v.deeds))
 
-  -- what is known as the stripe is placed
-  module _ (b : Begun) (legal : IsFaultlessMount i before) (has : begun (log_of before 0) ≡ Some b) (may : MayPlace i (log_of before) stripe)
-      (level : IsLevel before)
-      (idle : (unit : ℕ) → unanswered_on (log_of before 0) unit ≡ None) where
-    pub placed_legal : IsFaultlessMount i placed_world
-    placed_legal = subst (IsFaultlessMount i) (sym (world_more i.shape deeds (Decides (Place stripe))))
-        (engine_next i before b (Place stripe) legal has may refl)
+module _ {v : MountView} {h : Heart} {f : Filling} (m : IsMount v h f) (mid : Heart) (into : Filling) (placed : IsPlacedBy h into mid) where
+  module _ (fresh : into.again ≡ false) where
+    may : MayPlace v.image (log_of (world_in v)) into.stripe
+    may = placed.legal fresh v.image (world_in v) m.sound.legal.mount m.heart
 
-    pub placed_level : IsLevel placed_world
-    placed_level = subst IsLevel (sym (world_more i.shape deeds (Decides (Place stripe)))) (level_by i.shape (Place stripe) before (λ unit. refl) level)
+    abbrev next : World
+    next = engine_step v.image.shape (Place into.stripe) (world_in v) ∷ world_in v
 
-    placing : IsPlacing (log_of before 0) stripe may.opening
-    placing = record {
-      opened = may.is_open;
-      idle =
-          let few : length (answers (log_of before 0) stripe.unit) ≤ length (placed_on (log_of before 0) stripe.unit) =
-          answers_fit i before stripe.unit legal.simple.mount.legal in
-          let all : length (placed_on (log_of before 0) stripe.unit) ≤ length (answers (log_of before 0) stripe.unit) =
-          none_past (placed_on (log_of before 0) stripe.unit) (length (answers (log_of before 0) stripe.unit)) (idle stripe.unit) in
-          omega arith;
+    abbrev knows : List ℕ
+    knows = knows_all v.image.shape (world_in v)
+
+    legal : IsSimpleMount v.image next
+    legal = engine_next v.image (world_in v) m.sound.beginning (Place into.stripe) m.sound.legal m.sound.has_begun may refl
+
+    log_now : log_of next 0 ≡ with_place (engine_log v) into.stripe knows
+    log_now = log_here (engine_step v.image.shape (Place into.stripe) (world_in v)) (world_in v) 0 refl
+
+    idle : length (answers (engine_log v) into.stripe.unit) ≡ length (placed_on (engine_log v) into.stripe.unit)
+    idle =
+        let few : length (answers (engine_log v) into.stripe.unit) ≤ length (placed_on (engine_log v) into.stripe.unit) =
+        answers_fit v.image (world_in v) into.stripe.unit m.sound.legal.mount.legal in
+        let all : length (placed_on (engine_log v) into.stripe.unit) ≤ length (answers (engine_log v) into.stripe.unit) =
+        idle_fits (engine_log v) into.stripe.unit may.idle in
+        omega arith
+
+    abbrev now_placed : Placed
+    now_placed = new_placed (engine_log v) into.stripe may.opening
+
+    now_waits : unanswered_on (log_of next 0) into.stripe.unit ≡ Some now_placed
+    now_waits =
+        ap (λ (log : List Logged). unanswered_on log into.stripe.unit) log_now
+        ∙ ap₂ (λ (ps : List Placed) n. slice_get ps n)
+        (placed_on_now (engine_log v) into.stripe knows may.opening into.stripe.unit true may.is_open (same_number into.stripe.unit))
+        (ap (λ (xs : List Answer). length xs) (answers_now (engine_log v) into.stripe knows into.stripe.unit))
+        ∙ got_end (placed_on (engine_log v) into.stripe.unit) now_placed (length (answers (engine_log v) into.stripe.unit)) idle
+
+    to_program_new : IsToProgram v mid into.stripe next
+    to_program_new = record {
+      goes = goes_decided (goes_none v m.sound) (Place into.stripe) legal (λ knows. refl);
+      heart = placed.beats fresh v.image (world_in v) knows m.sound.legal.mount m.heart legal.mount;
+      level = level_by v.image.shape (Place into.stripe) (world_in v) (λ unit. refl) m.level;
+      known = known_still v.image (world_in v) (Place into.stripe) refl (λ unit. refl) m.known;
+      takes = takes_still v.image.shape (Place into.stripe) (world_in v) refl;
+      placed = now_placed;
+      waits = now_waits;
+      same = refl;
     }
 
-    abbrev pub placed : Placed
-    placed = new_placed (log_of before 0) stripe may.opening
+  to_program_again : into.again ≡ true → IsToProgram v mid into.stripe (world_in v)
+  to_program_again again =
+      let was = placed.again again v.image (world_in v) m.sound.legal.mount m.heart in record {
+        goes = goes_none v m.sound;
+        heart = was.1;
+        level = m.level;
+        known = m.known;
+        takes = refl;
+        placed = was.0.placed;
+        waits = was.0.unanswered;
+        same = was.0.same;
+      }
 
-    -- it is the unit'i.shape stripe that isn't answered, and the other units have none
-    pub waits : unanswered_on (log_of placed_world 0) stripe.unit ≡ Some placed
-    waits =
-        ap (λ (log : List Logged). unanswered_on log stripe.unit) log_is
-        ∙ ap₂ (λ (ps : List Placed) n. slice_get ps n)
-        (placed_on_now (log_of before 0) stripe (knows_all i.shape before) may.opening stripe.unit true placing.opened (same_number stripe.unit))
-        (ap (λ (xs : List _). length xs) (answers_now (log_of before 0) stripe (knows_all i.shape before) stripe.unit))
-        ∙ got_end (placed_on (log_of before 0) stripe.unit) placed (length (answers (log_of before 0) stripe.unit)) placing.idle
+  pub to_program : (deeds : List Deed) → WerePlaced v into deeds → IsToProgram v mid into.stripe (world_of v.image.shape deeds)
+  to_program deeds were = go into.again refl
+    where
+      go : (b : Bool) → into.again ≡ b → IsToProgram v mid into.stripe (world_of v.image.shape deeds)
+      go false fresh =
+          subst (IsToProgram v mid into.stripe)
+          (sym (ap (world_of v.image.shape) (were.new fresh) ∙ world_more v.image.shape v.deeds (Decides (Place into.stripe))))
+          (to_program_new fresh)
+      go true again = subst (IsToProgram v mid into.stripe) (sym (ap (world_of v.image.shape) (were.again again))) (to_program_again again)
 
-    pub others_idle : (unit : ℕ) → unit ≢ stripe.unit → unanswered_on (log_of placed_world 0) unit ≡ None
-    others_idle unit apart =
-        ap (λ (log : List Logged). unanswered_on log unit) log_is
-        ∙ ap₂ (λ (ps : List Placed) n. slice_get ps n)
-        (placed_on_now (log_of before 0) stripe (knows_all i.shape before) may.opening unit false placing.opened
-        (other_number stripe.unit unit (λ e. apart (sym e))) ∙ append-nil (placed_on (log_of before 0) unit))
-        (ap (λ (xs : List _). length xs) (answers_now (log_of before 0) stripe (knows_all i.shape before) unit))
-        ∙ idle unit
+-- ---- its unit is told to program it
 
-    pub in_range : stripe.unit < units i.shape
-    in_range = unit_in_range i placed_world stripe.unit (length (answers (log_of placed_world 0) stripe.unit)) placed placed_legal.simple waits
+-- what is done then, and what the engine notes of it
+abbrev pub with_answer : List Deed → ℕ → Option UnitEvent → Deed → List Deed
+with_answer deeds unit event note = (deeds ++ Does unit event ∷ []) ++ note ∷ []
 
-    -- the chunk doesn't refuse it
-    pub program_fits : (c : Chunk) × (chunk_in (media i (log_of placed_world)) stripe.chunk stripe.unit ≡ Some c)
-        × (refusal i.shape c (Write stripe.at stripe.blocks) ≡ None)
-    program_fits = program_is_taken i placed_world stripe.unit placed placed_legal.simple.mount
-        (unit_in_range i placed_world stripe.unit (length (answers (log_of placed_world 0) stripe.unit)) placed placed_legal.simple waits)
-        (ap (slice_get (placed_on (log_of placed_world 0) stripe.unit)) (placed_level stripe.unit) ∙ waits)
-        (none_stopped (unit_events (log_of placed_world) stripe.unit) (placed_legal.answered stripe.unit))
+pub answer_more : (v : MountView) (deeds : List Deed) (unit : ℕ) (event : Option UnitEvent) (note : Deed) → (more : List Deed) × (deeds ≡ v.deeds ++ more)
+    → (more : List Deed) × (with_answer deeds unit event note ≡ v.deeds ++ more)
+answer_more v deeds unit event note is = (
+  is.0 ++ Does unit event ∷ note ∷ [],
+  append_assoc deeds (Does unit event ∷ []) (note ∷ []) ∙ ap (λ (ds : List Deed). ds ++ Does unit event ∷ note ∷ []) is.1
+      ∙ append_assoc v.deeds is.0 (Does unit event ∷ note ∷ []),
+)
 
-    pub done_legal : IsFaultlessMount i (world_of i.shape done_deeds)
-    done_legal = subst (IsFaultlessMount i) (sym done_is)
-        (program_legal i placed_world stripe.unit placed (next_maker placed_world) placed_legal waits (placed_level stripe.unit))
+module _ {v : MountView} {h : Heart} {f : Filling} (m : IsMount v h f) {mid : Heart} {stripe : Stripe} (deeds : List Deed)
+    (ready : IsToProgram v mid stripe (world_of v.image.shape deeds)) where
+  abbrev w : World
+  w = world_of v.image.shape deeds
 
-    pub landed_legal : IsFaultlessMount i (world_of i.shape landed_deeds)
-    landed_legal = subst (IsFaultlessMount i) (sym landed_is)
-        (landing_legal i placed_world stripe.unit placed (next_maker placed_world) placed_legal waits (placed_level stripe.unit))
+  pub unit_within : stripe.unit < length v.units
+  unit_within = subst (λ n. stripe.unit < n) (sym m.sound.count)
+      (unit_in_range v.image w stripe.unit (length (answers (log_of w 0) stripe.unit)) ready.placed ready.goes.legal ready.waits)
 
-    pub landed_level : IsLevel (world_of i.shape landed_deeds)
-    landed_level = subst IsLevel (sym landed_is)
-        (landing_level i placed_world stripe.unit placed (next_maker placed_world) placed_legal waits (placed_level stripe.unit) placed_level)
+  -- what its log had when it was handed in
+  abbrev pub before_of : (was : ModelUnit) → slice_get v.units stripe.unit ≡ Some was → ModelUnit
+  before_of was there = (ready.goes.each stripe.unit was there).0
 
-    placed_known : IsKnown i before → IsKnown i placed_world
-    placed_known known = subst (IsKnown i) (sym (world_more i.shape deeds (Decides (Place stripe))))
-        (known_still i before (Place stripe) refl (λ unit. refl) known)
+  pub stripe_there : (was : ModelUnit) (there : slice_get v.units stripe.unit ≡ Some was)
+      → IsStripeThere v.image (world_of v.image.shape deeds) stripe (before_of was there) was
+  stripe_there was there = record {
+    simple = ready.goes.legal;
+    arm = (ready.goes.each stripe.unit was there).2;
+    placed = ready.placed;
+    waits = ready.waits;
+    same = ready.same;
+    level = ready.level stripe.unit;
+  }
 
-    pub landed_known : IsKnown i before → IsKnown i (world_of i.shape landed_deeds)
-    landed_known known = subst (IsKnown i) (sym landed_is)
-        (landing_known i placed_world stripe.unit placed (next_maker placed_world) placed_legal waits (placed_level stripe.unit) (placed_known known))
+  -- it was given that command
+  module _ (was new : ModelUnit) (there : slice_get v.units stripe.unit ≡ Some was) {tells : UnitOutcome → Type 0}
+      (given : WasGiven v.image (world_of v.image.shape deeds) stripe.unit (before_of was there) (next_maker (world_of v.image.shape deeds)) stripe.chunk
+      (Write stripe.at stripe.blocks) tells new) where
+    abbrev e : UnitEvent
+    e = given.event
 
-    -- what the mount found stays
-    pub landed_found : found_image i (log_of (world_of i.shape landed_deeds)) ≡ found_image i (log_of before)
-    landed_found =
-        ap (λ (w : World). found_image i (log_of w)) landed_is
-        ∙ ap (found_image i) (engine_logs i.shape (Landed stripe.unit (length (log_of placed_world (suc stripe.unit)))) done_world)
-        ∙ found_kept i (log_of done_world) (Landed stripe.unit (length (log_of placed_world (suc stripe.unit)))) (knows_all i.shape done_world) refl
-        ∙ found_stays i placed_world stripe.unit (program_of stripe) (next_maker placed_world) placed_legal.simple.mount.legal
-        ∙ found_next i deeds (Place stripe) b may
+    abbrev programmed : World
+    programmed = after_unit v.image.shape stripe.unit e (next_maker w) w
 
-    pub landed_idle : (unit : ℕ) → unanswered_on (log_of (world_of i.shape landed_deeds) 0) unit ≡ None
-    landed_idle unit = ap (λ (w : World). unanswered_on (log_of w 0) unit) landed_is ∙ go (cases_order unit stripe.unit)
-      where
-        other : unit ≢ stripe.unit → unanswered_on (log_of (after_landing i.shape stripe.unit stripe (next_maker placed_world) placed_world) 0) unit ≡ None
-        other apart = others_wait i placed_world stripe.unit placed (next_maker placed_world) placed_legal waits (placed_level stripe.unit) unit apart
-            ∙ others_idle unit apart
+    abbrev its_number : ℕ
+    its_number = next_event w stripe.unit
 
-        go : (unit ≡ stripe.unit) ⊎ ((unit < stripe.unit) ⊎ (stripe.unit < unit))
-            → unanswered_on (log_of (after_landing i.shape stripe.unit stripe (next_maker placed_world) placed_world) 0) unit ≡ None
-        go (inl same) =
-            ap (λ u. unanswered_on (log_of (after_landing i.shape stripe.unit stripe (next_maker placed_world) placed_world) 0) u) same
-            ∙ own_waits i placed_world stripe.unit placed (next_maker placed_world) placed_legal waits (placed_level stripe.unit)
-            (one_unanswered i placed_world placed_legal.simple.mount.legal stripe.unit)
-        go (inr (inl below)) = other (λ same. absurd (omega arith))
-        go (inr (inr over)) = other (λ same. absurd (omega arith))
+    can : CanProgram v.image (log_of w) stripe.unit ready.placed e
+    can = can_program given ready.placed stripe ready.waits ready.same (ready.level stripe.unit) refl refl
 
-    -- the core, once it placed the stripe, and once it heard that it landed
-    pub placed_stands : (c : Core) → ((knows : List ℕ) → Stands i (after (log_of before) (Place stripe) knows) c) → Stands i (log_of placed_world) c
-    placed_stands c st = subst (λ (logs : Logs). Stands i logs c) (sym (logs_decided i.shape deeds (Place stripe))) (st (knows_all i.shape before))
+    goes : GoesOn v programmed (slice_set v.units stripe.unit new)
+    goes = goes_given ready.goes stripe.unit was new e (next_maker w) there given.legal given.arm
 
-    pub done_stands : (c : Core) → Stands i (log_of placed_world) c → Stands i (log_of (world_of i.shape done_deeds)) c
-    done_stands c st = subst (λ (w : World). Stands i (log_of w) c) (sym done_is)
-        (stands_beside i placed_world stripe.unit (program_of stripe) (next_maker placed_world) c placed_legal.simple.mount st)
+    heart_programmed : IsHeart v.image (log_of programmed) mid
+    heart_programmed = heart_beside v.image w stripe.unit e (next_maker w) mid ready.goes.legal.mount ready.heart
 
-    pub may_be_noted : MayLand (log_of (world_of i.shape done_deeds)) stripe.unit (length (log_of placed_world (suc stripe.unit)))
-    may_be_noted = subst (λ (w : World). MayLand (log_of w) stripe.unit (length (log_of placed_world (suc stripe.unit)))) (sym done_is)
-        (may_land i placed_world stripe.unit placed (next_maker placed_world) placed_legal waits (placed_level stripe.unit))
+    pub beating_programmed : IsBeating mid
+    beating_programmed = record { image = v.image; world = programmed; legal = given.legal.mount; stands = heart_programmed }
 
-    pub landed_stands : (c : Core)
-        → ((event : ℕ) (knows : List ℕ) → MayLand (log_of (world_of i.shape done_deeds)) stripe.unit event
-        → Stands i (after (log_of (world_of i.shape done_deeds)) (Landed stripe.unit event) knows) c)
-        → Stands i (log_of (world_of i.shape landed_deeds)) c
-    landed_stands c st =
-        let now : Stands i (after (log_of (world_of i.shape done_deeds)) (Landed stripe.unit (length (log_of placed_world (suc stripe.unit))))
-        (knows_all i.shape done_world)) c = st (length (log_of placed_world (suc stripe.unit))) (knows_all i.shape done_world) may_be_noted in
-        let there : Stands i (after (log_of done_world) (Landed stripe.unit (length (log_of placed_world (suc stripe.unit)))) (knows_all i.shape done_world))
-        c =
-        subst (λ (w : World). Stands i (after (log_of w) (Landed stripe.unit (length (log_of placed_world (suc stripe.unit)))) (knows_all i.shape done_world))
-        c) done_is now in
-        subst (λ (w : World). Stands i (log_of w) c) (sym landed_is)
-        (subst (λ (logs : Logs). Stands i logs c)
-        (sym (engine_logs i.shape (Landed stripe.unit (length (log_of placed_world (suc stripe.unit)))) done_world)) there)
+    log_more : new.log ≡ was.log ++ e ∷ []
+    log_more = one_more v.image w stripe.unit e (next_maker w) (before_of was there) was new (ready.goes.each stripe.unit was there).2 given.arm
+
+    no_fetch : is_fetch e.command ≡ false
+    no_fetch = ap is_fetch given.command_is
+
+    -- it was done
+    module _ (done : given.event.outcome ≡ Answered Done) where
+      abbrev note : EngineEvent
+      note = Landed stripe.unit its_number
+
+      landed_legal : IsSimpleMount v.image (noted v.image.shape note programmed)
+      landed_legal = landing_legal v.image w stripe.unit ready.placed e (next_maker w) ready.goes.legal can done
+
+      landing : MayLand (log_of programmed) stripe.unit its_number
+      landing = may_land v.image w stripe.unit ready.placed e (next_maker w) can ready.goes.legal.mount.legal done
+
+      pub may_be_landed : (i : Image) × (w : World) × IsLegalMount i w × IsHeart i (log_of w) mid × (event : ℕ) × MayLand (log_of w) stripe.unit event
+      may_be_landed = (v.image, programmed, given.legal.mount, heart_programmed, its_number, landing)
+
+      goes_landed : GoesOn v (noted v.image.shape note programmed) (slice_set v.units stripe.unit new)
+      goes_landed = goes_decided goes note landed_legal (λ knows. refl)
+
+      takes_landed : takes (log_of (noted v.image.shape note programmed) 0) ≡ takes (engine_log v)
+      takes_landed = takes_still v.image.shape note programmed refl ∙ takes_beside v.image.shape stripe.unit e (next_maker w) w ∙ ready.takes
+
+      pub leaves_landed : (last : List Deed) (us : List ModelUnit) (wear : List (List ℕ)) (after : Heart) (into : Filling)
+          → (more : List Deed) × (deeds ≡ v.deeds ++ more) → last ≡ with_answer deeds stripe.unit (last_of new) (Lands stripe.unit)
+          → us ≡ slice_set v.units stripe.unit new
+          → ((i : Image) (w : World) (event : ℕ) (knows : List ℕ) → IsLegalMount i w → IsHeart i (log_of w) mid → MayLand (log_of w) stripe.unit event
+          → IsLegalMount i (decided (Landed stripe.unit event) knows w) → IsHeart i (log_of (decided (Landed stripe.unit event) knows w)) after)
+          → IsResting after.core → into.shape ≡ v.image.shape → wear ≡ v.wear → v.granted ≤ after.granted → pad_of after.core ≡ v.pad
+          → Leaves v (moved_on v last us wear after.granted (pad_of after.core)) after into
+      leaves_landed last us wear after into grown is units_are beats rests shape same_wear grants pads =
+          let more = answer_more v deeds stripe.unit (last_of new) (Lands stripe.unit) grown in
+          subst (λ (xs : List ModelUnit). Leaves v (moved_on v last xs wear after.granted (pad_of after.core)) after into) (sym units_are)
+          (leaves_on m.sound goes_landed last more.0 wear after into (is ∙ more.1)
+          (ap (world_of v.image.shape) is ∙ landed_world v.image.shape deeds stripe.unit (last_of new) e given.last)
+          (beats v.image programmed its_number (knows_all v.image.shape programmed) given.legal.mount heart_programmed landing landed_legal.mount)
+          (landing_level v.image w stripe.unit ready.placed e (next_maker w) ready.goes.legal can done ready.level)
+          (landing_known v.image w stripe.unit ready.placed e (next_maker w) ready.goes.legal can done ready.known)
+          rests shape takes_landed same_wear grants pads)
+
+      pub landed_more : (last : List Deed) → last ≡ with_answer deeds stripe.unit (last_of new) (Lands stripe.unit)
+          → length (engine_log v) < length (log_of (world_of v.image.shape last) 0)
+      landed_more last is =
+          let long : length (log_of (noted v.image.shape note programmed) 0) ≡ length (log_of programmed 0) + 1 =
+          longer_decided v.image.shape note programmed in
+          let before : length (engine_log v) ≤ length (log_of programmed 0) = no_less goes in
+          subst (λ (x : World). length (engine_log v) < length (log_of x 0))
+          (sym (ap (world_of v.image.shape) is ∙ landed_world v.image.shape deeds stripe.unit (last_of new) e given.last)) (omega arith)
+
+      pub landed_done : (us : List ModelUnit) → us ≡ slice_set v.units stripe.unit new → NoneLost v.units us
+      landed_done us is = subst (NoneLost v.units) (sym is)
+          (none_lost_one v.units stripe.unit was new e there log_more (ap₂ (λ (o : UnitOutcome) b. is_stop o || (b && is_fail o)) done no_fetch))
+
+    -- it was stopped
+    module _ (k : ℕ) (stops : given.event.outcome ≡ Stopped k) where
+      abbrev again : EngineEvent
+      again = Again stripe.unit its_number
+
+      stopped_legal : IsSimpleMount v.image (noted v.image.shape again programmed)
+      stopped_legal = stopping_legal v.image w stripe.unit ready.placed e (next_maker w) ready.goes.legal can k stops
+
+      offer : MayOfferAgain (log_of programmed) stripe.unit its_number
+      offer = may_offer_again v.image w stripe.unit ready.placed e (next_maker w) can k ready.goes.legal.mount.legal stops
+
+      goes_stopped : GoesOn v (noted v.image.shape again programmed) (slice_set v.units stripe.unit new)
+      goes_stopped = goes_decided goes again stopped_legal (λ knows. refl)
+
+      takes_stopped : takes (log_of (noted v.image.shape again programmed) 0) ≡ takes (engine_log v)
+      takes_stopped = takes_still v.image.shape again programmed refl ∙ takes_beside v.image.shape stripe.unit e (next_maker w) w ∙ ready.takes
+
+      pub leaves_stopped : (last : List Deed) (us : List ModelUnit) (wear : List (List ℕ)) (after : Heart) (into : Filling)
+          → (more : List Deed) × (deeds ≡ v.deeds ++ more) → last ≡ with_answer deeds stripe.unit (last_of new) (Offers stripe.unit)
+          → us ≡ slice_set v.units stripe.unit new
+          → ((i : Image) (w : World) (event : ℕ) (knows : List ℕ) → IsLegalMount i w → IsHeart i (log_of w) mid
+          → MayOfferAgain (log_of w) stripe.unit event
+          → IsLegalMount i (decided (Again stripe.unit event) knows w) → IsHeart i (log_of (decided (Again stripe.unit event) knows w)) after)
+          → IsResting after.core → into.shape ≡ v.image.shape → wear ≡ v.wear → v.granted ≤ after.granted → pad_of after.core ≡ v.pad
+          → Leaves v (moved_on v last us wear after.granted (pad_of after.core)) after into
+      leaves_stopped last us wear after into grown is units_are beats rests shape same_wear grants pads =
+          let more = answer_more v deeds stripe.unit (last_of new) (Offers stripe.unit) grown in
+          subst (λ (xs : List ModelUnit). Leaves v (moved_on v last xs wear after.granted (pad_of after.core)) after into) (sym units_are)
+          (leaves_on m.sound goes_stopped last more.0 wear after into (is ∙ more.1)
+          (ap (world_of v.image.shape) is ∙ stopped_world v.image.shape deeds stripe.unit (last_of new) e given.last)
+          (beats v.image programmed its_number (knows_all v.image.shape programmed) given.legal.mount heart_programmed offer stopped_legal.mount)
+          (stopping_level v.image w stripe.unit ready.placed e (next_maker w) ready.goes.legal can k stops ready.level)
+          (stopping_known v.image w stripe.unit ready.placed e (next_maker w) ready.goes.legal can k stops ready.known)
+          rests shape takes_stopped same_wear grants pads)
+
+      pub stopped_more : (last : List Deed) → last ≡ with_answer deeds stripe.unit (last_of new) (Offers stripe.unit)
+          → length (engine_log v) < length (log_of (world_of v.image.shape last) 0)
+      stopped_more last is =
+          let long : length (log_of (noted v.image.shape again programmed) 0) ≡ length (log_of programmed 0) + 1 =
+          longer_decided v.image.shape again programmed in
+          let before : length (engine_log v) ≤ length (log_of programmed 0) = no_less goes in
+          subst (λ (x : World). length (engine_log v) < length (log_of x 0))
+          (sym (ap (world_of v.image.shape) is ∙ stopped_world v.image.shape deeds stripe.unit (last_of new) e given.last)) (omega arith)
+
+      pub stopped_lost : (us : List ModelUnit) (n : ℕ) → us ≡ slice_set v.units stripe.unit new → n ≡ min (length new.log) (2 ^ 64 - 1)
+          → IsLostAt v.units us stripe.unit n
+      stopped_lost us n is number = subst (λ (xs : List ModelUnit). IsLostAt v.units xs stripe.unit n) (sym is)
+          (is_lost_one v.units stripe.unit was new e there log_more n (ap₂ (λ (o : UnitOutcome) b. is_stop o || (b && is_fail o)) stops no_fetch) number)

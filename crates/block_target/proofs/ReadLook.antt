@@ -65,12 +65,12 @@ latest_at v lba sound = ap (λ (f : Image). slice_get (after_history (contents f
 
 module _ (v : MountView) (c : Core) (lba : ℕ) (sound : IsSound v) (st : Stands v.image (logs_in v) c) (inside : lba < v.image.shape.capacity) where
   pub cached_sector : (q : ℕ) → slot_of v.image (logs_in v) lba ≡ Cached q → sector_at c.window q ≡ slice_get (latest v) lba
-  cached_sector q slot = window_latest v.image (world_in v) lba q c.window.freed c.window sound.legal.simple inside st.window st.from_first st.to_freed slot
+  cached_sector q slot = window_latest v.image (world_in v) lba q c.window.freed c.window sound.legal inside st.window st.from_first st.to_freed slot
       ∙ sym (latest_at v lba sound)
 
   pub cached_is_held : (q : ℕ) → slot_of v.image (logs_in v) lba ≡ Cached q → IsHeld c.window q
   cached_is_held q slot =
-      let is = cached_latest v.image (world_in v) lba q sound.legal.simple inside slot in
+      let is = cached_latest v.image (world_in v) lba q sound.legal inside slot in
       held_at_sector c.window q is.0.entry.sector (cached_sector q slot ∙ latest_at v lba sound ∙ is.5)
 
 -- ---- the drive

@@ -13,14 +13,17 @@ use Rattle.pblk_model.specs.Contents.{contents}
 use Rattle.pblk_model.specs.History.{SectorWrite, after as after_history}
 use Rattle.pblk_world.specs.EngineLog.{Taken}
 use Rattle.pblk_world.specs.Fronts.{is_users, user_takes}
+use Rattle.scan_recovery.specs.Lost.{NoneLost}
 use Rattle.block_port.specs.Own.{PlacedSector, sectors_of}
 use Rattle.block_port.specs.Port.{contents_after, count_in, sectors_at}
 use Rattle.block_target.specs.Mount.{MountView, IsSound, IsSameMount, engine_log, front_taken, latest}
 use Rattle.block_target.specs.Serial.{SerialView, device}
 use Rattle.block_port.proofs.OwnLemmas.{cut_none, sectors_append}
+use Rattle.block_target.proofs.LostCommands.{none_lost_then}
 use Rattle.block_target.proofs.MountLemmas.{same_mount, same_then}
 use Rattle.lemmas.proofs.Numbers.{next_at}
 use Rattle.lemmas.proofs.Parts.{get_dropped, part_length, put_part}
+use Rattle.scan_recovery.proofs.HandedBack.{none_lost_there}
 
 -- ---- runs of sectors
 
@@ -78,11 +81,18 @@ pub record IsReading (old now : MountView) (lba size count index : ℕ) (out : L
   pub same : IsSameMount old now
   pub pad : now.pad ≡ old.pad
   pub sound : IsSound now
+  pub done : NoneLost old.units now.units
   pub read : sectors_of size index out ≡ slice_range (latest old) lba (lba + index)
 
 pub reading_begins : (v : MountView) (lba size count : ℕ) (out : List ℕ) → IsSound v → IsReading v v lba size count 0 out
 reading_begins v lba size count out sound =
-    record { same = same_mount v; pad = refl; sound = sound; read = cut_none size out ∙ sym (range_none (latest v) lba) }
+    record {
+      same = same_mount v;
+      pad = refl;
+      sound = sound;
+      done = none_lost_there v.units;
+      read = cut_none size out ∙ sym (range_none (latest v) lba);
+    }
 
 pub part_inside : (index count size : ℕ) → index < count → index * size + size ≤ count * size
 part_inside index count size less =
@@ -92,10 +102,10 @@ part_inside index count size less =
 
 pub reading_more : (old now new : MountView) (lba size count index n : ℕ) (out sector : List ℕ) → IsReading old now lba size count index out → index < count
     → length out ≡ count * size
-    → IsSameMount now new → new.pad ≡ now.pad → IsSound new → slice_get (latest now) (lba + index) ≡ Some sector
+    → IsSameMount now new → new.pad ≡ now.pad → IsSound new → NoneLost now.units new.units → slice_get (latest now) (lba + index) ≡ Some sector
     → length sector ≡ length (slice_range out (index * size) (index * size + size)) → n ≡ size
     → IsReading old new lba size count (index + 1) (put_mid (index * size) n out sector)
-reading_more old now new lba size count index n out sector is less whole same padded sound there kept wide =
+reading_more old now new lba size count index n out sector is less whole same padded sound done there kept wide =
     let inside : index * size + size ≤ count * size = part_inside index count size less in
     let long : length sector ≡ size = kept ∙ part_length (index * size) size out (omega arith) in
     let at : slice_get (latest old) (lba + index) ≡ Some sector = ap (λ (xs : List (List ℕ)). slice_get xs (lba + index)) (sym (latest_stays old now is.same))
@@ -104,6 +114,7 @@ reading_more old now new lba size count index n out sector is less whole same pa
       same = same_then old now new is.same same;
       pad = padded ∙ is.pad;
       sound = sound;
+      done = none_lost_then old.units now.units new.units is.same.grown same.grown is.done done;
       read =
           ap (λ k. sectors_of size (index + 1) (put_mid (index * size) k out sector)) wide ∙ one_more_read size index out sector long (omega arith)
           ∙ ap (λ ss. ss ++ sector ∷ []) is.read ∙ sym (range_next (latest old) lba index sector at);

@@ -16,8 +16,8 @@ use Rattle.block_target.specs.Deeds.{Deed, Decides, after_deed, world_of}
 use Rattle.block_target.specs.Granted.{WasRoom}
 use Rattle.block_target.specs.NothingLeft.{HasNothingLeft, HasNothingLeftAt, IsFlushRefusal, IsWriteRefusal, IsRefusal, IsRefusedAt, AreRefusals}
 use Rattle.block_target.specs.Mount.{MountView, IsSound, IsStuckAt, logs_in, engine_log, taken_in, synced_in, next_entry, with_entry, with_entries}
-use Rattle.block_target.proofs.EngineLengths.{same_lengths, no_shorter, with_deeds, deeds_later}
-use Rattle.block_target.proofs.GrantedRoom.{room_later}
+use Rattle.block_target.proofs.EngineLengths.{no_shorter, with_deeds, deeds_later}
+use Rattle.block_target.proofs.OnceRoom.{room_later, same_lengths}
 
 -- ---- one refusal
 
@@ -92,7 +92,7 @@ pub refusals_grown : (old new : MountView) (more : List Deed) (from : ℕ) (worn
 refusals_grown old new more from worns sound image deeds are =
     subst (λ (i : Image). AreRefusals i (log_of (world_of i.shape new.deeds)) from worns) (sym image)
     (subst (λ (ds : List Deed). AreRefusals old.image (log_of (world_of old.image.shape ds)) from worns) (sym deeds)
-    (refusals_with old.image old.deeds more from worns sound.legal.simple.mount.legal are))
+    (refusals_with old.image old.deeds more from worns sound.legal.mount.legal are))
 
 -- and one more, now
 pub refusals_more : (i : Image) (logs : Logs) (from : ℕ) (worns : List WornAnswer) (a : WornAnswer) → from ≤ length (logs 0) → AreRefusals i logs from worns

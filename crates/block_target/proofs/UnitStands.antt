@@ -1,7 +1,7 @@
 -- A core that stands for a world stands for it with a step more of a unit.
 use Rattle.std.proofs.Common.{◌≡◌, ℕ, ◌+◌, ◌≤◌, ◌^◌, ◌==◌, ◌&&◌, nat_lt, Some, List, [], ◌∷◌, if◌then◌else◌, length, sym, subst, ap, ap₂, ◌∙◌}
 use Rattle.std.specs.Prelude.{slice_get, position}
-use Rattle.std.specs.List.{flat_map, range_with_len}
+use Rattle.std.specs.List.{flat_map, range_with_len, Contains}
 use Rattle.std.specs.Option.{is_some, option_map_or}
 use Rattle.pblk_model.specs.Image.{Image}
 use Rattle.pblk_model.specs.UnitLog.{UnitEvent}
@@ -11,7 +11,7 @@ use Rattle.pblk_world.specs.EngineLog.{Begun, begun, Opening, openings}
 use Rattle.pblk_world.specs.Lines.{is_given_up}
 use Rattle.pblk_world.specs.Fronts.{first_position, synced, waiting, user_takes}
 use Rattle.pblk_world.specs.Legal.{IsLegal}
-use Rattle.pblk_world.specs.Space.{freed, placed_front}
+use Rattle.pblk_world.specs.Space.{freed, placed_front, open_addresses}
 use Rattle.line_table.specs.Rows.{is_free}
 use Rattle.stripe_placer.specs.Placing.{next_stripe}
 use Rattle.core_laws.specs.OpenedLines.{live_now, open_line}
@@ -22,13 +22,13 @@ use Rattle.step_laws.proofs.UnitSteps.{engine_log}
 use Rattle.step_laws.proofs.UnitStays.{known_stays, rows_stay, lines_stay, older_stay, live_stays, line_stays, left_stay, slot_stays, window_stays, placing_stays, addresses_stay}
 use Rattle.pblk_core.specs.Named.{choice, reset_or, work_of}
 use Rattle.pblk_core.specs.Resets.{in_line, resets_of, used_units}
-use Rattle.pblk_core.specs.Stands.{Stands, AreHolds, AreOpenLines, IsOpenLine, left_openings, under_way, unlanded}
+use Rattle.pblk_core.specs.Stands.{Stands, AreHolds, AreOpenLines, IsOpenLine, left_openings, under_way, unlanded, answer_counts}
 use Rattle.pblk_core.specs.LineRecords.{AreOf}
 use Rattle.pblk_core.specs.declared.open_lines.OpenLine.{OpenLine}
 use Rattle.pblk_core.specs.declared.open_lines.OpenLines.{OpenLines}
 use Rattle.pblk_core.specs.declared.target_core.Core.{Core}
-use Rattle.pblk_core.proofs.SimpleLogs.{simple_in}
 use Rattle.lemmas.proofs.Maps.{map_same}
+use Rattle.pblk_world.specs.Victims.{engine_prefix}
 
 module _ (i : Image) (w : World) (unit : ℕ) (e : UnitEvent) (maker : Maker) where
   abbrev after_ : Logs
@@ -71,7 +71,7 @@ module _ (i : Image) (w : World) (unit : ℕ) (e : UnitEvent) (maker : Maker) wh
     has_begun = ap begun engine ∙ st.has_begun;
     capacity = st.capacity;
     slots = λ lba within. st.slots lba within ∙ ap Some (sym (slot_stays i w unit e maker lba mount.legal));
-    table = st.table ∙ sym (rows_stay i w unit e maker (simple_in i w mount st));
+    table = st.table ∙ sym (rows_stay i w unit e maker mount.legal);
     units = st.units ∙ map_same (live_now i (log_of w)) (live_now i after_) (λ line. sym (live_stays i w unit e maker line mount.legal))
         (range_with_len 0 i.shape.chunks);
     resets = st.resets ∙ sym (resets_stay mount.legal);
@@ -83,6 +83,8 @@ module _ (i : Image) (w : World) (unit : ℕ) (e : UnitEvent) (maker : Maker) wh
     again = st.again;
     placing = st.placing ∙ sym (placing_stays i w unit e maker c.placer.entries.pad st.again mount.legal);
     open_lines = lines_beside c.open mount.legal st.open_lines;
+    full = λ o among. ap (λ (log : List Logged). open_addresses i (engine_prefix o.number (λ author. log))) engine
+        ∙ st.full o (subst (λ log. Contains (openings log) o) engine among);
     next_seq = st.next_seq ∙ ap (λ log. st.beginning.beginning.seq + length (openings log)) (sym engine);
     first_seq = st.first_seq;
     own_capacity = st.own_capacity;
@@ -92,6 +94,7 @@ module _ (i : Image) (w : World) (unit : ℕ) (e : UnitEvent) (maker : Maker) wh
     placed = st.placed ∙ ap (placed_front i.shape) (sym engine);
     left = st.left ∙ sym (addresses_stay i w unit e maker);
     in_flight = st.in_flight ∙ ap (under_way i.shape) (sym engine);
+    answers = st.answers ∙ ap (answer_counts i.shape) (sym engine);
     users = st.users ∙ ap (λ log. length (user_takes log)) (sym engine);
   }
 
@@ -100,7 +103,7 @@ module _ (i : Image) (w : World) (unit : ℕ) (e : UnitEvent) (maker : Maker) wh
   work_beside pad simple = λ j. reset_or (slice_get (resets_stay simple.mount.legal j) 0) (choice
       (is_some (next_stripe (placing_stays i w unit e maker pad [] simple.mount.legal j) 0))
       (nat_lt 0 (length (waiting i.shape (engine j))) && (addresses_stay i w unit e maker j == 0))
-      (is_some (position is_free (rows_stay i w unit e maker simple j).rows))
+      (is_some (position is_free (rows_stay i w unit e maker simple.mount.legal j).rows))
       (nat_lt (length (lines_stay i w unit e maker simple.mount.legal j)) 2
       && (nat_lt (option_map_or (λ (b : Begun). b.beginning.seq) (begun (engine j)) 0 + length (openings (engine j))) (2 ^ 61) && nat_lt
       (synced i.shape (engine j)) (2 ^ 61)))

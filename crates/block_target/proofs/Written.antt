@@ -26,12 +26,14 @@ use Rattle.block_port.specs.Port.{AreSectors, Learns, IsSameTarget, Rise}
 use Rattle.core_laws.specs.SimpleMounts.{IsSimpleMount}
 use Rattle.lemmas.proofs.Lists.{all_imply}
 use Rattle.core_laws.proofs.UsersEntries.{IsUsers, users_entries}
+use Rattle.scan_recovery.specs.Lost.{NoneLost}
 use Rattle.block_target.specs.Deeds.{Deed}
 use Rattle.block_target.specs.Mount.{MountView, IsSound, IsSameMount, IsStuckAt, logs_in, world_in, engine_log, taken_in, synced_in, front_taken, next_entry, with_entry, with_entries}
 use Rattle.block_target.specs.Granted.{WasRoom}
 use Rattle.block_target.specs.NothingLeft.{IsWriteRefusal, IsRefusal, IsRefusedAt, AreRefusals}
-use Rattle.block_target.specs.Serial.{SerialView, IsSerial, lines_in, device}
+use Rattle.block_target.specs.Serial.{SerialView, AreNamed, IsSerial, lines_in, device}
 use Rattle.block_target.proofs.Beginnings.{first_same}
+use Rattle.block_target.proofs.NamedAnswers.{all_named_by, all_named_later}
 use Rattle.block_target.proofs.Refusals.{refusals_grown, entries_more, write_refused}
 use Rattle.block_target.proofs.TakenSectors.{log_taken, taken_more}
 use Rattle.block_port.proofs.PortLemmas.{rise_placed}
@@ -69,7 +71,7 @@ users_all i w simple = all_pass (λ t. is_users t.entry.source) (takes (log_of w
 
 pub takes_written : (s : SerialView) → IsSound s.mount → IsSerial s → length (takes (engine_log s.mount)) ≡ length (flat_map lines_of s.own)
 takes_written s sound is =
-    ap (λ (ts : List Taken). length ts) (sym (users_all s.mount.image (world_in s.mount) sound.legal.simple))
+    ap (λ (ts : List Taken). length ts) (sym (users_all s.mount.image (world_in s.mount) sound.legal))
     ∙ sym (length-map (user_takes (engine_log s.mount)) line_of_take) ∙ ap (λ (ls : List PlacedSector). length ls) is.alone
 
 -- and so it stays
@@ -138,6 +140,14 @@ wear_all : (v : MountView) (lba : ℕ) (sectors : List (List ℕ)) → (with_ent
 wear_all v lba [] = refl
 wear_all v lba (sector ∷ sectors) = wear_all (with_entry v lba sector) (lba + 1) sectors
 
+pub handed_all : (v : MountView) (lba : ℕ) (sectors : List (List ℕ)) → (with_entries v lba sectors).handed ≡ v.handed
+handed_all v lba [] = refl
+handed_all v lba (sector ∷ sectors) = handed_all (with_entry v lba sector) (lba + 1) sectors
+
+pub units_all : (v : MountView) (lba : ℕ) (sectors : List (List ℕ)) → (with_entries v lba sectors).units ≡ v.units
+units_all v lba [] = refl
+units_all v lba (sector ∷ sectors) = units_all (with_entry v lba sector) (lba + 1) sectors
+
 -- ---- a write
 
 -- the mount after a claim, and after the sectors are taken
@@ -172,7 +182,7 @@ target_write old new mid lba sectors is = record {
   start = ap (λ (i : Image). contents i) found;
   capacity = ap (λ (i : Image). i.shape.capacity) image;
   sector = ap (λ (i : Image). i.shape.sector) image;
-  footing = ap₂ (λ (i : Image) (ws : List (List ℕ)). Some (record { image = i; wear = ws })) image wear;
+  footing = λ k. Some (record { handed = handed k; image = image k; wear = wear k });
 }
   where
     image : new.mount.image ≡ old.mount.image
@@ -180,6 +190,9 @@ target_write old new mid lba sectors is = record {
 
     found : new.mount.found ≡ old.mount.found
     found = ap (λ (v : MountView). v.found) is.mount ∙ found_all mid lba sectors ∙ is.same.found
+
+    handed : new.mount.handed ≡ old.mount.handed
+    handed = ap (λ (v : MountView). v.handed) is.mount ∙ handed_all mid lba sectors ∙ is.same.handed
 
     wear : new.mount.wear ≡ old.mount.wear
     wear = ap (λ (v : MountView). v.wear) is.mount ∙ wear_all mid lba sectors ∙ is.same.wear
@@ -208,6 +221,20 @@ worns_write old new mid lba sectors is serial worns =
     (ap (λ (v : MountView). v.deeds) is.mount ∙ rest.1 ∙ ap (λ (ds : List Deed). ds ++ rest.0) is.same.deeds ∙ append_assoc old.mount.deeds is.same.more rest.0)
     serial.worns)
 
+pub named_write : (old new : SerialView) (mid : MountView) (lba : ℕ) (sectors : List (List ℕ)) → IsWrite old new mid lba sectors → IsSerial old
+    → new.faults ≡ old.faults → AreNamed new.mount new.faults
+named_write old new mid lba sectors is serial faults =
+    subst (AreNamed new.mount) (sym faults)
+    (all_named_by mid new.mount old.faults (ap (λ (v : MountView). v.units) is.mount ∙ units_all mid lba sectors)
+    (ap (λ (v : MountView). v.handed) is.mount ∙ handed_all mid lba sectors)
+    (all_named_later old.mount mid old.faults is.was is.between is.same serial.faults))
+
+-- none of its commands was lost, since none was while it was claimed
+pub none_lost_write : (old new : SerialView) (mid : MountView) (lba : ℕ) (sectors : List (List ℕ)) → IsWrite old new mid lba sectors
+    → NoneLost old.mount.units mid.units → NoneLost old.mount.units new.mount.units
+none_lost_write old new mid lba sectors is done =
+    subst (NoneLost old.mount.units) (sym (ap (λ (v : MountView). v.units) is.mount ∙ units_all mid lba sectors)) done
+
 -- the pad target stays
 pub pad_all : (v : MountView) (lba : ℕ) (sectors : List (List ℕ)) → (with_entries v lba sectors).pad ≡ v.pad
 pad_all v lba [] = refl
@@ -221,7 +248,7 @@ count_is n size len some is =
     ap (λ k. k / size) (is ∙ e) ∙ div-mul-add n size 0 some
 
 pub sector_some : (v : MountView) → IsSound v → 0 < v.image.shape.sector
-sector_some v sound = go sound.legal.simple.mount.accepted.target.sector
+sector_some v sound = go sound.legal.mount.accepted.target.sector
   where
     go : (v.image.shape.sector ≡ 512) ⊎ (v.image.shape.sector ≡ 4096) → 0 < v.image.shape.sector
     go (inl e) = omega arith

@@ -1,4 +1,3 @@
-pub mod Begun
 pub mod Deeds
 pub mod Granted
 pub mod Moments
@@ -6,3 +5,6 @@ pub mod NothingLeft
 pub mod Mount
 pub mod Opened
 pub mod Serial
+pub mod Heart
+pub mod Arm
+pub mod Waiting

@@ -1,16 +1,25 @@
--- How a mount is opened on the units of a drive: what these do before it begins, and what is then found.
-use Rattle.std.specs.Prelude.{◌≡◌, List, [], ◌∷◌}
+-- How a mount is opened on the units of a drive: what these do before it begins, and what is then
+-- found.
+use Rattle.std.specs.Prelude.{ℕ, ◌≡◌, List, [], ◌∷◌, slice_get, Some}
 use Rattle.pblk_model.specs.declared.shape.Shape.{Shape}
 use Rattle.pblk_model.specs.declared.found.Found.{Found}
 use Rattle.pblk_world.specs.Events.{Begin}
 use Rattle.pblk_world.specs.Space.{room}
+use Rattle.pblk_world.specs.World.{World, log_of}
+use Rattle.core_laws.specs.SimpleMounts.{IsSimpleMount}
 use Rattle.unit_port.specs.Unit.{ModelUnit}
 use Rattle.scan_recovery.specs.Units.{image_of}
 use Rattle.world_laws.specs.MountBeginnings.{beginning_of}
 use Rattle.scan_recovery.specs.Readying.{IsFoundAfter}
+use Rattle.scan_recovery.specs.declared.error.ScanErr.{ScanErr}
+use Rattle.scan_recovery.specs.declared.error.ScanErr.TheVariants as scan
 use Rattle.step_laws.specs.Opened.{new_events}
-use Rattle.block_target.specs.Deeds.{Deed, Readies, Decides}
+use Rattle.block_target.specs.Arm.{IsArm}
+use Rattle.block_target.specs.Deeds.{Deed, Readies, Decides, world_of}
+use Rattle.scan_recovery.specs.Lost.{IsLostAt, NoneLost}
 use Rattle.block_target.specs.Mount.{MountView, logs_in}
+use Rattle.block_target.specs.declared.opening.OpenErr.{OpenErr}
+use Rattle.block_target.specs.declared.opening.OpenErr.TheVariants.{Drive, Memory}
 use Rattle.block_target.specs.declared.readying.Ready.{Ready}
 
 -- what is done then: the mount begins
@@ -22,13 +31,36 @@ pub record IsReady (s : Shape) (old new : List ModelUnit) (ready : Ready) : Type
   pub drives : ready.drives ≡ old ∷ new ∷ []
   pub deeds : ready.deeds ≡ first_deeds old new ready.found
 
--- A mount of these units has begun, and that is all. It found the drive as that now is. It is granted what there is room for,
--- and asks for no pads.
+-- A mount of these units has begun, and that is all. It found the drive as that now is. It is
+-- granted what there is room for, and asks for no pads.
 pub record IsOpened (s : Shape) (us : List ModelUnit) (v : MountView) : Type 0 where
   pub image : v.image ≡ image_of s us
+  pub handed : v.handed ≡ us
   pub found_is : v.found ≡ image_of s v.units
   pub found : Found
   pub is : IsFoundAfter s us v.units found
   pub deeds : v.deeds ≡ first_deeds us v.units found
   pub granted : v.granted ≡ room v.image (logs_in v)
   pub pad : v.pad ≡ 0
+
+abbrev pub open_error : ScanErr → OpenErr
+open_error (scan.Drive unit event) = Drive unit event
+open_error scan.Memory = Memory
+
+-- Why no target was opened: the last event of this unit was a stopped command, or a fetch that
+-- failed. Where there wasn't the memory, each command was done.
+abbrev pub OpenCause : OpenErr → List ModelUnit → List ModelUnit → Type 0
+OpenCause (Drive unit event) old new = IsLostAt old new unit event
+OpenCause Memory old new = NoneLost old new
+
+-- the world of what units did before a mount began
+abbrev pub readied_world : Shape → List ModelUnit → List ModelUnit → World
+readied_world s old new = world_of s (Readies (new_events old new) ∷ [])
+
+-- That is a simple mount in which the engine did nothing, and the units are as it leaves them.
+pub record AreReadied (s : Shape) (old new : List ModelUnit) : Type 0 where
+  pub legal : IsSimpleMount (image_of s old) (readied_world s old new)
+  pub none : log_of (readied_world s old new) 0 ≡ []
+  pub each : (number : ℕ) (u : ModelUnit) → slice_get new number ≡ Some u
+      → (was : ModelUnit) × (slice_get old number ≡ Some was)
+      × IsArm (image_of s old) (log_of (readied_world s old new)) number was u

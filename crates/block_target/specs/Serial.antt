@@ -1,5 +1,5 @@
 -- A port for one session: what contracts see of it, and the device that it is.
-use Rattle.std.specs.Prelude.{ℕ, ◌+◌, ◌-◌, ◌^◌, ◌<◌, ◌≡◌, ⊤, List, [], ◌∷◌, ◌++◌, max, map, length, Some, Result, Ok, Err}
+use Rattle.std.specs.Prelude.{ℕ, ◌+◌, ◌-◌, ◌^◌, ◌<◌, ◌≤◌, ◌≡◌, Bool, true, false, List, [], ◌∷◌, ◌++◌, max, min, map, length, slice_get, Some, Result, Ok, Err}
 use Rattle.std.specs.List.{flat_map}
 use Rattle.pblk_model.specs.declared.run.Front.{Front}
 use Rattle.pblk_model.specs.declared.run.Place.{Place}
@@ -11,11 +11,17 @@ use Rattle.block_port.specs.Own.{PlacedSector, OwnWrite, lines_of}
 use Rattle.block_port.specs.Port.{ModelPort}
 use Rattle.block_port.specs.declared.port.WriteErr.{WriteErr}
 use Rattle.block_port.specs.declared.port.WriteErr.TheVariants as write
+use Rattle.block_port.specs.declared.port.ReadErr.{ReadErr}
+use Rattle.block_port.specs.declared.port.ReadErr.TheVariants as read
 use Rattle.block_port.specs.declared.port.FlushErr.{FlushErr}
 use Rattle.block_port.specs.declared.port.FlushErr.TheVariants as flush
+use Rattle.block_port.specs.declared.rows.DriveAnswer.{DriveAnswer}
 use Rattle.block_port.specs.declared.rows.WornAnswer.{WornAnswer}
+use Rattle.pblk_model.specs.UnitLog.{UnitEvent}
+use Rattle.unit_port.specs.Unit.{ModelUnit}
 use Rattle.block_target.specs.Mount.{MountView, IsSound, IsSameMount, IsCollectionOver, logs_in, engine_log, taken_in, synced_in}
 use Rattle.block_target.specs.Granted.{WasRoom, AreGranted}
+use Rattle.scan_recovery.specs.Lost.{IsLostAt, NoneLost, was_lost}
 use Rattle.block_target.specs.NothingLeft.{IsFlushRefusal, IsWriteRefusal, AreRefusals}
 use Rattle.block_target.specs.declared.opening.SettleErr.{SettleErr}
 use Rattle.block_target.specs.declared.opening.SettleErr.TheVariants as settle
@@ -24,8 +30,9 @@ pub record SerialView : Type 0 where
   pub mount : MountView
   -- what the session has seen, as a position
   pub seen : ℕ
-  -- its writes, and the calls that answered Worn
+  -- its writes, and the calls that answered Drive and Worn
   pub own : List OwnWrite
+  pub faults : List DriveAnswer
   pub worns : List WornAnswer
 
 -- the history with its positions: all entries are users'
@@ -41,19 +48,50 @@ device s = record {
   seen = s.seen;
   own = s.own;
   flushed = synced_in s.mount;
-  faults = [];
+  faults = s.faults;
   worns = s.worns;
   capacity = s.mount.image.shape.capacity;
   sector = s.mount.image.shape.sector;
-  footing = Some (record { image = s.mount.image; wear = s.mount.wear });
+  footing = Some (record { handed = s.mount.handed; image = s.mount.image; wear = s.mount.wear });
 }
 
--- What was done is sound. The history is made of the session's own writes, each of which was granted before,
--- and each Worn had its cause.
+-- An answer names the event at this index of its unit's log, which came after the unit was handed
+-- in: a command that was stopped, or a fetch that failed.
+pub record IsNamed (v : MountView) (a : DriveAnswer) (index : ℕ) : Type 0 where
+  pub unit : ModelUnit
+  pub there : slice_get v.units a.unit ≡ Some unit
+  pub event : UnitEvent
+  pub at : slice_get unit.log index ≡ Some event
+  pub lost : was_lost event ≡ true
+  pub number : a.event ≡ min (index + 1) (2 ^ 64 - 1)
+  pub handed : ModelUnit
+  pub was : slice_get v.handed a.unit ≡ Some handed
+  pub since : length handed.log ≤ index
+
+-- Each answer names an event of its own: of one unit a later answer names a later event.
+pub record AreNamed (v : MountView) (faults : List DriveAnswer) : Type 0 where
+  pub indices : List ℕ
+  pub count : length indices ≡ length faults
+  pub each : (k index : ℕ) (a : DriveAnswer) → slice_get faults k ≡ Some a → slice_get indices k ≡ Some index
+      → IsNamed v a index
+  pub apart : (j k at later : ℕ) (a b : DriveAnswer) → j < k → slice_get faults j ≡ Some a → slice_get faults k ≡ Some b
+      → slice_get indices j ≡ Some at → slice_get indices k ≡ Some later → a.unit ≡ b.unit → at < later
+
+-- The last event of this unit was lost, in a call that began after the answers that the port keeps.
+pub record IsLostSince (s : SerialView) (unit event : ℕ) : Type 0 where
+  pub before : MountView
+  pub sound : IsSound before
+  pub named : AreNamed before s.faults
+  pub same : IsSameMount before s.mount
+  pub lost : IsLostAt before.units s.mount.units unit event
+
+-- What was done is sound. The history is made of the session's own writes, each of which was
+-- granted before. Each Drive names an event of its own, and each Worn had its cause.
 pub record IsSerial (s : SerialView) : Type 0 where
   pub sound : IsSound s.mount
   pub alone : lines_in s.mount ≡ flat_map lines_of s.own
   pub small : s.seen < 2 ^ 63
+  pub faults : AreNamed s.mount s.faults
   pub worns : AreRefusals s.mount.image (logs_in s.mount) 0 s.worns
   pub granted : AreGranted s.mount.image (logs_in s.mount)
 
@@ -62,29 +100,49 @@ abbrev pub IsGrantedPlace : MountView → Place → Type 0
 IsGrantedPlace v place =
     WasRoom v.image (logs_in v) (length (engine_log v) - place.count) (place.first + place.count)
 
--- Why a write of so many sectors answers Worn, and why a flush does: at the end of the engine's log, as the
--- call leaves it, there is nothing left to do. What a write is told that there is was granted. `Drive` doesn't
--- come, since no command fails or is stopped.
-abbrev pub WriteCause : MountView → ℕ → Result Place WriteErr → Type 0
-WriteCause v count (Ok place) = ⊤
-WriteCause v count (Err write.Range) = ⊤
-WriteCause v count (Err (write.Drive unit event)) = ⊥
-WriteCause v count (Err (write.Worn wanted have)) = (have ≡ v.granted)
+-- Why a call answers Drive: a command of it was stopped, or a fetch of it failed, and that is its
+-- unit's last event. And only then: where it answers anything else each of its commands was done.
+
+-- Why a write of so many sectors answers Worn, and why a flush does: at the end of the engine's
+-- log, as the call leaves it, there is nothing left to do. What a write is told that there is was
+-- granted.
+abbrev pub WriteCause : MountView → MountView → ℕ → Result Place WriteErr → Type 0
+WriteCause old v count (Ok place) = NoneLost old.units v.units
+WriteCause old v count (Err write.Range) = NoneLost old.units v.units
+WriteCause old v count (Err (write.Drive unit event)) = IsLostAt old.units v.units unit event
+WriteCause old v count (Err (write.Worn wanted have)) = NoneLost old.units v.units × (have ≡ v.granted)
     × IsWriteRefusal v.image (logs_in v) (length (engine_log v)) count wanted have
 
-abbrev pub FlushCause : MountView → Result Front FlushErr → Type 0
-FlushCause v (Ok front) = ⊤
-FlushCause v (Err (flush.Drive unit event)) = ⊥
-FlushCause v (Err (flush.Worn wanted have)) =
-    IsFlushRefusal v.image (logs_in v) (length (engine_log v)) wanted have
+abbrev pub ReadCause : MountView → MountView → Result Front ReadErr → Type 0
+ReadCause old v (Ok front) = NoneLost old.units v.units
+ReadCause old v (Err read.Range) = NoneLost old.units v.units
+ReadCause old v (Err (read.Drive unit event)) = IsLostAt old.units v.units unit event
 
--- All that was taken is on the drive, and collection isn't due or there is nothing left to do; or not all is
--- there, where there is nothing left to do.
-abbrev pub Settles : Result Unit SettleErr → MountView → Type 0
-Settles (Ok x) v = (synced_in v ≡ taken_in v) × IsCollectionOver v
-Settles (Err (settle.Worn wanted have)) v = (wanted ≡ taken_in v) × (have ≡ synced_in v)
+abbrev pub FlushCause : MountView → MountView → Result Front FlushErr → Type 0
+FlushCause old v (Ok front) = NoneLost old.units v.units
+FlushCause old v (Err (flush.Drive unit event)) = IsLostAt old.units v.units unit event
+FlushCause old v (Err (flush.Worn wanted have)) = NoneLost old.units v.units
     × IsFlushRefusal v.image (logs_in v) (length (engine_log v)) wanted have
-Settles (Err (settle.Drive unit event)) v = ⊥
+
+-- All that was taken is on the drive, and collection isn't due or there is nothing left to do; or
+-- not all is there, where there is nothing left to do; or a command was stopped.
+abbrev pub Settles : MountView → Result Unit SettleErr → MountView → Type 0
+Settles old (Ok x) v = NoneLost old.units v.units × (synced_in v ≡ taken_in v) × IsCollectionOver v
+Settles old (Err (settle.Worn wanted have)) v = NoneLost old.units v.units × (wanted ≡ taken_in v)
+    × (have ≡ synced_in v) × IsFlushRefusal v.image (logs_in v) (length (engine_log v)) wanted have
+Settles old (Err (settle.Drive unit event)) v = IsLostAt old.units v.units unit event
+
+-- where no command of the close was lost
+abbrev pub is_settled : Result Unit SettleErr → Bool
+is_settled (Ok x) = true
+is_settled (Err (settle.Worn wanted have)) = true
+is_settled (Err (settle.Drive unit event)) = false
+
+-- the answer of a close that was Drive
+abbrev pub settle_faults : Result Unit SettleErr → List DriveAnswer
+settle_faults (Ok x) = []
+settle_faults (Err (settle.Drive unit event)) = record { unit = unit; event = event } ∷ []
+settle_faults (Err (settle.Worn wanted have)) = []
 
 -- the answer of a close that was Worn, of a port that had written so many sectors
 abbrev pub settle_worns : ℕ → Result Unit SettleErr → List WornAnswer
@@ -98,7 +156,9 @@ pub record IsClosed (target : SerialView) (settled : Result Unit SettleErr) (v :
   pub same : IsSameMount target.mount v
   pub sound : IsSound v
   pub taken : taken_in v ≡ taken_in target.mount
-  pub settles : Settles settled v
+  pub settles : Settles target.mount settled v
+  -- each Drive names an event of its own, this call's the last of them
+  pub faults : AreNamed v (target.faults ++ settle_faults settled)
   -- each Worn had its cause, this call's the last of them
   pub refusals : AreRefusals v.image (logs_in v) 0
       (target.worns ++ settle_worns (length (flat_map lines_of target.own)) settled)
@@ -106,5 +166,8 @@ pub record IsClosed (target : SerialView) (settled : Result Unit SettleErr) (v :
   pub granted : AreGranted v.image (logs_in v)
   -- pads were asked for up to what is wanted here, or by an earlier call
   pub pad : v.pad ≡ max target.mount.pad (taken_in target.mount)
-  -- what is now found on a drive that was sealed ends at the front synced
-  pub ends : IsSealed v.image → end (media v.image (logs_in v)) ≡ synced_in v
+  -- What is now found on a drive that was sealed ends between the front synced and the front taken.
+  -- It ends at the front synced where no command of the close was stopped.
+  pub from_synced : IsSealed v.image → synced_in v ≤ end (media v.image (logs_in v))
+  pub to_taken : IsSealed v.image → end (media v.image (logs_in v)) ≤ taken_in v
+  pub ends : IsSealed v.image → is_settled settled ≡ true → end (media v.image (logs_in v)) ≡ synced_in v

@@ -1,22 +1,22 @@
 //! What a target for one session does, as rows of lists that only contracts see.
-ghost use Rattle.std.specs.Prelude.{Some, map};
-ghost use Rattle.pblk_model.specs.ChunkStep.{Gave};
+ghost use Rattle.std.specs.Prelude.{map, true, false, [], ◌∷◌, ◌++◌, ◌≡◌};
+ghost use Rattle.pblk_model.specs.Marks.{sector_mark};
 ghost use Rattle.pblk_world.specs.Events.{Begin, Take, Open, Place};
-ghost use Rattle.step_laws.specs.Whole.{program_of, reset_of, fetch_of};
 ghost use Rattle.world_laws.specs.MountBeginnings.{beginning_of};
 ghost use Rattle.step_laws.specs.Opened.{new_events};
 ghost use Rattle.pblk_core.specs.Named.{next_start};
-ghost use Rattle.pblk_core.specs.Taken.{entry_of, mark_of};
-ghost use Rattle.block_target.specs.Deeds.{Decides, Does, Lands, drive_before};
+ghost use Rattle.block_target.specs.Arm.{last_of};
+ghost use Rattle.block_target.specs.Deeds.{Decides, Does, Lands, Offers, drive_before};
 ghost use Rattle.block_target.specs.Deeds as deeds;
+ghost use Rattle.block_target.specs.Heart.{user_entry};
 
 use pblk_core::{Core, Stripe};
-use pblk_model::{Found, Mark, Shows};
-use sector_pool::Entry;
+use pblk_model::{Found, Shows};
 use std::marker::Model;
 use unit_port::{Log, Unit};
 
-/// One thing that is done. Such rows exist in contracts alone, so no value of this type is ever made.
+/// One thing that is done. Such rows exist in contracts alone, so no value of this type is ever
+/// made.
 pub(crate) struct Deed {
     unmade: Unmade,
 }
@@ -58,8 +58,8 @@ impl<U: Unit> Shows for Stand<'_, U> {
     ghost shown = { λ s. map U.model s.units.now };
 }
 
-/// Shows that the drive was made ready. These are its units as they are now; the list's first row has them as
-/// they were before.
+/// Shows that the drive was made ready. These are its units as they are now; the list's first row
+/// has them as they were before.
 #[derive(Drop)]
 pub(crate) struct Readies<'a, U: Unit> {
     pub(crate) drives: &'a Log<DriveRow>,
@@ -84,16 +84,18 @@ impl Shows for Begins<'_> {
     ghost shown = { λ b. Decides (Begin (beginning_of b.found.now)) };
 }
 
-/// Shows that an entry is taken.
+/// Shows that a user's sector is taken, at this position.
 #[derive(Drop)]
 pub(crate) struct Takes<'a> {
-    pub(crate) entry: &'a Entry,
+    pub(crate) position: u64,
+    pub(crate) lba: u64,
+    pub(crate) sector: &'a [u8],
 }
 
 impl Shows for Takes<'_> {
     type Event = Deed;
 
-    ghost shown = { λ t. Decides (Take (entry_of t.entry.now) (mark_of t.entry.now)) };
+    ghost shown = { λ t. Decides (Take (user_entry t.position t.lba t.sector.now) (sector_mark t.lba t.position)) };
 }
 
 /// Shows that the engine opens the line that the core names.
@@ -120,16 +122,28 @@ impl Shows for Places<'_> {
     ghost shown = { λ p. Decides (Place p.stripe.now.stripe) };
 }
 
-/// Shows that the stripe's unit programs it.
-#[derive(Drop)]
-pub(crate) struct Programs<'a> {
-    pub(crate) stripe: &'a Stripe,
+/// Adds that the engine places this stripe, unless it was placed before.
+pub(crate) fn add_placed(deeds: &mut Log<Deed>, stripe: &Stripe)
+    ensures new { stripe.now.again ≡ false
+        → deeds.new ≡ deeds.old ++ Decides (Place stripe.now.stripe) ∷ [] }
+    ensures again { stripe.now.again ≡ true → deeds.new ≡ deeds.old }
+{
+    if !stripe.is_again() {
+        deeds.add(&Places { stripe });
+    }
 }
 
-impl Shows for Programs<'_> {
+/// Shows that a unit was given a command: its log ends with what became of that.
+#[derive(Drop)]
+pub(crate) struct Commands<'a, U: Unit> {
+    pub(crate) number: u32,
+    pub(crate) unit: &'a U,
+}
+
+impl<U: Unit> Shows for Commands<'_, U> {
     type Event = Deed;
 
-    ghost shown = { λ p. Does p.stripe.now.stripe.unit (program_of p.stripe.now.stripe) };
+    ghost shown = { λ c. Does c.number (last_of (U.model c.unit.now)) };
 }
 
 /// Shows that the engine notes the unit's last program as landed.
@@ -144,17 +158,16 @@ impl Shows for Landing {
     ghost shown = { λ l. Lands l.unit };
 }
 
-/// Shows that a unit resets its chunk of a line.
+/// Shows that the engine notes the unit's last program as stopped: its stripe is offered again.
 #[derive(Drop)]
-pub(crate) struct Resets {
+pub(crate) struct Stops {
     pub(crate) unit: u32,
-    pub(crate) line: u32,
 }
 
-impl Shows for Resets {
+impl Shows for Stops {
     type Event = Deed;
 
-    ghost shown = { λ r. Does r.unit (reset_of r.line) };
+    ghost shown = { λ s. Offers s.unit };
 }
 
 /// Shows that the engine notes the unit's last reset.
@@ -167,21 +180,4 @@ impl Shows for NotesReset {
     type Event = Deed;
 
     ghost shown = { λ n. deeds.NotesReset n.unit };
-}
-
-/// Shows that a unit gives a block that is fetched.
-#[derive(Drop)]
-pub(crate) struct Fetches<'a> {
-    pub(crate) unit: u32,
-    pub(crate) chunk: u32,
-    pub(crate) block: u32,
-    pub(crate) out: &'a [u8],
-    pub(crate) mark: Mark,
-}
-
-impl Shows for Fetches<'_> {
-    type Event = Deed;
-
-    ghost shown = { λ f. Does f.unit
-        (fetch_of f.chunk f.block (Gave (record { sector = f.out.now; mark = f.mark }))) };
 }

@@ -1,6 +1,8 @@
-//! Laws on the answers for want of room: each is the contract of a function that does no work.
+//! Laws on what a target answers: each is the contract of a function that does no work.
 
-ghost use Rattle.std.specs.Prelude.{ℕ, ◌≡◌, ◌+◌, ◌<◌, take, Some};
+ghost use Rattle.std.specs.Prelude.{ℕ, ◌≡◌, ◌+◌, ◌<◌, List, take, Some};
+ghost use Rattle.pblk_model.specs.declared.shape.Shape.{Shape};
+ghost use Rattle.pblk_model.specs.Accepted.{IsAccepted};
 ghost use Rattle.pblk_model.specs.Contents.{end};
 ghost use Rattle.pblk_model.specs.Image.{Image};
 ghost use Rattle.pblk_model.specs.Sealed.{IsSealed};
@@ -12,6 +14,11 @@ ghost use Rattle.pblk_world.specs.World.{World, Logs, log_of, media};
 ghost use Rattle.core_laws.specs.SimpleMounts.{IsSimpleMount};
 ghost use Rattle.block_target.specs.Moments.{IsMoment};
 ghost use Rattle.block_target.specs.NothingLeft.{IsFlushRefusal, IsWriteRefusal};
+ghost use Rattle.block_target.specs.Opened.{AreReadied};
+ghost use Rattle.scan_recovery.specs.MayStop.{AllMayStop};
+ghost use Rattle.scan_recovery.specs.Readying.{AreHandedBack};
+ghost use Rattle.scan_recovery.specs.Units.{AreFit};
+ghost use Rattle.unit_port.specs.Unit.{ModelUnit};
 
 use prefix_law::the_end_is_the_front_synced;
 
@@ -22,8 +29,9 @@ pub fn a_refused_write_has_no_room()
         → room i (logs_at n logs) < taken (take n (logs 0)) + count }
 {}
 
-/// A flush, or the close, that is refused tells what is on the drive. Over a sealed drive there was a moment
-/// at which all that it wanted was taken, and what recovery would have found ended at what it has.
+/// A flush, or the close, that is refused tells what is on the drive. Over a sealed drive there was
+/// a moment at which all that it wanted was taken, and what recovery would have found ended at what
+/// it has.
 pub fn a_refused_flush_tells_the_end()
     ensures { (i : Image) (w : World) (b : Begun) (n wanted have : ℕ)
         → IsSimpleMount i w → IsSealed i → begun (log_of w 0) ≡ Some b
@@ -33,3 +41,10 @@ pub fn a_refused_flush_tells_the_end()
 {
     the_end_is_the_front_synced();
 }
+
+/// What units did that an opening hands back is of a legal world: a simple mount in which the
+/// engine did nothing. The units are as it leaves them.
+pub fn a_refused_opening_is_of_a_legal_world()
+    ensures { (s : Shape) (us new : List ModelUnit) → IsAccepted s → AreFit s us → AllMayStop us
+        → AreHandedBack s us new → AreReadied s us new }
+{}

@@ -1,12 +1,15 @@
 //! Why a target isn't opened, or isn't settled as it closes.
 
+ghost use Rattle.std.specs.Prelude.{◌≡◌};
+ghost use Rattle.block_target.specs.declared.opening.WaitErr.TheVariants.{Drive};
+
 use thiserror::Error;
 
 /// Why a target wasn't opened.
 #[derive(Clone, Copy, Debug, PartialEq, Eq, Error)]
 pub enum OpenErr {
-    /// This event of this unit, made in this call, was a stopped command, or a fetch of a written block that
-    /// failed. Units are numbered from 0, and the events of a unit's log from 1. It doesn't come yet.
+    /// This event of this unit, made in this call, was a stopped command, or a fetch of a written
+    /// block that failed. Units are numbered from 0, and the events of a unit's log from 1.
     #[error("event {event} of unit {unit} failed or was stopped")]
     Drive { unit: u32, event: u64 },
     /// There isn't the memory for it.
@@ -14,7 +17,36 @@ pub enum OpenErr {
     Memory,
 }
 
-/// A target that wasn't opened: its units, and why. A drive that was sealed holds what it held before.
+/// This event of this unit, made in this call, was a stopped command or a fetch that failed. Units
+/// are numbered from 0, and the events of a unit's log from 1.
+#[derive(Clone, Copy, Debug, PartialEq, Eq)]
+pub(crate) struct DriveErr {
+    pub(crate) unit: u32,
+    pub(crate) event: u64,
+}
+
+/// Why a mount doesn't come to what it works for.
+#[derive(Clone, Copy, Debug, PartialEq, Eq)]
+pub(crate) enum WaitErr {
+    /// This event of this unit, made in this call, was a stopped command.
+    Drive { unit: u32, event: u64 },
+    /// Nothing is left to do, and there is this.
+    Stuck { have: u64 },
+}
+
+impl From<DriveErr> for WaitErr {
+    ghost from_gives = { λ e w. w ≡ Drive e.unit e.event };
+
+    fn from(e: DriveErr) -> Self {
+        WaitErr::Drive {
+            unit: e.unit,
+            event: e.event,
+        }
+    }
+}
+
+/// A target that wasn't opened: its units, and why. A drive that was sealed holds what it held
+/// before.
 pub struct Refused<U> {
     /// All units, in their order.
     pub units: Vec<U>,
@@ -25,11 +57,12 @@ pub struct Refused<U> {
 /// Why not all that was written is on the drive as a target closes.
 #[derive(Clone, Copy, Debug, PartialEq, Eq, Error)]
 pub enum SettleErr {
-    /// This event of this unit, numbered from 1, was a failed fetch or a stopped command. It doesn't come yet.
+    /// This event of this unit, made in this call, was a stopped command. Units are numbered from
+    /// 0, and the events of a unit's log from 1.
     #[error("event {event} of unit {unit} failed or was stopped")]
     Drive { unit: u32, event: u64 },
-    /// All positions below `wanted` were asked for, those below `have` are on the drive, and nothing is left to
-    /// do.
+    /// All positions below `wanted` were asked for, those below `have` are on the drive, and
+    /// nothing is left to do.
     #[error("{wanted} is wanted, and there is {have}")]
     Worn { wanted: u64, have: u64 },
 }

@@ -1,11 +1,13 @@
-//! How a drive is made ready for a mount: chunks that were left Open are padded, and then the drive is scanned.
+//! How a drive is made ready for a mount: chunks that were left Open are padded, and then the drive
+//! is scanned.
 
-ghost use Rattle.std.specs.Prelude.{◌≡◌, ℕ, [], map, IfOk, IfErr, OnErr};
+ghost use Rattle.std.specs.Prelude.{◌≡◌, [], map, IfOk, IfErr, IsOk, OnErr};
 ghost use Rattle.pblk_model.specs.Accepted.{IsAccepted};
 ghost use Rattle.scan_recovery.specs.Units.{AreFit};
-ghost use Rattle.unit_port.specs.Commands.{AreUnarmed};
 ghost use Rattle.scan_recovery.specs.Readying.{AreHandedBack};
-ghost use Rattle.block_target.specs.Opened.{IsReady};
+ghost use Rattle.scan_recovery.specs.MayStop.{AllMayStop};
+ghost use Rattle.scan_recovery.specs.Lost.{NoneLost};
+ghost use Rattle.block_target.specs.Opened.{IsReady, OpenCause, open_error};
 
 use crate::deeds::{Begins, Deed, DriveRow, Readies, Stand};
 use crate::opening::OpenErr;
@@ -14,8 +16,8 @@ use scan_recovery::{ScanErr, make_ready};
 use std::alloc::{AllocError, Global};
 use unit_port::{Log, Unit};
 
-/// A drive that is ready: what was found on it, its units as they were before and as they are now, and what was
-/// done meanwhile.
+/// A drive that is ready: what was found on it, its units as they were before and as they are now,
+/// and what was done meanwhile.
 #[derive(Drop)]
 pub(crate) struct Ready {
     pub(crate) drives: Log<DriveRow>,
@@ -39,8 +41,8 @@ fn make_rows(alloc: Global) -> Result<Rows, AllocError>
     })
 }
 
-/// Makes a drive ready whose units are armed with nothing, and notes that a mount begins with what was found on
-/// it. After an error the drive holds what it held before.
+/// Makes a drive ready, and notes that a mount begins with what was found on it. After an error the
+/// drive holds what it held before.
 pub(crate) fn ready_drive<U: Unit>(
     alloc: Global,
     units: &mut [U],
@@ -48,12 +50,14 @@ pub(crate) fn ready_drive<U: Unit>(
 ) -> Result<Ready, ScanErr>
     requires accepted { IsAccepted shape.now }
     requires fit { AreFit shape.now (map U.model units.old) }
-    requires unarmed { AreUnarmed (map U.model units.old) }
+    requires armed { AllMayStop (map U.model units.old) }
     ensures ready { IfOk result
         (IsReady shape.now (map U.model units.old) (map U.model units.new)) }
     ensures handed_back { OnErr result
         (AreHandedBack shape.now (map U.model units.old) (map U.model units.new)) }
-    ensures quiet { IfErr result (λ e. e ≡ ScanErr.Memory) }
+    ensures done { IsOk result → NoneLost (map U.model units.old) (map U.model units.new) }
+    ensures cause { IfErr result (λ e.
+        OpenCause (open_error e) (map U.model units.old) (map U.model units.new)) }
     ensures wear { map U.wear units.new ≡ map U.wear units.old }
 {
     let Ok(
@@ -86,9 +90,7 @@ pub(crate) fn ready_drive<U: Unit>(
 
 /// Why a target isn't opened where its drive couldn't be made ready.
 pub(crate) fn cause_of(e: ScanErr) -> OpenErr
-    ensures drive { (unit event : ℕ) → e ≡ ScanErr.Drive unit event
-        → result ≡ OpenErr.Drive unit event }
-    ensures memory { e ≡ ScanErr.Memory → result ≡ OpenErr.Memory }
+    ensures { result ≡ open_error e }
 {
     match e {
         ScanErr::Drive { unit, event } => OpenErr::Drive { unit, event },

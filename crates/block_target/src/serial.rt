@@ -1,5 +1,5 @@
 //! A target for one session.
-ghost use Rattle.std.specs.Prelude.{OnErr, IsErrOf, ◌≡◌, ◌<◌, ◌≤◌, [], ◌∷◌, ◌++◌, map, length, max, slice_range, ◌↔◌, IsTrue, IfOk, IfErr, ◌+◌, ◌*◌, ◌^◌};
+ghost use Rattle.std.specs.Prelude.{OnErr, IsErrOf, ◌≡◌, ◌<◌, ◌≤◌, [], ◌∷◌, ◌++◌, map, length, max, slice_range, ◌↔◌, IsTrue, IfOk, IfErr, IsOk, ◌+◌, ◌*◌, ◌^◌};
 ghost use Rattle.std.specs.List.{flat_map};
 ghost use Rattle.pblk_model.specs.Accepted.{IsAccepted};
 ghost use Rattle.block_port.specs.Own.{lines_of, sectors_of};
@@ -7,16 +7,18 @@ ghost use Rattle.block_port.specs.Port.{AreSectors, IsPastEnd, IsSameTarget, Lea
 ghost use Rattle.block_port.specs.Port.{write_faults, write_worns, read_faults, flush_faults, flush_worns};
 ghost use Rattle.scan_recovery.specs.Units.{AreFit};
 ghost use Rattle.block_target.specs.NothingLeft.{IsRefusal};
-ghost use Rattle.unit_port.specs.Commands.{AreUnarmed};
+ghost use Rattle.scan_recovery.specs.MayStop.{AllMayStop};
+ghost use Rattle.scan_recovery.specs.Lost.{IsLostAt, NoneLost};
 ghost use Rattle.scan_recovery.specs.Readying.{AreHandedBack};
-ghost use Rattle.block_target.specs.Opened.{IsOpened};
+ghost use Rattle.block_target.specs.Opened.{IsOpened, OpenCause};
 ghost use Rattle.block_target.specs.Mount.{MountView, IsSameMount, IsSound, engine_log, front_taken, latest, logs_in, taken_in, with_entries};
-ghost use Rattle.block_target.specs.Serial.{SerialView, IsClosed, WriteCause, FlushCause, IsGrantedPlace, device, lines_in};
+ghost use Rattle.block_target.specs.Serial.{SerialView, IsClosed, IsLostSince, WriteCause, ReadCause, FlushCause, IsGrantedPlace, device, lines_in};
 
 use crate::mount::Mount;
-use crate::opening::{OpenErr, Refused, SettleErr};
+use crate::opening::{DriveErr, OpenErr, Refused, SettleErr, WaitErr};
 use block_port::{
-    FlushErr, Front, Note, OwnWrite, Place, Port, ReadErr, WornAnswer, WriteErr, Written,
+    DriveAnswer, FlushErr, Front, Note, OwnWrite, Place, Port, ReadErr, WornAnswer, WriteErr,
+    Written,
 };
 use pblk_model::Shape;
 use std::alloc::{AllocError, Global};
@@ -24,15 +26,19 @@ use std::marker::Model;
 use std::sync::Wait;
 use unit_port::{Log, Unit};
 
-/// A target for one session over real units. It does all work in its own calls (Bjørling, González, Bonnet,
-/// FAST 2017, write buffering).
+/// A target for one session over real units. It does all work in its own calls (Bjørling, González,
+/// Bonnet, FAST 2017, write buffering).
 ///
-/// Contracts see what was done, in order, as the steps of a legal world. They see what the session has seen as
-/// a position, its writes, and its calls that answered Worn.
+/// A command that was stopped, or a fetch that failed, is told by the call that made it, and the
+/// session goes on. The stripe of a stopped program is programmed before all others.
+///
+/// Contracts see what was done, in order, as the steps of a legal world. They see what the session
+/// has seen as a position, its writes, and its calls that answered Drive and Worn.
 pub struct Serial<U: Unit> {
     mount: Mount<U>,
     seen: u64,
     own: Log<OwnWrite>,
+    faults: Log<DriveAnswer>,
     worns: Log<WornAnswer>,
 }
 
@@ -41,51 +47,57 @@ impl<U: Unit> Model for Serial<U> {
 
     ghost Value = { SerialView };
 
-    ghost view = { λ s. record { mount = s.mount; seen = s.seen; own = s.own; worns = s.worns } };
+    ghost view = { λ s. record { mount = s.mount; seen = s.seen; own = s.own; faults = s.faults; worns = s.worns } };
 
-    ghost invariant = { λ s. IsSerial (record { mount = s.mount; seen = s.seen; own = s.own; worns = s.worns }) };
+    ghost invariant = { λ s. IsSerial (record { mount = s.mount; seen = s.seen; own = s.own; faults = s.faults; worns = s.worns }) };
 }
 
 // The lists of a port that has answered nothing yet.
 #[derive(Drop)]
 struct Lists {
     own: Log<OwnWrite>,
+    faults: Log<DriveAnswer>,
     worns: Log<WornAnswer>,
 }
 
 fn make_lists(alloc: Global) -> Result<Lists, AllocError>
-    ensures { IfOk result (λ l. (l.own ≡ []) × (l.worns ≡ [])) }
+    ensures { IfOk result (λ l. (l.own ≡ []) × (l.faults ≡ []) × (l.worns ≡ [])) }
 {
     Ok(Lists {
         own: Log::new(alloc)?,
+        faults: Log::new(alloc)?,
         worns: Log::new(alloc)?,
     })
 }
 
 impl<U: Unit> Serial<U> {
-    /// Opens a target over the units of a drive. The shape is accepted, there are as many units as it has, and
-    /// they are armed with nothing. Chunks that were left Open are padded to their ends. Then the drive is
-    /// scanned, and the mount begins with what is found (Bjørling, González, Bonnet, FAST 2017, recovery). It
-    /// is granted what there is room for, and its pad target is 0. The call takes all memory of the mount.
+    /// Opens a target over the units of a drive. The shape is accepted, there are as many units as
+    /// it has, and no plan has a command of them fail; a fuse may stop them. Chunks that were left
+    /// Open are padded to their ends. Then the drive is scanned, and the mount begins with what is
+    /// found (Bjørling, González, Bonnet, FAST 2017, recovery). It is granted what there is room
+    /// for, and its pad target is 0. The call takes all memory of the mount.
     ///
-    /// `Drive` would come where a program of the padding was stopped, or where a fetch of a written block
-    /// failed or was stopped; it doesn't come while the units are armed with nothing. `Memory` comes where
-    /// there isn't the memory. After an error the units are handed back. What a sealed drive held it holds
-    /// still, whatever is answered.
+    /// `Drive` comes where a program of the padding was stopped, or where a fetch of a written
+    /// block failed or was stopped; it names that event. `Memory` comes where there isn't the
+    /// memory. After an error the units are handed back. What a sealed drive held it holds still,
+    /// whatever is answered.
     pub fn open(alloc: Global, units: Vec<U>, shape: &Shape) -> Result<Serial<U>, Refused<U>>
         requires accepted { IsAccepted shape.now }
         requires fit { AreFit shape.now (map U.model units.items) }
-        requires unarmed { AreUnarmed (map U.model units.items) }
+        requires armed { AllMayStop (map U.model units.items) }
         ensures opened { IfOk result (λ s. IsOpened shape.now (map U.model units.items) s.mount) }
+        ensures done { IfOk result (λ s. NoneLost (map U.model units.items) s.mount.units) }
         ensures wear { IfOk result (λ s. s.mount.wear ≡ map U.wear units.items) }
-        ensures new_port { IfOk result (λ s. (s.seen ≡ 0) × (s.own ≡ []) × (s.worns ≡ [])) }
+        ensures new_port { IfOk result (λ s.
+            (s.seen ≡ 0) × (s.own ≡ []) × (s.faults ≡ []) × (s.worns ≡ [])) }
         ensures refused { IfErr result (λ r.
             AreHandedBack shape.now (map U.model units.items) (map U.model r.units.items)) }
         ensures refused_wear { IfErr result (λ r.
             map U.wear r.units.items ≡ map U.wear units.items) }
-        ensures quiet { IfErr result (λ r. r.cause ≡ OpenErr.Memory) }
+        ensures cause { IfErr result (λ r.
+            OpenCause r.cause (map U.model units.items) (map U.model r.units.items)) }
     {
-        let Ok(Lists { own, worns }) = make_lists(alloc) else {
+        let Ok(Lists { own, faults, worns }) = make_lists(alloc) else {
             return Err(Refused {
                 units,
                 cause: OpenErr::Memory,
@@ -97,6 +109,7 @@ impl<U: Unit> Serial<U> {
                 mount,
                 seen: 0,
                 own,
+                faults,
                 worns,
             }),
         }
@@ -109,13 +122,16 @@ impl<U: Unit> Serial<U> {
         self.mount.front()
     }
 
-    /// Brings all that was taken to the drive, and then, while the Free lines are few, does what is left to do.
-    /// It hands the units back. What is then found on a drive that was sealed ends at the front synced. All
-    /// that was taken are the session's own writes, and each was granted before it was taken.
+    /// Brings all that was taken to the drive, and then, while the Free lines are few, does what is
+    /// left to do. It hands the units back. What is then found on a drive that was sealed ends
+    /// between the front synced and the front taken; where the answer is `Ok` or `Worn` it ends at
+    /// the front synced. All that was taken are the session's own writes, and each was granted
+    /// before it was taken.
     ///
-    /// `Worn` comes where not all of it is there and nothing is left to do: `wanted` is the front taken, and
-    /// `have` is the front synced. `Drive` doesn't come, since no command fails or is stopped. Each call that
-    /// answered `Worn` had its cause at a length of the engine's log, and these lengths rise with the calls.
+    /// `Drive` comes where a command of this call was stopped, and names it. `Worn` comes where not
+    /// all of it is there and nothing is left to do: `wanted` is the front taken, and `have` is the
+    /// front synced. Each call that answered `Drive` names an event of its own. Each that answered
+    /// `Worn` had its cause at a length of the engine's log, and these lengths rise with the calls.
     pub fn close<R: Wait>(mut self, rt: &R) -> (Vec<U>, Result<(), SettleErr>)
         ensures closed { (v : MountView) × IsClosed self result.1 v
             × (map U.model result.0.items ≡ v.units) × (map U.wear result.0.items ≡ v.wear) }
@@ -124,13 +140,15 @@ impl<U: Unit> Serial<U> {
         let wanted = self.mount.front().position;
         let settled = match self.mount.settle(rt, wanted) {
             Ok(()) => Ok(()),
-            Err(have) => Err(SettleErr::Worn { wanted, have }),
+            Err(WaitErr::Drive { unit, event }) => Err(SettleErr::Drive { unit, event }),
+            Err(WaitErr::Stuck { have }) => Err(SettleErr::Worn { wanted, have }),
         };
-        self.mount.ends_synced();
+        self.mount.ends_between();
         let Serial {
             mount,
             seen: _,
             own: _,
+            faults: _,
             worns: _,
         } = self;
         (mount.end(), settled)
@@ -148,7 +166,8 @@ impl<U: Unit> Serial<U> {
         unreachable!()
     }
 
-    // Whether so many bytes are too many sectors from `lba` on: not all of these are below the capacity.
+    // Whether so many bytes are too many sectors from `lba` on: not all of these are below the
+    // capacity.
     fn is_past_end(&self, lba: u64, len: usize) -> bool
         ensures { IsTrue result ↔ IsPastEnd (device self.now) lba len }
     {
@@ -157,6 +176,16 @@ impl<U: Unit> Serial<U> {
             None => true,
             Some(end) => end > shape.capacity,
         }
+    }
+
+    // Notes a call that answers Drive.
+    fn add_fault(&mut self, unit: u32, event: u64)
+        requires { IsLostSince self.old unit event }
+        ensures { self.new ≡ record self.old {
+          faults = self.old.faults ++ record { unit = unit; event = event } ∷ [];
+        } }
+    {
+        self.faults.add(&DriveAnswer { unit, event });
     }
 
     // Notes a call that answers Worn. Its cause stands at the end of the engine's log.
@@ -199,8 +228,14 @@ fn take_all<U: Unit>(mount: &mut Mount<U>, lba: u64, bytes: &[u8], count: u32, s
     }
 }
 
-// Reads sectors from `lba` on, one after another.
-fn read_all<U: Unit>(mount: &mut Mount<U>, lba: u64, out: &mut [u8], count: u32, size: usize)
+// Reads sectors from `lba` on, one after another. `Err` names the fetch that failed or was stopped.
+fn read_all<U: Unit>(
+    mount: &mut Mount<U>,
+    lba: u64,
+    out: &mut [u8],
+    count: u32,
+    size: usize,
+) -> Result<(), DriveErr>
     requires size { size ≡ mount.old.image.shape.sector }
     requires whole { length out.old ≡ count * size }
     requires inside { lba + count ≤ mount.old.image.shape.capacity }
@@ -209,13 +244,16 @@ fn read_all<U: Unit>(mount: &mut Mount<U>, lba: u64, out: &mut [u8], count: u32,
     ensures same { IsSameMount mount.old mount.new }
     ensures pad { mount.new.pad ≡ mount.old.pad }
     ensures sound { IsSound mount.new }
-    ensures latest { sectors_of size count out.new
+    ensures done { IsOk result → NoneLost mount.old.units mount.new.units }
+    ensures lost { IfErr result (λ e. IsLostAt mount.old.units mount.new.units e.unit e.event) }
+    ensures latest { IsOk result → sectors_of size count out.new
         ≡ slice_range (latest mount.old) lba (lba + count) }
 {
     for index in 0..count {
         let at = index as usize * size;
-        mount.read(lba + u64::from(index), &mut out[at..at + size]);
+        mount.read(lba + u64::from(index), &mut out[at..at + size])?;
     }
+    Ok(())
 }
 
 impl<U: Unit> Port for Serial<U> {
@@ -224,7 +262,7 @@ impl<U: Unit> Port for Serial<U> {
     fn write<R: Wait>(&mut self, rt: &R, lba: u64, bytes: &[u8]) -> Result<Place, WriteErr>
         requires sectors { AreSectors (device self.old).sector (length bytes.now) }
         ensures cause { let count = count_in (device self.old) (length bytes.now) in
-            WriteCause self.new.mount count result }
+            WriteCause self.old.mount self.new.mount count result }
         ensures granted { IfOk result (IsGrantedPlace self.new.mount) }
         ensures pad { self.new.mount.pad ≡ self.old.mount.pad }
 
@@ -254,10 +292,16 @@ impl<U: Unit> Port for Serial<U> {
         let count = (bytes.len() / size) as u32;
         let first = self.mount.front().position;
         let wanted = first + u64::from(count);
-        let claimed = self.mount.claim(rt, wanted);
-        if let Err(have) = claimed {
-            self.add_worn(count, wanted, have);
-            return Err(WriteErr::Worn { wanted, have });
+        match self.mount.claim(rt, wanted) {
+            Ok(()) => (),
+            Err(WaitErr::Drive { unit, event }) => {
+                self.add_fault(unit, event);
+                return Err(WriteErr::Drive { unit, event });
+            }
+            Err(WaitErr::Stuck { have }) => {
+                self.add_worn(count, wanted, have);
+                return Err(WriteErr::Worn { wanted, have });
+            }
         }
         take_all(&mut self.mount, lba, bytes, count, size);
         let place = Place { first, count };
@@ -273,6 +317,7 @@ impl<U: Unit> Port for Serial<U> {
 
     fn read<R: Wait>(&mut self, rt: &R, lba: u64, out: &mut [u8]) -> Result<Front, ReadErr>
         requires sectors { AreSectors (device self.old).sector (length out.old) }
+        ensures cause { ReadCause self.old.mount self.new.mount result }
         ensures pad { self.new.mount.pad ≡ self.old.mount.pad }
 
         // What each `Port` ensures.
@@ -297,13 +342,20 @@ impl<U: Unit> Port for Serial<U> {
         let size = self.mount.shape().sector as usize;
         let count = (out.len() / size) as u32;
         let front = self.mount.front();
-        read_all(&mut self.mount, lba, out, count, size);
-        self.seen = front.position;
-        Ok(front)
+        match read_all(&mut self.mount, lba, out, count, size) {
+            Ok(()) => {
+                self.seen = front.position;
+                Ok(front)
+            }
+            Err(DriveErr { unit, event }) => {
+                self.add_fault(unit, event);
+                Err(ReadErr::Drive { unit, event })
+            }
+        }
     }
 
     fn flush<R: Wait>(&mut self, rt: &R) -> Result<Front, FlushErr>
-        ensures cause { FlushCause self.new.mount result }
+        ensures cause { FlushCause self.old.mount self.new.mount result }
         ensures pad { self.new.mount.pad ≡ max self.old.mount.pad (taken_in self.old.mount) }
 
         // What each `Port` ensures.
@@ -321,13 +373,16 @@ impl<U: Unit> Port for Serial<U> {
     {
         self.catch_up(rt);
         let wanted = self.mount.front().position;
-        let synced = self.mount.sync(rt, wanted);
-        match synced {
+        match self.mount.sync(rt, wanted) {
             Ok(front) => {
                 self.seen = front.position;
                 Ok(front)
             }
-            Err(have) => {
+            Err(WaitErr::Drive { unit, event }) => {
+                self.add_fault(unit, event);
+                Err(FlushErr::Drive { unit, event })
+            }
+            Err(WaitErr::Stuck { have }) => {
                 self.add_worn(0, wanted, have);
                 Err(FlushErr::Worn { wanted, have })
             }

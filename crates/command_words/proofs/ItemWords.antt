@@ -21,15 +21,16 @@ pub lacks_by_place : (c : ℕ) (xs : List ℕ) → ((i : ℕ) → i < length xs 
 lacks_by_place c [] h = tt
 lacks_by_place c (x ∷ xs) h = (h 0 (omega arith), lacks_by_place c xs (λ i below. h (suc i) (omega arith)))
 
--- where the first `=` stands
-parts_agree : (a b x y : List ℕ) → AllByRecursion (λ c. c ≢ 61) a → AllByRecursion (λ c. c ≢ 61) b → a ++ 61 ∷ x ≡ b ++ 61 ∷ y → (a ≡ b) × (x ≡ y)
-parts_agree [] [] x y ha hb e = (refl, cc e)
-parts_agree [] (d ∷ b) x y ha hb e = absurd (hb.0 (cc e))
-parts_agree (c ∷ a) [] x y ha hb e = absurd (ha.0 (cc e))
-parts_agree (c ∷ a) (d ∷ b) x y ha hb e =
+-- where a byte stands for the first time
+pub parts_agree : (s : ℕ) (a b x y : List ℕ) → AllByRecursion (λ c. c ≢ s) a → AllByRecursion (λ c. c ≢ s) b → a ++ s ∷ x ≡ b ++ s ∷ y
+    → (a ≡ b) × (x ≡ y)
+parts_agree s [] [] x y ha hb e = (refl, cc e)
+parts_agree s [] (d ∷ b) x y ha hb e = absurd (hb.0 (cc e))
+parts_agree s (c ∷ a) [] x y ha hb e = absurd (ha.0 (cc e))
+parts_agree s (c ∷ a) (d ∷ b) x y ha hb e =
     let head : c ≡ d = cc e in
-    let tail : a ++ 61 ∷ x ≡ b ++ 61 ∷ y = cc e in
-    let more = parts_agree a b x y ha.1 hb.1 tail in
+    let tail : a ++ s ∷ x ≡ b ++ s ∷ y = cc e in
+    let more = parts_agree s a b x y ha.1 hb.1 tail in
     let name = more.0 in
     (cc, more.1)
 
@@ -53,7 +54,7 @@ with_equals option name value rest others (Named n v) parts lacks plain h = elim
       absurd (all_at (λ c. c ≢ 61) name 61 value (subst (λ x. AllByRecursion (λ c. c ≢ 61) x) (sym same ∙ parts) plain) refl)
   | inr e ↦
       let same : name ++ 61 ∷ value ≡ n ++ 61 ∷ v = sym parts ∙ after_dashes option n v rest others e in
-      let agree = parts_agree name n value v lacks plain same in
+      let agree = parts_agree 61 name n value v lacks plain same in
       (ap (λ x. Named x value) agree.0 ∙ ap (λ x. Named n x) agree.1, cc e, subst (λ x. IsPlainWord x) (sym agree.1) h.0)
 ]
 

@@ -4,3 +4,6 @@ pub mod ItemWords
 pub mod Names
 pub mod OptionValues
 pub mod Reading
+pub mod CreateReading
+pub mod StopWords
+pub mod RunReading

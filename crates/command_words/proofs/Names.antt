@@ -32,34 +32,11 @@ words_of_show words image (e, plain) = record { items = Name image ∷ []; spell
 pub words_of_report : (words : List (List ℕ)) (image : List ℕ) → IsOneName words image → AreWordsOf words (model.Report image)
 words_of_report words image (e, plain) = record { items = Name image ∷ []; spelled = ([], plain, e, refl); of = (refl, refl) }
 
-pub two_names : (words : List (List ℕ)) (image script : List ℕ) → AreWordsOf words (model.Run image script) → (words ≡ image ∷ script ∷ []) × IsPlainWord image
-    × IsPlainWord script
-two_names words image script h =
-    let plain = plain_items h.items words h.spelled h.of.1 in
-    let are : words ≡ image ∷ script ∷ [] = plain.0 ∙ h.of.0 in
-    let all = subst (λ ws. AllByRecursion IsPlainWord ws) are plain.1 in
-    (are, all.0, all.1.0)
-
-pub are_two_names : (words : List (List ℕ)) (image script : List ℕ) → words ≡ image ∷ script ∷ [] → IsPlainWord image → IsPlainWord script
-    → AreWordsOf words (model.Run image script)
-are_two_names words image script e one other = record {
-  items = Name image ∷ Name script ∷ [];
-  spelled = (script ∷ [], one, e, ([], other, refl, refl));
-  of = (refl, refl);
-}
-
 pub one_word : (words : List (String Global)) (w : String Global) (word : List ℕ) → 1 ≤ length words → length words < 2 → w ≡ get_or words 0 w
     → word ≡ string_bytes w → map string_bytes words ≡ word ∷ []
 one_word [] w word low high is e = absurd (omega (arith, low))
 one_word (x ∷ []) w word low high is e = cc
 one_word (x ∷ (y ∷ words)) w word low high is e = absurd (omega (arith, high))
-
-pub two_words : (words : List (String Global)) (w v : String Global) (word other : List ℕ) → 2 ≤ length words → length words < 3 → w ≡ get_or words 0 w
-    → v ≡ get_or words 1 v → word ≡ string_bytes w → other ≡ string_bytes v → map string_bytes words ≡ word ∷ other ∷ []
-two_words [] w v word other low high iw iv e f = absurd (omega (arith, low))
-two_words (x ∷ []) w v word other low high iw iv e f = absurd (omega (arith, low))
-two_words (x ∷ (y ∷ [])) w v word other low high iw iv e f = cc
-two_words (x ∷ (y ∷ (z ∷ words))) w v word other low high iw iv e f = absurd (omega (arith, high))
 
 pub count_of_words : (words : List (String Global)) (ws : List (List ℕ)) → map string_bytes words ≡ ws → length words ≡ length ws
 count_of_words [] ws e = ap length e
@@ -98,7 +75,7 @@ as_create words rest first P e is k (model.Create image numbers) h = k image num
 as_create words rest first P e is k (model.Geometry image) h = absurd (cc (is, (words_of words rest first _ e h).0))
 as_create words rest first P e is k (model.Show image) h = absurd (cc (is, (words_of words rest first _ e h).0))
 as_create words rest first P e is k (model.Report image) h = absurd (not_both first is (words_of words rest first _ e h).0)
-as_create words rest first P e is k (model.Run image script) h = absurd (cc (is, (words_of words rest first _ e h).0))
+as_create words rest first P e is k (model.Run image script options) h = absurd (cc (is, (words_of words rest first _ e h).0))
 
 pub as_geometry : (words rest : List (List ℕ)) (first : List ℕ) (P : model.CommandLine → Type 0) → words ≡ first ∷ rest → first ≡ codes "geometry"
     → ((image : List ℕ) → AreWordsOf rest (model.Geometry image) → P (model.Geometry image)) → (c : model.CommandLine) → IsCommandLine words c → P c
@@ -106,7 +83,7 @@ as_geometry words rest first P e is k (model.Create image numbers) h = absurd (c
 as_geometry words rest first P e is k (model.Geometry image) h = k image (words_of words rest first _ e h).1
 as_geometry words rest first P e is k (model.Show image) h = absurd (cc (is, (words_of words rest first _ e h).0))
 as_geometry words rest first P e is k (model.Report image) h = absurd (cc (is, (words_of words rest first _ e h).0))
-as_geometry words rest first P e is k (model.Run image script) h = absurd (cc (is, (words_of words rest first _ e h).0))
+as_geometry words rest first P e is k (model.Run image script options) h = absurd (cc (is, (words_of words rest first _ e h).0))
 
 pub as_show : (words rest : List (List ℕ)) (first : List ℕ) (P : model.CommandLine → Type 0) → words ≡ first ∷ rest → first ≡ codes "show"
     → ((image : List ℕ) → AreWordsOf rest (model.Show image) → P (model.Show image)) → (c : model.CommandLine) → IsCommandLine words c → P c
@@ -114,7 +91,7 @@ as_show words rest first P e is k (model.Create image numbers) h = absurd (cc (i
 as_show words rest first P e is k (model.Geometry image) h = absurd (cc (is, (words_of words rest first _ e h).0))
 as_show words rest first P e is k (model.Show image) h = k image (words_of words rest first _ e h).1
 as_show words rest first P e is k (model.Report image) h = absurd (cc (is, (words_of words rest first _ e h).0))
-as_show words rest first P e is k (model.Run image script) h = absurd (cc (is, (words_of words rest first _ e h).0))
+as_show words rest first P e is k (model.Run image script options) h = absurd (cc (is, (words_of words rest first _ e h).0))
 
 pub as_report : (words rest : List (List ℕ)) (first : List ℕ) (P : model.CommandLine → Type 0) → words ≡ first ∷ rest → first ≡ codes "report"
     → ((image : List ℕ) → AreWordsOf rest (model.Report image) → P (model.Report image)) → (c : model.CommandLine) → IsCommandLine words c → P c
@@ -122,12 +99,13 @@ as_report words rest first P e is k (model.Create image numbers) h = absurd (not
 as_report words rest first P e is k (model.Geometry image) h = absurd (cc (is, (words_of words rest first _ e h).0))
 as_report words rest first P e is k (model.Show image) h = absurd (cc (is, (words_of words rest first _ e h).0))
 as_report words rest first P e is k (model.Report image) h = k image (words_of words rest first _ e h).1
-as_report words rest first P e is k (model.Run image script) h = absurd (cc (is, (words_of words rest first _ e h).0))
+as_report words rest first P e is k (model.Run image script options) h = absurd (cc (is, (words_of words rest first _ e h).0))
 
 pub as_run : (words rest : List (List ℕ)) (first : List ℕ) (P : model.CommandLine → Type 0) → words ≡ first ∷ rest → first ≡ codes "run"
-    → ((image script : List ℕ) → AreWordsOf rest (model.Run image script) → P (model.Run image script)) → (c : model.CommandLine) → IsCommandLine words c → P c
+    → ((image script : List ℕ) (options : model.RunOptions) → AreWordsOf rest (model.Run image script options) → P (model.Run image script options))
+    → (c : model.CommandLine) → IsCommandLine words c → P c
 as_run words rest first P e is k (model.Create image numbers) h = absurd (cc (is, (words_of words rest first _ e h).0))
 as_run words rest first P e is k (model.Geometry image) h = absurd (cc (is, (words_of words rest first _ e h).0))
 as_run words rest first P e is k (model.Show image) h = absurd (cc (is, (words_of words rest first _ e h).0))
 as_run words rest first P e is k (model.Report image) h = absurd (cc (is, (words_of words rest first _ e h).0))
-as_run words rest first P e is k (model.Run image script) h = k image script (words_of words rest first _ e h).1
+as_run words rest first P e is k (model.Run image script options) h = k image script options (words_of words rest first _ e h).1

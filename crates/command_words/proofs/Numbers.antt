@@ -10,7 +10,7 @@ use Rattle.std.proofs.lemmas.Str.Parse.{IsNumeralModel, numerals_by_value, tells
 use Rattle.command_words.specs.Words.{is_padded}
 use Rattle.lemmas.proofs.Bytes.{short_zero}
 
-digits : IsNumeralModel (AllDigits 10) (digits_value 10)
+pub digits : IsNumeralModel (AllDigits 10) (digits_value 10)
 digits = numerals_by_value (AllDigits 10) tells_digits
 
 plain_first : (bs : List ℕ) → is_padded bs ≡ false → get_or bs 0 0 ≢ 43

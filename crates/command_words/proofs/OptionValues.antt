@@ -124,7 +124,13 @@ one_list (o ∷ os) (m ∷ ms) (n ∷ ns) items small h k =
 -- The options of `create`.
 
 pub small_options : AllByRecursion (λ o. o.below ≤ 2 ^ 64) create_options
-small_options = (omega arith, (omega arith, (omega arith, (omega arith, (omega arith, (omega arith, (omega arith, (omega arith, (omega arith, (omega arith, tt))))))))))
+small_options = (
+  omega arith,
+  (
+    omega arith,
+    (omega arith, (omega arith, (omega arith, (omega arith, (omega arith, (omega arith, (omega arith, (omega arith, tt)))))))),
+  ),
+)
 
 pub one_create : (ms ns : List ℕ) (items : List Item) → AreNumbers create_options ms items → AreNumbers create_options ns items → ms ≡ ns
 one_create ms ns items h k = one_list create_options ms ns items small_options h k
@@ -156,11 +162,11 @@ pub distinct_names : AreDistinct (names create_options)
 distinct_names = distinct_by_test (names create_options) refl
 
 -- no `=` stands in a name
-abbrev is_plain_name : List ℕ → Bool
+abbrev pub is_plain_name : List ℕ → Bool
 is_plain_name [] = true
 is_plain_name (b ∷ bs) = cond (b == 61) false (is_plain_name bs)
 
-plain_by_test : (bs : List ℕ) → is_plain_name bs ≡ true → AllByRecursion (λ b. b ≢ 61) bs
+pub plain_by_test : (bs : List ℕ) → is_plain_name bs ≡ true → AllByRecursion (λ b. b ≢ 61) bs
 plain_by_test [] h = tt
 plain_by_test (b ∷ bs) h = elim (cases_Bool (b == 61)) [
   | inl k ↦ absurd (cc (h, ap (λ t. cond t false (is_plain_name bs)) k))

@@ -4,6 +4,7 @@ use Rattle.std.specs.List.{AllByRecursion}
 use Rattle.std.specs.Str.{bytes_eq}
 use Rattle.std.specs.Fmt.{decimal}
 use Rattle.pblk_model.specs.CommandText.{CreateNumbers}
+use Rattle.unit_port.specs.declared.armed.Fuse.{Fuse}
 
 -- neither empty nor begun with `-`: a file's name, or the value of an option
 abbrev pub IsPlainWord : List ℕ → Type 0
@@ -88,6 +89,28 @@ create_options = record { name = codes "groups"; default = 1; below = 2 ^ 16 }
 abbrev pub numbers_of : CreateNumbers → List ℕ
 numbers_of n = n.groups ∷ n.units ∷ n.chunks ∷ n.blocks ∷ n.ws_min ∷ n.ws_opt ∷ n.mw ∷ n.sector ∷ n.capacity ∷ n.ring ∷ []
 
+-- what a run is told besides its files
+pub record RunOptions : Type 0 where
+  -- where the drive stops, if it does
+  pub stop : Option Fuse
+
+-- the options of `run`, by their names
+abbrev pub IsRunOption : List ℕ → Type 0
+IsRunOption name = name ≡ codes "stop"
+
+-- where a drive stops, as a word says it: the unit, the number of its program or reset, from 1,
+-- and how much of that lands
+abbrev pub IsFuse : Fuse → List ℕ → Type 0
+IsFuse f word = (word ≡ decimal f.unit ++ codes ":" ++ decimal f.nth ++ codes ":" ++ decimal f.cut)
+    × (f.unit < 2 ^ 32) × (0 < f.nth) × (f.nth < 2 ^ 32) × (f.cut < 2 ^ 32)
+
+-- the drive stops exactly where the option is named, and as its word says
+abbrev pub IsStop : Option Fuse → Option (List ℕ) → Type 0
+IsStop None None = ⊤
+IsStop None (Some word) = ⊥
+IsStop (Some f) None = ⊥
+IsStop (Some f) (Some word) = IsFuse f word
+
 -- A command, with its file names and numbers.
 pub data CommandLine : Type 0 where
   -- make a blank image of these numbers
@@ -98,8 +121,8 @@ pub data CommandLine : Type 0 where
   Show : List ℕ → CommandLine
   -- print the numbers of what an image holds
   Report : List ℕ → CommandLine
-  -- run on an image a script
-  Run : List ℕ → List ℕ → CommandLine
+  -- run on an image a script, with these options
+  Run : List ℕ → List ℕ → RunOptions → CommandLine
 
 -- what stands after the first word of a command
 abbrev pub AreItemsOf : List Item → CommandLine → Type 0
@@ -108,14 +131,15 @@ AreItemsOf items (Create image numbers) = (names_in items ≡ image ∷ []) × A
 AreItemsOf items (Geometry image) = (names_in items ≡ image ∷ []) × (options_in items ≡ [])
 AreItemsOf items (Show image) = (names_in items ≡ image ∷ []) × (options_in items ≡ [])
 AreItemsOf items (Report image) = (names_in items ≡ image ∷ []) × (options_in items ≡ [])
-AreItemsOf items (Run image script) = (names_in items ≡ image ∷ script ∷ []) × (options_in items ≡ [])
+AreItemsOf items (Run image script options) = (names_in items ≡ image ∷ script ∷ []) × AllByRecursion IsRunOption (options_in items)
+    × AreDistinct (options_in items) × IsStop options.stop (value_in (codes "stop") items)
 
 abbrev pub first_word : CommandLine → List ℕ
 first_word (Create image numbers) = codes "create"
 first_word (Geometry image) = codes "geometry"
 first_word (Show image) = codes "show"
 first_word (Report image) = codes "report"
-first_word (Run image script) = codes "run"
+first_word (Run image script options) = codes "run"
 
 -- the words are this command
 pub record IsCommandLine (words : List (List ℕ)) (c : CommandLine) : Type 0 where

@@ -1,19 +1,23 @@
 -- What is seen of the words that are read, and what has been read of them.
-use Rattle.std.specs.Prelude.{ℕ, ◌≡◌, ◌≢◌, ◌<◌, ◌==◌, ◌||◌, ⊤, Bool, false, List, [], ◌∷◌, Option, Some, None}
+use Rattle.std.specs.Prelude.{ℕ, ◌≡◌, ◌≢◌, ◌<◌, ◌==◌, ◌||◌, ⊤, Bool, false, List, [], ◌∷◌, ◌++◌, codes, Option, Some, None}
 use Rattle.std.specs.List.{AllByRecursion}
 use Rattle.std.specs.Borrow.{Bor}
 use Rattle.std.specs.Fmt.{decimal}
 use Rattle.pblk_model.specs.CommandText as text
 use Rattle.command_words.specs.Grammar as model
-use Rattle.command_words.specs.Grammar.{NumberOption, IsPlainWord, IsOptionBefore, IsOneOf, AreItems, AreItemsOf, AreDistinct, names_in, options_in, value_in, create_options}
+use Rattle.command_words.specs.Grammar.{NumberOption, IsPlainWord, IsOptionBefore, IsOneOf, IsRunOption, IsStop, AreItems, AreItemsOf, AreDistinct, names_in, options_in, value_in, create_options}
 use Rattle.command_words.specs.declared.command.CommandLine.{CommandLine}
 use Rattle.command_words.specs.declared.command.CommandLine.TheVariants as lines
 use Rattle.command_words.specs.declared.command.CreateNumbers.{CreateNumbers}
+use Rattle.command_words.specs.declared.command.RunOptions.{RunOptions}
 use Rattle.command_words.specs.declared.item.Item.{Item}
 use Rattle.command_words.specs.declared.item.Item.TheVariants as items
 use Rattle.command_words.specs.declared.options.CreateOption.{CreateOption}
 use Rattle.command_words.specs.declared.options.CreateOption.TheVariants as options
 use Rattle.command_words.specs.declared.create.CreateWords.{CreateWords}
+use Rattle.command_words.specs.declared.run.RunNames.{RunNames}
+use Rattle.command_words.specs.declared.run.RunNames.TheVariants as run_names
+use Rattle.command_words.specs.declared.run.RunWords.{RunWords}
 
 -- the numbers, as the model has them
 abbrev pub numbers_seen : CreateNumbers → text.CreateNumbers
@@ -30,13 +34,17 @@ numbers_seen n = record {
   ring = n.ring;
 }
 
+-- the options, as the model has them
+abbrev pub options_seen : RunOptions → model.RunOptions
+options_seen o = record { stop = o.stop }
+
 -- a command that was read, as the model has it
 abbrev pub seen : CommandLine → model.CommandLine
 seen (lines.Create image numbers) = model.Create image.now (numbers_seen numbers)
 seen (lines.Geometry image) = model.Geometry image.now
 seen (lines.Show image) = model.Show image.now
 seen (lines.Report image) = model.Report image.now
-seen (lines.Run image script) = model.Run image.now script.now
+seen (lines.Run image script options) = model.Run image.now script.now (options_seen options)
 
 -- these words after the first one are this command's
 pub record AreWordsOf (words : List (List ℕ)) (c : model.CommandLine) : Type 0 where
@@ -113,3 +121,24 @@ pub record HasRead (items : List model.Item) (w : CreateWords) : Type 0 where
   pub known : AllByRecursion (IsOneOf create_options) (options_in items)
   pub distinct : AreDistinct (options_in items)
   pub values : AreValues create_options w.values items
+
+-- What has been read of the words of `run`.
+
+-- the names, in their order
+abbrev pub names_read : RunNames → List (List ℕ)
+names_read run_names.Nothing = []
+names_read (run_names.Image image) = image.now ∷ []
+names_read (run_names.Both image script) = image.now ∷ script.now ∷ []
+
+-- these items were read so far, and so may be the first ones of `run`
+pub record HasReadRun (items : List model.Item) (w : RunWords) : Type 0 where
+  pub names : names_in items ≡ names_read w.names
+  pub known : AllByRecursion IsRunOption (options_in items)
+  pub distinct : AreDistinct (options_in items)
+  pub stop : IsStop w.options.stop (value_in (codes "stop") items)
+
+-- a word in three parts, with a `:` between any two, of which the first two have none in them
+pub record IsInThree (first second third word : List ℕ) : Type 0 where
+  pub is : word ≡ first ++ codes ":" ++ second ++ codes ":" ++ third
+  pub first_plain : AllByRecursion (λ byte. byte ≢ 58) first
+  pub second_plain : AllByRecursion (λ byte. byte ≢ 58) second

@@ -1,5 +1,7 @@
 //! What the words of a command line say.
 
+use unit_port::Fuse;
+
 /// The numbers of a drive to be made, each as the option of its name gives it.
 #[derive(Clone, Copy, Debug, PartialEq, Eq)]
 pub struct CreateNumbers {
@@ -23,6 +25,13 @@ pub struct CreateNumbers {
     pub capacity: u64,
     /// Entries of the write buffer.
     pub ring: u32,
+}
+
+/// What a run is told besides its files, each as the option of its name gives it.
+#[derive(Clone, Copy, Debug, PartialEq, Eq)]
+pub struct RunOptions {
+    /// Where the drive stops. None is nowhere.
+    pub stop: Option<Fuse>,
 }
 
 /// A command with its file names and numbers. The names are neither empty nor begin with `-`.
@@ -49,5 +58,6 @@ pub enum CommandLine<'a> {
     Run {
         image: &'a str,
         script: &'a str,
+        options: RunOptions,
     },
 }

@@ -5,10 +5,13 @@
 
 mod command;
 mod create;
+mod fuse;
 mod item;
 mod number;
 mod options;
+mod run;
 mod words;
 
-pub use command::{CommandLine, CreateNumbers};
+pub use command::{CommandLine, CreateNumbers, RunOptions};
+pub use unit_port::Fuse;
 pub use words::read_words;

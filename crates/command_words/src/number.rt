@@ -15,7 +15,20 @@ pub(crate) fn read_number(word: &str) -> Option<u64>
     word.parse::<u64>().ok()
 }
 
-// Whether a word begins with `+`, or with a 0 that more follows: Rust's own reading of numbers takes both.
+/// The number below 2^32 that a word spells so.
+pub(crate) fn read_small(word: &str) -> Option<u32>
+    ensures found { IfSome result (λ n. word.now ≡ decimal n) }
+    ensures none { IfNone result ((n : ℕ) → n < 2 ^ 32 → word.now ≢ decimal n) }
+{
+    let number = read_number(word)?;
+    if number > u64::from(u32::MAX) {
+        return None;
+    }
+    Some(number as u32)
+}
+
+// Whether a word begins with `+`, or with a 0 that more follows: Rust's own reading of numbers
+// takes both.
 fn is_padded(word: &[u8]) -> bool
     ensures { result ≡ is_padded word.now }
 {

@@ -9,18 +9,23 @@ ghost use Rattle.command_words.specs.Words.{AreWordsOf, IsOneName, seen};
 use crate::command::CommandLine;
 use crate::create::read_create;
 use crate::item::is_plain;
+use crate::run::read_run;
 
-/// Reads the words of a command line: `create IMAGE`, `geometry IMAGE`, `show IMAGE`, `report IMAGE` or
-/// `run IMAGE SCRIPT`.
+/// Reads the words of a command line: `create IMAGE`, `geometry IMAGE`, `show IMAGE`, `report
+/// IMAGE` or `run IMAGE SCRIPT`.
 ///
-/// Options of `create` stand anywhere after its first word, as `--name value` or `--name=value`, each at most
-/// once: `--groups` and `--units` (in a group) are below 2^16; `--chunks`, `--blocks`, `--ws-min`, `--ws-opt`,
-/// `--mw`, `--sector` and `--ring` below 2^32; `--capacity` below 2^64. Numbers are `0` or digits without a
-/// leading 0. The other commands have no options.
+/// Options of `create` stand anywhere after its first word, as `--name value` or `--name=value`,
+/// each at most once: `--groups` and `--units` (in a group) are below 2^16; `--chunks`, `--blocks`,
+/// `--ws-min`, `--ws-opt`, `--mw`, `--sector` and `--ring` below 2^32; `--capacity` below 2^64.
+/// Numbers are `0` or digits without a leading 0.
 ///
-/// None where the words are no command: the first one is none of these, a word is missing or too many, a word
-/// is empty, a word begins with `-` and isn't one of the command's options, an option is named twice, or its
-/// value isn't such a number.
+/// The option `--stop unit:nth:cut` of `run` stands anywhere after its first word in the same way,
+/// at most once. Its numbers are below 2^32, and nth is at least 1. The other commands have no
+/// options.
+///
+/// None where the words are no command: the first one is none of these, a word is missing or too
+/// many, a word is empty, a word begins with `-` and isn't one of the command's options, an option
+/// is named twice, or its value isn't such a number or such a stop.
 pub fn read_words(words: &[String]) -> Option<CommandLine<'_>>
     ensures found { IfSome result (λ c. IsCommandLine (map string_bytes words.now) (seen c)) }
     ensures none { IfNone result
@@ -49,8 +54,12 @@ pub fn read_words(words: &[String]) -> Option<CommandLine<'_>>
             Some(CommandLine::Report { image })
         }
         "run" => {
-            let (image, script) = read_names(rest)?;
-            Some(CommandLine::Run { image, script })
+            let (image, script, options) = read_run(rest)?;
+            Some(CommandLine::Run {
+                image,
+                script,
+                options,
+            })
         }
         _ => None,
     }
@@ -67,23 +76,4 @@ fn read_name(words: &[String]) -> Option<&str>
     };
     let image = image.as_str();
     if is_plain(image) { Some(image) } else { None }
-}
-
-// The words after `run`.
-fn read_names(words: &[String]) -> Option<(&str, &str)>
-    ensures found { IfSome result
-        (λ r. AreWordsOf (map string_bytes words.now) (model.Run r.0.now r.1.now)) }
-    ensures only { (image script : List ℕ)
-        → AreWordsOf (map string_bytes words.now) (model.Run image script)
-        → IsSomeAnd result (λ r. (r.0.now ≡ image) × (r.1.now ≡ script)) }
-{
-    let [image, script] = words else {
-        return None;
-    };
-    let (image, script) = (image.as_str(), script.as_str());
-    if is_plain(image) && is_plain(script) {
-        Some((image, script))
-    } else {
-        None
-    }
 }

@@ -1,5 +1,5 @@
 -- The units of an opened line: they stay from its opening on, and each stripe is on one of them.
-use Rattle.std.proofs.Common.{◌≡◌, ◌⊎◌, inl, inr, ℕ, ◌+◌, ◌-◌, ◌<◌, ◌≤◌, ◌==◌, Bool, true, false, Some, List, [], ◌∷◌, ◌++◌, length, take, refl, sym, subst, ap, ◌∙◌, arith, if◌then◌else◌, length-append}
+use Rattle.std.proofs.Common.{◌≡◌, ◌⊎◌, inl, inr, ℕ, ◌+◌, ◌<◌, ◌≤◌, ◌==◌, Bool, true, false, Some, List, [], ◌∷◌, ◌++◌, length, refl, sym, subst, ap, ◌∙◌, arith, if◌then◌else◌, length-append}
 use Rattle.std.specs.Prelude.{slice_get}
 use Rattle.std.specs.List.{AllByRecursion, range_with_len}
 use Rattle.pblk_model.specs.LineOrder.{column_of, block_of}
@@ -12,13 +12,12 @@ use Rattle.pblk_world.specs.Legal.{IsLegal}
 use Rattle.pblk_world.specs.Lines.{known_image, place_of}
 use Rattle.pblk_world.specs.Placing.{next_address, IsStart, IsData, IsEnd, IsPad, MayPlace}
 use Rattle.pblk_world.specs.Victims.{engine_prefix}
-use Rattle.world_laws.specs.LegalMounts.{IsLegalMount, NoneFreed, decides, is_freeing}
+use Rattle.world_laws.specs.LegalMounts.{IsLegalMount}
 use Rattle.world_laws.proofs.Later.{placed_within}
 use Rattle.world_laws.proofs.Openings.{placed_at}
 use Rattle.world_laws.proofs.Stripes.{IsPlaced, opening_then, placed_is}
 use Rattle.world_laws.proofs.LifePlaces.{began}
 use Rattle.world_laws.proofs.LifeUnits.{units_of_life}
-use Rattle.world_laws.proofs.NextLives.{IsFreedAt, open_or_freed}
 use Rattle.core_laws.specs.OpenedLines.{opened_units}
 use Rattle.core_laws.specs.SimpleMounts.{IsSimpleMount}
 use Rattle.core_laws.proofs.OpeningNumbers.{life_at}
@@ -29,7 +28,7 @@ use Rattle.core_laws.proofs.UnitBits.{units_are}
 use Rattle.core_laws.proofs.LiveChunks.{open_on}
 use Rattle.lemmas.proofs.Lists.{IsAmong, all_imply, among_all}
 use Rattle.lemmas.proofs.Options.{mapped_some}
-use Rattle.lemmas.proofs.Parts.{all_at, contained_among, take_all}
+use Rattle.lemmas.proofs.Parts.{contained_among}
 use Rattle.pblk_world.proofs.LinesLemmas.{length_known}
 use Rattle.pblk_world.proofs.VictimsLemmas.{whole_prefix}
 

@@ -1,6 +1,6 @@
 -- What the parts of a row are by.
-use Rattle.std.proofs.Common.{◌≡◌, ℕ, ◌==◌, ◌&&◌, nat_lt, false, Some, None, Option, List, [], ◌∷◌, ◌++◌, length, refl, ap, ap₂, ◌∙◌, append-nil}
-use Rattle.std.specs.Prelude.{if◌then◌else◌, map}
+use Rattle.std.proofs.Common.{◌≡◌, ℕ, ◌==◌, ◌&&◌, nat_lt, Some, None, Option, List, [], ◌∷◌, ◌++◌, length, refl, ap, ap₂, ◌∙◌, append-nil}
+use Rattle.std.specs.Prelude.{if◌then◌else◌, ⊤, map, slice_index}
 use Rattle.std.specs.List.{filter, filter_map, last_or, range_with_len, cons_option, enumerate_from}
 use Rattle.std.specs.Option.{option_map, is_some}
 use Rattle.std.proofs.lemmas.List.Elements.{filter_map-append}
@@ -15,13 +15,15 @@ use Rattle.pblk_world.specs.World.{Logs}
 use Rattle.pblk_world.specs.EngineLog.{begun, begun_by, LineLife, AsFound, Opened, Freed, life_of, Opening, Taken, takes}
 use Rattle.pblk_world.specs.Fronts.{last_take}
 use Rattle.pblk_world.specs.Lines.{found_image, told_by, told_events, known_image, are_empty}
-use Rattle.pblk_world.specs.Victims.{is_freed, line_of, is_live_in, live, landed_line_of, took_from, take_before}
+use Rattle.pblk_world.specs.Victims.{line_of, is_live_in, live, landed_line_of, took_from, take_before}
 use Rattle.line_table.specs.declared.row.LineState.{LineState}
 use Rattle.line_table.specs.declared.row.LineState.TheVariants.{Free, Full, Failed, Dead}
 use Rattle.line_table.specs.declared.row.LineState.TheVariants as states
 use Rattle.line_table.specs.declared.row.Row.{Row}
 use Rattle.core_laws.specs.Stepping.{after}
-use Rattle.core_laws.specs.RowsOf.{state_found, state_in, width_in, taker_by, taker_in, row_of_line}
+use Rattle.core_laws.specs.PlainLogs.{FreedBefore}
+use Rattle.core_laws.specs.RowsOf.{logs_then, state_found, state_in, width_in, taker_by, taker_in, row_of_line}
+use Rattle.core_laws.proofs.Engine.{prefix_same}
 use Rattle.core_laws.proofs.KeptStripes.{with_event}
 use Rattle.core_laws.proofs.SteppingLemmas.{found_kept}
 use Rattle.lemmas.proofs.Maps.{filter_same, map_same}
@@ -65,31 +67,53 @@ state_found_same : (i : Image) (logs new : Logs) (line : ℕ) → KeepsChunks i 
 state_found_same i logs new line keeps None = ap₂ (λ b g. if b then (if data_len i.shape g == 0 then Dead else Free) else states.Freed) keeps.empty keeps.wide
 state_found_same i logs new line keeps (Some start) = ap (λ (f : Image). if is_some (end_of f line start) then Full else Failed) keeps.found
 
-pub state_same : (i : Image) (logs new : Logs) (line : ℕ) (life : LineLife) → KeepsChunks i logs new line → is_freed life ≡ false
+-- A line that was freed has the width, and what had taken sectors from it, of the moment at which
+-- it was.
+abbrev pub KeepsThen : Image → Logs → Logs → ℕ → LineLife → Type 0
+KeepsThen i logs new line AsFound = ⊤
+KeepsThen i logs new line (Opened o) = ⊤
+KeepsThen i logs new line (Freed past knows) =
+    (width (known_image i (logs_then knows new)) line ≡ width (known_image i (logs_then knows logs)) line)
+    × (taker_by i (logs_then knows new) line ≡ taker_by i (logs_then knows logs) line)
+
+-- a further event of the engine changes nothing of earlier moments
+pub then_kept : (i : Image) (logs : Logs) (e : EngineEvent) (knows : List ℕ) (line : ℕ) → FreedBefore (logs 0)
+    → KeepsThen i logs (after logs e knows) line (life_of (logs 0) line)
+then_kept i logs e knows line before = go (life_of (logs 0) line) refl
+  where
+    go : (life : LineLife) → life_of (logs 0) line ≡ life → KeepsThen i logs (after logs e knows) line life
+    go AsFound is = tt
+    go (Opened o) is = tt
+    go (Freed past ks) is =
+        let same : logs_then ks (after logs e knows) ≡ logs_then ks logs = prefix_same logs e knows (slice_index ks 0) (before line past ks is) in
+        (ap (λ (ls : Logs). width (known_image i ls) line) same, ap (λ (ls : Logs). taker_by i ls line) same)
+
+pub state_same : (i : Image) (logs new : Logs) (line : ℕ) (life : LineLife) → KeepsChunks i logs new line
     → ((o : Opening) → life ≡ Opened o → state_in i new line (Opened o) ≡ state_in i logs line (Opened o))
     → state_in i new line life ≡ state_in i logs line life
-state_same i logs new line AsFound keeps freed opened =
+state_same i logs new line AsFound keeps opened =
     ap (λ (f : Image). state_found i new line (start_of f line)) keeps.found ∙ state_found_same i logs new line keeps (start_of (found_image i logs) line)
-state_same i logs new line (Opened o) keeps freed opened = opened o refl
-state_same i logs new line (Freed past knows) keeps freed opened = absurd cc
+state_same i logs new line (Opened o) keeps opened = opened o refl
+state_same i logs new line (Freed past knows) keeps opened = state_found_same i logs new line keeps None
 
-pub width_same : (i : Image) (logs new : Logs) (line : ℕ) (life : LineLife) → KeepsChunks i logs new line → is_freed life ≡ false
+pub width_same : (i : Image) (logs new : Logs) (line : ℕ) (life : LineLife) → KeepsChunks i logs new line → KeepsThen i logs new line life
     → width_in i new line life ≡ width_in i logs line life
-width_same i logs new line AsFound keeps freed =
+width_same i logs new line AsFound keeps then_ =
     (λ k. if keeps.empty k then keeps.wide k else width (keeps.found k) line)
-width_same i logs new line (Opened o) keeps freed = refl
-width_same i logs new line (Freed past knows) keeps freed = absurd cc
+width_same i logs new line (Opened o) keeps then_ = refl
+width_same i logs new line (Freed past knows) keeps then_ =
+    (λ k. if keeps.empty k then keeps.wide k else then_.0 k)
 
 -- where each sector's entries are
 pub live_same : (i : Image) (logs new : Logs) (line : ℕ) → ((lba : ℕ) → is_live_in i new line lba ≡ is_live_in i logs line lba)
     → live i new line ≡ live i logs line
 live_same i logs new line same = ap length (filter_same (is_live_in i new line) (is_live_in i logs line) same (range_with_len 0 i.shape.capacity))
 
-pub taker_same : (i : Image) (logs new : Logs) (line : ℕ) (life : LineLife) → is_freed life ≡ false → taker_by i new line ≡ taker_by i logs line
+pub taker_same : (i : Image) (logs new : Logs) (line : ℕ) (life : LineLife) → KeepsThen i logs new line life → taker_by i new line ≡ taker_by i logs line
     → taker_in i new line life ≡ taker_in i logs line life
-taker_same i logs new line AsFound freed same = same
-taker_same i logs new line (Opened o) freed same = same
-taker_same i logs new line (Freed past knows) freed same = absurd cc
+taker_same i logs new line AsFound then_ same = same
+taker_same i logs new line (Opened o) then_ same = same
+taker_same i logs new line (Freed past knows) then_ same = then_.1
 
 -- nothing was taken, what was is in the same lines, and what has landed has landed in the same ones
 pub record KeepsLines (i : Image) (logs new : Logs) : Type 0 where
@@ -126,15 +150,15 @@ pub same_row : (a b : LineState) (m n p q : ℕ) (s t : Option ℕ) → a ≡ b 
 same_row a b m n p q s t e f g h = λ k. row_parts (e k) (f k) (g k) (h k)
 
 -- a line whose life, chunks and entries are as they were
-pub row_kept : (i : Image) (logs new : Logs) (line : ℕ) → life_of (new 0) line ≡ life_of (logs 0) line → is_freed (life_of (logs 0) line) ≡ false
+pub row_kept : (i : Image) (logs new : Logs) (line : ℕ) → life_of (new 0) line ≡ life_of (logs 0) line → KeepsThen i logs new line (life_of (logs 0) line)
     → KeepsChunks i logs new line
     → KeepsLines i logs new → ((o : Opening) → life_of (logs 0) line ≡ Opened o → state_in i new line (Opened o) ≡ state_in i logs line (Opened o))
     → row_of_line i new line ≡ row_of_line i logs line
-row_kept i logs new line life freed chunks lines opened =
+row_kept i logs new line life then_ chunks lines opened =
     let now : LineLife = life_of (logs 0) line in
     same_row (state_in i new line (life_of (new 0) line)) (state_in i logs line now) (width_in i new line (life_of (new 0) line)) (width_in i logs line now)
     (live i new line) (live i logs line) (taker_in i new line (life_of (new 0) line)) (taker_in i logs line now)
-    (ap (state_in i new line) life ∙ state_same i logs new line now chunks freed opened)
-    (ap (width_in i new line) life ∙ width_same i logs new line now chunks freed)
+    (ap (state_in i new line) life ∙ state_same i logs new line now chunks opened)
+    (ap (width_in i new line) life ∙ width_same i logs new line now chunks then_)
     (live_kept i logs new line lines)
-    (ap (taker_in i new line) life ∙ taker_same i logs new line now freed (taker_kept i logs new line lines))
+    (ap (taker_in i new line) life ∙ taker_same i logs new line now then_ (taker_kept i logs new line lines))

@@ -12,7 +12,7 @@ use Rattle.std.proofs.Math.Seq.{take-length}
 use Rattle.pblk_model.specs.declared.chunk.ChunkState.{ChunkState}
 use Rattle.pblk_model.specs.declared.chunk.ChunkState.TheVariants as states
 use Rattle.pblk_model.specs.declared.shape.Shape.{Shape}
-use Rattle.pblk_model.specs.Chunk.{Block, Chunk, PointerFits, free_chunk, offline_chunk, pointer}
+use Rattle.pblk_model.specs.Chunk.{Block, Chunk, free_chunk, offline_chunk, pointer}
 use Rattle.pblk_model.specs.ChunkStep.{Reset, Write, appended, closed_after, reset_in}
 use Rattle.pblk_model.specs.UnitLog.{Answered, Failed, Stopped, UnitEvent, UnitOutcome, after_event, after_log, after_outcome}
 use Rattle.pblk_model.specs.Image.{Image}

@@ -18,8 +18,7 @@ use Rattle.pblk_world.specs.Victims.{line_of_position, line_of, landed_line, lan
 use Rattle.line_table.specs.declared.row.LineState.TheVariants as states
 use Rattle.core_laws.specs.RowsOf.{rows_of}
 use Rattle.core_laws.specs.KnownLogs.{AreKnown}
-use Rattle.core_laws.specs.PlainLogs.{NoLineFreed}
-use Rattle.core_laws.proofs.KeptRows.{row_kept}
+use Rattle.core_laws.proofs.KeptRows.{KeepsLines, row_kept, KeepsThen}
 use Rattle.core_laws.proofs.RangeSums.{sum_same}
 use Rattle.core_laws.proofs.ChangedTables.{rows_stay}
 
@@ -35,11 +34,19 @@ landed_known : (i : Image) (logs more : Logs) → AreKnown i logs more → (lba 
 landed_known i logs more is lba None = line_known i logs more is lba None
 landed_known i logs more is lba (Some t) = ap (λ (xs : List Logged). landed_line i.shape xs t.entry.position) is.own
 
-pub rows_known : (i : Image) (logs more : Logs) → AreKnown i logs more → NoLineFreed (logs 0) → rows_of i more ≡ rows_of i logs
-rows_known i logs more is freed = rows_stay i logs more (λ m.
-    row_kept i logs more m (ap (λ (xs : List Logged). life_of xs m) is.own) (freed m)
+pub lines_known : (i : Image) (logs more : Logs) → AreKnown i logs more → KeepsLines i logs more
+lines_known i logs more is = record {
+  takes = ap takes is.own;
+  line_of = λ lba t. line_known i logs more is lba t;
+  landed = λ lba t. landed_known i logs more is lba t;
+}
+
+pub rows_known : (i : Image) (logs more : Logs) → AreKnown i logs more → ((line : ℕ) → KeepsThen i logs more line (life_of (logs 0) line))
+    → rows_of i more ≡ rows_of i logs
+rows_known i logs more is then_ = rows_stay i logs more (λ m.
+    row_kept i logs more m (ap (λ (xs : List Logged). life_of xs m) is.own) (then_ m)
     (record { found = is.found; empty = ap (λ (j : Image). are_empty j m) is.image; wide = ap (λ (j : Image). width j m) is.image })
-    (record { takes = ap takes is.own; line_of = λ lba t. line_known i logs more is lba t; landed = λ lba t. landed_known i logs more is lba t })
+    (lines_known i logs more is)
     (λ o e. ap (λ (xs : List Logged). if has_failed xs o then states.Failed else if have_landed xs o
     (line_end i.shape o / i.shape.ws_opt) then states.Full else states.Open) is.own))
 

@@ -11,11 +11,11 @@ use Rattle.pblk_model.specs.UnitLog.{UnitEvent}
 use Rattle.pblk_model.specs.Image.{Image}
 use Rattle.pblk_world.specs.Events.{Landed, Decides, Logged}
 use Rattle.pblk_world.specs.World.{Logs, unit_event_at}
-use Rattle.pblk_world.specs.EngineLog.{Opened, life_of, is_life, Opening, Placed, placements, DidLand, answer_of, is_land, has_landed, has_failed, holds_position, Taken, takes}
+use Rattle.pblk_world.specs.EngineLog.{Opened, life_of, is_life, Opening, Placed, placements, DidLand, answer_of, is_land, has_landed, has_failed, holds_position, Taken, takes, AsFound, Freed, LineLife}
 use Rattle.pblk_world.specs.Lines.{told_by}
 use Rattle.pblk_world.specs.Starts.{have_landed}
 use Rattle.pblk_world.specs.Placing.{line_end}
-use Rattle.pblk_world.specs.Victims.{is_in_force, line_of, landed_line, landed_line_of}
+use Rattle.pblk_world.specs.Victims.{is_in_force, line_of, landed_line, landed_line_of, is_freed}
 use Rattle.line_table.specs.declared.row.LineState.TheVariants as states
 use Rattle.core_laws.specs.Stepping.{after}
 use Rattle.core_laws.specs.PlacerOf.{unanswered_on}
@@ -25,19 +25,18 @@ use Rattle.core_laws.proofs.Answered.{first_unanswered, its_answer, others_answe
 use Rattle.core_laws.proofs.SteppingLemmas.{found_kept}
 use Rattle.core_laws.specs.ChangedTables.{with_row, full_if}
 use Rattle.core_laws.specs.PlacedEntries.{note_entries}
-use Rattle.core_laws.specs.PlainLogs.{NoLineFreed, NoLineFailed}
+use Rattle.core_laws.specs.PlainLogs.{FreedBefore, NoLineFailed}
 use Rattle.core_laws.proofs.KeptStripes.{with_event, KeepsStripes, stripes_kept, lives_kept}
-use Rattle.core_laws.proofs.KeptRows.{KeepsChunks, live_by, state_same, width_same, row_parts, same_row}
+use Rattle.core_laws.proofs.KeptRows.{KeepsChunks, live_by, state_same, width_same, row_parts, same_row, KeepsThen, then_kept}
 use Rattle.core_laws.proofs.LandedRows.{force_kept, winner_kept, line_of_kept, none_taken, keeps_chunks}
 use Rattle.core_laws.proofs.OpenAddresses.{failed_kept}
 use Rattle.core_laws.proofs.FirstAnswers.{its_landing, have_landed_beside, have_landed_stays}
 use Rattle.core_laws.proofs.NextTakes.{IsRising}
 use Rattle.core_laws.proofs.EntryRows.{Places, live_with, taker_with, IsNowhere}
-use Rattle.core_laws.proofs.PlacedEntryRows.{row_with, IsEntry, with_entries, entries_are, entries_landed}
+use Rattle.core_laws.proofs.PlacedEntryRows.{row_with, IsEntry, with_entries, entries_are, entries_landed, taker_for}
 use Rattle.core_laws.proofs.PlacedPlaces.{BearsThese, any_nowhere, none_at}
 use Rattle.core_laws.proofs.PlacedRows.{table_was}
 use Rattle.core_laws.proofs.ChangedTables.{table_changes}
-use Rattle.core_laws.proofs.TakenRows.{taker_is}
 use Rattle.lemmas.proofs.Lists.{IsAmong, all_imply, among_all}
 use Rattle.lemmas.proofs.Maps.{find_agree}
 use Rattle.lemmas.proofs.Options.{none_of_map}
@@ -158,20 +157,20 @@ state_now false true false fine stays wide sectors taker = absurd (cc (stays ref
 state_now false false true fine stays wide sectors taker = refl
 state_now false false false fine stays wide sectors taker = refl
 
-pub rows_landed : (i : Image) (logs : Logs) (unit event : ℕ) (knows : List ℕ) (p : Placed) (o : Opening) (ts : List Taken) → NoLineFreed (logs 0)
+pub rows_landed : (i : Image) (logs : Logs) (unit event : ℕ) (knows : List ℕ) (p : Placed) (o : Opening) (ts : List Taken) → FreedBefore (logs 0)
     → NoLineFailed (logs 0) → unanswered_on (logs 0) unit ≡ Some p → p.life ≡ Opened o
     → life_of (logs 0) p.stripe.line ≡ Opened o → ((e : UnitEvent) → unit_event_at logs unit event ≡ Some e → e.chunk ≡ p.stripe.line)
     → IsRising (takes (logs 0)) → AreItsEntries i logs p ts
     → rows_of i (after logs (Landed unit event) knows)
     ≡ with_row p.stripe.line (full_if (have_landed (after logs (Landed unit event) knows 0) o (line_end i.shape o / i.shape.ws_opt)))
     (note_entries (logs 0) p.stripe.line (rows_of i logs) ts)
-rows_landed i logs unit event knows p o ts freed fine waits its opened chunk rise are =
+rows_landed i logs unit event knows p o ts before fine waits its opened chunk rise are =
     table_changes i.shape (row_with i logs (line_of i logs) landed) (row_of_line i new) p.stripe.line (full_if (have_landed (new 0) o n)) here there
     ∙ ap (with_row p.stripe.line (full_if (have_landed (new 0) o n)))
-    (entries_landed i logs p.stripe.line ts (line_of i logs) (landed_line_of i logs) rise are.rising are.among
+    (entries_landed i logs p.stripe.line ts (line_of i logs) (landed_line_of i logs) (ap is_freed opened) rise are.rising are.among
     (all_imply (λ (t : Taken). landed_line i.shape (logs 0) t.entry.position ≡ None) (λ (t : Taken). IsNowhere t.entry.position (landed_line_of i logs))
     (λ t h. λ lba u e. ap (landed_line i.shape (logs 0)) e ∙ h) ts are.nowhere)
-    ∙ ap (λ table. note_entries (logs 0) p.stripe.line table ts) (sym (table_was i logs freed)))
+    ∙ ap (λ table. note_entries (logs 0) p.stripe.line table ts) (sym (table_was i logs)))
   where
     new : Logs
     new = after logs (Landed unit event) knows
@@ -197,9 +196,16 @@ rows_landed i logs unit event knows p o ts freed fine waits its opened chunk ris
     landed_is : landed_line_of i new ≡ landed
     landed_is = λ k lba t. places_landed i logs unit event knows p o ts waits its opened are lba t k
 
-    taker_now : (m : ℕ) → taker_in i new m (life_of (new 0) m) ≡ taker_with i.shape.capacity (takes (logs 0)) landed m
-    taker_now m = ap (taker_in i new m) (life m) ∙ taker_is i new m (life_of (logs 0) m) (freed m)
-        ∙ ap₂ (λ ts ps. taker_with i.shape.capacity ts ps m) takes_same landed_is
+    then_ : (m : ℕ) → KeepsThen i logs new m (life_of (logs 0) m)
+    then_ m = then_kept i logs (Landed unit event) knows m before
+
+    taker_for_life : (m : ℕ) (l : LineLife) → KeepsThen i logs new m l → taker_in i new m l ≡ taker_for i logs landed m l
+    taker_for_life m AsFound same = ap₂ (λ ts ps. taker_with i.shape.capacity ts ps m) takes_same landed_is
+    taker_for_life m (Opened q) same = ap₂ (λ ts ps. taker_with i.shape.capacity ts ps m) takes_same landed_is
+    taker_for_life m (Freed past ks) same = same.1
+
+    taker_now : (m : ℕ) → taker_in i new m (life_of (new 0) m) ≡ taker_for i logs landed m (life_of (logs 0) m)
+    taker_now m = ap (taker_in i new m) (life m) ∙ taker_for_life m (life_of (logs 0) m) (then_ m)
 
     here : row_of_line i new p.stripe.line ≡ full_if (have_landed (new 0) o n) (row_with i logs (line_of i logs) landed p.stripe.line)
     here =
@@ -207,19 +213,19 @@ rows_landed i logs unit event knows p o ts freed fine waits its opened chunk ris
         (if has_failed (logs 0) o then states.Failed else if have_landed (new 0) o n then states.Full else states.Open)
         (width_in i new p.stripe.line (life_of (new 0) p.stripe.line)) o.start.width
         (row_of_line i new p.stripe.line).live (live_with i.shape.capacity (takes (logs 0)) (line_of i logs) p.stripe.line)
-        (taker_in i new p.stripe.line (life_of (new 0) p.stripe.line)) (taker_with i.shape.capacity (takes (logs 0)) landed p.stripe.line)
+        (taker_in i new p.stripe.line (life_of (new 0) p.stripe.line)) (taker_for i logs landed p.stripe.line (life_of (logs 0) p.stripe.line))
         (ap (state_in i new p.stripe.line) (life p.stripe.line ∙ opened)
         ∙ ap (λ b. if b then states.Failed else if have_landed (new 0) o n then states.Full else states.Open) (failed_kept (logs 0) (new 0) kept o))
         (ap (width_in i new p.stripe.line) (life p.stripe.line ∙ opened)) (live_same p.stripe.line) (taker_now p.stripe.line)
         ∙ state_now (has_failed (logs 0) o) (have_landed (logs 0) o n) (have_landed (new 0) o n) (fine o) (have_landed_stays (logs 0) unit event knows o n)
         o.start.width (live_with i.shape.capacity (takes (logs 0)) (line_of i logs) p.stripe.line)
-        (taker_with i.shape.capacity (takes (logs 0)) landed p.stripe.line)
+        (taker_for i logs landed p.stripe.line (life_of (logs 0) p.stripe.line))
         ∙ ap (full_if (have_landed (new 0) o n))
         (sym (same_row (state_of i logs p.stripe.line) (state_in i logs p.stripe.line (Opened o))
         (width_in i logs p.stripe.line (life_of (logs 0) p.stripe.line)) o.start.width
         (live_with i.shape.capacity (takes (logs 0)) (line_of i logs) p.stripe.line)
         (live_with i.shape.capacity (takes (logs 0)) (line_of i logs) p.stripe.line)
-        (taker_with i.shape.capacity (takes (logs 0)) landed p.stripe.line) (taker_with i.shape.capacity (takes (logs 0)) landed p.stripe.line)
+        (taker_for i logs landed p.stripe.line (life_of (logs 0) p.stripe.line)) (taker_for i logs landed p.stripe.line (life_of (logs 0) p.stripe.line))
         (ap (state_in i logs p.stripe.line) opened) (ap (width_in i logs p.stripe.line) opened) refl refl))
 
     beside : (m : ℕ) → m ≢ p.stripe.line → (v : ℕ) (u : UnitEvent) → told_by logs v (Decides (Landed unit event)) ≡ Some u → (b : Bool) → nat_eq unit v ≡ b
@@ -235,13 +241,13 @@ rows_landed i logs unit event knows p o ts freed fine waits its opened chunk ris
         keeps_chunks i logs (Landed unit event) knows m refl (λ v u told. beside m other v u told (nat_eq unit v) refl) in
         same_row (state_in i new m (life_of (new 0) m)) (state_of i logs m) (width_in i new m (life_of (new 0) m)) (width_in i logs m (life_of (logs 0) m))
         (row_of_line i new m).live (live_with i.shape.capacity (takes (logs 0)) (line_of i logs) m)
-        (taker_in i new m (life_of (new 0) m)) (taker_with i.shape.capacity (takes (logs 0)) landed m)
-        (ap (state_in i new m) (life m) ∙ state_same i logs new m (life_of (logs 0) m) chunks (freed m)
+        (taker_in i new m (life_of (new 0) m)) (taker_for i logs landed m (life_of (logs 0) m))
+        (ap (state_in i new m) (life m) ∙ state_same i logs new m (life_of (logs 0) m) chunks
         (λ q is. ap₂ (λ a b. if a then states.Failed else if b then states.Full else states.Open) (failed_kept (logs 0) (new 0) kept q)
         (have_landed_beside (logs 0) (new 0) unit (DidLand event) p q (line_end i.shape q / i.shape.ws_opt) (its_landing (logs 0) unit event knows)
         (first_unanswered (logs 0) unit p waits)
         (ap (is_life q.number) its ∙ other_number o.number q.number (λ same.
         other (same_Some m p.stripe.line
         (sym (life_at (logs 0) m q is).0 ∙ ap (opens_at (logs 0)) (sym same) ∙ (life_at (logs 0) p.stripe.line o opened).0)))))))
-        (ap (width_in i new m) (life m) ∙ width_same i logs new m (life_of (logs 0) m) chunks (freed m))
+        (ap (width_in i new m) (life m) ∙ width_same i logs new m (life_of (logs 0) m) chunks (then_ m))
         (live_same m) (taker_now m)

@@ -40,6 +40,7 @@ pub mod KeptRows
 pub mod WinnerStarts
 pub mod OpenedRows
 pub mod PlainLogs
+pub mod FreedMoments
 pub mod FirstAnswers
 pub mod LandedRows
 pub mod TakenRows

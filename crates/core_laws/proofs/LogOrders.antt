@@ -22,7 +22,8 @@ use Rattle.core_laws.proofs.Removing.{all_first as all_left, all_second as all_r
 use Rattle.core_laws.specs.InOrder.{IsInPlace, IsInOrder}
 use Rattle.core_laws.specs.PlacedEntries.{AreOfSectors}
 use Rattle.core_laws.proofs.KeptStripes.{with_event, placements_kept}
-use Rattle.core_laws.proofs.PlainLogs.{none_freed, none_lost, none_failed}
+use Rattle.core_laws.proofs.FreedMoments.{freed_before}
+use Rattle.core_laws.proofs.PlainLogs.{none_lost, none_failed}
 use Rattle.lemmas.proofs.Lists.{all_append, all_imply}
 use Rattle.pblk_world.proofs.EngineLogLemmas.{takes_more}
 use Rattle.pblk_world.proofs.LinesLemmas.{free_unopened}
@@ -185,7 +186,7 @@ in_order i w m =
       taken = now.taken;
       placed = now.placed;
       answered = λ unit. answers_fit i w unit m.mount.legal;
-      freed = none_freed (log_of w 0) plain;
+      freed = freed_before i w m.mount.legal;
       lost = none_lost (log_of w 0) plain;
       failed = none_failed (log_of w 0) plain;
     }

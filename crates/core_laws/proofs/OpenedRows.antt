@@ -27,10 +27,10 @@ use Rattle.core_laws.specs.Stepping.{after}
 use Rattle.core_laws.specs.RowsOf.{state_in, width_in, taker_by, taker_in, row_of_line, rows_of}
 use Rattle.core_laws.proofs.Opening.{placed_before}
 use Rattle.core_laws.specs.ChangedTables.{with_row}
-use Rattle.core_laws.specs.PlainLogs.{NoLineFreed}
+use Rattle.core_laws.specs.PlainLogs.{FreedBefore}
 use Rattle.core_laws.proofs.TakenSlots.{landed_same}
 use Rattle.core_laws.proofs.KeptStripes.{with_event, KeepsStripes, stripes_kept, placements_kept, alike_kept, have_landed_alike}
-use Rattle.core_laws.proofs.KeptRows.{known_kept, KeepsLines, live_kept, same_row, row_kept}
+use Rattle.core_laws.proofs.KeptRows.{known_kept, KeepsLines, live_kept, same_row, row_kept, then_kept}
 use Rattle.core_laws.proofs.OpenAddresses.{failed_kept}
 use Rattle.core_laws.proofs.ChangedTables.{row_changes_any}
 use Rattle.core_laws.proofs.WinnerStarts.{winner_starts}
@@ -286,10 +286,10 @@ no_taker i logs new line free keeps =
     (ap (is_of line) (keeps.landed t.mark.lba (take_before (new 0) t)) ∙ none_landed_in_free i logs line t.mark.lba (take_before (new 0) t) free))
     (takes (new 0))))
 
-pub rows_opened : (i : Image) (logs : Logs) (begun : Begun) (line : ℕ) (start : StartRecord) (knows : List ℕ) → IsDriveShape i.shape → NoLineFreed (logs 0)
+pub rows_opened : (i : Image) (logs : Logs) (begun : Begun) (line : ℕ) (start : StartRecord) (knows : List ℕ) → IsDriveShape i.shape → FreedBefore (logs 0)
     → MayOpen i logs begun line start
     → rows_of i (after logs (Open line start) knows) ≡ with_row line (turned states.Open start.width) (rows_of i logs)
-rows_opened i logs begun line start knows drive freed may =
+rows_opened i logs begun line start knows drive before may =
     let new : Logs = after logs (Open line start) knows in
     let o : Opening = new_opening (logs 0) line start knows in
     let kept : KeepsStripes (logs 0) (new 0) = stripes_kept (logs 0) (Open line start) knows refl in
@@ -312,7 +312,7 @@ rows_opened i logs begun line start knows drive freed may =
     (ap (width_in i new line) life)
     (live_kept i logs new line lines)
     (ap (taker_in i new line) life ∙ no_taker i logs new line may.is_free lines))
-    (λ m other. row_kept i logs new m (life_elsewhere (logs 0) line start knows m other) (freed m)
+    (λ m other. row_kept i logs new m (life_elsewhere (logs 0) line start knows m other) (then_kept i logs (Open line start) knows m before)
     (record {
       found = found_kept i logs (Open line start) knows refl;
       empty = ap (λ (j : Image). are_empty j m) known;

@@ -8,10 +8,11 @@ use Rattle.std.proofs.lemmas.Bool.{eqb-true, eqb-false}
 use Rattle.std.proofs.lemmas.Option.{same_Some, none-some}
 use Rattle.pblk_model.specs.Image.{Image}
 use Rattle.pblk_world.specs.World.{Logs}
-use Rattle.pblk_world.specs.EngineLog.{life_of, Taken, takes}
+use Rattle.pblk_world.specs.EngineLog.{AsFound, Freed, LineLife, Opened, life_of, Taken, takes}
 use Rattle.line_table.specs.declared.row.Row.{Row}
 use Rattle.line_table.specs.Rows.{latest, noted}
-use Rattle.core_laws.specs.RowsOf.{state_of, width_in}
+use Rattle.pblk_world.specs.Victims.{is_freed}
+use Rattle.core_laws.specs.RowsOf.{logs_then, state_of, taker_by, width_in}
 use Rattle.core_laws.specs.ChangedTables.{note_by}
 use Rattle.core_laws.specs.PlacedEntries.{next_take, gained, place_by, place_entry, place_entries, note_entry, note_entries}
 use Rattle.core_laws.proofs.KeptRows.{row_parts}
@@ -20,11 +21,18 @@ use Rattle.core_laws.proofs.EntryRows.{Places, with_entry, live_with, taker_with
 use Rattle.core_laws.proofs.ChangedTables.{table_of, table_changes, tables_agree}
 use Rattle.lemmas.proofs.Tests.{other_number}
 
+-- what took sectors from a line of this life, where their entries have landed in these lines: of a
+-- line that was freed what had taken them then
+abbrev pub taker_for : Image → Logs → Places → ℕ → LineLife → Option ℕ
+taker_for i logs landed line AsFound = taker_with i.shape.capacity (takes (logs 0)) landed line
+taker_for i logs landed line (Opened o) = taker_with i.shape.capacity (takes (logs 0)) landed line
+taker_for i logs landed line (Freed past knows) = taker_by i (logs_then knows logs) line
+
 -- the row of a line where the entries of sectors are in these lines, and have landed in those
 abbrev pub row_with : Image → Logs → Places → Places → ℕ → Row
 row_with i logs places landed line =
     row_parts (state_of i logs line) (width_in i logs line (life_of (logs 0) line)) (live_with i.shape.capacity (takes (logs 0)) places line)
-    (taker_with i.shape.capacity (takes (logs 0)) landed line)
+    (taker_for i logs landed line (life_of (logs 0) line))
 
 -- an entry among those that were taken
 pub record IsEntry (capacity : ℕ) (ts : List Taken) (t : Taken) : Type 0 where
@@ -36,14 +44,19 @@ pub record IsEntry (capacity : ℕ) (ts : List Taken) (t : Taken) : Type 0 where
 row_elsewhere : (i : Image) (logs : Logs) (places landed : Places) (position line m : ℕ) → IsNowhere position places → m ≢ line
     → row_with i logs (with_entry position line places) landed m ≡ row_with i logs places landed m
 row_elsewhere i logs places landed position line m nowhere apart =
-    ap (λ n. row_parts (state_of i logs m) (width_in i logs m (life_of (logs 0) m)) n (taker_with i.shape.capacity (takes (logs 0)) landed m))
+    ap (λ n. row_parts (state_of i logs m) (width_in i logs m (life_of (logs 0) m)) n (taker_for i logs landed m (life_of (logs 0) m)))
     (live_elsewhere i.shape.capacity (takes (logs 0)) places position line m nowhere apart)
 
 landed_elsewhere : (i : Image) (logs : Logs) (places landed : Places) (position line m : ℕ) → IsNowhere position landed → m ≢ line
     → row_with i logs places (with_entry position line landed) m ≡ row_with i logs places landed m
 landed_elsewhere i logs places landed position line m nowhere apart =
     ap (λ o. row_parts (state_of i logs m) (width_in i logs m (life_of (logs 0) m)) (live_with i.shape.capacity (takes (logs 0)) places m) o)
-    (taker_elsewhere i.shape.capacity (takes (logs 0)) landed position line m nowhere apart)
+    (by_life (life_of (logs 0) m))
+  where
+    by_life : (life : LineLife) → taker_for i logs (with_entry position line landed) m life ≡ taker_for i logs landed m life
+    by_life AsFound = taker_elsewhere i.shape.capacity (takes (logs 0)) landed position line m nowhere apart
+    by_life (Opened o) = taker_elsewhere i.shape.capacity (takes (logs 0)) landed position line m nowhere apart
+    by_life (Freed past knows) = refl
 
 -- the next entry of its sector, among all
 next_is : (i : Image) (logs : Logs) (t : Taken) → IsRising (takes (logs 0)) → (its : IsEntry i.shape.capacity (takes (logs 0)) t)
@@ -68,7 +81,7 @@ table_there i logs places landed line t rise its nowhere =
         → table_of i.shape (row_with i logs (with_entry t.entry.position line places) landed) ≡ place_by (option_map (λ (u : Taken). u.entry.position) o) line
         (table_of i.shape (row_with i logs places landed))
     go None e = table_changes i.shape (row_with i logs places landed) (row_with i logs (with_entry t.entry.position line places) landed) line gained
-        (ap (λ n. row_parts (state_of i logs line) (width_in i logs line (life_of (logs 0) line)) n (taker_with i.shape.capacity (takes (logs 0)) landed line))
+        (ap (λ n. row_parts (state_of i logs line) (width_in i logs line (life_of (logs 0) line)) n (taker_for i logs landed line (life_of (logs 0) line)))
         (subst (λ ts. live_with i.shape.capacity ts (with_entry t.entry.position line places) line ≡ live_with i.shape.capacity ts places line + 1) (sym its.is)
         (live_last i.shape.capacity its.before t its.after places line risen nowhere its.inside e)))
         (λ m other. row_elsewhere i logs places landed t.entry.position line m nowhere other)
@@ -80,22 +93,28 @@ table_there i logs places landed line t rise its nowhere =
         each m true f = subst (λ n. row_with i logs (with_entry t.entry.position line places) landed n ≡ row_with i logs places landed n)
             (sym (eqb-true m line f))
             (ap (λ n. row_parts (state_of i logs line) (width_in i logs line (life_of (logs 0) line)) n
-            (taker_with i.shape.capacity (takes (logs 0)) landed line))
+            (taker_for i logs landed line (life_of (logs 0) line)))
             (subst (λ ts. live_with i.shape.capacity ts (with_entry t.entry.position line places) line ≡ live_with i.shape.capacity ts places line) (sym its.is)
             (live_later i.shape.capacity its.before t its.after u places line risen (found_at (is_same t) its.after u e))))
 
 -- an entry that has landed
-landed_there : (i : Image) (logs : Logs) (places landed : Places) (line : ℕ) (t : Taken) → IsRising (takes (logs 0))
+landed_there : (i : Image) (logs : Logs) (places landed : Places) (line : ℕ) (t : Taken) → is_freed (life_of (logs 0) line) ≡ false
+    → IsRising (takes (logs 0))
     → IsEntry i.shape.capacity (takes (logs 0)) t → IsNowhere t.entry.position landed
     → table_of i.shape (row_with i logs places (with_entry t.entry.position line landed)) ≡ note_entry (logs 0) line
     (table_of i.shape (row_with i logs places landed)) t
-landed_there i logs places landed line t rise its nowhere =
+landed_there i logs places landed line t kept rise its nowhere =
     go (find (is_same t) its.after) refl
     ∙ ap (λ o. note_by (option_map (λ (u : Taken). u.entry.position) o) line (table_of i.shape (row_with i logs places landed)))
     (sym (next_is i logs t rise its))
   where
     risen : IsRising (its.before ++ t ∷ its.after)
     risen = subst IsRising its.is rise
+
+    own : (ps : Places) (life : LineLife) → is_freed life ≡ false → taker_for i logs ps line life ≡ taker_with i.shape.capacity (takes (logs 0)) ps line
+    own ps AsFound kept = refl
+    own ps (Opened o) kept = refl
+    own ps (Freed past knows) kept = absurd cc
 
     go : (o : Option Taken) → find (is_same t) its.after ≡ o
         → table_of i.shape (row_with i logs places (with_entry t.entry.position line landed)) ≡ note_by (option_map (λ (u : Taken). u.entry.position) o) line
@@ -109,15 +128,19 @@ landed_there i logs places landed line t rise its nowhere =
             (sym (eqb-true m line f))
             (ap (λ o. row_parts (state_of i logs line) (width_in i logs line (life_of (logs 0) line))
             (live_with i.shape.capacity (takes (logs 0)) places line) o)
-            (subst (λ ts. taker_with i.shape.capacity ts (with_entry t.entry.position line landed) line ≡ taker_with i.shape.capacity ts landed line)
+            (own (with_entry t.entry.position line landed) (life_of (logs 0) line) kept
+            ∙ subst (λ ts. taker_with i.shape.capacity ts (with_entry t.entry.position line landed) line ≡ taker_with i.shape.capacity ts landed line)
             (sym its.is)
-            (taker_last i.shape.capacity its.before t its.after landed line risen e)))
+            (taker_last i.shape.capacity its.before t its.after landed line risen e)
+            ∙ sym (own landed (life_of (logs 0) line) kept)))
     go (Some u) e = table_changes i.shape (row_with i logs places landed) (row_with i logs places (with_entry t.entry.position line landed)) line
         (noted u.entry.position)
         (ap (λ o. row_parts (state_of i logs line) (width_in i logs line (life_of (logs 0) line)) (live_with i.shape.capacity (takes (logs 0)) places line) o)
-        (subst (λ ts. taker_with i.shape.capacity ts (with_entry t.entry.position line landed) line ≡ Some
+        (own (with_entry t.entry.position line landed) (life_of (logs 0) line) kept
+        ∙ subst (λ ts. taker_with i.shape.capacity ts (with_entry t.entry.position line landed) line ≡ Some
         (latest (taker_with i.shape.capacity ts landed line) u.entry.position)) (sym its.is)
-        (taker_later i.shape.capacity its.before t its.after u landed line risen nowhere its.inside (found_at (is_same t) its.after u e))))
+        (taker_later i.shape.capacity its.before t its.after u landed line risen nowhere its.inside (found_at (is_same t) its.after u e))
+        ∙ ap (λ o. Some (latest o u.entry.position)) (sym (own landed (life_of (logs 0) line) kept))))
         (λ m other. landed_elsewhere i logs places landed t.entry.position line m nowhere other)
 
 -- ---- all of them
@@ -151,15 +174,17 @@ entries_placed i logs line (t ∷ ts) places landed rise own all nowhere =
     entries_placed i logs line ts (with_entry t.entry.position line places) landed rise own.1 all.1 (all_still t.entry.position line places ts own.0 nowhere.1)
     ∙ ap (λ table. place_entries (logs 0) line table ts) (table_there i logs places landed line t rise all.0 nowhere.0)
 
-pub entries_landed : (i : Image) (logs : Logs) (line : ℕ) (ts : List Taken) (places landed : Places) → IsRising (takes (logs 0)) → IsRising ts
+pub entries_landed : (i : Image) (logs : Logs) (line : ℕ) (ts : List Taken) (places landed : Places) → is_freed (life_of (logs 0) line) ≡ false
+    → IsRising (takes (logs 0)) → IsRising ts
     → AllByRecursion (IsEntry i.shape.capacity (takes (logs 0))) ts
     → AllByRecursion (λ t. IsNowhere t.entry.position landed) ts
     → table_of i.shape (row_with i logs places (with_entries line ts landed)) ≡ note_entries (logs 0) line (table_of i.shape (row_with i logs places landed)) ts
 unfolding with_entries
-entries_landed i logs line [] places landed rise own all nowhere = refl
-entries_landed i logs line (t ∷ ts) places landed rise own all nowhere =
-    entries_landed i logs line ts places (with_entry t.entry.position line landed) rise own.1 all.1 (all_still t.entry.position line landed ts own.0 nowhere.1)
-    ∙ ap (λ table. note_entries (logs 0) line table ts) (landed_there i logs places landed line t rise all.0 nowhere.0)
+entries_landed i logs line [] places landed kept rise own all nowhere = refl
+entries_landed i logs line (t ∷ ts) places landed kept rise own all nowhere =
+    entries_landed i logs line ts places (with_entry t.entry.position line landed) kept rise own.1 all.1
+    (all_still t.entry.position line landed ts own.0 nowhere.1)
+    ∙ ap (λ table. note_entries (logs 0) line table ts) (landed_there i logs places landed line t kept rise all.0 nowhere.0)
 
 or_if : {X : Type 0} (a b : Bool) (x y : X) → (if b then x else (if a then x else y)) ≡ (if a || b then x else y)
 or_if true true x y = refl

@@ -10,7 +10,7 @@ use Rattle.pblk_model.specs.Image.{Image, width}
 use Rattle.pblk_model.specs.Contents.{is_of}
 use Rattle.pblk_world.specs.Events.{Stripe, Place, Decides, Logged}
 use Rattle.pblk_world.specs.World.{Logs}
-use Rattle.pblk_world.specs.EngineLog.{Opened, is_life, life_of, Opening, Placed, placements, stripes_of, was_lost, is_loss, is_land, has_landed, has_failed, holds_position, Taken, takes}
+use Rattle.pblk_world.specs.EngineLog.{Opened, is_life, life_of, Opening, Placed, placements, stripes_of, was_lost, is_loss, is_land, has_landed, has_failed, holds_position, Taken, takes, AsFound, Freed, LineLife}
 use Rattle.pblk_world.specs.Fronts.{first_position, times_placed, times_lost, was_placed, waits, waiting}
 use Rattle.pblk_world.specs.Lines.{known_image, are_empty}
 use Rattle.pblk_world.specs.Starts.{have_landed}
@@ -22,19 +22,19 @@ use Rattle.line_table.specs.declared.row.Row.{Row}
 use Rattle.line_table.specs.Rows.{Table, EachRow}
 use Rattle.core_laws.specs.Stepping.{after}
 use Rattle.core_laws.specs.Positions.{IsUnplaced, AreNumbered, AreMarked}
-use Rattle.core_laws.specs.RowsOf.{state_in, state_of, width_in, taker_by, taker_in, row_of_line, rows_of}
+use Rattle.core_laws.specs.RowsOf.{state_in, state_of, width_in, taker_in, row_of_line, rows_of}
 use Rattle.core_laws.proofs.Engine.{placements_before}
 use Rattle.core_laws.proofs.Placing.{with_place, new_placed, IsPlacing, answer_now, new_unanswered, stripes_now}
-use Rattle.core_laws.specs.PlainLogs.{NoLineFreed, NoStripeLost}
+use Rattle.core_laws.specs.PlainLogs.{FreedBefore, NoStripeLost}
 use Rattle.core_laws.specs.PlacedEntries.{place_entries, AreOfSectors}
-use Rattle.core_laws.proofs.KeptRows.{known_kept, KeepsChunks, state_same, width_same, same_row}
+use Rattle.core_laws.proofs.KeptRows.{known_kept, KeepsChunks, state_same, width_same, same_row, then_kept, taker_same}
 use Rattle.core_laws.proofs.NextTakes.{IsRising, rising_by}
 use Rattle.core_laws.proofs.EntryRows.{Places, last_of, live_with, taker_with, IsNowhere}
 use Rattle.core_laws.proofs.PlacedAddresses.{losses_now}
-use Rattle.core_laws.proofs.PlacedEntryRows.{row_with, IsEntry, with_entries, entries_placed, entry_at}
+use Rattle.core_laws.proofs.PlacedEntryRows.{row_with, IsEntry, with_entries, entries_placed, entry_at, taker_for}
 use Rattle.core_laws.proofs.PlacedPlaces.{BearsThese, IsNamed, data_bears, others_bear, places_now, landed_placed}
 use Rattle.core_laws.proofs.ChangedTables.{table_of, tables_agree}
-use Rattle.core_laws.proofs.TakenRows.{in_no_line, taker_is}
+use Rattle.core_laws.proofs.TakenRows.{in_no_line}
 use Rattle.core_laws.proofs.SteppingLemmas.{found_kept}
 use Rattle.lemmas.proofs.Lists.{IsAmong, all_imply, all_of, among_all, zipped}
 use Rattle.lemmas.proofs.Maps.{all_agree, all_filter, all_passed, few_pass, filter_none, row_at}
@@ -112,16 +112,22 @@ landed_now log stripe knows o other n is = go (is_life other.number (Opened o)) 
 
 -- ---- rows by where the entries are
 
-pub table_was : (i : Image) (logs : Logs) → NoLineFreed (logs 0) → rows_of i logs ≡ table_of i.shape (row_with i logs (line_of i logs) (landed_line_of i logs))
-table_was i logs freed = tables_agree i.shape (row_with i logs (line_of i logs) (landed_line_of i logs)) (row_of_line i logs) (λ m.
+taker_was : (i : Image) (logs : Logs) (line : ℕ) (life : LineLife) → taker_in i logs line life ≡ taker_for i logs (landed_line_of i logs) line life
+taker_was i logs line AsFound = refl
+taker_was i logs line (Opened o) = refl
+taker_was i logs line (Freed past knows) = refl
+
+pub table_was : (i : Image) (logs : Logs) → rows_of i logs ≡ table_of i.shape (row_with i logs (line_of i logs) (landed_line_of i logs))
+table_was i logs = tables_agree i.shape (row_with i logs (line_of i logs) (landed_line_of i logs)) (row_of_line i logs) (λ m.
     same_row (state_of i logs m) (state_of i logs m) (width_in i logs m (life_of (logs 0) m)) (width_in i logs m (life_of (logs 0) m))
     (row_of_line i logs m).live (row_of_line i logs m).live
-    (taker_in i logs m (life_of (logs 0) m)) (taker_by i logs m) refl refl refl (taker_is i logs m (life_of (logs 0) m) (freed m)))
+    (taker_in i logs m (life_of (logs 0) m)) (taker_for i logs (landed_line_of i logs) m (life_of (logs 0) m)) refl refl refl
+    (taker_was i logs m (life_of (logs 0) m)))
 
-table_now : (i : Image) (logs : Logs) (stripe : Stripe) (knows : List ℕ) (o : Opening) (places : Places) → IsPlacing (logs 0) stripe o → NoLineFreed (logs 0)
+table_now : (i : Image) (logs : Logs) (stripe : Stripe) (knows : List ℕ) (o : Opening) (places : Places) → IsPlacing (logs 0) stripe o → FreedBefore (logs 0)
     → line_of i (after logs (Place stripe) knows) ≡ places
     → rows_of i (after logs (Place stripe) knows) ≡ table_of i.shape (row_with i logs places (landed_line_of i logs))
-table_now i logs stripe knows o places is freed same =
+table_now i logs stripe knows o places is before same =
     tables_agree i.shape (row_with i logs places (landed_line_of i logs)) (row_of_line i (after logs (Place stripe) knows)) (λ m. each m)
   where
     landed_is : landed_line_of i (after logs (Place stripe) knows) ≡ landed_line_of i logs
@@ -143,33 +149,36 @@ table_now i logs stripe knows o places is freed same =
         } in
         same_row (state_in i new m (life_of (new 0) m)) (state_of i logs m) (width_in i new m (life_of (new 0) m)) (width_in i logs m (life_of (logs 0) m))
         (row_of_line i new m).live (live_with i.shape.capacity (takes (logs 0)) places m) (taker_in i new m (life_of (new 0) m))
-        (taker_with i.shape.capacity (takes (logs 0)) (landed_line_of i logs) m)
-        (ap (state_in i new m) life ∙ state_same i logs new m (life_of (logs 0) m) chunks (freed m)
+        (taker_for i logs (landed_line_of i logs) m (life_of (logs 0) m))
+        (ap (state_in i new m) life ∙ state_same i logs new m (life_of (logs 0) m) chunks
         (λ p e. ap₂ (λ a b. if a then states.Failed else if b then states.Full else states.Open) (failed_now (logs 0) stripe knows o p is)
         (landed_now (logs 0) stripe knows o p (line_end i.shape p / i.shape.ws_opt) is)))
-        (ap (width_in i new m) life ∙ width_same i logs new m (life_of (logs 0) m) chunks (freed m))
+        (ap (width_in i new m) life ∙ width_same i logs new m (life_of (logs 0) m) chunks (then_kept i logs (Place stripe) knows m before))
         (ap₂ (λ ts ps. live_with i.shape.capacity ts ps m) taken_same same)
-        (ap (taker_in i new m) life ∙ taker_is i new m (life_of (logs 0) m) (freed m) ∙ ap₂ (λ ts ps. taker_with i.shape.capacity ts ps m) taken_same landed_is)
+        (ap (taker_in i new m) life
+        ∙ taker_same i logs new m (life_of (logs 0) m) (then_kept i logs (Place stripe) knows m before)
+        (ap₂ (λ ts ps. taker_with i.shape.capacity ts ps m) taken_same landed_is)
+        ∙ taker_was i logs m (life_of (logs 0) m))
 
-rows_by : (i : Image) (logs : Logs) (stripe : Stripe) (knows : List ℕ) (o : Opening) (ts : List Taken) → IsPlacing (logs 0) stripe o → NoLineFreed (logs 0)
+rows_by : (i : Image) (logs : Logs) (stripe : Stripe) (knows : List ℕ) (o : Opening) (ts : List Taken) → IsPlacing (logs 0) stripe o → FreedBefore (logs 0)
     → BearsThese i.shape stripe ts → IsRising (takes (logs 0)) → IsRising ts
     → AllByRecursion (IsEntry i.shape.capacity (takes (logs 0))) ts → AllByRecursion (λ t. IsUnplaced i.shape (logs 0) t.entry.position) ts
     → rows_of i (after logs (Place stripe) knows) ≡ place_entries (logs 0) stripe.line (rows_of i logs) ts
-rows_by i logs stripe knows o ts is freed bears rise own all unplaced =
+rows_by i logs stripe knows o ts is before bears rise own all unplaced =
     let nowhere : AllByRecursion (λ t. line_of_position i.shape (logs 0) t.entry.position ≡ None) ts =
     all_imply (λ (t : Taken). IsUnplaced i.shape (logs 0) t.entry.position) (λ (t : Taken). line_of_position i.shape (logs 0) t.entry.position ≡ None)
     (λ t h. in_no_line i.shape (logs 0) t.entry.position h) ts unplaced in
     let same : line_of i (after logs (Place stripe) knows) ≡ with_entries stripe.line ts (line_of i logs) =
     λ k lba t. places_now i logs stripe knows o ts is bears nowhere lba t k in
-    table_now i logs stripe knows o (with_entries stripe.line ts (line_of i logs)) is freed same
+    table_now i logs stripe knows o (with_entries stripe.line ts (line_of i logs)) is before same
     ∙ entries_placed i logs stripe.line ts (line_of i logs) (landed_line_of i logs) rise own all
     (all_imply (λ (t : Taken). line_of_position i.shape (logs 0) t.entry.position ≡ None) (λ (t : Taken). IsNowhere t.entry.position (line_of i logs))
     (λ t h. λ lba u e. ap (line_of_position i.shape (logs 0)) e ∙ h) ts nowhere)
-    ∙ ap (λ table. place_entries (logs 0) stripe.line table ts) (sym (table_was i logs freed))
+    ∙ ap (λ table. place_entries (logs 0) stripe.line table ts) (sym (table_was i logs))
 
 -- a stripe without entries
 pub rows_beside : (i : Image) (logs : Logs) (stripe : Stripe) (knows : List ℕ) (o : Opening) → i.shape.capacity ≤ meta_lba → IsPlacing (logs 0) stripe o
-    → NoLineFreed (logs 0) → AreNumbered (logs 0)
+    → FreedBefore (logs 0) → AreNumbered (logs 0)
     → IsStart i logs o stripe ⊎ (IsEnd i logs o stripe ⊎ IsPad i logs o stripe) → rows_of i (after logs (Place stripe) knows) ≡ rows_of i logs
 rows_beside i logs stripe knows o small is freed numbered its =
     rows_by i logs stripe knows o [] is freed (others_bear i logs o stripe small its)
@@ -227,7 +236,7 @@ first_waiting s log P fine all = all_taken P s.ws_opt (waiting s log) (subst (Al
 
 -- a stripe of entries
 pub rows_placed : (i : Image) (logs : Logs) (stripe : Stripe) (knows : List ℕ) (o : Opening) → i.shape.capacity ≤ meta_lba → IsPlacing (logs 0) stripe o
-    → NoLineFreed (logs 0) → NoStripeLost (logs 0)
+    → FreedBefore (logs 0) → NoStripeLost (logs 0)
     → AreNumbered (logs 0) → AreMarked (logs 0) → AreOfSectors i.shape (logs 0) → IsData i logs o stripe
     → rows_of i (after logs (Place stripe) knows) ≡ place_entries (logs 0) stripe.line (rows_of i logs) (take i.shape.ws_opt (waiting i.shape (logs 0)))
 rows_placed i logs stripe knows o small is freed fine numbered marked sectors its =
@@ -258,9 +267,9 @@ some_waiting : (s : Shape) (log : List Logged) (P : Taken → Type 0) (n : ℕ) 
 some_waiting s log P n fine all = all_taken P n (waiting s log) (subst (AllByRecursion P) (sym (waiting_fresh s log fine)) all)
 
 -- no row has more live sectors than the target has sectors, also between the entries
-pub live_between : (i : Image) (logs : Logs) (line n : ℕ) → NoLineFreed (logs 0) → NoStripeLost (logs 0) → AreNumbered (logs 0) → AreOfSectors i.shape (logs 0)
+pub live_between : (i : Image) (logs : Logs) (line n : ℕ) → NoStripeLost (logs 0) → AreNumbered (logs 0) → AreOfSectors i.shape (logs 0)
     → EachRow (place_entries (logs 0) line (rows_of i logs) (take n (waiting i.shape (logs 0)))) (λ m row. row.live ≤ i.shape.capacity)
-live_between i logs line n freed fine numbered sectors =
+live_between i logs line n fine numbered sectors =
     let rise : IsRising (takes (logs 0)) = rising_by (first_position (logs 0)) (length (takes (logs 0))) (takes (logs 0)) numbered in
     let same : table_of i.shape (row_with i logs (with_entries line (take n (waiting i.shape (logs 0))) (line_of i logs)) (landed_line_of i logs)) ≡
     place_entries (logs 0) line (rows_of i logs) (take n (waiting i.shape (logs 0))) =
@@ -276,7 +285,7 @@ live_between i logs line n freed fine numbered sectors =
     (λ t h. λ lba u e. ap (line_of_position i.shape (logs 0)) e
     ∙ in_no_line i.shape (logs 0) t.entry.position (none_pass (holds_position i.shape t.entry.position) (placements (logs 0)) h))
     (filter (λ t. not (was_placed i.shape (logs 0) t)) (takes (logs 0))) (all_passed (λ t. not (was_placed i.shape (logs 0) t)) (takes (logs 0)))))
-    ∙ ap (λ table. place_entries (logs 0) line table (take n (waiting i.shape (logs 0)))) (sym (table_was i logs freed)) in
+    ∙ ap (λ table. place_entries (logs 0) line table (take n (waiting i.shape (logs 0)))) (sym (table_was i logs)) in
     λ m row there.
     let at = row_at (row_with i logs (with_entries line (take n (waiting i.shape (logs 0))) (line_of i logs)) (landed_line_of i logs)) i.shape.chunks 0 m row
     (ap (λ (t : Table). slice_get t.rows m) same ∙ there) in

@@ -1,18 +1,12 @@
 -- Lemmas on plain logs.
-use Rattle.std.proofs.Common.{Bool, List, None, Option, Some, [], ap, append-nil, append_assoc, ap₂, drop, false, if◌then◌else◌, length, nat_eq, refl, suc, sym, take, true, ℕ, ◌++◌, ◌+◌, ◌==◌, ◌||◌, ◌∙◌, ◌∷◌, ◌≡◌, ◌≤◌}
-use Rattle.std.proofs.lemmas.List.{take-take as take_first}
+use Rattle.std.proofs.Common.{Bool, List, None, Option, Some, [], ap, ap₂, false, if◌then◌else◌, nat_eq, refl, sym, true, ℕ, ◌+◌, ◌==◌, ◌||◌, ◌∷◌, ◌≡◌}
 use Rattle.std.proofs.lemmas.Option.{none-some}
 use Rattle.std.specs.List.{AllByRecursion, cons_option, enumerate_from, fold, list_any}
 use Rattle.core_laws.specs.PlainEvents.{ArePlain, is_plain_event}
-use Rattle.lemmas.proofs.Lists.{all_but_last}
-use Rattle.lemmas.proofs.Parts.{all_at, all_dropped, all_taken, take_and_drop}
-use Rattle.pblk_model.specs.Image.{Image}
-use Rattle.pblk_world.proofs.Appending.{life_more}
-use Rattle.pblk_world.specs.EngineLog.{Answer, DidLand, LineLife, Opened, Opening, Placed, answer_by, answer_of, answers, has_failed, is_loss, is_opened, life_of, stripes_of, turn, turned, turned_by, was_lost}
-use Rattle.pblk_world.specs.Events.{Decides, Event, Free, Landed, Logged, Lost, Open, Step}
-use Rattle.pblk_world.specs.Legal.{IsLegal}
+use Rattle.lemmas.proofs.Parts.{all_at}
+use Rattle.pblk_world.specs.EngineLog.{Answer, DidLand, LineLife, Opened, Opening, Placed, answer_by, answer_of, answers, has_failed, is_loss, is_opened, stripes_of, turn, turned, turned_by, was_lost}
+use Rattle.pblk_world.specs.Events.{Decides, Event, Free, Landed, Logged, Lost, Open}
 use Rattle.pblk_world.specs.Victims.{is_freed}
-use Rattle.pblk_world.specs.World.{World, log_of}
 
 pub not_loss : (unit : ℕ) (e : Event) (a : Answer) → is_plain_event e ≡ true → answer_by unit e ≡ Some a → is_loss (Some a) ≡ false
 not_loss unit (Decides (Landed other event)) a plain is = go (nat_eq other unit) is

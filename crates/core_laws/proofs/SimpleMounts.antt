@@ -1,6 +1,6 @@
 -- The engine's log of a simple mount is plain, the mounts before it are simple, and a log stays
 -- simple.
-use Rattle.std.proofs.Common.{◌≡◌, Bool, true, false, not, ◌==◌, List, [], ◌∷◌, ◌++◌, take, if◌then◌else◌, refl, sym, subst, ap}
+use Rattle.std.proofs.Common.{◌≡◌, Bool, true, false, not, ◌==◌, List, [], ◌∷◌, ◌++◌, take, if◌then◌else◌, refl, sym, subst}
 use Rattle.pblk_model.specs.Image.{Image}
 use Rattle.pblk_world.specs.Events.{EngineEvent, Begin, Take, Open, Place, Landed, Lost, Again, ResetDone, Free, Event, Decides, Does, Logged, Step}
 use Rattle.pblk_world.specs.Fronts.{is_users}

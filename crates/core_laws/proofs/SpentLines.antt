@@ -28,11 +28,11 @@ use Rattle.pblk_model.specs.StartRecord.{StartRecord, start_of}
 use Rattle.pblk_laws.proofs.MarkNames.{sector_exactly}
 use Rattle.pblk_laws.proofs.Winners.{winner_is_winner}
 use Rattle.pblk_world.specs.Events.{Logged}
-use Rattle.pblk_world.specs.World.{World, Logs, log_of}
-use Rattle.pblk_world.specs.EngineLog.{Answer, DidLand, WasLost, answer_of, AsFound, Begun, Freed, has_landed, holds_position, is_answered, is_as_found, is_land, is_life, is_loss, LineLife, life_of, Opened, Opening, Placed, placements, stripes_of, Taken, takes}
+use Rattle.pblk_world.specs.World.{World, log_of}
+use Rattle.pblk_world.specs.EngineLog.{Answer, DidLand, WasLost, answer_of, AsFound, Freed, has_landed, holds_position, is_answered, is_as_found, is_land, is_life, is_loss, LineLife, life_of, Opened, Opening, Placed, placements, stripes_of, Taken, takes}
 use Rattle.pblk_world.specs.Freeing.{HasLandedIn, IsAnswered, IsCountedIn, IsCountedRecord, IsReplaced, MayFree}
 use Rattle.pblk_world.specs.Fronts.{last_take, synced}
-use Rattle.pblk_world.specs.Lines.{found_by, found_image}
+use Rattle.pblk_world.specs.Lines.{found_image}
 use Rattle.pblk_world.specs.Victims.{is_live_in, landed_line, landed_line_of, line_of, line_of_position, positions_in, take_before, took_from}
 use Rattle.lemmas.proofs.Lists.{IsAmong, all_contains, all_everywhere, among_contained}
 use Rattle.lemmas.proofs.Maps.{all_filter, all_filter_map, all_flat_map, all_mapped, all_passed, from_filter, in_filter}

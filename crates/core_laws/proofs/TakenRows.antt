@@ -1,19 +1,20 @@
 -- What a user's entry that is taken changes in the table.
 use Rattle.std.proofs.Common.{◌≡◌, ◌≢◌, ℕ, ◌+◌, ◌-◌, ◌/◌, ◌<◌, ◌≤◌, ◌==◌, ◌&&◌, zero, suc, not, nat_eq, nat_lt, Bool, true, false, cond, Some, None, Option, List, [], ◌∷◌, ◌++◌, length, refl, sym, ap, ap₂, ◌∙◌, arith, append-nil}
 use Rattle.std.specs.Prelude.{if◌then◌else◌}
-use Rattle.std.specs.List.{AllByRecursion, filter, last_or, range_with_len}
-use Rattle.std.specs.Option.{option_map}
+use Rattle.std.specs.List.{AllByRecursion, filter, last_or, range_with_len, find}
+use Rattle.std.specs.Option.{option_map, option_and_then}
 use Rattle.std.proofs.lemmas.Bool.{eqb-true}
 use Rattle.std.proofs.lemmas.Option.{none-some}
 use Rattle.pblk_model.specs.declared.shape.Shape.{Shape}
 use Rattle.pblk_model.specs.declared.chunk.Mark.{Mark}
 use Rattle.pblk_model.specs.Image.{Image, width}
-use Rattle.pblk_model.specs.Contents.{is_of}
+use Rattle.pblk_model.specs.Records.{Record}
+use Rattle.pblk_model.specs.Contents.{is_of, counted, winner}
 use Rattle.pblk_world.specs.Events.{Entry, Take, Decides, Logged}
 use Rattle.pblk_world.specs.World.{Logs}
-use Rattle.pblk_world.specs.EngineLog.{LineLife, AsFound, Opened, Freed, life_of, Placed, placements, was_lost, holds_position, Taken, takes}
+use Rattle.pblk_world.specs.EngineLog.{LineLife, AsFound, Opened, Freed, life_of, Placed, placements, was_lost, holds_position, Taken, takes, is_as_found, is_life}
 use Rattle.pblk_world.specs.Fronts.{first_position, taken, last_take}
-use Rattle.pblk_world.specs.Lines.{known_image, are_empty}
+use Rattle.pblk_world.specs.Lines.{known_image, are_empty, found_image}
 use Rattle.pblk_world.specs.Placing.{line_end}
 use Rattle.pblk_world.specs.Victims.{is_freed, is_in_force, line_of_position, line_of, is_live_in, live, take_before, landed_line_of, took_from}
 use Rattle.world_laws.proofs.HeldSectors.{last_last}
@@ -26,16 +27,16 @@ use Rattle.core_laws.specs.RowsOf.{state_in, width_in, taker_by, taker_in, row_o
 use Rattle.core_laws.proofs.Placing.{not_below}
 use Rattle.core_laws.proofs.Taking.{filter_last}
 use Rattle.core_laws.specs.ChangedTables.{lose_in}
-use Rattle.core_laws.specs.PlainLogs.{NoLineFreed}
+use Rattle.core_laws.specs.PlainLogs.{FreedBefore}
 use Rattle.core_laws.proofs.KeptStripes.{with_event, KeepsStripes, stripes_kept, lives_kept, alike_kept, have_landed_alike}
-use Rattle.core_laws.proofs.KeptRows.{known_kept, KeepsChunks, state_same, width_same, live_same, same_row}
+use Rattle.core_laws.proofs.KeptRows.{known_kept, KeepsChunks, state_same, width_same, live_same, same_row, KeepsThen, then_kept, taker_same}
 use Rattle.core_laws.proofs.LandedRows.{line_of_kept, landed_of_kept}
 use Rattle.core_laws.proofs.OpenAddresses.{failed_kept}
 use Rattle.core_laws.proofs.ChangedTables.{row_changes_any, rows_stay}
 use Rattle.core_laws.proofs.NextTakes.{latest_is}
 use Rattle.core_laws.proofs.SteppingLemmas.{found_kept}
 use Rattle.lemmas.proofs.Lists.{all_imply, last_in}
-use Rattle.lemmas.proofs.Maps.{all_filter, filter_agree, find_none}
+use Rattle.lemmas.proofs.Maps.{all_filter, filter_agree, find_none, found_passes}
 use Rattle.lemmas.proofs.Tests.{and_false, and_true, lt_true, not_first, other_number, same_number}
 use Rattle.pblk_world.proofs.EngineLogLemmas.{takes_more}
 
@@ -242,15 +243,17 @@ taker_is i logs line (Freed past knows) e = absurd cc
 record IsStateKept (i : Image) (logs new : Logs) (line : ℕ) : Type 0 where
   state : state_in i new line (life_of (new 0) line) ≡ state_in i logs line (life_of (logs 0) line)
   wide : width_in i new line (life_of (new 0) line) ≡ width_in i logs line (life_of (logs 0) line)
-  taker : (t : Option ℕ) → taker_by i new line ≡ t → taker_in i new line (life_of (new 0) line) ≡ t
+  life : life_of (new 0) line ≡ life_of (logs 0) line
+  then_ : KeepsThen i logs new line (life_of (logs 0) line)
 
-state_kept : (i : Image) (logs : Logs) (entry : Entry) (mark : Mark) (knows : List ℕ) (line : ℕ) → NoLineFreed (logs 0)
+state_kept : (i : Image) (logs : Logs) (entry : Entry) (mark : Mark) (knows : List ℕ) (line : ℕ) → FreedBefore (logs 0)
     → IsStateKept i logs (after logs (Take entry mark) knows) line
-state_kept i logs entry mark knows line freed =
+state_kept i logs entry mark knows line before =
     let new : Logs = after logs (Take entry mark) knows in
     let kept : KeepsStripes (logs 0) (new 0) = stripes_kept (logs 0) (Take entry mark) knows refl in
     let life : life_of (new 0) line ≡ life_of (logs 0) line = lives_kept (logs 0) (Take entry mark) knows line refl in
     let known : known_image i new ≡ known_image i logs = known_kept i logs (Take entry mark) knows refl (λ unit. refl) in
+    let then_ : KeepsThen i logs new line (life_of (logs 0) line) = then_kept i logs (Take entry mark) knows line before in
     let chunks : KeepsChunks i logs new line =
     record {
       found = found_kept i logs (Take entry mark) knows refl;
@@ -259,63 +262,115 @@ state_kept i logs entry mark knows line freed =
           ap (λ (j : Image). width j line) known;
     } in
     record {
-      state = ap (state_in i new line) life ∙ state_same i logs new line (life_of (logs 0) line) chunks (freed line)
+      state = ap (state_in i new line) life ∙ state_same i logs new line (life_of (logs 0) line) chunks
           (λ o is. ap₂ (λ a b. if a then states.Failed else if b then states.Full else states.Open) (failed_kept (logs 0) (new 0) kept o)
           (have_landed_alike (logs 0) (new 0) (alike_kept (logs 0) (Take entry mark) knows refl (λ unit. refl)) o (line_end i.shape o / i.shape.ws_opt)));
-      wide = ap (width_in i new line) life ∙ width_same i logs new line (life_of (logs 0) line) chunks (freed line);
-      taker = λ t is. ap (taker_in i new line) life ∙ taker_is i new line (life_of (logs 0) line) (freed line) ∙ is;
+      wide = ap (width_in i new line) life ∙ width_same i logs new line (life_of (logs 0) line) chunks then_;
+      life = life;
+      then_ = then_;
     }
 
 -- the sector was live in another line, or in none
-row_same_now : (i : Image) (logs : Logs) (entry : Entry) (mark : Mark) (knows : List ℕ) (line : ℕ) → NoLineFreed (logs 0) → AreNumbered (logs 0)
+row_same_now : (i : Image) (logs : Logs) (entry : Entry) (mark : Mark) (knows : List ℕ) (line : ℕ) → FreedBefore (logs 0) → AreNumbered (logs 0)
     → IsUnplaced i.shape (logs 0) entry.position → entry.position ≡ taken (logs 0)
     → mark.lba < i.shape.capacity → is_live_in i logs line mark.lba ≡ false → is_of line (landed_line_of i logs mark.lba (last_take (logs 0) mark.lba)) ≡ false
     → row_of_line i (after logs (Take entry mark) knows) line ≡ row_of_line i logs line
-row_same_now i logs entry mark knows line freed numbered none next inside is apart =
+row_same_now i logs entry mark knows line before numbered none next inside is apart =
     let new : Logs = after logs (Take entry mark) knows in
-    let kept : IsStateKept i logs new line = state_kept i logs entry mark knows line freed in
+    let kept : IsStateKept i logs new line = state_kept i logs entry mark knows line before in
     same_row (row_of_line i new line).state (row_of_line i logs line).state (row_of_line i new line).width (row_of_line i logs line).width (live i new line)
     (live i logs line)
     (row_of_line i new line).taker (row_of_line i logs line).taker kept.state kept.wide (lost_none i logs entry mark knows line none is)
-    (kept.taker (taker_by i logs line) (taker_same_now i logs entry mark knows line numbered next inside apart)
-    ∙ sym (taker_is i logs line (life_of (logs 0) line) (freed line)))
+    (ap (taker_in i new line) kept.life
+    ∙ taker_same i logs new line (life_of (logs 0) line) kept.then_ (taker_same_now i logs entry mark knows line numbered next inside apart))
+
+third : (a b c : Bool) → (a && b && c) ≡ true → c ≡ true
+third true true c h = h
+third true false c h = absurd cc
+third false b c h = absurd cc
+
+unfreed_found : (life : LineLife) → is_as_found life ≡ true → is_freed life ≡ false
+unfreed_found AsFound e = refl
+unfreed_found (Opened o) e = absurd cc
+unfreed_found (Freed was knows) e = absurd cc
+
+-- a line in which a sector is wasn't freed
+in_force_unfreed : (log : List Logged) (line : ℕ) (life : LineLife) → is_in_force log life line ≡ true → is_freed (life_of log line) ≡ false
+in_force_unfreed log line AsFound in_force = absurd cc
+in_force_unfreed log line (Opened o) in_force = go (life_of log line) in_force
+  where
+    go : (now : LineLife) → is_life o.number now ≡ true → is_freed now ≡ false
+    go AsFound e = absurd cc
+    go (Opened p) e = refl
+    go (Freed was knows) e = absurd cc
+in_force_unfreed log line (Freed was knows) in_force = absurd cc
+
+live_unfreed : (i : Image) (logs : Logs) (lba : ℕ) (t : Option Taken) (line : ℕ) → is_of line (line_of i logs lba t) ≡ true
+    → is_freed (life_of (logs 0) line) ≡ false
+live_unfreed i logs lba None line is = by_winner (winner (counted (found_image i logs)) lba) is
+  where
+    as_found : (b : Bool) (at : ℕ) → is_as_found (life_of (logs 0) at) ≡ b → is_of line (if b then Some at else None) ≡ true
+        → is_freed (life_of (logs 0) line) ≡ false
+    as_found true at e h = ap (λ n. is_freed (life_of (logs 0) n)) (sym (eqb-true at line h)) ∙ unfreed_found (life_of (logs 0) at) e
+    as_found false at e h = absurd cc
+
+    by_winner : (o : Option Record)
+        → is_of line (option_and_then (λ (r : Record). if is_as_found (life_of (logs 0) r.line) then Some r.line else None) o) ≡ true
+        → is_freed (life_of (logs 0) line) ≡ false
+    by_winner None h = absurd cc
+    by_winner (Some r) h = as_found (is_as_found (life_of (logs 0) r.line)) r.line refl h
+live_unfreed i logs lba (Some t) line is = by_stripe (find in_line (placements (logs 0))) refl is
+  where
+    in_line : Placed → Bool
+    in_line p = holds_position i.shape t.entry.position p && not (was_lost (logs 0) p) && is_in_force (logs 0) p.life p.stripe.line
+
+    by_stripe : (o : Option Placed) → find in_line (placements (logs 0)) ≡ o → is_of line (option_map (λ (p : Placed). p.stripe.line) o) ≡ true
+        → is_freed (life_of (logs 0) line) ≡ false
+    by_stripe None e h = absurd cc
+    by_stripe (Some p) e h = ap (λ n. is_freed (life_of (logs 0) n)) (sym (eqb-true p.stripe.line line h))
+        ∙ in_force_unfreed (logs 0) p.stripe.line p.life
+        (third (holds_position i.shape t.entry.position p) (not (was_lost (logs 0) p)) (is_in_force (logs 0) p.life p.stripe.line)
+        (found_passes in_line (placements (logs 0)) p e).0)
 
 -- it was live there, and had landed
-row_lost : (i : Image) (logs : Logs) (entry : Entry) (mark : Mark) (knows : List ℕ) (line : ℕ) → NoLineFreed (logs 0) → AreNumbered (logs 0)
+row_lost : (i : Image) (logs : Logs) (entry : Entry) (mark : Mark) (knows : List ℕ) (line : ℕ) → FreedBefore (logs 0) → AreNumbered (logs 0)
     → IsUnplaced i.shape (logs 0) entry.position → entry.position ≡ taken (logs 0)
     → mark.lba < i.shape.capacity → is_live_in i logs line mark.lba ≡ true → is_of line (landed_line_of i logs mark.lba (last_take (logs 0) mark.lba)) ≡ true
     → row_of_line i (after logs (Take entry mark) knows) line ≡ lost entry.position (row_of_line i logs line)
-row_lost i logs entry mark knows line freed numbered none next inside is there =
+row_lost i logs entry mark knows line before numbered none next inside is there =
     let new : Logs = after logs (Take entry mark) knows in
-    let kept : IsStateKept i logs new line = state_kept i logs entry mark knows line freed in
+    let kept : IsStateKept i logs new line = state_kept i logs entry mark knows line before in
+    let unfreed : is_freed (life_of (logs 0) line) ≡ false = live_unfreed i logs mark.lba (last_take (logs 0) mark.lba) line is in
     same_row (row_of_line i new line).state (row_of_line i logs line).state (row_of_line i new line).width (row_of_line i logs line).width (live i new line)
     (live i logs line - 1)
     (row_of_line i new line).taker (Some (latest (row_of_line i logs line).taker entry.position)) kept.state kept.wide
     (lost_one i logs entry mark knows line none inside is)
-    (kept.taker (Some (latest (taker_by i logs line) entry.position)) (taker_lost i logs entry mark knows line numbered next inside there)
-    ∙ ap (λ t. Some (latest t entry.position)) (sym (taker_is i logs line (life_of (logs 0) line) (freed line))))
+    (ap (taker_in i new line) kept.life
+    ∙ taker_is i new line (life_of (logs 0) line) unfreed
+    ∙ taker_lost i logs entry mark knows line numbered next inside there
+    ∙ ap (λ t. Some (latest t entry.position)) (sym (taker_is i logs line (life_of (logs 0) line) unfreed)))
 
 -- it was live there, and hadn't landed
-row_lowered : (i : Image) (logs : Logs) (entry : Entry) (mark : Mark) (knows : List ℕ) (line : ℕ) → NoLineFreed (logs 0) → AreNumbered (logs 0)
+row_lowered : (i : Image) (logs : Logs) (entry : Entry) (mark : Mark) (knows : List ℕ) (line : ℕ) → FreedBefore (logs 0) → AreNumbered (logs 0)
     → IsUnplaced i.shape (logs 0) entry.position → entry.position ≡ taken (logs 0)
     → mark.lba < i.shape.capacity → is_live_in i logs line mark.lba ≡ true → is_of line (landed_line_of i logs mark.lba (last_take (logs 0) mark.lba)) ≡ false
     → row_of_line i (after logs (Take entry mark) knows) line ≡ lowered (row_of_line i logs line)
-row_lowered i logs entry mark knows line freed numbered none next inside is apart =
+row_lowered i logs entry mark knows line before numbered none next inside is apart =
     let new : Logs = after logs (Take entry mark) knows in
-    let kept : IsStateKept i logs new line = state_kept i logs entry mark knows line freed in
+    let kept : IsStateKept i logs new line = state_kept i logs entry mark knows line before in
     same_row (row_of_line i new line).state (row_of_line i logs line).state (row_of_line i new line).width (row_of_line i logs line).width (live i new line)
     (live i logs line - 1)
     (row_of_line i new line).taker (row_of_line i logs line).taker kept.state kept.wide (lost_one i logs entry mark knows line none inside is)
-    (kept.taker (taker_by i logs line) (taker_same_now i logs entry mark knows line numbered next inside apart)
-    ∙ sym (taker_is i logs line (life_of (logs 0) line) (freed line)))
+    (ap (taker_in i new line) kept.life
+    ∙ taker_same i logs new line (life_of (logs 0) line) kept.then_ (taker_same_now i logs entry mark knows line numbered next inside apart))
 
 -- by the line in which it was live, and whether it had landed there
-pub rows_taken : (i : Image) (logs : Logs) (entry : Entry) (mark : Mark) (knows : List ℕ) (landed : Bool) → NoLineFreed (logs 0) → AreNumbered (logs 0)
+pub rows_taken : (i : Image) (logs : Logs) (entry : Entry) (mark : Mark) (knows : List ℕ) (landed : Bool) → FreedBefore (logs 0) → AreNumbered (logs 0)
     → IsUnplaced i.shape (logs 0) entry.position
     → entry.position ≡ taken (logs 0) → mark.lba < i.shape.capacity
     → landed_line_of i logs mark.lba (last_take (logs 0) mark.lba) ≡ (if landed then line_of i logs mark.lba (last_take (logs 0) mark.lba) else None)
     → rows_of i (after logs (Take entry mark) knows) ≡ lose_in (line_of i logs mark.lba (last_take (logs 0) mark.lba)) landed entry.position (rows_of i logs)
-rows_taken i logs entry mark knows landed freed numbered none next inside there = go (line_of i logs mark.lba (last_take (logs 0) mark.lba)) refl landed there
+rows_taken i logs entry mark knows landed before numbered none next inside there = go (line_of i logs mark.lba (last_take (logs 0) mark.lba)) refl landed there
   where
     new : Logs
     new = after logs (Take entry mark) knows
@@ -331,14 +386,14 @@ rows_taken i logs entry mark knows landed freed numbered none next inside there 
     go : (o : Option ℕ) → line_of i logs mark.lba (last_take (logs 0) mark.lba) ≡ o → (b : Bool)
         → landed_line_of i logs mark.lba (last_take (logs 0) mark.lba) ≡ (if b then line_of i logs mark.lba (last_take (logs 0) mark.lba) else None)
         → rows_of i new ≡ lose_in o b entry.position (rows_of i logs)
-    go None e b is = rows_stay i logs new (λ m. row_same_now i logs entry mark knows m freed numbered none next inside (ap (is_of m) e)
+    go None e b is = rows_stay i logs new (λ m. row_same_now i logs entry mark knows m before numbered none next inside (ap (is_of m) e)
         (ap (is_of m) (is ∙ none_of (line_of i logs mark.lba (last_take (logs 0) mark.lba)) b e)))
     go (Some line) e true is = row_changes_any i logs new line (lost entry.position)
-        (row_lost i logs entry mark knows line freed numbered none next inside (ap (is_of line) e ∙ same_number line)
+        (row_lost i logs entry mark knows line before numbered none next inside (ap (is_of line) e ∙ same_number line)
         (ap (is_of line) (is ∙ e) ∙ same_number line))
-        (λ m other. row_same_now i logs entry mark knows m freed numbered none next inside (ap (is_of m) e ∙ other_number line m (λ f. other (sym f)))
+        (λ m other. row_same_now i logs entry mark knows m before numbered none next inside (ap (is_of m) e ∙ other_number line m (λ f. other (sym f)))
         (ap (is_of m) (is ∙ e) ∙ apart_by m line true other))
     go (Some line) e false is = row_changes_any i logs new line lowered
-        (row_lowered i logs entry mark knows line freed numbered none next inside (ap (is_of line) e ∙ same_number line) (ap (is_of line) is))
-        (λ m other. row_same_now i logs entry mark knows m freed numbered none next inside (ap (is_of m) e ∙ other_number line m (λ f. other (sym f)))
+        (row_lowered i logs entry mark knows line before numbered none next inside (ap (is_of line) e ∙ same_number line) (ap (is_of line) is))
+        (λ m other. row_same_now i logs entry mark knows m before numbered none next inside (ap (is_of m) e ∙ other_number line m (λ f. other (sym f)))
         (ap (is_of m) is))

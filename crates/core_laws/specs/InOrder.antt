@@ -10,7 +10,7 @@ use Rattle.pblk_world.specs.World.{Logs}
 use Rattle.pblk_world.specs.EngineLog.{Opening, Opened, life_of, Placed, placements, placed_on, stripes_of, answers}
 use Rattle.pblk_world.specs.Placing.{line_end}
 use Rattle.core_laws.specs.Positions.{AreNumbered, AreMarked, AreTaken}
-use Rattle.core_laws.specs.PlainLogs.{NoLineFreed, NoStripeLost, NoLineFailed}
+use Rattle.core_laws.specs.PlainLogs.{FreedBefore, NoStripeLost, NoLineFailed}
 use Rattle.core_laws.specs.PlacedEntries.{AreOfSectors}
 
 -- A placed stripe is in a line of the drive. That line is opened still, by the opening that it had
@@ -30,7 +30,7 @@ pub record IsInOrder (i : Image) (logs : Logs) : Type 0 where
   pub taken : AreTaken i.shape (logs 0)
   pub placed : AllByRecursion (IsInPlace i (logs 0)) (placements (logs 0))
   pub answered : (unit : ℕ) → length (answers (logs 0) unit) ≤ length (placed_on (logs 0) unit)
-  pub freed : NoLineFreed (logs 0)
+  pub freed : FreedBefore (logs 0)
   pub lost : NoStripeLost (logs 0)
   pub failed : NoLineFailed (logs 0)
 

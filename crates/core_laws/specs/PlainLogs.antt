@@ -1,12 +1,12 @@
--- What never comes in a mount in which nothing fails and nothing is freed.
-use Rattle.std.specs.Prelude.{ℕ, ◌≡◌, false, List}
+-- What holds of every mount's log, and what never comes in one in which nothing fails.
+use Rattle.std.specs.Prelude.{ℕ, ◌≡◌, ◌≤◌, false, List, length, slice_index, Option}
 use Rattle.pblk_world.specs.Events.{Logged}
-use Rattle.pblk_world.specs.EngineLog.{Opening, Placed, life_of, was_lost, has_failed}
-use Rattle.pblk_world.specs.Victims.{is_freed}
+use Rattle.pblk_world.specs.EngineLog.{Freed, Opening, Placed, life_of, was_lost, has_failed}
 
--- no line was freed
-abbrev pub NoLineFreed : List Logged → Type 0
-NoLineFreed log = (line : ℕ) → is_freed (life_of log line) ≡ false
+-- What each line that was freed was freed by names a part of the engine's log, as that is now.
+abbrev pub FreedBefore : List Logged → Type 0
+FreedBefore log = (line : ℕ) (past : Option Opening) (knows : List ℕ) → life_of log line ≡ Freed past knows
+    → slice_index knows 0 ≤ length log
 
 -- no stripe was lost
 abbrev pub NoStripeLost : List Logged → Type 0

@@ -1,16 +1,14 @@
 -- The lines of a mount, the history of its world, and where they stand.
-use Rattle.std.proofs.Common.{◌≡◌, ℕ, ◌+◌, ◌<◌, suc, Some, List, [], ◌∷◌, length, map, refl, sym, subst, ap, ◌∙◌, arith}
-use Rattle.std.specs.Prelude.{slice_get}
-use Rattle.std.specs.List.{AllByRecursion, filter}
+use Rattle.std.proofs.Common.{◌≡◌, ◌<◌, List, [], ◌∷◌, map, refl, sym, ap}
+use Rattle.std.specs.List.{AllByRecursion}
 use Rattle.pblk_model.specs.History.{SectorWrite}
 use Rattle.pblk_world.specs.EngineLog.{Taken, takes}
-use Rattle.pblk_world.specs.Fronts.{first_position, history, is_users, user_positions, user_takes}
+use Rattle.pblk_world.specs.Fronts.{history, is_users, user_takes}
 use Rattle.lemmas.proofs.Maps.{all_filter, all_mapped}
 use Rattle.lemmas.proofs.Parts.{all_by_get}
 use Rattle.world_laws.proofs.Positions.{position_below}
 use Rattle.block_port.specs.Own.{PlacedSector}
-use Rattle.block_port.specs.Port.{positions}
-use Rattle.block_target.specs.Mount.{IsSameMount, IsSound, MountView, engine_log, taken_in, world_in}
+use Rattle.block_target.specs.Mount.{IsSound, MountView, engine_log, taken_in, world_in}
 use Rattle.block_target.specs.Serial.{lines_in}
 
 -- a line is an entry with its position
@@ -31,4 +29,4 @@ lines_taken v sound =
     all_mapped (λ (x : PlacedSector). x.position < taken_in v) line_of (user_takes (engine_log v))
     (all_filter (λ (t : Taken). t.entry.position < taken_in v) (λ t. is_users t.entry.source) (takes (engine_log v))
     (all_by_get (λ (t : Taken). t.entry.position < taken_in v) (takes (engine_log v)) (λ k t there.
-    position_below v.image (world_in v) k t sound.legal.simple.mount.legal there)))
+    position_below v.image (world_in v) k t sound.legal.mount.legal there)))

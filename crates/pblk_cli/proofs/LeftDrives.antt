@@ -1,190 +1,197 @@
 -- The drive that a run leaves.
-use Rattle.std.proofs.Common.{◌≡◌, ℕ, ◌<◌, ◌≤◌, ◌⊎◌, suc, List, [], ◌∷◌, length, map, take, Some, refl, sym, subst, ap, ap₂, ◌∙◌, arith, inl, inr}
+use Rattle.std.proofs.Common.{◌≡◌, ℕ, zero, suc, ◌<◌, ◌≤◌, ◌⊎◌, List, [], ◌∷◌, length, map, take, Option, Some, sym, subst, ap, ap₂, ◌∙◌, arith, inl, inr}
 use Rattle.std.specs.Prelude.{slice_get}
 use Rattle.std.specs.List.{AllByRecursion, enumerate_from}
 use Rattle.std.proofs.lemmas.Bool.{cases_order}
 use Rattle.std.proofs.lemmas.List.{length-map, take-map}
 use Rattle.std.proofs.lemmas.List.FromFn.{length-enumerate_from}
-use Rattle.std.proofs.lemmas.Option.{slice_get_past}
+use Rattle.std.proofs.lemmas.Option.{none-some, same_Some, slice_get_past}
+use Rattle.atomic_table.specs.Seated.{TableId}
 use Rattle.pblk_model.specs.declared.script.Command.{Command}
 use Rattle.pblk_model.specs.declared.shape.Shape.{Shape}
 use Rattle.pblk_model.specs.Chunk.{Chunk}
 use Rattle.pblk_model.specs.Contents.{contents, end}
 use Rattle.pblk_model.specs.History.{SectorWrite, after, tag_sector, users}
 use Rattle.pblk_model.specs.Image.{Image}
-use Rattle.pblk_model.specs.ImageFile.{IsImage, image_bytes, image_of}
+use Rattle.pblk_model.specs.ImageFile.{image_of}
 use Rattle.pblk_model.specs.Sealed.{IsSealed}
-use Rattle.pblk_model.specs.Shape.{units}
+use Rattle.pblk_model.specs.Shape as shapes
 use Rattle.pblk_model.specs.Text.{HistoryLine, Transcript, text_of}
 use Rattle.pblk_model.specs.UnitLog.{after_log}
 use Rattle.pblk_model.specs.Transcript.{IsRun, sector_writes}
-use Rattle.pblk_world.specs.World.{media, unit_events}
+use Rattle.pblk_world.specs.World.{Logs, World, log_of, media, unit_events}
 use Rattle.pblk_world.specs.Fronts.{history, user_positions}
 use Rattle.world_laws.specs.LegalMounts.{IsLegalMount}
-use Rattle.core_laws.specs.FaultlessMounts.{IsFaultlessMount}
-use Rattle.unit_port.specs.Unit.{IsFitUnit, ModelUnit}
+use Rattle.unit_port.specs.declared.armed.FaultPlan.{FaultPlan}
+use Rattle.unit_port.specs.declared.armed.Fuse.{Fuse}
+use Rattle.unit_port.specs.Unit.{ModelUnit}
 use Rattle.world_laws.proofs.SealedMedia.{media_sealed}
 use Rattle.prefix_law.proofs.Prefix.{prefix_contents}
-use Rattle.ocssd_drive.specs.Drive.{DriveView, IsWhole, shape_of, stored, with_units}
+use Rattle.ocssd_drive.specs.Drive.{DriveView, HasWord, IsWhole, armed_units, fitting_fuse, shape_of, stored, with_units}
 use Rattle.ocssd_drive.specs.Units.{IsUnitOf, WornUnit}
-use Rattle.block_target.specs.Mount.{IsSound, IsUnitIn, MountView, engine_log, logs_in, world_in}
+use Rattle.drive_image.specs.Quiet.{IsQuiet}
+use Rattle.scan_recovery.specs.MayStop.{AllMayStop}
 use Rattle.run_report.specs.Report.{transcript_of}
-use Rattle.scan_recovery.specs.Units as scan
-use Rattle.pblk_cli.specs.declared.run.Ran.{Ran}
-use Rattle.pblk_cli.specs.declared.serve.Served.{Served}
-use Rattle.pblk_cli.specs.Running.{IsRunTo}
-use Rattle.pblk_cli.specs.Serving.{IsRan, IsServed, IsServing, media_in, transcript_in}
+use Rattle.run_threads.specs.declared.records.Records.{Records}
+use Rattle.pblk_cli.specs.Running.{IsRunTo, IsStored}
+use Rattle.pblk_cli.specs.Serving.{IsLeftBy, IsRan, IsServing, transcript_by, units_of}
 use Rattle.pblk_cli.specs.Status.{status_of_run}
-use Rattle.pblk_cli.proofs.HandedDrives.{image_handed, media_mapped}
+use Rattle.pblk_cli.specs.Stops.{AreStopsBy}
+use Rattle.pblk_cli.proofs.ArmedDrives.{are_names, may_stop, stops_by, stored_armed, wear_armed, whole_before}
+use Rattle.pblk_cli.proofs.HandedDrives.{media_mapped}
 use Rattle.pblk_cli.proofs.StoredUnits.{image_units, same_numbers}
 use Rattle.lemmas.proofs.Maps.{get_mapped}
 use Rattle.lemmas.proofs.Parts.{got_within, same_lists}
+use Rattle.pblk_world.proofs.WorldLemmas.{length_media}
 
--- The units of a mount are those of its media.
+-- The units that a world leaves are those of its media.
 
-media_count : (v : MountView) → IsSound v → length (media_in v).units ≡ units v.image.shape
-media_count v sound =
-    length-map (enumerate_from 0 v.image.units) (λ (unit : ℕ × List Chunk). after_log v.image.shape unit.1 (unit_events (logs_in v) unit.0))
-    ∙ length-enumerate_from 0 v.image.units ∙ sound.legal.simple.mount.fit.units
-
-pub units_media : (v : MountView) → IsSound v → map (λ (u : ModelUnit). u.media) v.units ≡ (media_in v).units
-units_media v sound = same_lists (map (λ (u : ModelUnit). u.media) v.units) (media_in v).units (λ k. at k (cases_order k (length v.units)))
+units_media : (i : Image) (handed units : List ModelUnit) (logs : Logs) → length units ≡ length i.units
+    → ((k : ℕ) (u : ModelUnit) → slice_get units k ≡ Some u → IsLeftBy i handed logs k u) → map (λ (u : ModelUnit). u.media) units ≡ (media i logs).units
+units_media i handed units logs count each = same_lists (map (λ (u : ModelUnit). u.media) units) (media i logs).units (λ k. at k (cases_order k (length units)))
   where
-    past : (k : ℕ) → length v.units ≤ k → slice_get (map (λ (u : ModelUnit). u.media) v.units) k ≡ slice_get (media_in v).units k
+    past : (k : ℕ) → length units ≤ k → slice_get (map (λ (u : ModelUnit). u.media) units) k ≡ slice_get (media i logs).units k
     past k high =
-        slice_get_past (map (λ (u : ModelUnit). u.media) v.units) k (omega (arith, length-map v.units (λ (u : ModelUnit). u.media)))
-        ∙ sym (slice_get_past (media_in v).units k (omega (arith, media_count v sound, sound.count)))
+        slice_get_past (map (λ (u : ModelUnit). u.media) units) k (omega (arith, length-map units (λ (u : ModelUnit). u.media)))
+        ∙ sym (slice_get_past (media i logs).units k (omega (arith, length_media i logs, count)))
 
-    at : (k : ℕ) → (k ≡ length v.units) ⊎ ((k < length v.units) ⊎ (length v.units < k))
-        → slice_get (map (λ (u : ModelUnit). u.media) v.units) k ≡ slice_get (media_in v).units k
+    at : (k : ℕ) → (k ≡ length units) ⊎ ((k < length units) ⊎ (length units < k))
+        → slice_get (map (λ (u : ModelUnit). u.media) units) k ≡ slice_get (media i logs).units k
     at k (inl e) = past k (omega arith)
     at k (inr (inl low)) =
-        let u = got_within v.units k low in
-        let is : IsUnitIn v k u.0 = sound.each k u.0 u.1 in
-        get_mapped (λ (x : ModelUnit). x.media) v.units k u.0 u.1 ∙ sym is.media
+        let u = got_within units k low in
+        get_mapped (λ (x : ModelUnit). x.media) units k u.0 u.1 ∙ sym (each k u.0 u.1).media
     at k (inr (inr high)) = past k (omega arith)
 
--- The units fit.
-
-all_fit : (s : Shape) (olds news : List WornUnit) → map (λ (u : WornUnit). u.wear) news ≡ map (λ (u : WornUnit). u.wear) olds → AllByRecursion (IsUnitOf s) olds
-    → ((k : ℕ) (u : ModelUnit) → slice_get (map (λ (u : WornUnit). u.unit) news) k ≡ Some u → (u.shape ≡ s) × IsFitUnit u) → AllByRecursion (IsUnitOf s) news
-all_fit s olds [] wear fit each = tt
-all_fit s [] (n ∷ news) wear fit each = absurd (cc)
-all_fit s (o ∷ olds) (n ∷ news) wear fit each =
-    let first = each 0 n.unit refl in
-    let same : n.wear ≡ o.wear = cc in
-    let rest : map (λ (u : WornUnit). u.wear) news ≡ map (λ (u : WornUnit). u.wear) olds = cc in (
-      record {
-        shape = first.0;
-        fits = first.1;
-        worn = ap (λ (w : List ℕ). length w) same ∙ fit.0.worn;
-        worn_fits = subst (AllByRecursion (λ w. w < 256)) (sym same) fit.0.worn_fits;
-      },
-      all_fit s olds news rest fit.1 (λ k u there. each (suc k) u there),
-    )
-
-pub whole_left : (found : DriveView) (s : Shape) (script : List (List Command)) (served : Served) → IsWhole found → s ≡ shape_of found
-    → IsServed s script found.units served → IsWhole (with_units served.units.items found)
-whole_left found s script served whole shape is =
-    let mount : is.mount.image.shape ≡ shape_of found = ap (λ (i : Image). i.shape) is.serving.image ∙ shape in
-    record {
-      geometry_is = whole.geometry_is;
-      accepted = whole.accepted;
-      count = sym (length-map served.units.items (λ (u : WornUnit). u.wear)) ∙ ap length is.wear ∙ length-map found.units (λ (u : WornUnit). u.wear)
-          ∙ whole.count;
-      fit = all_fit (shape_of found) found.units served.units.items is.wear whole.fit (λ k u there.
-          let at : IsUnitIn is.mount k u = is.serving.sound.each k u (ap (λ (us : List ModelUnit). slice_get us k) (sym is.units_are) ∙ there) in
-          (at.shape ∙ mount, at.fit));
-    }
-
-pub ran_of : (found e : DriveView) (s : Shape) (script : List (List Command)) (served : Served) → e ≡ found → IsWhole found → s ≡ shape_of found
-    → IsServed s script e.units served
-    → IsRan found script (record { drive = with_units served.units.items e; records = served.records })
-ran_of found e s script served same whole shape is =
-    let here : IsServed s script found.units served = subst (λ (d : DriveView). IsServed s script d.units served) same is in
-    let serving : IsServing (scan.image_of (shape_of found) (map (λ (u : WornUnit). u.unit) found.units)) script served.records here.mount =
-    subst (λ (x : Shape). IsServing (scan.image_of x (map (λ (u : WornUnit). u.unit) found.units)) script served.records here.mount) shape here.serving in
-    subst (λ (d : DriveView). IsRan found script (record { drive = with_units served.units.items d; records = served.records })) (sym same) (record {
-      mount = here.mount;
-      serving = subst (λ (i : Image). IsServing i script served.records here.mount) (image_handed found whole) serving;
-      units_are = here.units_are;
-      wear = here.wear;
-      numbers = refl;
-      was = whole;
-      whole = whole_left found s script served whole shape here;
-    })
-
--- The image left.
-
-left_is : (d : DriveView) (v : MountView) (i : Image) → IsWhole d → v.image ≡ i → shape_of d ≡ i.shape → IsSound v
-    → map (λ (u : WornUnit). u.unit) d.units ≡ v.units → image_of (stored d) ≡ media i (logs_in v)
-left_is d v i whole image shape sound are =
-    ap₂ (λ (x : Shape) (us : List (List Chunk)). record { shape = x; units = us }) (shape ∙ sym (ap (λ (j : Image). j.shape) image))
-    (image_units d whole ∙ sym (media_mapped d.units) ∙ ap (map (λ (u : ModelUnit). u.media)) are ∙ units_media v sound)
-    ∙ ap (λ (x : Image). media x (logs_in v)) image
+shape_at : (s : Shape) (us : List WornUnit) → AllByRecursion (IsUnitOf s) us → (k : ℕ) (u : ModelUnit) → slice_get (units_of us) k ≡ Some u → u.shape ≡ s
+shape_at s [] fit k u there = absurd (none-some u there)
+shape_at s (x ∷ us) fit zero u there = ap (λ (y : ModelUnit). y.shape) (sym (same_Some x.unit u there)) ∙ fit.0.shape
+shape_at s (x ∷ us) fit (suc k) u there = shape_at s us fit.1 k u there
 
 -- The contents left.
 
-kept_contents : (i : Image) (v : MountView) → IsLegalMount i (world_in v) → IsSealed i → (t : Transcript) (size : ℕ)
-    → t.kept ≡ users (user_positions (engine_log v)) (end (media i (logs_in v)))
-    → history (engine_log v) ≡ sector_writes size t.history → contents (media i (logs_in v)) ≡ after (contents i) (sector_writes size (take t.kept t.history))
-kept_contents i v mount sealed t size kept history_is =
-    prefix_contents i (world_in v) mount sealed
+kept_contents : (i : Image) (w : World) → IsLegalMount i w → IsSealed i → (t : Transcript) (size : ℕ)
+    → t.kept ≡ users (user_positions (log_of w 0)) (end (media i (log_of w)))
+    → history (log_of w 0) ≡ sector_writes size t.history → contents (media i (log_of w)) ≡ after (contents i) (sector_writes size (take t.kept t.history))
+kept_contents i w mount sealed t size kept history_is =
+    prefix_contents i w mount sealed
     ∙ ap₂ (λ n (ws : List SectorWrite). after (contents i) (take n ws)) (sym kept) history_is
     ∙ ap (after (contents i)) (take-map (λ (row : HistoryLine). record { lba = row.lba; sector = tag_sector size row.tag }) t.kept t.history)
 
 -- The run.
 
--- the transcript by the end of the image left
-abbrev pub transcript_left : List (List Command) → Ran → Transcript
-transcript_left script ran = transcript_of script ran.records (end (image_of (stored ran.drive)))
+-- A drive that was loaded, and armed with this fuse, and what a run left of it.
+module _ (found : DriveView) (stop : Option Fuse) (word : Option TableId) (script : List (List Command)) (left : DriveView) (records : Records)
+    (status : ℕ) (text bytes : List ℕ) (whole : IsWhole found) (quiet : IsQuiet found) where
+  abbrev fuse : Option Fuse
+  fuse = fitting_fuse (length found.units) stop
 
-pub run_to : (found : DriveView) (script : List (List Command)) (ran : Ran) (text bytes : List ℕ) (status : ℕ) → IsRan found script ran
-    → text ≡ text_of (transcript_left script ran) → status ≡ status_of_run (transcript_left script ran)
-    → bytes ≡ image_bytes (stored ran.drive) → IsImage (image_bytes (stored ran.drive)) (stored ran.drive)
-    → IsRunTo (stored found) script status text bytes
-run_to found script ran text bytes status is said status_is bytes_are spelled =
-    let i : Image = image_of (stored found) in
-    let v : MountView = is.mount in
-    let t : Transcript = transcript_in script ran.records is.mount in
-    let serving : IsServing (image_of (stored found)) script ran.records is.mount = is.serving in
-    let left : image_of (stored ran.drive) ≡ media (image_of (stored found)) (logs_in is.mount) =
-    left_is ran.drive is.mount (image_of (stored found)) is.whole serving.image (ap shape_of is.numbers) serving.sound is.units_are in
-    let legal : IsFaultlessMount (image_of (stored found)) (world_in is.mount) = subst
-    (λ (x : Image). IsFaultlessMount x (world_in is.mount)) serving.image serving.sound.legal in
-    -- the end that was found is that of the mount's media
-    let same_end : end (image_of (stored ran.drive)) ≡ end (media_in is.mount) = ap end left
-    ∙ ap (λ (x : Image). end (media x (logs_in is.mount))) (sym serving.image) in
-    let told : transcript_left script ran ≡ t = ap (transcript_of script ran.records) same_end in
-    let kept : t.kept ≡ users (user_positions (engine_log is.mount)) (end (image_of (stored ran.drive))) =
-    serving.kept ∙ ap (users (user_positions (engine_log is.mount))) (sym same_end) in
-    record {
-      left = stored ran.drive;
+  abbrev armed : DriveView
+  armed = with_units (armed_units [] (fitting_fuse (length found.units) stop) word found.units) found
+
+  abbrev i : Image
+  i = image_of (stored found)
+
+  stored_same : stored armed ≡ stored found
+  stored_same = ap (λ units. record {
+    geometry = (stored found).geometry;
+    sector = found.sector;
+    capacity = found.capacity;
+    ring = found.ring;
+    units = units;
+  }) (stored_armed fuse word found.units)
+
+  unit_count : length i.units ≡ length found.units
+  unit_count = ap (λ us. length us) (image_units found whole) ∙ length-map found.units (λ (u : WornUnit). u.unit.media)
+
+  module _ (is : IsRan armed script left records) (made : IsStored left script records status text bytes) where
+    abbrev w : World
+    w = is.world
+
+    serving : IsServing i (units_of armed.units) (units_of left.units) script records w
+    serving = subst (λ d. IsServing (image_of d) (units_of armed.units) (units_of left.units) script records w) stored_same is.serving
+
+    numbers_left : left ≡ with_units left.units found
+    numbers_left = is.drive.numbers
+
+    armed_count : length (units_of armed.units) ≡ length i.units
+    armed_count = length-map armed.units (λ (u : WornUnit). u.unit) ∙ is.drive.was.count ∙ sym whole.count ∙ sym unit_count
+
+    left_count : length (units_of left.units) ≡ length i.units
+    left_count = length-map left.units (λ (u : WornUnit). u.unit) ∙ is.drive.whole.count
+        ∙ ap (λ (d : DriveView). shapes.units (shape_of d)) numbers_left ∙ sym whole.count ∙ sym unit_count
+
+    armed_shapes : (k : ℕ) (u : ModelUnit) → slice_get (units_of armed.units) k ≡ Some u → u.shape ≡ i.shape
+    armed_shapes k u there = shape_at (shape_of armed) armed.units is.drive.was.fit k u there
+
+    -- the image left
+    left_is : image_of (stored left) ≡ media i (log_of w)
+    left_is =
+        ap₂ (λ (x : Shape) (us : List (List Chunk)). record { shape = x; units = us }) (ap shape_of numbers_left)
+        (image_units left is.drive.whole ∙ sym (media_mapped left.units)
+        ∙ units_media i (units_of armed.units) (units_of left.units) (log_of w) left_count serving.each)
+
+    abbrev t : Transcript
+    t = transcript_by script records i (log_of w)
+
+    told_is : transcript_of script records (end (image_of (stored left))) ≡ t
+    told_is = ap (λ (x : Image). transcript_of script records (end x)) left_is
+
+    pub run_to : IsRunTo (stored found) stop script status text bytes
+    run_to = record {
+      left = stored left;
       run = record {
         transcript = t;
-        printed = said ∙ ap text_of told;
-        faultless = serving.faultless;
-        numbers = same_numbers found ran.drive is.was is.whole is.numbers is.wear;
+        printed = made.text_is ∙ ap text_of told_is;
+        numbers = same_numbers found left whole is.drive.whole numbers_left (is.drive.wear ∙ wear_armed fuse word found.units);
         world = record {
-          world = world_in is.mount;
-          legal = legal;
-          beginning = serving.sound.beginning;
-          has_begun = serving.sound.has_begun;
-          media_are = left;
+          world = w;
+          legal = serving.legal;
+          has_begun = serving.has_begun;
+          media_are = left_is;
           history_is = serving.history_is;
+          stops = subst (λ n. AreStopsBy i (fitting_fuse n stop) (log_of w)) (sym unit_count)
+              (stops_by i fuse word found.units left.units (log_of w) quiet armed_count armed_shapes left_count serving.each is.by_arms);
+          named = are_names i fuse word found.units left.units (log_of w) quiet armed_count armed_shapes left_count serving.each _
+              serving.named;
           worn = serving.worn;
           granted = serving.granted;
         };
-        kept_is = kept;
+        kept_is = serving.kept ∙ ap (λ (x : Image). users (user_positions (log_of w 0)) (end x)) (sym left_is);
         told = serving.told;
         relation = λ sealed.
-            subst (IsRun found.sector script (contents (image_of (stored found))) t)
-            (sym (ap contents left ∙ kept_contents (image_of (stored found)) is.mount legal.simple.mount sealed t found.sector (kept
-            ∙ ap (λ (x : Image). users (user_positions (engine_log is.mount)) (end x)) left) serving.history_is))
+            subst (IsRun found.sector script (contents i) t)
+            (sym (ap contents left_is ∙ kept_contents i w serving.legal.mount sealed t found.sector serving.kept serving.history_is))
             (serving.run sealed);
-        sealed = λ sealed. subst IsSealed (sym left) (media_sealed (image_of (stored found)) (world_in is.mount) legal.simple.mount sealed);
-        spelled = spelled;
+        sealed = λ sealed. subst IsSealed (sym left_is) (media_sealed i w serving.legal.mount sealed);
+        spelled = made.spelled;
       };
-      status_is = status_is ∙ ap status_of_run told;
-      bytes_are = bytes_are;
+      status_is = made.status_is ∙ ap status_of_run told_is;
+      bytes_are = made.bytes_are;
     }
+
+-- The same of a drive that was armed with no plan.
+
+-- as arming tells it
+abbrev IsArmedBy : DriveView → Option Fuse → List FaultPlan → DriveView → Type 0
+IsArmedBy found stop plans set = (word : Option TableId) × HasWord (fitting_fuse (length found.units) stop) word
+    × (set ≡ with_units (armed_units plans (fitting_fuse (length found.units) stop) word found.units) found)
+
+pub armed_may_stop : (found set : DriveView) (stop : Option Fuse) (plans : List FaultPlan) → plans ≡ [] → IsQuiet found → IsArmedBy found stop plans set
+    → AllMayStop (units_of set.units)
+armed_may_stop found set stop plans none quiet is =
+    let fuse : Option Fuse = fitting_fuse (length found.units) stop in
+    subst (λ (us : List WornUnit). AllMayStop (units_of us))
+    (ap (λ ps. armed_units ps fuse is.0 found.units) (sym none) ∙ sym (ap (λ (d : DriveView). d.units) is.2))
+    (may_stop fuse is.0 found.units quiet)
+
+pub armed_run_to : (found set : DriveView) (stop : Option Fuse) (plans : List FaultPlan) (script : List (List Command)) (left : DriveView) (records : Records)
+    (status : ℕ) (text bytes : List ℕ) → plans ≡ [] → IsQuiet found → IsArmedBy found stop plans set → IsRan set script left records
+    → IsStored left script records status text bytes → IsRunTo (stored found) stop script status text bytes
+armed_run_to found set stop plans script left records status text bytes none quiet is ran made =
+    let fuse : Option Fuse = fitting_fuse (length found.units) stop in
+    let armed_is : set ≡ with_units (armed_units [] fuse is.0 found.units) found = is.2
+    ∙ ap (λ ps. with_units (armed_units ps fuse is.0 found.units) found) none in
+    let on_armed : IsRan (with_units (armed_units [] fuse is.0 found.units) found) script left records =
+    subst (λ (d : DriveView). IsRan d script left records) armed_is ran in
+    run_to found stop is.0 script left records status text bytes (whole_before found fuse is.0 on_armed.drive.was) quiet on_armed made

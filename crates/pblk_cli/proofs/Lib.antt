@@ -8,8 +8,15 @@ pub mod HandedDrives
 pub mod Sessions
 pub mod Histories
 pub mod WornCauses
+pub mod Names
+pub mod Backs
 pub mod Servings
+pub mod Disarmed
+pub mod ArmedDrives
+pub mod RanDrives
 pub mod LeftDrives
+pub mod Faultless
+pub mod OldHeads
 pub mod WornLines
 pub mod EventLines
 pub mod Contents

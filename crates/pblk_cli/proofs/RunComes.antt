@@ -1,9 +1,11 @@
 -- What a run of files comes to.
-use Rattle.std.proofs.Common.{◌≡◌, ◌++◌, ◌∷◌, [], ℕ, List, Some, sym, ap, ◌∙◌}
+use Rattle.std.proofs.Common.{◌≡◌, ◌++◌, ◌∷◌, [], ℕ, List, Option, Some, sym, ap, ◌∙◌}
 use Rattle.std.specs.Bool.{IsTrue}
 use Rattle.pblk_outside.specs.declared.file_fault.FileCall.TheVariants as calls
 use Rattle.pblk_outside.specs.Files.{FilesView, AddsFault, IsCalm, SameOthers}
 use Rattle.pblk_model.specs.ImageFile.{Drive, IsImage}
+use Rattle.command_words.specs.Grammar.{RunOptions}
+use Rattle.unit_port.specs.declared.armed.Fuse.{Fuse}
 use Rattle.pblk_cli.specs.declared.refusal.Refusal.{Refusal}
 use Rattle.pblk_cli.specs.declared.refusal.Refusal.TheVariants as refusals
 use Rattle.pblk_cli.specs.Commands.{RunComesTo, RunInput, RunMade}
@@ -14,21 +16,21 @@ use Rattle.pblk_cli.specs.Telling.{FailsWriting, Refuses}
 use Rattle.pblk_cli.proofs.Reading.{is_there}
 
 -- both files were read, and the image's bytes are refused
-pub image_refused_comes : (image script found commands : List ℕ) (old new : FilesView) → ReadsFile image found old new → ReadsFile script commands old new
-    → (q : Refusal) → RefusesBytes found (reason_of q) → RunComesTo image script (Refuses (reason_of q)) old new
-image_refused_comes image script found commands old new a b (refusals.Image e) h = (found, a.0, is_there script commands old b.0, h, a.1)
-image_refused_comes image script found commands old new a b (refusals.Script e) h = absurd h
-image_refused_comes image script found commands old new a b refusals.ScriptUnbuilt h = absurd h
-image_refused_comes image script found commands old new a b (refusals.Failed name) h = absurd h
-image_refused_comes image script found commands old new a b (refusals.Missing name) h = absurd h
-image_refused_comes image script found commands old new a b refusals.Memory h = (is_there image found old a.0, a.1)
+pub image_refused_comes : (image script found commands : List ℕ) (options : RunOptions) (old new : FilesView) → ReadsFile image found old new
+    → ReadsFile script commands old new → (q : Refusal) → RefusesBytes found (reason_of q) → RunComesTo image script options (Refuses (reason_of q)) old new
+image_refused_comes image script found commands options old new a b (refusals.Image e) h = (found, a.0, is_there script commands old b.0, h, a.1)
+image_refused_comes image script found commands options old new a b (refusals.Script e) h = absurd h
+image_refused_comes image script found commands options old new a b refusals.ScriptUnbuilt h = absurd h
+image_refused_comes image script found commands options old new a b (refusals.Failed name) h = absurd h
+image_refused_comes image script found commands options old new a b (refusals.Missing name) h = absurd h
+image_refused_comes image script found commands options old new a b refusals.Memory h = (is_there image found old a.0, a.1)
 
 -- the image is one of a drive, and the script is refused
-pub script_refused_comes : (image script found commands : List ℕ) (d : Drive) (old new : FilesView) → ReadsFile image found old new
+pub script_refused_comes : (image script found commands : List ℕ) (options : RunOptions) (d : Drive) (old new : FilesView) → ReadsFile image found old new
     → ReadsFile script commands old new → IsImage found d
-    → (q : Refusal) → RefusesScript d.capacity commands (reason_of q) → RunComesTo image script (Refuses (reason_of q)) old new
-script_refused_comes image script found commands d old new a b is (refusals.Image e) h = absurd h
-script_refused_comes image script found commands d old new a b is (refusals.Script e) h = (
+    → (q : Refusal) → RefusesScript d.capacity commands (reason_of q) → RunComesTo image script options (Refuses (reason_of q)) old new
+script_refused_comes image script found commands options d old new a b is (refusals.Image e) h = absurd h
+script_refused_comes image script found commands options d old new a b is (refusals.Script e) h = (
   d,
   record {
     bytes = found;
@@ -40,7 +42,7 @@ script_refused_comes image script found commands d old new a b is (refusals.Scri
   h,
   a.1,
 )
-script_refused_comes image script found commands d old new a b is refusals.ScriptUnbuilt (said, are, many) = (
+script_refused_comes image script found commands options d old new a b is refusals.ScriptUnbuilt (said, are, many) = (
   d,
   record {
     bytes = found;
@@ -54,14 +56,14 @@ script_refused_comes image script found commands d old new a b is refusals.Scrip
   many,
   a.1,
 )
-script_refused_comes image script found commands d old new a b is (refusals.Failed name) h = absurd h
-script_refused_comes image script found commands d old new a b is (refusals.Missing name) h = absurd h
-script_refused_comes image script found commands d old new a b is refusals.Memory h = (is_there image found old a.0, a.1)
+script_refused_comes image script found commands options d old new a b is (refusals.Failed name) h = absurd h
+script_refused_comes image script found commands options d old new a b is (refusals.Missing name) h = absurd h
+script_refused_comes image script found commands options d old new a b is refusals.Memory h = (is_there image found old a.0, a.1)
 
-abbrev pub input_of : (image script found commands : List ℕ) (d : Drive) (status : ℕ) (text bytes : List ℕ) (old new : FilesView)
+abbrev pub input_of : (image script found commands : List ℕ) (stop : Option Fuse) (d : Drive) (status : ℕ) (text bytes : List ℕ) (old new : FilesView)
     → ReadsFile image found old new → ReadsFile script commands old new → IsImage found d
-    → IsRunOfScript d commands status text bytes → RunInput image script old
-input_of image script found commands d status text bytes old new a b is h = record {
+    → IsRunOfScript d stop commands status text bytes → RunInput image script old
+input_of image script found commands stop d status text bytes old new a b is h = record {
   drive = d;
   drive_is = record { bytes = found; read = a.0; is = is };
   script_bytes = commands;
@@ -76,13 +78,14 @@ others : (image : List ℕ) (old mid new : FilesView) → ((name : List ℕ) →
     → SameOthers image old.file new.file
 others image old mid new same h = λ other ne. h other ne ∙ same other
 
-pub made : (image script found commands : List ℕ) (d : Drive) (status : ℕ) (text bytes : List ℕ) (old mid new : FilesView) → ReadsFile image found old mid
+pub made : (image script found commands : List ℕ) (options : RunOptions) (d : Drive) (status : ℕ) (text bytes : List ℕ) (old mid new : FilesView)
+    → ReadsFile image found old mid
     → ReadsFile script commands old mid → IsImage found d
-    → IsRunOfScript d commands status text bytes
+    → IsRunOfScript d options.stop commands status text bytes
     → (IsTrue mid.told → new.file image ≡ Some bytes) → IsCalm mid new → SameOthers image mid.file new.file → new.told ≡ mid.told
-    → RunMade image script status text old new
-made image script found commands d status text bytes old mid new a b is h stored calm same told = record {
-  input = input_of image script found commands d status text bytes old mid a b is h;
+    → RunMade image script options status text old new
+made image script found commands options d status text bytes old mid new a b is h stored calm same told = record {
+  input = input_of image script found commands options.stop d status text bytes old mid a b is h;
   left = h.run.left;
   run = h.run.run;
   status_is = h.run.status_is;

@@ -1,7 +1,10 @@
--- What a session and a close come to.
-use Rattle.std.proofs.Common.{◌≡◌, ℕ, ◌^◌, ◌<◌, ◌≤◌, List, [], ◌∷◌, ◌++◌, Result, Ok, Err, length, map, take, Some, None, refl, sym, subst, ap, ◌∙◌, arith}
+-- What a session and a close come to, and what an opening that was refused.
+use Rattle.std.proofs.Common.{◌≡◌, ℕ, ◌^◌, ◌<◌, ◌≤◌, List, [], ◌∷◌, ◌++◌, Option, Result, Ok, Err, length, map, take, Some, None, slice_get, refl, sym, subst, ap, ◌∙◌, arith}
+use Rattle.std.specs.Prelude.{IfOk}
 use Rattle.std.specs.List.{AllByRecursion, filter, flat_map}
-use Rattle.std.proofs.lemmas.List.{append-nil, length-map}
+use Rattle.std.proofs.lemmas.List.{append-nil, length-map, map-append}
+use Rattle.std.proofs.lemmas.Option.{none-some}
+use Rattle.std.proofs.lemmas.Result.{IfOk-weaker}
 use Rattle.std.proofs.Math.Nat.{le_refl}
 use Rattle.pblk_model.specs.declared.script.Command.{Command}
 use Rattle.pblk_model.specs.declared.shape.Shape.{Shape}
@@ -12,57 +15,75 @@ use Rattle.pblk_model.specs.History.{SectorWrite, after, users}
 use Rattle.pblk_model.specs.Image.{Image}
 use Rattle.pblk_model.specs.Script.{ScriptFits}
 use Rattle.pblk_model.specs.Sealed.{IsSealed}
-use Rattle.pblk_model.specs.Text.{Transcript}
-use Rattle.pblk_model.specs.Transcript.{IsDistinct, IsRun, IsTranscript, closing_event, is_of_one, sector_writes}
-use Rattle.pblk_world.specs.Fronts.{user_positions}
+use Rattle.pblk_model.specs.Shape as shapes
+use Rattle.pblk_model.specs.Text.{HistoryLine, Transcript}
+use Rattle.pblk_model.specs.Transcript.{IsDistinct, IsRun, IsTranscript, closing_event, events, is_of_one, sector_writes}
+use Rattle.pblk_world.specs.Events.{Logged}
+use Rattle.pblk_world.specs.EngineLog.{Begun, begun}
+use Rattle.pblk_world.specs.Fronts.{history, user_positions}
 use Rattle.pblk_world.specs.Lines.{found_image}
+use Rattle.pblk_world.specs.World.{World, log_of, media}
+use Rattle.core_laws.specs.SimpleMounts.{IsSimpleMount}
 use Rattle.unit_port.specs.Unit.{ModelUnit}
 use Rattle.ocssd_drive.specs.Units.{WornUnit}
 use Rattle.prefix_law.proofs.Prefix.{prefix_above}
-use Rattle.scan_recovery.specs.Units.{image_of}
+use Rattle.scan_recovery.specs.Lost.{IsLostAt}
+use Rattle.scan_recovery.specs.MayStop.{AllMayStop}
+use Rattle.scan_recovery.specs.Readying.{AreHandedBack}
+use Rattle.scan_recovery.specs.Units.{AreFit, image_of}
+use Rattle.block_port.specs.declared.rows.DriveAnswer.{DriveAnswer}
 use Rattle.block_port.specs.declared.rows.WornAnswer.{WornAnswer}
 use Rattle.block_port.specs.Own.{PlacedSector, lines_of}
 use Rattle.block_port.specs.Port.{Footing, IsSameTarget, ModelPort, positions}
-use Rattle.block_target.specs.Mount.{IsSameMount, IsSound, MountView, engine_log, logs_in, synced_in, taken_in, world_in}
+use Rattle.block_target.specs.Arm.{IsArm}
 use Rattle.block_target.specs.Granted.{AreGranted}
+use Rattle.block_target.specs.Mount.{MountView, synced_in, taken_in, world_in}
 use Rattle.block_target.specs.NothingLeft.{AreRefusals}
-use Rattle.block_target.specs.Opened.{IsOpened}
-use Rattle.block_target.specs.Serial.{SerialView, Settles, device, lines_in, settle_worns}
+use Rattle.block_target.specs.Opened.{IsOpened, OpenCause}
+use Rattle.block_target.specs.Serial.{SerialView, Settles, device, lines_in, settle_faults, settle_worns}
+use Rattle.block_target.specs.declared.opening.OpenErr.{OpenErr}
+use Rattle.block_target.specs.declared.opening.OpenErr.TheVariants as errors
 use Rattle.block_target.specs.declared.opening.SettleErr.{SettleErr}
 use Rattle.block_target.specs.declared.opening.SettleErr.TheVariants as settle
-use Rattle.run_threads.specs.declared.records.Records.{Records}
 use Rattle.run_threads.specs.declared.records.Answer.{Answer}
-use Rattle.run_threads.specs.Run.{Runs}
-use Rattle.run_report.specs.OnePort.{AreKept, IsRunOfOnePort, IsTrouble}
-use Rattle.run_report.specs.Report.{closing_of}
-use Rattle.run_report.proofs.OnePort.{no_port, one_events, one_history, one_kept, one_port, one_told}
+use Rattle.run_threads.specs.declared.records.Records.{Records}
+use Rattle.run_threads.specs.declared.records.Trouble.TheVariants.{Drive}
+use Rattle.run_threads.specs.Run.{IsEvent, Runs}
+use Rattle.run_report.specs.OnePort.{AreKept, IsRunOfOnePort, IsTrouble, event_of}
+use Rattle.run_report.specs.Report.{closing_of, opening_of, transcript_of}
+use Rattle.run_report.proofs.OnePort.{no_more, no_port, one_events, one_history, one_kept, one_port, one_told, unopened}
 use Rattle.run_report.proofs.Recorded.{recorded}
-use Rattle.pblk_cli.specs.declared.serve.Served.{Served}
-use Rattle.pblk_cli.specs.Serving.{HasRun, IsClosed, IsNewTarget, IsServed, IsServing, IsSession, media_in, transcript_in, trouble_of}
+use Rattle.pblk_cli.specs.Serving.{AreBack, AreNewLosses, Closes, HasRun, IsClosed, IsNewTarget, IsServed, IsServedOn, IsServing, IsSessionOf, transcript_by, trouble_of, units_of, wear_of, with_closing}
+use Rattle.pblk_cli.specs.Stops.{HasBegun}
 use Rattle.pblk_cli.specs.Worn.{worns_of}
+use Rattle.pblk_cli.proofs.Backs.{back_of, left_by}
 use Rattle.pblk_cli.proofs.Histories.{history_lines, lines_taken}
+use Rattle.pblk_cli.proofs.Names.{loss_at, losses_distinct, losses_named}
+use Rattle.pblk_cli.proofs.Sessions.{answered}
 use Rattle.pblk_cli.proofs.WornCauses.{no_worns, one_worns}
+use Rattle.lemmas.proofs.Parts.{take_nothing}
 use Rattle.block_target.proofs.DeviceFronts.{positions_in}
+use Rattle.block_target.proofs.RefusedOpenings.{refused_arm, refused_legal, refused_none, refused_world}
 use Rattle.block_target.proofs.Written.{lines_kept}
 
 -- what no call changes of a target
 footing_is : (s t : Footing) → Some s ≡ Some t → s ≡ t
 footing_is s t e = cc
 
+abbrev footing_of : SerialView → Footing
+footing_of s = record { handed = s.mount.handed; image = s.mount.image; wear = s.mount.wear }
+
+same_footing : (a b : SerialView) → IsSameTarget (device a) (device b) → footing_of b ≡ footing_of a
+same_footing a b same = footing_is (footing_of b) (footing_of a) same.footing
+
 same_image : (a b : SerialView) → IsSameTarget (device a) (device b) → b.mount.image ≡ a.mount.image
-same_image a b same = ap (λ (f : Footing). f.image) (footing_is (record {
-  image = b.mount.image;
-  wear = b.mount.wear;
-}) (record { image = a.mount.image; wear = a.mount.wear }) same.footing)
+same_image a b same = ap (λ (f : Footing). f.image) (same_footing a b same)
 
 same_wear : (a b : SerialView) → IsSameTarget (device a) (device b) → b.mount.wear ≡ a.mount.wear
-same_wear a b same = ap (λ (f : Footing). f.wear) (footing_is (record {
-  image = b.mount.image;
-  wear = b.mount.wear;
-}) (record { image = a.mount.image; wear = a.mount.wear }) same.footing)
+same_wear a b same = ap (λ (f : Footing). f.wear) (same_footing a b same)
 
-no_events : (es : List (ℕ × ℕ)) → es ≡ [] → IsDistinct (filter is_of_one es)
-no_events es none = rw none tt
+same_handed : (a b : SerialView) → IsSameTarget (device a) (device b) → b.mount.handed ≡ a.mount.handed
+same_handed a b same = ap (λ (f : Footing). f.handed) (same_footing a b same)
 
 all_below : (n m : ℕ) (lines : List PlacedSector) → n ≤ m → AllByRecursion (λ (x : PlacedSector). x.position < n) lines
     → AllByRecursion (λ (x : PlacedSector). x.position < m) lines
@@ -82,57 +103,85 @@ told_by : (size other : ℕ) (script : List (List Command)) (start begin : List 
 told_by size other script start begin t size_is start_is told =
     subst (λ n. IsTranscript n script begin t) size_is (subst (λ (c : List (List ℕ)). IsTranscript size script c t) start_is told)
 
+has_begun_with : (o : Option (ℕ × ℕ)) (g : Option Begun) (b : Begun) → o ≡ None → g ≡ Some b → HasBegun o g
+has_begun_with o g b none some = rw (none, some) tt
+
 -- What a close answered.
 
-pub troubles : (settled : Result Unit SettleErr) (v : MountView) → Settles settled v
-    → ((wanted have : ℕ) → settled ≡ Err (settle.Worn wanted have) → wanted < 2 ^ 64) → IsTrouble (trouble_of settled)
-troubles (Ok x) v settles number = tt
-troubles (Err (settle.Worn wanted have)) v settles number = (settles.2.above, number wanted have refl)
-troubles (Err (settle.Drive unit event)) v settles number = absurd settles
+pub troubles : (settled : Result Unit SettleErr) (old v : MountView) → Settles old settled v
+    → ((wanted have : ℕ) → settled ≡ Err (settle.Worn wanted have) → wanted < 2 ^ 64)
+    → ((unit event : ℕ) → settled ≡ Err (settle.Drive unit event) → IsEvent unit event) → IsTrouble (trouble_of settled)
+troubles (Ok x) old v settles number named = tt
+troubles (Err (settle.Worn wanted have)) old v settles number named = (settles.3.above, number wanted have refl)
+troubles (Err (settle.Drive unit event)) old v settles number named = named unit event refl
 
-quiet_settled : (settled : Result Unit SettleErr) (v : MountView) → Settles settled v → closing_event (closing_of (trouble_of settled)) ≡ []
-quiet_settled (Ok x) v settles = refl
-quiet_settled (Err (settle.Worn wanted have)) v settles = refl
-quiet_settled (Err (settle.Drive unit event)) v settles = absurd settles
+settled_events : (settled : Result Unit SettleErr) → closing_event (closing_of (trouble_of settled)) ≡ map event_of (settle_faults settled)
+settled_events (Ok x) = refl
+settled_events (Err (settle.Worn wanted have)) = refl
+settled_events (Err (settle.Drive unit event)) = refl
 
-all_settled : (settled : Result Unit SettleErr) (v : MountView) → Settles settled v → trouble_of settled ≡ None → synced_in v ≡ taken_in v
-all_settled (Ok x) v settles none = settles.0
-all_settled (Err (settle.Worn wanted have)) v settles none = absurd (cc)
-all_settled (Err (settle.Drive unit event)) v settles none = absurd settles
+all_settled : (settled : Result Unit SettleErr) (old v : MountView) → Settles old settled v → trouble_of settled ≡ None → synced_in v ≡ taken_in v
+all_settled (Ok x) old v settles none = settles.1
+all_settled (Err (settle.Worn wanted have)) old v settles none = absurd (cc)
+all_settled (Err (settle.Drive unit event)) old v settles none = absurd (cc)
 
 -- A target that was opened on the units of a drive, before and after a session, and closed.
-module _ (s : Shape) (us : List ModelUnit) (first last : SerialView) (records : Records) (served : Served) (opened : IsOpened s us first.mount)
-    (unwritten : first.own ≡ []) (calm : first.worns ≡ [])
-    (accepted : IsAccepted s) (unopened : records.opening ≡ None) (target : IsSameTarget (device first) (device last))
-    (closed : IsClosed last records served) where
+module _ (s : Shape) (us : List ModelUnit) (first last : SerialView) (units : List WornUnit) (opened : IsOpened s us first.mount)
+    (target : IsSameTarget (device first) (device last)) (closed : IsClosed last units) where
   abbrev i : Image
   i = image_of s us
 
-  -- the trouble of the close
-  trouble : IsTrouble served.records.closing
-  trouble = subst IsTrouble (sym closed.closing) closed.trouble
-
-  quiet : closing_event (closing_of served.records.closing) ≡ []
-  quiet = ap (λ t. closing_event (closing_of t)) closed.closing ∙ quiet_settled closed.settled closed.mount closed.closed.settles
-
-  all : served.records.closing ≡ None → synced_in closed.mount ≡ taken_in closed.mount
-  all none = all_settled closed.settled closed.mount closed.closed.settles (sym closed.closing ∙ none)
-
-  -- the position below which all is kept
-  abbrev front : ℕ
-  front = end (media_in closed.mount)
-
-  opening_is : served.records.opening ≡ None
-  opening_is = closed.opening ∙ unopened
-
-  first_image : first.mount.image ≡ image_of s us
-  first_image = opened.image
+  abbrev w : World
+  w = world_in closed.mount
 
   mount_image : closed.mount.image ≡ image_of s us
   mount_image = closed.closed.same.image ∙ same_image first last target ∙ opened.image
 
+  mount_handed : closed.mount.handed ≡ us
+  mount_handed = closed.closed.same.handed ∙ same_handed first last target ∙ opened.handed
+
+  unit_at : (number : ℕ) (u : ModelUnit) → slice_get (units_of units) number ≡ Some u
+      → (was : ModelUnit) × (slice_get closed.mount.handed number ≡ Some was) × IsArm closed.mount.image (log_of w) number was u
+  unit_at number u there = closed.closed.sound.each number u (ap (λ (xs : List ModelUnit). slice_get xs number) (sym closed.units_are) ∙ there)
+
+  -- the units come back
+  closed_back : (old : List WornUnit) → us ≡ units_of old → AreFit s us → first.mount.wear ≡ wear_of old → AreBack s old units
+  closed_back old handed fit wear =
+      back_of s closed.mount.image (log_of w) old units closed.mount.handed (ap (λ (j : Image). j.shape) mount_image) (mount_handed ∙ handed)
+      (ap length closed.units_are ∙ closed.closed.sound.count ∙ ap (λ (j : Image). shapes.units j.shape) mount_image ∙ sym fit.count ∙ ap length handed)
+      (closed.wear ∙ closed.closed.same.wear ∙ same_wear first last target ∙ wear) unit_at
+
+  legal_is : IsSimpleMount (image_of s us) w
+  legal_is = subst (λ (j : Image). IsSimpleMount j w) mount_image closed.closed.sound.legal
+
+  -- the contents that the mount found
+  start_found : contents first.mount.found ≡ contents (found_image (image_of s us) (log_of w))
+  start_found =
+      sym target.start
+      ∙ ap contents (sym closed.closed.same.found ∙ sym closed.closed.sound.found_is ∙ ap (λ (j : Image). found_image j (log_of w)) mount_image)
+
+  -- no line was taken since the session
+  lines_are : lines_in closed.mount ≡ lines_in last.mount
+  lines_are = lines_kept last.mount closed.mount closed.closed.same
+
+  positions_are : positions (lines_in last.mount) ≡ user_positions (log_of w 0)
+  positions_are = ap positions (sym lines_are) ∙ positions_in closed.mount
+
+  -- on a sealed drive all that is synced is below the end
+  above : IsSealed (image_of s us) → synced_in closed.mount ≤ end (media i (log_of w))
+  above sealed = subst (λ (j : Image). synced_in closed.mount ≤ end (media j (log_of w))) mount_image
+      (prefix_above closed.mount.image (world_in closed.mount)
+      closed.closed.sound.legal.mount (subst IsSealed (sym mount_image) sealed))
+
+  all_synced : trouble_of closed.settled ≡ None → synced_in closed.mount ≡ taken_in closed.mount
+  all_synced none = all_settled closed.settled last.mount closed.mount closed.closed.settles none
+
+  -- the position below which all is kept
+  abbrev front : ℕ
+  front = end (media i (log_of w))
+
   size_is : first.mount.image.shape.sector ≡ s.sector
-  size_is = ap (λ (j : Image). j.shape.sector) first_image
+  size_is = ap (λ (j : Image). j.shape.sector) opened.image
 
   -- as many sectors are at the beginning
   start_count : length (contents first.mount.found) ≡ s.capacity
@@ -141,150 +190,269 @@ module _ (s : Shape) (us : List ModelUnit) (first last : SerialView) (records : 
   start_is : IsSealed (image_of s us) → contents first.mount.found ≡ contents (image_of s us)
   start_is sealed = ap contents opened.found_is ∙ opened.is.units.holds.contents_are sealed
 
-  -- the contents that the mount found
-  start_found : contents first.mount.found ≡ contents (found_image (image_of s us) (logs_in closed.mount))
-  start_found =
-      sym target.start
-      ∙ ap contents (sym closed.closed.same.found ∙ sym closed.closed.sound.found_is ∙ ap (λ (j : Image). found_image j (logs_in closed.mount)) mount_image)
+  -- the events that were answered
+  abbrev answers : List DriveAnswer
+  answers = last.faults ++ settle_faults closed.settled
 
-  -- no line was taken since the session
-  lines_are : lines_in closed.mount ≡ lines_in last.mount
-  lines_are = lines_kept last.mount closed.mount closed.closed.same
+  their_events : map event_of last.faults ++ closing_event (closing_of (trouble_of closed.settled)) ≡ map event_of answers
+  their_events = ap (λ xs. map event_of last.faults ++ xs) (settled_events closed.settled)
+      ∙ sym (map-append event_of last.faults (settle_faults closed.settled))
 
-  positions_are : positions (lines_in last.mount) ≡ user_positions (engine_log closed.mount)
-  positions_are = ap positions (sym lines_are) ∙ positions_in closed.mount
+  losses : AreNewLosses us (units_of units) (map event_of answers)
+  losses = subst (λ (xs : List ModelUnit). AreNewLosses us xs (map event_of answers)) (sym closed.units_are)
+      (subst (λ (xs : List ModelUnit). AreNewLosses xs closed.mount.units (map event_of answers)) mount_handed
+      (losses_named closed.mount answers closed.closed.faults))
 
-  -- on a sealed drive all that is synced is below the end
-  above : IsSealed (image_of s us) → synced_in closed.mount ≤ end (media_in closed.mount)
-  above sealed = prefix_above closed.mount.image (world_in closed.mount)
-      closed.closed.sound.legal.simple.mount (subst IsSealed (sym mount_image) sealed)
+  distinct : IsDistinct (filter is_of_one (map event_of last.faults ++ closing_event (closing_of (trouble_of closed.settled))))
+  distinct = subst (λ xs. IsDistinct (filter is_of_one xs)) (sym their_events) (losses_distinct us (units_of units) (map event_of answers) losses)
 
-  are_kept : IsSealed (image_of s us) → AreKept served.records (device last) (lines_in last.mount) (end (media_in closed.mount))
-  are_kept sealed = let high : synced_in closed.mount ≤ end (media_in closed.mount) = above sealed in record {
-    flushed = (let rises : synced_in last.mount ≤ synced_in closed.mount = closed.closed.same.synced in omega arith);
-    all = λ none.
-        let whole : synced_in closed.mount ≡ taken_in closed.mount = all none in
-        all_below (taken_in closed.mount) (end (media_in closed.mount)) (lines_in last.mount) (omega arith)
-        (subst (λ (ls : List PlacedSector). AllByRecursion (λ (line : PlacedSector). line.position < taken_in closed.mount) ls) lines_are
-        (lines_taken closed.mount closed.closed.sound));
+  -- Of a target that had answered nothing before, with the session's records.
+  module _ (before : Records) (unwritten : first.own ≡ []) (faultless : first.faults ≡ []) (calm : first.worns ≡ []) (accepted : IsAccepted s)
+      (unopened_is : before.opening ≡ None) where
+    abbrev records : Records
+    records = with_closing before closed.settled
+
+    are_kept : IsSealed (image_of s us) → AreKept records (device last) (lines_in last.mount) (end (media i (log_of w)))
+    are_kept sealed = let high : synced_in closed.mount ≤ end (media i (log_of w)) = above sealed in record {
+      flushed = (let rises : synced_in last.mount ≤ synced_in closed.mount = closed.closed.same.synced in omega arith);
+      all = λ none.
+          let whole : synced_in closed.mount ≡ taken_in closed.mount = all_synced none in
+          all_below (taken_in closed.mount) (end (media i (log_of w))) (lines_in last.mount) (omega arith)
+          (subst (λ (ls : List PlacedSector). AllByRecursion (λ (line : PlacedSector). line.position < taken_in closed.mount) ls) lines_are
+          (lines_taken closed.mount closed.closed.sound));
+    }
+
+    -- One thread.
+    module _ (commands : List Command) (rows : List Answer) (threads : before.threads ≡ rows ∷ []) (told : List ℕ
+        → ℕ) (ran : Runs told (device first) commands rows (device last)) where
+      one : IsRunOfOnePort commands records (device first) (device last)
+      one = record {
+        opened = unopened_is;
+        answers = rows;
+        threads = threads;
+        told = told;
+        ran = ran;
+        unwritten = unwritten;
+        faultless = faultless;
+        last = device last;
+        learned = record {
+          more = [];
+          known = sym (append-nil (lines_in last.mount));
+          rise = le_refl (taken_in last.mount);
+          flushed = le_refl (synced_in last.mount);
+        };
+        alone = closed.alone;
+        trouble = closed.trouble;
+        distinct = distinct;
+      }
+
+      abbrev t : Transcript
+      t = transcript_by (commands ∷ []) records i (log_of w)
+
+      -- as many lines as sectors were written
+      as_many : length (transcript_by (commands ∷ []) records i (log_of w)).history ≡ length (flat_map lines_of last.own)
+      unfolding one
+      as_many =
+          sym (length-map (transcript_by (commands ∷ []) records i (log_of w)).history _)
+          ∙ ap (λ (ws : List SectorWrite). length ws) (one_history commands records (device first) (device last) front one)
+          ∙ length-map (lines_in last.mount) _ ∙ ap (λ (xs : List PlacedSector). length xs) closed.alone
+
+      worns_are : last.worns ++ settle_worns (length (flat_map lines_of last.own)) closed.settled ≡ worns_of (commands ∷ [])
+          (transcript_by (commands ∷ []) records i (log_of w))
+      worns_are =
+          one_worns told commands rows (device first) (device last) closed.settled
+          (length (transcript_by (commands ∷ []) records i (log_of w)).history) ran calm unwritten as_many
+          ∙ rw threads refl
+
+      one_serving : ScriptFits s.capacity (commands ∷ []) → IsServing (image_of s us) us (units_of units) (commands ∷ []) records w
+      unfolding one
+      one_serving fits = record {
+        legal = legal_is;
+        has_begun = has_begun_with (opening_of records.opening) (begun (log_of w 0)) closed.closed.sound.beginning (ap opening_of unopened_is)
+            closed.closed.sound.has_begun;
+        each = λ number u there. left_by closed.mount.image (image_of s us) (log_of w) closed.mount.handed us number u mount_image mount_handed
+            (unit_at number u there);
+        recorded = recorded told s.capacity (commands ∷ []) records (device first ∷ []) (device last ∷ [])
+            (let small : s.capacity < 2 ^ 40 = accepted.target.capacity_number in omega arith) fits
+            ((let count : length (contents first.mount.found) ≡ s.capacity = start_count in omega arith), tt)
+            unopened_is (rw threads (ran, tt));
+        named = subst (AreNewLosses us (units_of units))
+            (sym (one_events commands records (device first) (device last) front one ∙ their_events)) losses;
+        history_is =
+            history_lines closed.mount ∙ ap (map (λ (x : PlacedSector). x.write)) lines_are
+            ∙ sym (one_history commands records (device first) (device last) front one)
+            ∙ ap (λ n. sector_writes n (transcript_by (commands ∷ []) records i (log_of w)).history) size_is;
+        worn = subst (λ (ws : List WornAnswer). AreRefusals (image_of s us) (log_of w) 0 ws) worns_are
+            (subst (λ (j : Image). AreRefusals j (log_of w) 0
+            (last.worns ++ settle_worns (length (flat_map lines_of last.own)) closed.settled)) mount_image closed.closed.refusals);
+        granted = subst (λ (j : Image). AreGranted j (log_of w)) mount_image closed.closed.granted;
+        kept = one_kept commands records (device first) (device last) front one ∙ ap (λ ps. users ps front) positions_are;
+        told = told_by first.mount.image.shape.sector s.sector (commands ∷ []) (contents first.mount.found)
+            (contents (found_image (image_of s us) (log_of w))) (transcript_by (commands ∷ []) records i (log_of w)) size_is start_found
+            (one_told commands records (device first) (device last) front one);
+        run = λ sealed. run_by first.mount.image.shape.sector s.sector (commands ∷ []) (contents first.mount.found) (contents (image_of s us))
+            (transcript_by (commands ∷ []) records i (log_of w)) size_is (start_is sealed)
+            (one_port commands records (device first) (device last) front one (are_kept sealed));
+      }
+
+    -- No thread.
+    module _ (threads : before.threads ≡ []) (same : device last ≡ device first) where
+      no_lines : lines_in last.mount ≡ []
+      no_lines = closed.alone ∙ ap (flat_map lines_of) (ap (λ (p : ModelPort). p.own) same ∙ unwritten)
+
+      none_left : lines_in closed.mount ≡ []
+      none_left = lines_are ∙ no_lines
+
+      no_positions : user_positions (log_of w 0) ≡ []
+      no_positions = sym positions_are ∙ ap positions no_lines
+
+      no_faults : last.faults ≡ []
+      no_faults = ap (λ (p : ModelPort). p.faults) same ∙ faultless
+
+      events_are : events (transcript_by [] records i (log_of w)) ≡ map event_of answers
+      events_are = rw (threads, unopened_is) (sym (ap (λ xs. map event_of xs ++ closing_event (closing_of records.closing)) no_faults) ∙ their_events)
+
+      no_serving : ScriptFits s.capacity [] → IsServing (image_of s us) us (units_of units) [] records w
+      no_serving fits = record {
+        legal = legal_is;
+        has_begun = has_begun_with (opening_of records.opening) (begun (log_of w 0)) closed.closed.sound.beginning (ap opening_of unopened_is)
+            closed.closed.sound.has_begun;
+        each = λ number u there. left_by closed.mount.image (image_of s us) (log_of w) closed.mount.handed us number u mount_image mount_handed
+            (unit_at number u there);
+        recorded = recorded (λ name. 0) s.capacity [] records [] []
+            (let small : s.capacity < 2 ^ 40 = accepted.target.capacity_number in omega arith) fits tt
+            unopened_is (rw threads tt);
+        named = subst (AreNewLosses us (units_of units)) (sym events_are) losses;
+        history_is = history_lines closed.mount ∙ ap (map (λ (x : PlacedSector). x.write)) none_left;
+        worn = subst (λ (ws : List WornAnswer). AreRefusals (image_of s us) (log_of w) 0 ws)
+            (no_worns last.worns last.own closed.settled (ap (λ (p : ModelPort). p.worns) same ∙ calm) (ap (λ (p : ModelPort). p.own) same ∙ unwritten)
+            ∙ rw threads refl)
+            (subst (λ (j : Image). AreRefusals j (log_of w) 0
+            (last.worns ++ settle_worns (length (flat_map lines_of last.own)) closed.settled)) mount_image closed.closed.refusals);
+        granted = subst (λ (j : Image). AreGranted j (log_of w)) mount_image closed.closed.granted;
+        kept = sym (ap (λ ps. users ps front) no_positions);
+        told = (no_port s.sector records (contents (found_image (image_of s us) (log_of w))) front threads unopened_is closed.trouble).told;
+        run = λ sealed. no_port s.sector records (contents (image_of s us)) front threads unopened_is closed.trouble;
+      }
+
+    serving_of : (script : List (List Command)) → length script ≤ 1 → ScriptFits s.capacity script → HasRun script before.threads (device first) (device last)
+        → IsServing (image_of s us) us (units_of units) script records w
+    serving_of [] one fits h = no_serving h.0 h.1 fits
+    serving_of (commands ∷ []) one fits h = one_serving commands h.0 h.1 h.2 h.3 fits
+    serving_of (commands ∷ (more ∷ script)) one fits h = absurd (omega arith)
+
+module _ {E : Type 0} (s : Shape) (script : List (List Command)) (old new : List WornUnit) (target : SerialView) (fit : AreFit s (units_of old))
+    (fresh : IsNewTarget s old target) where
+  -- the units of a target come back, whether its session was run or not
+  pub served_back : (result : Result Records E) → IsServedOn script target new result → AreBack s old new
+  served_back result served = closed_back s (units_of old) target served.last new fresh.opened served.same served.closed old refl fit fresh.wear
+
+  session_served : (before : Result Records E) (records : Records) (last : SerialView) (closed : IsClosed last new) → IsAccepted s → length script ≤ 1
+      → ScriptFits s.capacity script → IsSameTarget (device target) (device last) → IsSessionOf script target before last
+      → Closes before closed.settled (answered E records) → IsServed s script old new records
+  session_served (Err e) left last closed accepted few fits same session closes = absurd closes
+  session_served (Ok before) left last closed accepted few fits same session closes = record {
+    world = world_in closed.mount;
+    serving = subst (λ (r : Records). IsServing (image_of s (units_of old)) (units_of old) (units_of new) script r (world_in closed.mount)) (sym closes)
+        (serving_of s (units_of old) target last new fresh.opened same closed before fresh.unwritten fresh.faultless fresh.calm accepted session.opened
+        script few fits session.run);
   }
 
-  -- One thread.
-  module _ (commands : List Command) (answers : List Answer) (threads : records.threads ≡ answers ∷ []) (told : List ℕ
-      → ℕ) (ran : Runs told (device first) commands answers (device last)) where
-    one : IsRunOfOnePort commands served.records (device first) (device last)
-    one = record {
-      opened = opening_is;
-      answers = answers;
-      threads = closed.threads ∙ threads;
-      told = told;
-      ran = ran;
-      unwritten = unwritten;
-      faultless = refl;
-      last = device last;
-      learned = record {
-        more = [];
-        known = sym (append-nil (lines_in last.mount));
-        rise = le_refl (taken_in last.mount);
-        flushed = le_refl (synced_in last.mount);
-      };
-      alone = closed.alone;
-      trouble = trouble;
-      distinct = no_events (closing_event (closing_of served.records.closing)) quiet;
-    }
+  pub served_on : (records : Records) → IsAccepted s → length script ≤ 1 → ScriptFits s.capacity script → IsServedOn script target new (answered E records)
+      → IsServed s script old new records
+  served_on left accepted few fits served =
+      session_served served.before left served.last served.closed accepted few fits served.same served.session served.closes
 
-    -- as many lines as sectors were written
-    as_many : length (transcript_in (commands ∷ []) served.records closed.mount).history ≡ length (flat_map lines_of last.own)
-    unfolding one
-    as_many =
-        sym (length-map (transcript_in (commands ∷ []) served.records closed.mount).history _)
-        ∙ ap (λ (ws : List SectorWrite). length ws) (one_history commands served.records (device first) (device last) front one)
-        ∙ length-map (lines_in last.mount) _ ∙ ap (λ (xs : List PlacedSector). length xs) closed.alone
-
-    worns_are : (end : ℕ) → last.worns ++ settle_worns (length (flat_map lines_of last.own)) closed.settled ≡ worns_of (commands ∷ [])
-        (transcript_in (commands ∷ []) served.records closed.mount)
-    worns_are end =
-        one_worns told commands answers (device first) (device last) closed.settled
-        (length (transcript_in (commands ∷ []) served.records closed.mount).history) ran calm unwritten as_many
-        ∙ rw (closed.threads ∙ threads, closed.closing) refl
-
-    one_serving : ScriptFits s.capacity (commands ∷ []) → IsServing (image_of s us) (commands ∷ []) served.records closed.mount
-    unfolding one
-    one_serving fits = record {
-      image = mount_image;
-      sound = closed.closed.sound;
-      recorded = recorded told s.capacity (commands ∷ []) served.records (device first ∷ []) (device last ∷ [])
-          (let small : s.capacity < 2 ^ 40 = accepted.target.capacity_number in omega arith) fits
-          ((let count : length (contents first.mount.found) ≡ s.capacity = start_count in omega arith), tt)
-          opening_is (rw (closed.threads ∙ threads) (ran, tt));
-      faultless = one_events commands served.records (device first) (device last) front one ∙ quiet;
-      history_is =
-          history_lines closed.mount ∙ ap (map (λ (x : PlacedSector). x.write)) lines_are
-          ∙ sym (one_history commands served.records (device first) (device last) front one)
-          ∙ ap (λ n. sector_writes n (transcript_in (commands ∷ []) served.records closed.mount).history) size_is;
-      worn = subst (λ (ws : List WornAnswer). AreRefusals (image_of s us) (logs_in closed.mount) 0 ws) (worns_are front)
-          (subst (λ (j : Image). AreRefusals j (logs_in closed.mount) 0
-          (last.worns ++ settle_worns (length (flat_map lines_of last.own)) closed.settled)) mount_image closed.closed.refusals);
-      granted = subst (λ (j : Image). AreGranted j (logs_in closed.mount)) mount_image closed.closed.granted;
-      kept = one_kept commands served.records (device first) (device last) front one ∙ ap (λ ps. users ps front) positions_are;
-      told = told_by first.mount.image.shape.sector s.sector (commands ∷ []) (contents first.mount.found)
-          (contents (found_image (image_of s us) (logs_in closed.mount))) (transcript_in (commands ∷ []) served.records closed.mount) size_is start_found
-          (one_told commands served.records (device first) (device last) front one);
-      run = λ sealed. run_by first.mount.image.shape.sector s.sector (commands ∷ []) (contents first.mount.found) (contents (image_of s us))
-          (transcript_in (commands ∷ []) served.records closed.mount) size_is (start_is sealed)
-          (one_port commands served.records (device first) (device last) front one (are_kept sealed));
-    }
-
-  -- No thread.
-  module _ (threads : records.threads ≡ []) (same : device last ≡ device first) where
-    no_lines : lines_in last.mount ≡ []
-    no_lines = closed.alone ∙ ap (flat_map lines_of) (ap (λ (p : ModelPort). p.own) same ∙ unwritten)
-
-    none_left : lines_in closed.mount ≡ []
-    none_left = lines_are ∙ no_lines
-
-    no_positions : user_positions (engine_log closed.mount) ≡ []
-    no_positions = sym positions_are ∙ ap positions no_lines
-
-    no_serving : ScriptFits s.capacity [] → IsServing (image_of s us) [] served.records closed.mount
-    no_serving fits = record {
-      image = mount_image;
-      sound = closed.closed.sound;
-      recorded = recorded (λ name. 0) s.capacity [] served.records [] []
-          (let small : s.capacity < 2 ^ 40 = accepted.target.capacity_number in omega arith) fits tt
-          opening_is (rw (closed.threads ∙ threads) tt);
-      faultless = rw (closed.threads ∙ threads, opening_is) quiet;
-      history_is = history_lines closed.mount ∙ ap (map (λ (x : PlacedSector). x.write)) none_left;
-      worn = subst (λ (ws : List WornAnswer). AreRefusals (image_of s us) (logs_in closed.mount) 0 ws)
-          (no_worns last.worns last.own closed.settled (ap (λ (p : ModelPort). p.worns) same ∙ calm) (ap (λ (p : ModelPort). p.own) same ∙ unwritten)
-          ∙ rw (closed.threads ∙ threads, closed.closing) refl)
-          (subst (λ (j : Image). AreRefusals j (logs_in closed.mount) 0
-          (last.worns ++ settle_worns (length (flat_map lines_of last.own)) closed.settled)) mount_image closed.closed.refusals);
-      granted = subst (λ (j : Image). AreGranted j (logs_in closed.mount)) mount_image closed.closed.granted;
-      kept = sym (ap (λ ps. users ps front) no_positions);
-      told = (no_port s.sector served.records (contents (found_image (image_of s us) (logs_in closed.mount))) front (closed.threads
-          ∙ threads) opening_is trouble).told;
-      run = λ sealed. no_port s.sector served.records (contents (image_of s us)) front (closed.threads ∙ threads) opening_is trouble;
-    }
-
-  serving_of : (script : List (List Command)) → length script ≤ 1 → ScriptFits s.capacity script → HasRun script records.threads (device first) (device last)
-      → IsServing (image_of s us) script served.records closed.mount
-  serving_of [] one fits h = no_serving h.0 h.1 fits
-  serving_of (commands ∷ []) one fits h = one_serving commands h.0 h.1 h.2 h.3 fits
-  serving_of (commands ∷ (more ∷ script)) one fits h = absurd (omega arith)
-
-pub served_of : (s : Shape) (script : List (List Command)) (units : List WornUnit) (first last : SerialView) (records : Records) (served : Served)
-    → IsAccepted s → length script ≤ 1 → ScriptFits s.capacity script
-    → IsNewTarget s units first → IsSession script first records last → IsClosed last records served → IsServed s script units served
-served_of s script units first last records served accepted one fits new session closed = record {
-  mount = closed.mount;
-  serving = serving_of s (map (λ (u : WornUnit). u.unit) units) first last records served new.opened new.unwritten new.calm accepted session.opened
-      session.target closed script one fits session.run;
-  units_are = closed.units;
-  wear = closed.wear ∙ closed.closed.same.wear ∙ same_wear first last session.target ∙ new.wear;
-}
+  pub served_if : (result : Result Records E) → IsAccepted s → length script ≤ 1 → ScriptFits s.capacity script → IsServedOn script target new result
+      → IfOk result (IsServed s script old new)
+  served_if (Ok left) accepted few fits served = served_on left accepted few fits served
+  served_if (Err e) accepted few fits served = tt
 
 -- the script fits the capacity of a target that was opened
 pub fits_target : (s : Shape) (units : List WornUnit) (target : SerialView) (script : List (List Command)) → IsNewTarget s units target
     → ScriptFits s.capacity script → ScriptFits target.mount.image.shape.capacity script
-fits_target s units target script new fits = subst (λ (j : Image). ScriptFits j.shape.capacity script) (sym new.opened.image) fits
+fits_target s units target script fresh fits = subst (λ (j : Image). ScriptFits j.shape.capacity script) (sym fresh.opened.image) fits
+
+-- An opening that was refused.
+
+module _ (s : Shape) (old new : List WornUnit) (accepted : IsAccepted s) (fit : AreFit s (units_of old)) (may : AllMayStop (units_of old))
+    (refused : AreHandedBack s (units_of old) (units_of new)) where
+  abbrev still : World
+  still = refused_world s (units_of old) (units_of new)
+
+  abbrev as_it_was : Image
+  as_it_was = image_of s (units_of old)
+
+  arm_at : (number : ℕ) (u : ModelUnit) → slice_get (units_of new) number ≡ Some u
+      → (was : ModelUnit) × (slice_get (units_of old) number ≡ Some was) × IsArm (image_of s (units_of old)) (log_of still) number was u
+  arm_at = refused_arm s (units_of old) (units_of new) accepted fit may refused
+
+  none : log_of still 0 ≡ []
+  none = refused_none s (units_of old) (units_of new) accepted fit may refused
+
+  pub refused_back : wear_of new ≡ wear_of old → AreBack s old new
+  refused_back wear = back_of s as_it_was (log_of still) old new (units_of old) refl refl refused.kept.count wear arm_at
+
+  -- it answered an event
+  module _ (script : List (List Command)) (records : Records) (unit event : ℕ) (lost : IsLostAt (units_of old) (units_of new) unit event)
+      (number : IsEvent unit event) (threads : records.threads ≡ []) (opening : records.opening ≡ Some (Drive unit event))
+      (closing : records.closing ≡ None) (fits : ScriptFits s.capacity script) where
+    nothing_taken : user_positions (log_of still 0) ≡ []
+    nothing_taken = ap user_positions none
+
+    nothing_written : (end : ℕ) → (transcript_of script records end).history ≡ []
+    nothing_written end = rw (threads, no_more script) refl
+
+    nothing_kept : (end : ℕ) → (transcript_of script records end).kept ≡ 0
+    nothing_kept end = rw (threads, no_more script) refl
+
+    abbrev left_end : ℕ
+    left_end = end (media as_it_was (log_of still))
+
+    events_is : events (transcript_of script records left_end) ≡ (unit, event) ∷ []
+    events_is = rw (threads, opening, closing) refl
+
+    no_take : (k : ℕ) (l : Logged) → slice_get (log_of still 0) k ≡ Some l → ⊥
+    no_take k l there = none-some l (ap (λ (log : List Logged). slice_get log k) (sym none) ∙ there)
+
+    ran_nothing : (size : ℕ) (start : List (List ℕ)) → IsRun size script start (transcript_of script records left_end) start
+    ran_nothing size start = unopened size script records start left_end unit event threads opening closing number
+
+    pub unopened_served : IsServed s script old new records
+    unopened_served = record {
+      world = still;
+      serving = record {
+        legal = refused_legal s (units_of old) (units_of new) accepted fit may refused;
+        has_begun = rw (opening, none) tt;
+        each = λ k u there. left_by as_it_was as_it_was (log_of still) (units_of old) (units_of old) k u refl refl (arm_at k u there);
+        recorded = record {
+          capacity = s.capacity;
+          number = (let small : s.capacity < 2 ^ 40 = accepted.target.capacity_number in omega arith);
+          fits = fits;
+          answered = rw (opening, threads) refl;
+        };
+        named = subst (AreNewLosses (units_of old) (units_of new)) (sym events_is) (loss_at (units_of old) (units_of new) unit event lost);
+        history_is = ap history none ∙ ap (sector_writes s.sector) (sym (nothing_written left_end));
+        worn = rw (threads, closing) tt;
+        granted = record { each = λ k knows entry mark there its. absurd (no_take k _ there) };
+        kept = nothing_kept left_end ∙ sym (ap (λ ps. users ps left_end) nothing_taken);
+        told = (ran_nothing s.sector (contents (found_image as_it_was (log_of still)))).told;
+        run = λ sealed. subst (IsRun s.sector script (contents as_it_was) (transcript_of script records left_end))
+            (ap (λ (rows : List HistoryLine). after (contents as_it_was) (sector_writes s.sector rows))
+            (sym (take_nothing (transcript_of script records left_end).kept)
+            ∙ ap (take (transcript_of script records left_end).kept) (sym (nothing_written left_end))))
+            (ran_nothing s.sector (contents as_it_was));
+      };
+    }
+
+  -- it answered an event, or there was no memory
+  pub refused_served : {E : Type 0} (script : List (List Command)) (cause : OpenErr) (result : Result Records E) → OpenCause cause (units_of old) (units_of new)
+      → ((unit event : ℕ) → cause ≡ errors.Drive unit event → IsEvent unit event × IfOk result (λ records. (records.threads ≡ [])
+      × (records.opening ≡ Some (Drive unit event)) × (records.closing ≡ None)))
+      → (cause ≡ errors.Memory → (records : Records) → result ≡ Ok records → ⊥)
+      → ScriptFits s.capacity script → IfOk result (IsServed s script old new)
+  refused_served script (errors.Drive unit event) result lost named memory fits =
+      let h = named unit event refl in
+      IfOk-weaker result _ _ (λ records is. unopened_served script records unit event lost h.0 is.0 is.1 is.2 fits) h.1
+  refused_served script errors.Memory (Ok records) lost named memory fits = absurd (memory refl records refl)
+  refused_served script errors.Memory (Err e) lost named memory fits = tt

@@ -1,10 +1,10 @@
--- The `worn` lines of a transcript are what its port answered for want of room, and what its close answered.
+-- The `worn` lines of a transcript are what its port answered for want of room, and what its close
+-- answered.
 use Rattle.std.proofs.Common.{◌≡◌, ℕ, ◌+◌, List, [], ◌∷◌, ◌++◌, length, map, Result, Ok, Err, refl, sym, ap, ap₂, ◌∙◌}
 use Rattle.std.specs.List.{flat_map}
 use Rattle.std.proofs.lemmas.List.{append-nil}
 use Rattle.pblk_model.specs.declared.script.Command.{Command}
 use Rattle.pblk_model.specs.declared.script.Command.TheVariants.{Write, Read, Flush, Post, Await}
-use Rattle.pblk_model.specs.Text.{Outcome}
 use Rattle.block_port.specs.declared.rows.WornAnswer.{WornAnswer}
 use Rattle.block_port.specs.Own.{OwnWrite, lines_of}
 use Rattle.block_port.specs.Port.{ModelPort}

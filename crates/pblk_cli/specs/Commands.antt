@@ -1,28 +1,29 @@
--- What each command comes to, by the files before and after: a text, or a refusal with its cause. No
--- other ending is left.
-use Rattle.std.specs.Prelude.{ℕ, ◌≤◌, ◌≡◌, ◌⊎◌, List, [], map, length, Some, None, Err}
+-- What each command comes to, by the files before and after: a text, or a refusal with its cause.
+-- No other ending is left.
+use Rattle.std.specs.Prelude.{ℕ, ◌≤◌, ◌≡◌, ◌⊎◌, List, map, length, Option, Some, None, Err}
 use Rattle.pblk_outside.specs.Files.{FilesView}
 use Rattle.pblk_model.specs.declared.script.Command.{Command}
-use Rattle.command_words.specs.Grammar.{CommandLine, Create, Geometry, Show, Report, Run, IsCommandLine}
+use Rattle.command_words.specs.Grammar.{CommandLine, Create, Geometry, Show, Report, Run, IsCommandLine, RunOptions}
 use Rattle.pblk_model.specs.CommandText.{CreateNumbers, created_refusal, created_drive, created_text, geometry_text, words_line}
 use Rattle.pblk_model.specs.Contents.{contents, end}
-use Rattle.pblk_model.specs.History.{SectorWrite, users}
+use Rattle.pblk_model.specs.History.{users}
 use Rattle.pblk_model.specs.ImageFile.{Drive, IsImage, image_bytes, image_of, image_refusal}
 use Rattle.pblk_model.specs.ScriptText.{IsScript, read_script}
 use Rattle.pblk_model.specs.Sealed.{IsSealed}
 use Rattle.pblk_model.specs.Text.{Transcript, text_of}
 use Rattle.pblk_model.specs.Transcript.{IsRun, IsTranscript, events, sector_writes}
 use Rattle.pblk_world.specs.World.{World, log_of, media}
-use Rattle.pblk_world.specs.EngineLog.{Begun, begun}
+use Rattle.pblk_world.specs.EngineLog.{begun}
 use Rattle.pblk_world.specs.Fronts.{history, user_positions}
 use Rattle.pblk_world.specs.Lines.{found_image}
-use Rattle.core_laws.specs.FaultlessMounts.{IsFaultlessMount}
-use Rattle.block_port.specs.declared.rows.WornAnswer.{WornAnswer}
+use Rattle.core_laws.specs.SimpleMounts.{IsSimpleMount}
+use Rattle.unit_port.specs.declared.armed.Fuse.{Fuse}
 use Rattle.block_target.specs.Granted.{AreGranted}
 use Rattle.block_target.specs.NothingLeft.{AreRefusals}
 use Rattle.command_text.specs.Says.{Says}
 use Rattle.pblk_cli.specs.Contents.{numbers_text, show_text}
 use Rattle.pblk_cli.specs.Status.{status_of_run}
+use Rattle.pblk_cli.specs.Stops.{AreNames, AreStopsBy, HasBegun, fuse_on}
 use Rattle.pblk_cli.specs.Worn.{worns_of}
 use Rattle.pblk_cli.specs.Telling.{Call, Image, Script, ScriptUnbuilt, Failed, Missing, Memory, Ending, Gives, Refuses, Tells, Holds, IsThere, AreUntouched, Stores, FailsReading, IsMissing, FailsWriting}
 
@@ -45,7 +46,8 @@ pub record IsDriveOf (image : List ℕ) (files : FilesView) (d : Drive) : Type 0
   pub read : Holds image bytes files
   pub is : IsImage bytes d
 
--- A command that tells of an image: the file is untouched, and the text is what `says` says of the drive.
+-- A command that tells of an image: the file is untouched, and the text is what `says` says of the
+-- drive.
 abbrev pub TellsComeTo : (Drive → List ℕ) → List ℕ → Ending → FilesView → FilesView → Type 0
 TellsComeTo says image (Gives status text) old new = (status ≡ 0) × (d : Drive) × IsDriveOf image old d × AreUntouched old new × (text ≡ says d)
 TellsComeTo says image (Refuses (Image e)) old new = (bytes : List ℕ) × Holds image bytes old × (image_refusal bytes ≡ Some e) × AreUntouched old new
@@ -85,73 +87,77 @@ pub record SameNumbers (old new : Drive) : Type 0 where
   pub ring : new.ring ≡ old.ring
   pub wear : map (map (λ k. k.wear)) new.units ≡ map (map (λ k. k.wear)) old.units
 
--- What was done on a drive: a legal world over the image found, in which nothing failed and nothing was
--- stopped, copied or freed. The mount has begun there; the media are the image left, and the history is
--- this one. Each of these answers for want of room was given at a length of its engine's log at which
--- nothing was left to do: the lengths rise with the answers, and what was taken by then is what the
--- thread had written. And no sector was taken but where there had been room for it.
-pub record IsWorldBetween (found left : Drive) (writes : List SectorWrite) (worns : List WornAnswer) : Type 0 where
+-- What was done on a drive: a legal world over the image found, in which nothing was copied, freed
+-- or lost. Where opening answered an event no mount has begun in it. The media are the image left,
+-- and the history is the printed one. The outcomes of the units' commands are those that the named
+-- stop gives, and no others. Each `e` line names an event of its own in it: a command that was
+-- stopped, or a fetch that failed. Each answer for want of room was given at a length of the
+-- engine's log at which nothing was left to do: the lengths rise with the answers, and what was
+-- taken by then is what the thread had written. And no sector was taken but where there had been
+-- room for it.
+pub record IsWorldBetween (found left : Drive) (stop : Option Fuse) (commands : List (List Command)) (t : Transcript) : Type 0 where
   pub world : World
-  pub legal : IsFaultlessMount (image_of found) world
-  pub beginning : Begun
-  pub has_begun : begun (log_of world 0) ≡ Some beginning
+  pub legal : IsSimpleMount (image_of found) world
+  pub has_begun : HasBegun t.opening (begun (log_of world 0))
   pub media_are : image_of left ≡ media (image_of found) (log_of world)
-  pub history_is : history (log_of world 0) ≡ writes
-  pub worn : AreRefusals (image_of found) (log_of world) 0 worns
+  pub history_is : history (log_of world 0) ≡ sector_writes found.sector t.history
+  pub stops : AreStopsBy (image_of found) (fuse_on (image_of found) stop) (log_of world)
+  pub named : AreNames (image_of found) (log_of world) (events t)
+  pub worn : AreRefusals (image_of found) (log_of world) 0 (worns_of commands t)
   pub granted : AreGranted (image_of found) (log_of world)
 
--- A run of these commands from one drive to another, with this text.
-pub record IsRunBetween (found : Drive) (commands : List (List Command)) (text : List ℕ) (left : Drive) : Type 0 where
+-- A run of these commands from one drive to another, told of this stop, with this text.
+pub record IsRunBetween (found : Drive) (stop : Option Fuse) (commands : List (List Command)) (text : List ℕ) (left : Drive) : Type 0 where
   -- what is printed
   pub transcript : Transcript
   pub printed : text ≡ text_of transcript
-  -- no line names an event of a unit
-  pub faultless : events transcript ≡ []
   -- the geometry, the settings and the wear indices are as they were
   pub numbers : SameNumbers found left
-  -- the printed history is that of a world which leaves this drive, and each `worn` line has its cause there
-  pub world : IsWorldBetween found left (sector_writes found.sector transcript.history) (worns_of commands transcript)
+  -- the printed history is that of a world which leaves this drive, in which each `e` line has its
+  -- event and each `worn` line its cause
+  pub world : IsWorldBetween found left stop commands transcript
   -- kept are the lines of the history below the end of the image left
   pub kept_is : transcript.kept ≡ users (user_positions (log_of world.world 0)) (end (image_of left))
-  -- It is a transcript of the script from the contents that the mount found: each command has its line,
-  -- the history are the writes that were placed, and each front, word and number is one that the
-  -- relation allows.
+  -- It is a transcript of the script from the contents that the mount found: each command has its
+  -- line, the history are the writes that were placed, and each front, word and number is one that
+  -- the relation allows.
   pub told : IsTranscript found.sector commands (contents (found_image (image_of found) (log_of world.world))) transcript
-  -- Where the image found is sealed, the contents before are those of the image: the transcript relation
-  -- between the script, these, the text and the contents after holds, by which all that was flushed is
-  -- kept, and all of the history where closing answers nothing. And the image left is sealed.
+  -- Where the image found is sealed, the contents before are those of the image: the transcript
+  -- relation between the script, these, the text and the contents after holds, by which all that
+  -- was flushed is kept, and all of the history where closing answers nothing. And the image left
+  -- is sealed.
   pub relation : IsSealed (image_of found) → IsRun found.sector commands (contents (image_of found)) transcript (contents (image_of left))
   pub sealed : IsSealed (image_of found) → IsSealed (image_of left)
   -- its one spelling is an image of it
   pub spelled : IsImage (image_bytes left) left
 
--- a run was made, with this status, and the drive that it left is stored under the image's name, in its
--- one spelling
-pub record RunMade (image script : List ℕ) (status : ℕ) (text : List ℕ) (old new : FilesView) : Type 0 where
+-- a run was made, with this status, and the drive that it left is stored under the image's name, in
+-- its one spelling
+pub record RunMade (image script : List ℕ) (options : RunOptions) (status : ℕ) (text : List ℕ) (old new : FilesView) : Type 0 where
   pub input : RunInput image script old
   pub left : Drive
-  pub run : IsRunBetween input.drive input.commands text left
+  pub run : IsRunBetween input.drive options.stop input.commands text left
   pub status_is : status ≡ status_of_run run.transcript
   pub stored : Stores image (image_bytes left) old new
 
-abbrev pub RunComesTo : List ℕ → List ℕ → Ending → FilesView → FilesView → Type 0
-RunComesTo image script (Gives status text) old new = RunMade image script status text old new
+abbrev pub RunComesTo : List ℕ → List ℕ → RunOptions → Ending → FilesView → FilesView → Type 0
+RunComesTo image script options (Gives status text) old new = RunMade image script options status text old new
 -- both files were read, and the image is refused
-RunComesTo image script (Refuses (Image e)) old new = (bytes : List ℕ) × Holds image bytes old × IsThere script old × (image_refusal bytes ≡ Some e) × AreUntouched old new
+RunComesTo image script options (Refuses (Image e)) old new = (bytes : List ℕ) × Holds image bytes old × IsThere script old × (image_refusal bytes ≡ Some e) × AreUntouched old new
 -- the image is accepted, and the script is refused
-RunComesTo image script (Refuses (Script e)) old new = (d : Drive) × IsDriveOf image old d
+RunComesTo image script options (Refuses (Script e)) old new = (d : Drive) × IsDriveOf image old d
     × (bytes : List ℕ) × Holds script bytes old × (read_script d.capacity bytes ≡ Err e) × AreUntouched old new
 -- both are accepted, and the script has a second thread
-RunComesTo image script (Refuses ScriptUnbuilt) old new = (d : Drive) × IsDriveOf image old d
+RunComesTo image script options (Refuses ScriptUnbuilt) old new = (d : Drive) × IsDriveOf image old d
     × (bytes : List ℕ) × Holds script bytes old × (commands : List (List Command)) × IsScript d.capacity bytes commands × (2 ≤ length commands) × AreUntouched old new
--- the image, or, where it is there, the script could not be read; or all was made, and the image could
--- not be written
-RunComesTo image script (Refuses (Failed name)) old new = ((name ≡ image) × FailsReading image old new)
+-- the image, or, where it is there, the script could not be read; or all was made, and the image
+-- could not be written
+RunComesTo image script options (Refuses (Failed name)) old new = ((name ≡ image) × FailsReading image old new)
     ⊎ ((name ≡ script) × IsThere image old × FailsReading script old new)
     ⊎ ((name ≡ image) × RunInput image script old × FailsWriting image old new)
-RunComesTo image script (Refuses (Missing name)) old new = ((name ≡ image) × IsMissing image old new)
+RunComesTo image script options (Refuses (Missing name)) old new = ((name ≡ image) × IsMissing image old new)
     ⊎ ((name ≡ script) × IsThere image old × IsMissing script old new)
-RunComesTo image script (Refuses Memory) old new = IsThere image old × AreUntouched old new
+RunComesTo image script options (Refuses Memory) old new = IsThere image old × AreUntouched old new
 
 -- The program.
 
@@ -160,7 +166,7 @@ ComesTo (Create image numbers) ending old new = CreateComesTo image numbers endi
 ComesTo (Geometry image) ending old new = GeometryComesTo image ending old new
 ComesTo (Show image) ending old new = ShowComesTo image ending old new
 ComesTo (Report image) ending old new = ReportComesTo image ending old new
-ComesTo (Run image script) ending old new = RunComesTo image script ending old new
+ComesTo (Run image script options) ending old new = RunComesTo image script options ending old new
 
 -- words that are this command: what it comes to is told
 pub record IsAnswered (words : List (List ℕ)) (c : Call) : Type 0 where

@@ -1,4 +1,5 @@
 pub mod Status
+pub mod Stops
 pub mod Worn
 pub mod Serving
 pub mod Telling

@@ -1,6 +1,6 @@
 -- What running a script on a target over the units of a drive comes to.
-use Rattle.std.specs.Prelude.{ℕ, ◌≡◌, List, [], ◌∷◌, map, take, Option, Some, None, Result, Ok, Err}
-use Rattle.std.specs.List.{flat_map}
+use Rattle.std.specs.Prelude.{ℕ, ◌<◌, ◌≤◌, ◌≡◌, ⊤, true, List, [], ◌∷◌, ◌++◌, map, take, length, slice_get, Option, Some, None, Result, Ok, Err}
+use Rattle.std.specs.List.{AllByRecursion, flat_map}
 use Rattle.pblk_model.specs.declared.shape.Shape.{Shape}
 use Rattle.pblk_model.specs.declared.script.Command.{Command}
 use Rattle.pblk_model.specs.Contents.{contents, end}
@@ -9,17 +9,26 @@ use Rattle.pblk_model.specs.Image.{Image}
 use Rattle.pblk_model.specs.ImageFile as image_file
 use Rattle.pblk_model.specs.Sealed.{IsSealed}
 use Rattle.pblk_model.specs.Text.{Transcript}
-use Rattle.pblk_model.specs.Transcript.{IsRun, IsTranscript, events, sector_writes}
-use Rattle.pblk_world.specs.World.{media}
+use Rattle.pblk_model.specs.Transcript.{IsDistinct, IsRun, IsTranscript, events, sector_writes}
+use Rattle.pblk_model.specs.UnitLog.{UnitEvent}
+use Rattle.pblk_world.specs.EngineLog.{begun}
+use Rattle.pblk_world.specs.World.{World, Logs, log_of, media, unit_events}
 use Rattle.pblk_world.specs.Fronts.{history, user_positions}
 use Rattle.pblk_world.specs.Lines.{found_image}
+use Rattle.core_laws.specs.SimpleMounts.{IsSimpleMount}
+use Rattle.unit_port.specs.declared.armed.Fuse.{Fuse}
+use Rattle.unit_port.specs.Armed.{Armed, events_since, has_stopped}
+use Rattle.unit_port.specs.Unit.{ModelUnit, IsFitUnit}
 use Rattle.ocssd_drive.specs.Drive.{DriveView, IsWhole, stored, with_units}
+use Rattle.ocssd_drive.specs.Faults.{changes_of}
+use Rattle.ocssd_drive.specs.Outcomes.{AreEventsBy}
 use Rattle.ocssd_drive.specs.Units.{WornUnit}
+use Rattle.scan_recovery.specs.Lost.{was_lost}
 use Rattle.scan_recovery.specs.Units.{image_of}
 use Rattle.block_port.specs.Own.{lines_of}
 use Rattle.block_port.specs.Port.{IsSameTarget, ModelPort}
 use Rattle.block_target.specs.Granted.{AreGranted}
-use Rattle.block_target.specs.Mount.{MountView, IsSound, engine_log, logs_in}
+use Rattle.block_target.specs.Mount.{MountView}
 use Rattle.block_target.specs.NothingLeft.{AreRefusals}
 use Rattle.block_target.specs.Opened.{IsOpened}
 use Rattle.block_target.specs.Serial as target_port
@@ -33,20 +42,34 @@ use Rattle.run_threads.specs.declared.records.Trouble.TheVariants.{Drive, Worn}
 use Rattle.run_threads.specs.Run.{Runs}
 use Rattle.run_report.specs.OnePort.{IsTrouble}
 use Rattle.run_report.specs.Recorded.{IsRecorded}
-use Rattle.run_report.specs.Report.{transcript_of}
-use Rattle.pblk_cli.specs.declared.serve.Served.{Served}
+use Rattle.run_report.specs.Report.{opening_of, transcript_of}
+use Rattle.pblk_cli.specs.Stops.{HasBegun, name_at}
 use Rattle.pblk_cli.specs.Worn.{worns_of}
-use Rattle.pblk_cli.specs.declared.run.Ran.{Ran}
 
--- the image on the units of a mount, by what was done
-abbrev pub media_in : MountView → Image
-media_in v = media v.image (logs_in v)
+-- what contracts of a target see of units, and the wear indices of their chunks
+abbrev pub units_of : List WornUnit → List ModelUnit
+units_of units = map (λ u. u.unit) units
+
+abbrev pub wear_of : List WornUnit → List (List ℕ)
+wear_of units = map (λ u. u.wear) units
+
+-- Units that come back: each in its place, and armed as it was. They fit the drive, and no wear
+-- index has changed.
+pub record AreBack (s : Shape) (old new : List WornUnit) : Type 0 where
+  pub count : length new ≡ length old
+  pub wear : wear_of new ≡ wear_of old
+  pub shapes : (number : ℕ) (u : ModelUnit) → slice_get (units_of new) number ≡ Some u → (u.shape ≡ s) × IsFitUnit u
+  pub arms : (number : ℕ) (u v : ModelUnit) → slice_get (units_of old) number ≡ Some u → slice_get (units_of new) number ≡ Some v
+      → v.armed ≡ u.armed
+
+-- Sessions.
 
 -- a target that has begun on these units, and has done nothing else
 pub record IsNewTarget (s : Shape) (units : List WornUnit) (target : SerialView) : Type 0 where
-  pub opened : IsOpened s (map (λ u. u.unit) units) target.mount
-  pub wear : target.mount.wear ≡ map (λ u. u.wear) units
+  pub opened : IsOpened s (units_of units) target.mount
+  pub wear : target.mount.wear ≡ wear_of units
   pub unwritten : target.own ≡ []
+  pub faultless : target.faults ≡ []
   pub calm : target.worns ≡ []
 
 -- The thread of a script was run through a port; where the script has none the port is as it was.
@@ -66,52 +89,131 @@ trouble_of (Ok x) = None
 trouble_of (Err (settle.Worn wanted have)) = Some (Worn wanted have)
 trouble_of (Err (settle.Drive unit event)) = Some (Drive unit event)
 
--- A target was closed after a run, and what that met was recorded.
-pub record IsClosed (target : SerialView) (records : Records) (served : Served) : Type 0 where
+-- A target was closed, and these units came back.
+pub record IsClosed (target : SerialView) (units : List WornUnit) : Type 0 where
   pub mount : MountView
   pub settled : Result Unit SettleErr
   pub closed : target_port.IsClosed target settled mount
-  pub units : map (λ u. u.unit) served.units.items ≡ mount.units
-  pub wear : map (λ u. u.wear) served.units.items ≡ mount.wear
+  pub units_are : units_of units ≡ mount.units
+  pub wear : wear_of units ≡ mount.wear
   -- the port knew of its own writes alone
   pub alone : lines_in target.mount ≡ flat_map lines_of target.own
-  pub closing : served.records.closing ≡ trouble_of settled
   pub trouble : IsTrouble (trouble_of settled)
-  pub threads : served.records.threads ≡ records.threads
-  pub opening : served.records.opening ≡ records.opening
 
--- the transcript of records, by the end of the image that a mount leaves
-abbrev pub transcript_in : List (List Command) → Records → MountView → Transcript
-transcript_in script records v = transcript_of script records (end (media_in v))
+-- these records, with what the close met
+abbrev pub with_closing : Records → Result Unit SettleErr → Records
+with_closing records settled = record { threads = records.threads; opening = records.opening; closing = trouble_of settled }
 
--- A script was run on a drive with this image: what was done is the world of a mount, whose history is
--- the transcript's. It is a transcript of the script from what the mount found. Where the image is
--- sealed it is one of a run from what the image held.
-pub record IsServing (i : Image) (script : List (List Command)) (records : Records) (mount : MountView) : Type 0 where
-  pub image : mount.image ≡ i
-  pub sound : IsSound mount
+-- What the close makes of records, or of want of memory.
+abbrev pub Closes : {E : Type 0} → Result Records E → Result Unit SettleErr → Result Records E → Type 0
+Closes (Ok before) settled (Ok after) = after ≡ with_closing before settled
+Closes (Ok before) settled (Err e) = ⊥
+Closes (Err e) settled (Ok after) = ⊥
+Closes (Err e) settled (Err f) = ⊤
+
+-- the session's records, unless there was no memory for it
+abbrev pub IsSessionOf : {E : Type 0} → List (List Command) → SerialView → Result Records E → SerialView → Type 0
+IsSessionOf script old (Ok records) new = IsSession script old records new
+IsSessionOf script old (Err e) new = ⊤
+
+-- A session was run on a target, or there was no memory for it; and the target was closed.
+pub record IsServedOn {E : Type 0} (script : List (List Command)) (target : SerialView) (units : List WornUnit) (records : Result Records E) : Type 0 where
+  pub last : SerialView
+  pub same : IsSameTarget (device target) (device last)
+  pub before : Result Records E
+  pub session : IsSessionOf script target before last
+  pub closed : IsClosed last units
+  pub closes : Closes before closed.settled records
+
+-- What was done.
+
+-- the transcript of records, by the end of the image that these logs leave
+abbrev pub transcript_by : List (List Command) → Records → Image → Logs → Transcript
+transcript_by script records i logs = transcript_of script records (end (media i logs))
+
+-- A unit of a drive is as a world leaves it that began with these units: what its log has grown by
+-- are the world's events, and its chunks are what these leave.
+pub record IsLeftBy (i : Image) (handed : List ModelUnit) (logs : Logs) (number : ℕ) (u : ModelUnit) : Type 0 where
+  pub media : slice_get (media i logs).units number ≡ Some u.media
+  pub before : ModelUnit
+  pub was : slice_get handed number ≡ Some before
+  pub log : u.log ≡ before.log ++ unit_events logs number
+
+-- At this place, a unit and the number of an event in its log from 0, stands a command that was
+-- stopped or a fetch that failed, and the unit's log hadn't got it when it was handed in.
+pub record IsNewLoss (handed units : List ModelUnit) (place : ℕ × ℕ) : Type 0 where
+  pub before : ModelUnit
+  pub was : slice_get handed place.0 ≡ Some before
+  pub since : length before.log ≤ place.1
+  pub unit : ModelUnit
+  pub there : slice_get units place.0 ≡ Some unit
+  pub event : UnitEvent
+  pub event_is : slice_get unit.log place.1 ≡ Some event
+  pub lost : was_lost event ≡ true
+
+-- Each of these names is of such an event, and no two are of the same.
+pub record AreNewLosses (handed units : List ModelUnit) (names : List (ℕ × ℕ)) : Type 0 where
+  pub places : List (ℕ × ℕ)
+  pub names_are : names ≡ map name_at places
+  pub each : AllByRecursion (IsNewLoss handed units) places
+  pub distinct : IsDistinct places
+
+-- A script was run on units with this image, or their target answered an event as it was opened.
+-- What was done is a world that began with these units and leaves those. Its history is the
+-- transcript's. Each event that the transcript names is one of its own that was added to a unit's
+-- log, of a command that was stopped or a fetch that failed. It is a transcript of the script from
+-- what the mount found. Where the image is sealed it is one of a run from what the image held.
+pub record IsServing (i : Image) (handed units : List ModelUnit) (script : List (List Command)) (records : Records) (w : World) : Type 0 where
+  pub legal : IsSimpleMount i w
+  pub has_begun : HasBegun (opening_of records.opening) (begun (log_of w 0))
+  pub each : (number : ℕ) (u : ModelUnit) → slice_get units number ≡ Some u → IsLeftBy i handed (log_of w) number u
   pub recorded : IsRecorded script records
-  pub faultless : events (transcript_in script records mount) ≡ []
-  pub history_is : history (engine_log mount) ≡ sector_writes i.shape.sector (transcript_in script records mount).history
-  pub worn : AreRefusals i (logs_in mount) 0 (worns_of script (transcript_in script records mount))
-  pub granted : AreGranted i (logs_in mount)
-  pub kept : (transcript_in script records mount).kept ≡ users (user_positions (engine_log mount)) (end (media_in mount))
-  pub told : IsTranscript i.shape.sector script (contents (found_image i (logs_in mount))) (transcript_in script records mount)
-  pub run : IsSealed i → let t = transcript_in script records mount in let start = contents i in
+  pub named : AreNewLosses handed units (events (transcript_by script records i (log_of w)))
+  pub history_is : history (log_of w 0) ≡ sector_writes i.shape.sector (transcript_by script records i (log_of w)).history
+  pub worn : AreRefusals i (log_of w) 0 (worns_of script (transcript_by script records i (log_of w)))
+  pub granted : AreGranted i (log_of w)
+  pub kept : (transcript_by script records i (log_of w)).kept ≡ users (user_positions (log_of w 0)) (end (media i (log_of w)))
+  pub told : IsTranscript i.shape.sector script (contents (found_image i (log_of w))) (transcript_by script records i (log_of w))
+  pub run : IsSealed i → let t = transcript_by script records i (log_of w) in let start = contents i in
       IsRun i.shape.sector script start t (after start (sector_writes i.shape.sector (take t.kept t.history)))
 
-pub record IsServed (s : Shape) (script : List (List Command)) (units : List WornUnit) (served : Served) : Type 0 where
-  pub mount : MountView
-  pub serving : IsServing (image_of s (map (λ u. u.unit) units)) script served.records mount
-  pub units_are : map (λ u. u.unit) served.units.items ≡ mount.units
-  pub wear : map (λ u. u.wear) served.units.items ≡ map (λ u. u.wear) units
+-- the same on the units of a drive of this shape
+pub record IsServed (s : Shape) (script : List (List Command)) (old new : List WornUnit) (records : Records) : Type 0 where
+  pub world : World
+  pub serving : IsServing (image_of s (units_of old)) (units_of old) (units_of new) script records world
 
--- the same on the units of a drive
-pub record IsRan (found : DriveView) (script : List (List Command)) (ran : Ran) : Type 0 where
-  pub mount : MountView
-  pub serving : IsServing (image_file.image_of (stored found)) script ran.records mount
-  pub units_are : map (λ u. u.unit) ran.drive.units ≡ mount.units
-  pub wear : map (λ u. u.wear) ran.drive.units ≡ map (λ u. u.wear) found.units
-  pub numbers : ran.drive ≡ with_units ran.drive.units found
+-- Drives.
+
+-- The fuse fell of a unit's arms: since it was armed, the unit of the fuse had as many programs and
+-- resets as the fuse names.
+pub record FellBetween (old new : List WornUnit) (a : Armed) : Type 0 where
+  pub fuse : Fuse
+  pub is : a.fuse ≡ Some fuse
+  pub counted : 0 < fuse.nth
+  pub before : ModelUnit
+  pub was : slice_get (units_of old) fuse.unit ≡ Some before
+  pub after : ModelUnit
+  pub there : slice_get (units_of new) fuse.unit ≡ Some after
+  pub fell : fuse.nth ≤ changes_of (events_since before.armed after.log)
+
+-- What the units of a drive did since they were armed is by their arms, and one was stopped only
+-- where the fuse fell.
+pub record DidByArms (old new : List WornUnit) : Type 0 where
+  pub outcomes : (number : ℕ) (u v : ModelUnit) → slice_get (units_of old) number ≡ Some u → slice_get (units_of new) number ≡ Some v
+      → AreEventsBy u.shape u.armed (events_since u.armed v.log)
+  pub fallen : (number : ℕ) (u v : ModelUnit) → slice_get (units_of old) number ≡ Some u → slice_get (units_of new) number ≡ Some v
+      → has_stopped u.armed v.log ≡ true → FellBetween old new u.armed
+
+-- a drive has its numbers still, with these units
+pub record IsDriveLeft (found left : DriveView) : Type 0 where
+  pub numbers : left ≡ with_units left.units found
+  pub wear : wear_of left.units ≡ wear_of found.units
   pub was : IsWhole found
-  pub whole : IsWhole ran.drive
+  pub whole : IsWhole left
+
+-- A script was run on a drive.
+pub record IsRan (found : DriveView) (script : List (List Command)) (left : DriveView) (records : Records) : Type 0 where
+  pub world : World
+  pub serving : IsServing (image_file.image_of (stored found)) (units_of found.units) (units_of left.units) script records world
+  pub by_arms : DidByArms found.units left.units
+  pub drive : IsDriveLeft found left

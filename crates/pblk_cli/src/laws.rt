@@ -1,42 +1,87 @@
 //! Laws on runs: each is the contract of a function that does no work.
 
-ghost use Rattle.std.specs.Prelude.{ℕ, ◌≡◌, List};
+ghost use Rattle.std.specs.Prelude.{ℕ, ◌≡◌, [], List, Option, None, Some};
 ghost use Rattle.std.specs.List.{Contains};
 ghost use Rattle.block_port.specs.declared.rows.WornAnswer.{WornAnswer};
 ghost use Rattle.block_target.specs.Moments.{IsMoment};
+ghost use Rattle.command_words.specs.Grammar.{RunOptions};
 ghost use Rattle.pblk_model.specs.declared.script.Command.{Command};
 ghost use Rattle.pblk_model.specs.CommandText.{geometry_text};
-ghost use Rattle.pblk_model.specs.Contents.{end};
-ghost use Rattle.pblk_model.specs.History.{SectorWrite};
+ghost use Rattle.core_laws.specs.FaultlessMounts.{IsFaultlessMount};
+ghost use Rattle.pblk_model.specs.Contents.{contents, end, head};
 ghost use Rattle.pblk_model.specs.ImageFile.{Drive, StoredChunk, image_of};
 ghost use Rattle.pblk_model.specs.Sealed.{IsSealed};
+ghost use Rattle.pblk_model.specs.Text.{Transcript};
+ghost use Rattle.pblk_model.specs.Transcript.{events};
 ghost use Rattle.pblk_outside.specs.Files.{FilesView};
+ghost use Rattle.pblk_world.specs.EngineLog.{Begun, begun};
 ghost use Rattle.pblk_world.specs.Fronts.{taken};
 ghost use Rattle.pblk_world.specs.World.{World, log_of, media};
+ghost use Rattle.unit_port.specs.declared.armed.Fuse.{Fuse};
 ghost use Rattle.pblk_cli.specs.Commands.{IsDriveOf, IsRunBetween, IsWorldBetween, RunMade};
 ghost use Rattle.pblk_cli.specs.Laws.{with_units};
+ghost use Rattle.pblk_cli.specs.Worn.{worns_of};
 
 use block_target::a_refused_flush_tells_the_end;
 
 /// The next command on an image finds the drive that a run left there.
 pub fn the_drive_left_is_found()
-    ensures { (image script : List ℕ) (status : ℕ) (text : List ℕ) (old new : FilesView)
-        → (made : RunMade image script status text old new) → IsDriveOf image new made.left }
+    ensures { (image script : List ℕ) (options : RunOptions) (status : ℕ) (text : List ℕ)
+        (old new : FilesView) → (made : RunMade image script options status text old new)
+        → IsDriveOf image new made.left }
 {}
 
 /// Of what `geometry` prints a run changes nothing but how many chunks are in each state.
 pub fn a_run_keeps_the_numbers()
-    ensures { (found left : Drive) (commands : List (List Command)) (text : List ℕ)
-        (units : List (List StoredChunk)) → IsRunBetween found commands text left
+    ensures { (found left : Drive) (stop : Option Fuse) (commands : List (List Command))
+        (text : List ℕ) (units : List (List StoredChunk))
+        → IsRunBetween found stop commands text left
         → geometry_text (with_units units left) ≡ geometry_text (with_units units found) }
 {}
 
-/// A flush, or the close, that a run answers `worn` tells what is on the drive. Over a sealed image there was a
-/// moment at which all that it wanted was taken, and what recovery would have found ended at what it has.
+/// A run that is told of no stop names no event of a unit: each command of its world was done. The
+/// mount has begun there.
+pub fn a_run_without_a_stop_is_faultless()
+    ensures events { (found left : Drive) (commands : List (List Command)) (text : List ℕ)
+        → (run : IsRunBetween found None commands text left) → events run.transcript ≡ [] }
+    ensures mount { (found left : Drive) (commands : List (List Command)) (text : List ℕ)
+        → (run : IsRunBetween found None commands text left)
+        → IsFaultlessMount (image_of found) run.world.world }
+    ensures begun { (found left : Drive) (commands : List (List Command)) (text : List ℕ)
+        → (run : IsRunBetween found None commands text left)
+        → (beginning : Begun) × (begun (log_of run.world.world 0) ≡ Some beginning) }
+{}
+
+/// A run whose opening answers an event of a unit runs no command, and keeps nothing. Over a sealed
+/// image it leaves the contents and the end as they were.
+pub fn a_stopped_opening_changes_nothing()
+    ensures none { (found left : Drive) (stop : Option Fuse) (commands : List (List Command))
+        (text : List ℕ) (event : ℕ × ℕ) → (run : IsRunBetween found stop commands text left)
+        → run.transcript.opening ≡ Some event → (run.transcript.outcomes ≡ [])
+        × (run.transcript.history ≡ []) × (run.transcript.kept ≡ 0) }
+    ensures contents { (found left : Drive) (stop : Option Fuse)
+        (commands : List (List Command)) (text : List ℕ) (event : ℕ × ℕ)
+        → (run : IsRunBetween found stop commands text left)
+        → run.transcript.opening ≡ Some event → IsSealed (image_of found)
+        → (contents (image_of left) ≡ contents (image_of found))
+        × (end (image_of left) ≡ end (image_of found)) }
+{}
+
+/// Over a sealed image a run that leaves the head which it found keeps no line of its history.
+pub fn a_run_that_leaves_the_head_keeps_nothing()
+    ensures { (found left : Drive) (stop : Option Fuse) (commands : List (List Command))
+        (text : List ℕ) → (run : IsRunBetween found stop commands text left)
+        → IsSealed (image_of found) → head (image_of left) ≡ head (image_of found)
+        → run.transcript.kept ≡ 0 }
+{}
+
+/// A flush, or the close, that a run answers `worn` tells what is on the drive. Over a sealed image
+/// there was a moment at which all that it wanted was taken, and what recovery would have found
+/// ended at what it has.
 pub fn a_worn_flush_tells_the_end()
-    ensures { (found left : Drive) (writes : List SectorWrite) (worns : List WornAnswer)
-        (a : WornAnswer) → (run : IsWorldBetween found left writes worns)
-        → IsSealed (image_of found) → Contains worns a → a.count ≡ 0
+    ensures { (found left : Drive) (stop : Option Fuse) (commands : List (List Command))
+        (t : Transcript) (a : WornAnswer) → (run : IsWorldBetween found left stop commands t)
+        → IsSealed (image_of found) → Contains (worns_of commands t) a → a.count ≡ 0
         → (n : ℕ) × (past : World) × IsMoment run.world n past
         × (taken (log_of past 0) ≡ a.wanted)
         × (end (media (image_of found) (log_of past)) ≡ a.have) }

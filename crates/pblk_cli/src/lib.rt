@@ -5,6 +5,7 @@
 #![tactic(auto)]
 
 mod create;
+mod drive_run;
 mod geometry;
 mod laws;
 mod main_call;
@@ -15,5 +16,10 @@ mod serve;
 mod show;
 mod status;
 
-pub use laws::{a_run_keeps_the_numbers, a_worn_flush_tells_the_end, the_drive_left_is_found};
+pub use drive_run::run_drive;
+pub use laws::{
+    a_run_keeps_the_numbers, a_run_that_leaves_the_head_keeps_nothing,
+    a_run_without_a_stop_is_faultless, a_stopped_opening_changes_nothing,
+    a_worn_flush_tells_the_end, the_drive_left_is_found,
+};
 pub use main_call::{pblk_main, pblk_program};

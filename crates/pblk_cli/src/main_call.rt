@@ -29,13 +29,14 @@ use std::sync::Wait;
 /// | 2 | the script is refused, or has a second thread |
 /// | 3 | the image is refused, or what `create` is to make |
 /// | 4 | a file could not be read or written, or isn't there |
-/// | 6 | a script was run, and there was no room for all that it writes; the text was written |
+/// | 5 | a run's text has an `e` line, which names an event of a unit; the text was written |
+/// | 6 | a run's text has no `e` line, but a `worn` line: there was no room; the text was written |
 /// | 7 | there was no memory: of `create`, only for numbers that aren't refused |
 /// | 8 | the command did its work, and its text could not be written whole |
 ///
-/// With each status but 0, 6 and 8 one line says why. The words are judged first; then files are read,
-/// the image before the script; then the image is judged, then the script; the file is written before
-/// the text. A run may wait: nothing says that its call returns.
+/// With each status but 0, 5, 6 and 8 one line says why. The words are judged first; then files are
+/// read, the image before the script; then the image is judged, then the script; the file is
+/// written before the text. A run may wait: nothing says that its call returns.
 pub fn pblk_main<R: Wait, F: Files, O: Sink>(
     rt: &R,
     alloc: Global,
@@ -80,13 +81,17 @@ fn do_command<'a, R: Wait, F: Files>(
         CommandLine::Geometry { image } => geometry(alloc, image, files),
         CommandLine::Show { image } => show(alloc, image, files),
         CommandLine::Report { image } => report_numbers(alloc, image, files),
-        CommandLine::Run { image, script } => run(rt, alloc, image, script, files),
+        CommandLine::Run {
+            image,
+            script,
+            options,
+        } => run(rt, alloc, image, script, &options, files),
     }
 }
 
-/// Runs the command that the words are, as `pblk_main` does, and gives its status as the program's exit
-/// code. Words that could not be had are answered here: 1 where one is no text, and 7 for want of
-/// memory, each with its line.
+/// Runs the command that the words are, as `pblk_main` does, and gives its status as the program's
+/// exit code. Words that could not be had are answered here: 1 where one is no text, and 7 for want
+/// of memory, each with its line.
 pub fn pblk_program<R: Wait, F: Files, O: Sink>(
     rt: &R,
     alloc: Global,

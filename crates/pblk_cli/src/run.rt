@@ -12,16 +12,17 @@ ghost use Rattle.run_report.specs.Report.{transcript_of};
 ghost use Rattle.pblk_cli.specs.Commands.{RunComesTo};
 ghost use Rattle.pblk_cli.specs.Endings.{ending_of, reason_of};
 ghost use Rattle.pblk_cli.specs.Reading.{ReadsFile};
-ghost use Rattle.pblk_cli.specs.Running.{CannotReadBoth, RefusesScript, IsRunOfScript, IsRunTo};
-ghost use Rattle.pblk_cli.specs.Serving.{IsRan};
+ghost use Rattle.command_words.specs.Words.{options_seen};
+ghost use Rattle.pblk_cli.specs.Running.{CannotReadBoth, RefusesScript, IsRunOfScript, IsRunTo, IsStored};
 
+use crate::drive_run::run_drive;
 use crate::geometry::{drive_of, read_file};
 use crate::output::Output;
 use crate::refusal::Refusal;
-use crate::serve::serve;
 use crate::status::status_of;
+use command_words::RunOptions;
 use drive_image::into_image;
-use ocssd_drive::Drive;
+use ocssd_drive::{Drive, Fuse};
 use pblk_model::{Script, ScriptErr};
 use pblk_outside::Files;
 use run_report::transcript;
@@ -31,16 +32,17 @@ use scan_recovery::summary;
 use std::alloc::{AllocError, Global};
 use std::sync::Wait;
 
-/// Reads an image and a script, runs the script on the image's drive, stores the drive under the image's
-/// name, and gives the transcript.
+/// Reads an image and a script, runs the script on the image's drive, stores the drive under the
+/// image's name, and gives the transcript.
 pub(crate) fn run<'a, R: Wait, F: Files>(
     rt: &R,
     alloc: Global,
     image: &'a str,
     script: &'a str,
+    options: &RunOptions,
     files: &mut F,
 ) -> Result<Output, Refusal<'a>>
-    ensures comes { RunComesTo image.now script.now (ending_of result)
+    ensures comes { RunComesTo image.now script.now (options_seen options.now) (ending_of result)
         (F.view files.old) (F.view files.new) }
     ensures told { (F.view files.new).told ≡ (F.view files.old).told }
 {
@@ -53,7 +55,7 @@ pub(crate) fn run<'a, R: Wait, F: Files>(
         Ok(drive) => drive,
         Err(refusal) => return Err(refusal),
     };
-    let (stored, output) = match run_script(rt, alloc, drive, &script_bytes) {
+    let (stored, output) = match run_script(rt, alloc, drive, options.stop, &script_bytes) {
         Ok(made) => made,
         Err(refusal) => return Err(refusal),
     };
@@ -89,17 +91,18 @@ fn read_both<'a, F: Files>(
     }
 }
 
-// Runs the script that these bytes are: the bytes of the image afterwards, and the status and the text of
-// the transcript.
+// Runs the script that these bytes are: the bytes of the image afterwards, and the status and the
+// text of the transcript.
 fn run_script<'a, R: Wait>(
     rt: &R,
     alloc: Global,
     drive: Drive,
+    stop: Option<Fuse>,
     script: &[u8],
 ) -> Result<(Vec<u8>, Output), Refusal<'a>>
     requires quiet { IsQuiet drive }
-    ensures run { IfOk result (λ made.
-        IsRunOfScript (stored drive) script.now made.1.status made.1.text.items made.0.items) }
+    ensures run { IfOk result (λ made. IsRunOfScript (stored drive) stop script.now
+        made.1.status made.1.text.items made.0.items) }
     ensures refused { IfErr result (λ refusal.
         RefusesScript (stored drive).capacity script.now (reason_of refusal)) }
 {
@@ -111,7 +114,7 @@ fn run_script<'a, R: Wait>(
     if threads > 1 {
         return Err(Refusal::ScriptUnbuilt);
     }
-    match run_and_store(rt, alloc, drive, &script) {
+    match run_and_store(rt, alloc, drive, stop, &script) {
         Ok(made) => Ok(made),
         Err(_) => Err(Refusal::Memory),
     }
@@ -128,11 +131,13 @@ fn script_refusal_of<'a>(e: ScriptErr) -> Refusal<'a>
     }
 }
 
-// Runs a script of one thread at most on a drive, and makes what is stored and what is told.
+// Runs a script of one thread at most on a drive, which is to stop there, and makes what is stored
+// and what is told.
 fn run_and_store<R: Wait>(
     rt: &R,
     alloc: Global,
-    drive: Drive,
+    mut drive: Drive,
+    stop: Option<Fuse>,
     script: &Script,
 ) -> Result<(Vec<u8>, Output), AllocError>
     requires quiet { IsQuiet drive }
@@ -140,60 +145,46 @@ fn run_and_store<R: Wait>(
     requires fits { ScriptFits drive.capacity script.now }
     requires flows { NeverStuck script.now }
     ensures { IfOk result (λ made.
-        IsRunTo (stored drive) script.now made.1.status made.1.text.items made.0.items) }
+        IsRunTo (stored drive) stop script.now made.1.status made.1.text.items made.0.items) }
 {
-    let ran = run_on(rt, alloc, drive, script)?;
-    let text = transcript_text(alloc, script, &ran)?;
-    let status = status_of(&ran.records);
-    // The drive is let go unit by unit, so that it and its image aren't held whole beside each other.
-    let Ran { drive, .. } = ran;
+    drive.arm(alloc, &[], stop)?;
+    match run_drive(rt, alloc, drive, script, 0, false) {
+        Ok((drive, records)) => store_run(alloc, drive, script, &records),
+        Err((e, _)) => Err(e),
+    }
+}
+
+// What is stored of a drive after a run, and what is told of that.
+fn store_run(
+    alloc: Global,
+    drive: Drive,
+    script: &Script,
+    records: &Records,
+) -> Result<(Vec<u8>, Output), AllocError>
+    requires { IsRecorded script.now records.now }
+    ensures { IfOk result (λ made. IsStored drive script.now records.now
+        made.1.status made.1.text.items made.0.items) }
+{
+    let text = transcript_text(alloc, script, &drive, records)?;
+    let status = status_of(records);
+    // The drive is let go unit by unit, so that it and its image aren't held whole beside each
+    // other.
     let bytes = into_image(alloc, drive)?;
     Ok((bytes, Output { status, text }))
 }
 
 // The text of a run's transcript, by what the drive then holds.
-fn transcript_text(alloc: Global, script: &Script, ran: &Ran) -> Result<Vec<u8>, AllocError>
-    requires { IsRecorded script.now ran.now.records }
-    ensures { let left = image_of (stored ran.now.drive) in
+fn transcript_text(
+    alloc: Global,
+    script: &Script,
+    drive: &Drive,
+    records: &Records,
+) -> Result<Vec<u8>, AllocError>
+    requires { IsRecorded script.now records.now }
+    ensures { let left = image_of (stored drive.now) in
         IfOk result (λ text. text.items
-        ≡ text_of (transcript_of script.now ran.now.records (end left))) }
+        ≡ text_of (transcript_of script.now records.now (end left))) }
 {
-    let held = summary(alloc, &ran.drive)?;
-    transcript(alloc, script, &ran.records, held.end)
-}
-
-/// A drive after a run, and what the script was answered.
-#[derive(Drop)]
-pub(crate) struct Ran {
-    pub(crate) drive: Drive,
-    pub(crate) records: Records,
-}
-
-// Runs a script of one thread at most on the units of a drive.
-fn run_on<R: Wait>(rt: &R, alloc: Global, drive: Drive, script: &Script) -> Result<Ran, AllocError>
-    requires quiet { IsQuiet drive }
-    requires one { length script.now ≤ 1 }
-    requires fits { ScriptFits drive.capacity script.now }
-    requires flows { NeverStuck script.now }
-    ensures { IfOk result (IsRan drive script.now) }
-{
-    let shape = drive.shape();
-    let Drive {
-        geometry,
-        sector,
-        capacity,
-        ring,
-        units,
-    } = drive;
-    let served = serve(rt, alloc, units, &shape, script)?;
-    Ok(Ran {
-        drive: Drive {
-            geometry,
-            sector,
-            capacity,
-            ring,
-            units: served.units,
-        },
-        records: served.records,
-    })
+    let held = summary(alloc, drive)?;
+    transcript(alloc, script, records, held.end)
 }

@@ -1,118 +1,131 @@
 //! Runs a script on a target over the units of a drive.
 
-ghost use Rattle.std.specs.Prelude.{ℕ, ◌≡◌, ◌≤◌, ◌<◌, ◌^◌, ◌∷◌, [], length, map, Err, IfOk};
+ghost use Rattle.std.specs.Prelude.{ℕ, ◌≡◌, ◌≤◌, ◌<◌, ◌^◌, ◌∷◌, [], length, map, Ok, Err, None, Some, IfOk};
 ghost use Rattle.pblk_model.specs.Accepted.{IsAccepted};
 ghost use Rattle.pblk_model.specs.Script.{NeverStuck, ScriptFits};
 ghost use Rattle.block_target.specs.Serial.{SerialView};
-ghost use Rattle.unit_port.specs.Commands.{AreUnarmed};
+ghost use Rattle.run_threads.specs.declared.records.Records.{Records};
+ghost use Rattle.run_threads.specs.Run.{IsEvent};
+ghost use Rattle.scan_recovery.specs.MayStop.{AllMayStop};
 ghost use Rattle.scan_recovery.specs.Units.{AreFit};
-ghost use Rattle.pblk_cli.specs.Serving.{IsNewTarget, IsSession, IsClosed, IsServed, trouble_of};
+ghost use Rattle.pblk_cli.specs.Serving.{AreBack, Closes, IsClosed, IsServed, IsServedOn, trouble_of, units_of, with_closing};
 
-use block_target::{Refused, Serial, SettleErr};
+use block_target::{OpenErr, Refused, Serial, SettleErr};
 use ocssd_drive::MemoryUnit;
 use pblk_model::{Script, Shape};
 use run_threads::{Records, ThreadRows, Trouble, run};
 use std::alloc::{AllocError, Global};
 use std::sync::Wait;
 
-/// What a run leaves: the units, and what the script was answered.
+/// What a run leaves: the units, and what the script was answered, unless there was no memory to
+/// run it.
 #[derive(Drop)]
 pub(crate) struct Served {
     pub(crate) units: Vec<MemoryUnit>,
-    pub(crate) records: Records,
+    pub(crate) records: Result<Records, AllocError>,
 }
 
-/// Runs a script of one thread at most on a target over the units of a drive, which are armed with
-/// nothing, and closes it.
+/// Runs a script of one thread at most on a target over the units of a drive, and closes it. No
+/// plan has a command of the units fail, and a fuse may stop them. Where the target answers an
+/// event of a unit as it is opened, no command is run, and that is recorded.
 pub(crate) fn serve<R: Wait>(
     rt: &R,
     alloc: Global,
     units: Vec<MemoryUnit>,
     shape: &Shape,
     script: &Script,
-) -> Result<Served, AllocError>
+) -> Served
     requires accepted { IsAccepted shape.now }
-    requires fit { AreFit shape.now (map (λ u. u.unit) units.items) }
-    requires unarmed { AreUnarmed (map (λ u. u.unit) units.items) }
+    requires fit { AreFit shape.now (units_of units.items) }
+    requires armed { AllMayStop (units_of units.items) }
     requires one { length script.now ≤ 1 }
     requires fits { ScriptFits shape.now.capacity script.now }
     requires flows { NeverStuck script.now }
-    ensures { IfOk result (IsServed shape.now script.now units.items) }
-{
-    let target = open(alloc, units, shape)?;
-    let (target, records) = run_session(rt, alloc, target, script)?;
-    Ok(close(rt, target, records))
-}
-
-// A target over the units of a drive. Where there is no memory for one, the units are let go, and no
-// image is stored.
-fn open(
-    alloc: Global,
-    units: Vec<MemoryUnit>,
-    shape: &Shape,
-) -> Result<Serial<MemoryUnit>, AllocError>
-    requires accepted { IsAccepted shape.now }
-    requires fit { AreFit shape.now (map (λ u. u.unit) units.items) }
-    requires unarmed { AreUnarmed (map (λ u. u.unit) units.items) }
-    ensures { IfOk result (IsNewTarget shape.now units.items) }
+    ensures back { AreBack shape.now units.items result.units.items }
+    ensures served { IfOk result.records
+        (IsServed shape.now script.now units.items result.units.items) }
 {
     match Serial::open(alloc, units, shape) {
-        Ok(target) => Ok(target),
-        Err(Refused { units: _, cause: _ }) => Err(AllocError),
+        Ok(target) => serve_on(rt, alloc, target, script),
+        Err(Refused { units, cause }) => Served {
+            units,
+            records: not_opened(alloc, cause),
+        },
     }
 }
 
-// Runs the thread of a script, if it has one. Without memory the target is closed.
-fn run_session<R: Wait>(
-    rt: &R,
-    alloc: Global,
-    target: Serial<MemoryUnit>,
-    script: &Script,
-) -> Result<(Serial<MemoryUnit>, Records), AllocError>
-    requires one { length script.now ≤ 1 }
-    requires fits { ScriptFits target.mount.image.shape.capacity script.now }
-    requires flows { NeverStuck script.now }
-    ensures { IfOk result (λ ran. IsSession script.now target ran.1 ran.0) }
+// The records of a script that wasn't run, since its target wasn't opened.
+fn not_opened(alloc: Global, cause: OpenErr) -> Result<Records, AllocError>
+    ensures named { (unit event : ℕ) → cause ≡ OpenErr.Drive unit event
+        → IsEvent unit event × IfOk result (λ records. (records.threads ≡ [])
+        × (records.opening ≡ Some (Trouble.Drive unit event)) × (records.closing ≡ None)) }
+    ensures memory { cause ≡ OpenErr.Memory → (records : Records) → result ≡ Ok records → ⊥ }
 {
-    if script.as_slice().is_empty() {
-        return Ok((target, no_records(alloc)));
-    }
-    let ports = one_port(rt, alloc, target)?;
-    match run(rt, alloc, script, ports) {
-        Ok((records, ports)) => Ok((only_port(ports), records)),
-        Err((e, ports)) => {
-            let _ = only_port(ports).close(rt);
-            Err(e)
+    match cause {
+        OpenErr::Drive { unit, event } => {
+            let opening = Trouble::Drive { unit, event };
+            Ok(no_records(alloc, Some(opening)))
         }
+        OpenErr::Memory => Err(AllocError),
     }
 }
 
-// The records of a script without threads.
-fn no_records(alloc: Global) -> Records
-    ensures { (result.threads ≡ []) × (result.opening ≡ None) }
+// The records of no command.
+fn no_records(alloc: Global, opening: Option<Trouble>) -> Records
+    ensures { result ≡ record { threads = []; opening = opening; closing = None } }
 {
     Records {
         threads: ThreadRows::new(Vec::new(alloc)),
-        opening: None,
+        opening,
         closing: None,
     }
 }
 
-// The ports of a script of one thread. Without memory the target is closed.
-fn one_port<R: Wait>(
+// Runs the thread of a script, if it has one, on a target, and closes that.
+fn serve_on<R: Wait>(rt: &R, alloc: Global, target: Serial<MemoryUnit>, script: &Script) -> Served
+    requires one { length script.now ≤ 1 }
+    requires fits { ScriptFits target.mount.image.shape.capacity script.now }
+    requires flows { NeverStuck script.now }
+    ensures { IsServedOn script.now target result.units.items result.records }
+{
+    if script.as_slice().is_empty() {
+        return close(rt, target, Ok(no_records(alloc, None)));
+    }
+    match Vec::from_array(alloc, [target]) {
+        Ok(ports) => serve_through(rt, alloc, ports, script),
+        Err(e) => {
+            let target = only_target(e.value);
+            close(rt, target, Err(AllocError))
+        }
+    }
+}
+
+// The target of an array of one.
+fn only_target(targets: [Serial<MemoryUnit>; 1]) -> Serial<MemoryUnit>
+    ensures { targets ≡ result ∷ [] }
+{
+    let [target] = targets;
+    target
+}
+
+// Runs the thread of a script through its port, and closes the target.
+fn serve_through<R: Wait>(
     rt: &R,
     alloc: Global,
-    target: Serial<MemoryUnit>,
-) -> Result<Vec<Serial<MemoryUnit>>, AllocError>
-    ensures { IfOk result (λ ports. ports.items ≡ target ∷ []) }
+    ports: Vec<Serial<MemoryUnit>>,
+    script: &Script,
+) -> Served
+    requires script { length script.now ≡ 1 }
+    requires port { length ports.items ≡ 1 }
+    requires fits { (target : SerialView) → ports.items ≡ target ∷ []
+        → ScriptFits target.mount.image.shape.capacity script.now }
+    requires flows { NeverStuck script.now }
+    ensures { (target : SerialView) → ports.items ≡ target ∷ []
+        → IsServedOn script.now target result.units.items result.records }
 {
-    match Vec::from_array(alloc, [target]) {
-        Ok(ports) => Ok(ports),
-        Err(e) => {
-            let [target] = e.value;
-            let _ = target.close(rt);
-            Err(AllocError)
-        }
+    match run(rt, alloc, script, ports) {
+        Ok((records, ports)) => close(rt, only_port(ports), Ok(records)),
+        Err((e, ports)) => close(rt, only_port(ports), Err(e)),
     }
 }
 
@@ -127,23 +140,40 @@ fn only_port(mut ports: Vec<Serial<MemoryUnit>>) -> Serial<MemoryUnit>
 }
 
 // Closes a target after a run, and records what that met.
-fn close<R: Wait>(rt: &R, target: Serial<MemoryUnit>, records: Records) -> Served
-    ensures { IsClosed target records result }
+fn close<R: Wait>(
+    rt: &R,
+    target: Serial<MemoryUnit>,
+    records: Result<Records, AllocError>,
+) -> Served
+    ensures { (closed : IsClosed target result.units.items)
+        × Closes records closed.settled result.records }
 {
     let (units, settled) = target.close(rt);
     let closing = trouble_of(settled);
+    let records = match records {
+        Ok(records) => Ok(closed_records(records, closing)),
+        Err(e) => Err(e),
+    };
+    Served { units, records }
+}
+
+// Records with what a close met.
+fn closed_records(records: Records, closing: Option<Trouble>) -> Records
+    ensures { result ≡ record {
+      threads = records.threads;
+      opening = records.opening;
+      closing = closing;
+    } }
+{
     let Records {
         threads,
         opening,
         ..
     } = records;
-    Served {
-        units,
-        records: Records {
-            threads,
-            opening,
-            closing,
-        },
+    Records {
+        threads,
+        opening,
+        closing,
     }
 }
 
@@ -151,6 +181,8 @@ fn close<R: Wait>(rt: &R, target: Serial<MemoryUnit>, records: Records) -> Serve
 fn trouble_of(settled: Result<(), SettleErr>) -> Option<Trouble>
     ensures is { result ≡ trouble_of settled }
     ensures number { (wanted have : ℕ) → settled ≡ Err (SettleErr.Worn wanted have) → wanted < 2 ^ 64 }
+    ensures event { (unit event : ℕ) → settled ≡ Err (SettleErr.Drive unit event)
+        → IsEvent unit event }
 {
     match settled {
         Ok(()) => None,

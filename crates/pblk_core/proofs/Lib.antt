@@ -20,6 +20,8 @@ pub mod NamedReset
 pub mod ResetChunks
 pub mod ResetUnits
 pub mod ResetRows
+pub mod AnswerCounts
+pub mod FullOpenings
 pub mod StandsFacts
 pub mod LiveLine
 pub mod NotedEntries

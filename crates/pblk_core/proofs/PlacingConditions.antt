@@ -302,11 +302,11 @@ data_stripe_is i w c o of shape simple st now kind same =
     ∙ waiting_blocks i w c i.shape.ws_opt simple st))
 
 -- a stripe that was begun, filled with entries and padded
-pub padded_is : (of : Program) (shape : Shape) (again : Bool) (blocks : List Block) (begun filled padded : Filling)
-    → begun ≡ record { shape = shape; stripe = empty_stripe of.line of.unit of.block; again = again } → filled ≡ followed_by begun blocks
+pub padded_is : (of : Program) (shape : Shape) (again : Bool) (turn : ℕ) (blocks : List Block) (begun filled padded : Filling)
+    → begun ≡ record { shape = shape; stripe = empty_stripe of.line of.unit of.block; again = again; turn = turn } → filled ≡ followed_by begun blocks
     → padded ≡ followed_by filled (replicate (filled.shape.ws_opt - length filled.stripe.blocks) (pad_block filled.shape))
     → padded.stripe ≡ stripe_of of (padded_to_stripe shape blocks)
-padded_is of shape again blocks begun filled padded a b d =
+padded_is of shape again turn blocks begun filled padded a b d =
     ap (λ (f : Filling). f.stripe) d
     ∙ ap (λ (f : Filling). (followed_by f (replicate (f.shape.ws_opt - length f.stripe.blocks) (pad_block f.shape))).stripe) b
     ∙ ap (λ (f : Filling). (followed_by (followed_by f blocks) (replicate (f.shape.ws_opt - length (f.stripe.blocks ++ blocks)) (pad_block f.shape))).stripe) a
@@ -401,6 +401,7 @@ pub record IsSettledInto (old mid : Core) (k : ℕ) (slot : KeptLine) (of : Prog
   pub placed : mid.placed ≡ old.placed + length of.positions
   pub left : mid.left + entries_for of.kind old.layout.ws_opt ≡ old.left
   pub under_way : mid.under_way ≡ old.under_way
+  pub answers : mid.answers.items ≡ old.answers.items
   pub users : mid.users ≡ old.users
 
 -- a stripe of a record changes none of it
@@ -425,6 +426,7 @@ settled_same old mid p kept k slot of stripe same is count slots none quiet all 
   placed = ap (λ (c : Core). c.placed) same ∙ more old.placed (length of.positions) (ap (λ (qs : List ℕ). length qs) none);
   left = ap₂ (λ a b. a + b) (ap (λ (c : Core). c.left) same) all ∙ sym (more old.left 0 refl);
   under_way = ap (λ (c : Core). c.under_way) same;
+  answers = ap (λ (c : Core). c.answers.items) same;
   users = ap (λ (c : Core). c.users) same;
 }
   where

@@ -19,9 +19,10 @@ use Rattle.core_laws.specs.RowsOf.{state_in, state_found, width_in, taker_in, ro
 use Rattle.core_laws.specs.Stepping.{after}
 use Rattle.core_laws.specs.ChangedTables.{with_row}
 use Rattle.core_laws.proofs.KeptStripes.{KeepsStripes, stripes_kept, alike_kept, have_landed_alike, lives_kept}
-use Rattle.core_laws.proofs.KeptRows.{KeepsLines, live_kept, taker_kept, same_row, row_kept}
+use Rattle.core_laws.proofs.KeptRows.{KeepsLines, live_kept, taker_kept, same_row, row_kept, then_kept}
 use Rattle.core_laws.proofs.LandedRows.{keeps_chunks, lines_kept}
 use Rattle.core_laws.proofs.OpenAddresses.{failed_kept}
+use Rattle.core_laws.proofs.FreedMoments.{freed_before}
 use Rattle.core_laws.proofs.PlainLogs.{none_freed}
 use Rattle.core_laws.proofs.ChangedTables.{row_changes_any, rows_stay}
 use Rattle.pblk_core.specs.Resets.{used_units, emptied}
@@ -39,7 +40,8 @@ pub row_else : (i : Image) (w : World) (unit event line : ℕ) (knows : List ℕ
 row_else i w unit event line knows state simple is m other =
     let new : Logs = after (log_of w) (ResetDone unit event) knows in
     let kept : KeepsStripes (log_of w 0) (new 0) = stripes_kept (log_of w 0) (ResetDone unit event) knows refl in
-    row_kept i (log_of w) new m (lives_kept (log_of w 0) (ResetDone unit event) knows m refl) (none_freed (log_of w 0) (engine_plain i w simple) m)
+    row_kept i (log_of w) new m (lives_kept (log_of w 0) (ResetDone unit event) knows m refl)
+    (then_kept i (log_of w) (ResetDone unit event) knows m (freed_before i w simple.mount.legal))
     (keeps_chunks i (log_of w) (ResetDone unit event) knows m refl (λ u x told e. other (e ∙ is.told u x told)))
     (lines_kept i (log_of w) (ResetDone unit event) knows refl refl refl (λ unit. refl))
     (λ o e. ap₂ (λ a b. if a then states.Failed else if b then states.Full else states.Open) (failed_kept (log_of w 0) (new 0) kept o)

@@ -1,4 +1,5 @@
--- Calls of a core that change no table but the window: what it answers by the logs, and its window as it gives an entry back.
+-- Calls of a core that change no table but the window: what it answers by the logs, and its window
+-- as it gives an entry back.
 use Rattle.std.proofs.Common.{◌≡◌, ℕ, ◌+◌, ◌-◌, ◌<◌, ◌≤◌, zero, suc, Bool, true, false, cond, nat_lt, Some, None, Option, List, [], ◌∷◌, length, take, drop, refl, sym, subst, ap, ap₂, ◌∙◌, arith, add-zero}
 use Rattle.std.specs.Prelude.{map, slice_get, ◌↔◌, IsSome, IfNone, OnSome}
 use Rattle.std.specs.List.{filter, range_with_len}
@@ -214,6 +215,7 @@ popped_stands i w c new simple st is =
       again = st.again;
       placing = st.placing;
       open_lines = st.open_lines;
+      full = st.full;
       next_seq = st.next_seq;
       first_seq = st.first_seq;
       own_capacity = st.own_capacity;
@@ -223,6 +225,7 @@ popped_stands i w c new simple st is =
       placed = st.placed;
       left = st.left;
       in_flight = st.in_flight;
+      answers = st.answers;
       users = st.users;
     }
 
@@ -258,6 +261,7 @@ padded_stands i logs c new to st is = record {
   again = st.again;
   placing = is ∙ ap (λ (p : Placing). padded_to p to) st.placing ∙ ap (λ n. placing_of i logs n st.again) (sym (ap (λ (p : Placing). p.entries.pad) is));
   open_lines = st.open_lines;
+  full = st.full;
   next_seq = st.next_seq;
   first_seq = st.first_seq;
   own_capacity = st.own_capacity;
@@ -267,5 +271,6 @@ padded_stands i logs c new to st is = record {
   placed = st.placed;
   left = st.left;
   in_flight = st.in_flight;
+  answers = st.answers;
   users = st.users;
 }

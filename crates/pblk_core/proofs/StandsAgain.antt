@@ -1,5 +1,5 @@
--- A core that was told of a stop stands for the log with it; one that has the program under way again stands for the same
--- log.
+-- A core that was told of a stop stands for the log with it; one that has the program under way
+-- again stands for the same log.
 use Rattle.std.proofs.Common.{◌≡◌, ℕ, ◌+◌, ◌/◌, ◌≤◌, Some, List, ◌∷◌, length, refl, sym, subst, ap, ap₂, ◌∙◌, arith, append-nil, inl}
 use Rattle.std.specs.Prelude.{if◌then◌else◌, slice_get}
 use Rattle.std.specs.List.{filter, range_with_len}
@@ -23,12 +23,12 @@ use Rattle.core_laws.specs.PlacerOf.{placing_of, without_unit}
 use Rattle.core_laws.specs.RowsOf.{row_of_line, rows_of}
 use Rattle.core_laws.specs.SimpleMounts.{IsSimpleMount}
 use Rattle.core_laws.specs.WindowOf.{sectors_in, window_from}
-use Rattle.core_laws.proofs.KeptRows.{begun_kept, known_kept, row_kept}
+use Rattle.core_laws.proofs.KeptRows.{begun_kept, known_kept, row_kept, then_kept}
 use Rattle.core_laws.proofs.KeptStripes.{KeepsStripes, alike_kept, have_landed_alike, lives_kept, stripes_kept}
 use Rattle.core_laws.proofs.LandedRows.{keeps_chunks, lines_kept}
 use Rattle.core_laws.proofs.OpenAddresses.{addresses_kept, failed_kept}
 use Rattle.core_laws.proofs.PlacedFront.{front_kept}
-use Rattle.core_laws.proofs.PlainLogs.{none_freed}
+use Rattle.core_laws.proofs.FreedMoments.{freed_before}
 use Rattle.core_laws.proofs.QuietEvents.{IsQuiet, quiet_alike, quiet_window, quiet_slot, stop_is_quiet}
 use Rattle.core_laws.proofs.SimpleMounts.{engine_plain, simple_after}
 use Rattle.core_laws.proofs.Steady.{AreAlike, standing_same}
@@ -42,6 +42,8 @@ use Rattle.pblk_core.proofs.FoundLines.{HasOldRow, older_kept}
 use Rattle.pblk_core.proofs.KeptFrames.{placed_pad}
 use Rattle.pblk_core.proofs.KeptResets.{fits_same, resets_quiet}
 use Rattle.pblk_core.proofs.StandsOpened.{quiet_holds, quiet_freed, takes_same}
+use Rattle.pblk_core.proofs.AnswerCounts.{counts_same}
+use Rattle.pblk_core.proofs.FullOpenings.{full_kept}
 use Rattle.pblk_core.proofs.SteadyLines.{open_lines_same, under_way_same}
 use Rattle.lemmas.proofs.Maps.{map_same}
 
@@ -64,6 +66,7 @@ pub record IsPlacedAgain (old new : Core) (of : Program) : Type 0 where
   pub placed : new.placed ≡ old.placed
   pub left : new.left ≡ old.left
   pub under_way : new.under_way ≡ old.under_way
+  pub answers : new.answers.items ≡ old.answers.items
   pub users : new.users ≡ old.users
 
 -- where its placer, and what its open lines keep beside their slots, are all that changed
@@ -85,6 +88,7 @@ again_into old mid p kept of same is count slots = record {
   placed = ap (λ (c : Core). c.placed) same;
   left = ap (λ (c : Core). c.left) same;
   under_way = ap (λ (c : Core). c.under_way) same;
+  answers = ap (λ (c : Core). c.answers.items) same;
   users = ap (λ (c : Core). c.users) same;
 }
 
@@ -128,6 +132,8 @@ again_stands i logs old new of st there is = record {
   placed = ap₂ (λ a b. a + b) is.first is.placed ∙ st.placed;
   left = is.left ∙ st.left;
   in_flight = is.under_way ∙ st.in_flight;
+  answers = is.answers ∙ st.answers;
+  full = st.full;
   users = is.users ∙ st.users;
 }
   where
@@ -156,7 +162,8 @@ rows_stopped i w unit event knows simple =
 
     same : (m : ℕ) → row_of_line i new m ≡ row_of_line i (log_of w) m
     same m =
-        row_kept i (log_of w) new m (lives_kept (log_of w 0) (Again unit event) knows m refl) (none_freed (log_of w 0) (engine_plain i w simple) m)
+        row_kept i (log_of w) new m (lives_kept (log_of w 0) (Again unit event) knows m refl)
+        (then_kept i (log_of w) (Again unit event) knows m (freed_before i w simple.mount.legal))
         (keeps_chunks i (log_of w) (Again unit event) knows m refl (λ u x told. absurd cc))
         (lines_kept i (log_of w) (Again unit event) knows refl refl refl (λ u. refl))
         (λ o e. ap₂ (λ a b. if a then states.Failed else if b then states.Full else states.Open) (failed_kept (log_of w 0) (new 0) kept o)
@@ -178,6 +185,7 @@ pub record IsStoppedInto (old new : Core) (of : Program) : Type 0 where
   pub placed : new.placed ≡ old.placed
   pub left : new.left ≡ old.left
   pub under_way : new.under_way ≡ old.under_way
+  pub answers : new.answers.items ≡ old.answers.items
   pub users : new.users ≡ old.users
 
 its_stop_stands : (i : Image) (w : World) (event : ℕ) (knows : List ℕ) (old new : Core) (of : Program) → IsSimpleMount i w → Stands i (log_of w) old
@@ -215,6 +223,8 @@ its_stop_stands i w event knows old new of simple st there is = record {
   placed = ap₂ (λ a b. a + b) is.first is.placed ∙ st.placed ∙ sym (front_kept i.shape (log_of w 0) e knows refl);
   left = is.left ∙ st.left ∙ sym (addresses_kept i (log_of w) e knows refl);
   in_flight = is.under_way ∙ st.in_flight ∙ under_way_same i.shape (log_of w 0) (new_logs 0) alike;
+  answers = is.answers ∙ st.answers ∙ counts_same i.shape (log_of w 0) (new_logs 0) alike;
+  full = full_kept i (log_of w) e knows refl st.full;
   users = is.users ∙ st.users ∙ ap (λ ts. length (filter (λ (t : Taken). is_users t.entry.source) ts)) (sym (takes_same (log_of w 0) e knows quiet));
 }
   where

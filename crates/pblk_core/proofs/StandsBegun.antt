@@ -16,9 +16,9 @@ use Rattle.pblk_model.specs.Image.{Image, IsFit}
 use Rattle.pblk_model.specs.StartRecord.{Row}
 use Rattle.pblk_meta.specs.Records.{start_numbers}
 use Rattle.pblk_laws.specs.LineBlocks.{chunk_in}
-use Rattle.pblk_world.specs.Events.{Begin, Decides}
+use Rattle.pblk_world.specs.Events.{Begin, Decides, Logged}
 use Rattle.pblk_world.specs.World.{World, Logs, log_of}
-use Rattle.pblk_world.specs.EngineLog.{Opening, Taken}
+use Rattle.pblk_world.specs.EngineLog.{Opening, Taken, answers}
 use Rattle.pblk_world.specs.Lines.{found_image, known_image, is_stray, is_given_up}
 use Rattle.stripe_placer.specs.OpenLines.{has_left}
 use Rattle.stripe_placer.specs.Placing.{Placing}
@@ -43,6 +43,7 @@ use Rattle.pblk_core.specs.Made.{IsMadeOn}
 use Rattle.pblk_core.specs.OlderLines.{older_found}
 use Rattle.pblk_core.specs.Resets.{is_used_state, is_used_in, is_used_at, used_units, used_below, in_line, resets_found, resets_of}
 use Rattle.pblk_core.specs.Stands.{Stands, IsOlder, left_openings}
+use Rattle.pblk_core.proofs.AnswerCounts.{counts_none}
 use Rattle.pblk_core.specs.declared.target_core.Core.{Core}
 use Rattle.core_laws.proofs.SimpleMounts.{simple_after, simple_none}
 use Rattle.pblk_core.proofs.KeptResets.{flat_same}
@@ -193,6 +194,8 @@ made_stands i w knows f c simple none fit found is = record {
   in_flight = is.in_flight ∙ sym (ap length (filter_none (λ unit. is_some (unanswered_on (new 0) unit)) (range_with_len 0 (units i.shape))
       (all_of (λ unit. is_some (unanswered_on (new 0) unit) ≡ false) (λ unit. ap is_some (none_unanswered i f new unit begins))
       (range_with_len 0 (units i.shape)))));
+  full = λ o among. absurd (nowhere o (subst (λ os. Contains os o) (no_openings i f new begins) among));
+  answers = is.none_answered ∙ sym (counts_none i.shape (new 0) (λ unit. ap (λ (xs : List Logged). answers xs unit) begins.log));
   users = is.users ∙ sym (ap (λ (ts : List Taken). length ts) (no_user_takes i f new begins));
 }
   where

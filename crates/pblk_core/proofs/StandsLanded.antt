@@ -1,9 +1,11 @@
 -- A core whose program has landed stands for the log with that.
-use Rattle.std.proofs.Common.{◌≡◌, ℕ, ◌+◌, ◌-◌, ◌*◌, ◌/◌, ◌<◌, ◌≤◌, ◌==◌, ◌||◌, if◌then◌else◌, Bool, true, false, Some, Option, List, [], ◌∷◌, length, refl, sym, subst, ap, ap₂, ◌∙◌, arith, le_trans, inl}
+use Rattle.std.specs.Prelude.{min, slice_get, slice_set}
+use Rattle.std.proofs.Common.{◌≡◌, ℕ, ◌^◌, ◌+◌, ◌-◌, ◌*◌, ◌/◌, ◌<◌, ◌≤◌, ◌==◌, ◌||◌, if◌then◌else◌, Bool, true, false, Some, Option, List, [], ◌∷◌, length, refl, sym, subst, ap, ap₂, ◌∙◌, arith, le_trans, inl}
 use Rattle.std.specs.List.{Contains}
 use Rattle.std.specs.Option.{option_map}
 use Rattle.std.specs.FinMap as fin
 use Rattle.std.proofs.Math.Nat.{mul-div_cancel}
+use Rattle.pblk_model.specs.Shape.{units}
 use Rattle.pblk_model.specs.Image.{Image}
 use Rattle.pblk_meta.specs.Records.{start_numbers}
 use Rattle.pblk_world.specs.Answering.{MayLand}
@@ -48,7 +50,9 @@ use Rattle.core_laws.proofs.MadeLists.{mapped_agree as same_in_range}
 use Rattle.pblk_core.specs.Entries.{noted_lines}
 use Rattle.pblk_core.specs.Landing.{all_landed, one_landed as entry_landed}
 use Rattle.pblk_core.specs.Readable.{ReadBlock, all_moved, all_readable, reads_of}
-use Rattle.pblk_core.specs.Stands.{Stands, AreHolds, AreOpenLines, under_way, unlanded}
+use Rattle.pblk_core.specs.Stands.{Stands, AreHolds, AreOpenLines, answer_count, answer_counts, under_way, unlanded}
+use Rattle.pblk_core.proofs.AnswerCounts.{count_at, counts_landed}
+use Rattle.pblk_core.proofs.FullOpenings.{full_kept}
 use Rattle.pblk_core.specs.declared.target_core.Core.{Core}
 use Rattle.pblk_core.specs.declared.hold.Hold.{Hold}
 use Rattle.pblk_core.specs.declared.hold.Holds.{Holds}
@@ -157,7 +161,8 @@ holds_now i w unit event knows of kept simple is are = record {
 
 -- ---- the core
 
--- what a core's fields are once a program has landed: of its line's slot, and of the blocks that can be read from one to before another
+-- what a core's fields are once a program has landed: of its line's slot, and of the blocks that
+-- can be read from one to before another
 pub record IsLandedInto (old new : Core) (of : Program) (k : ℕ) (slot : OpenLine) (mid : OpenLines) (full : Bool) (from to : ℕ) : Type 0 where
   pub layout : new.layout ≡ old.layout
   pub map : new.map ≡ all_moved old.layout.capacity slot.records.line old.map (reads_of slot of.unit from to)
@@ -178,6 +183,7 @@ pub record IsLandedInto (old new : Core) (of : Program) (k : ℕ) (slot : OpenLi
   pub placed : new.placed ≡ old.placed
   pub addresses : new.left ≡ old.left
   pub under_way : new.under_way ≡ old.under_way - 1
+  pub answers : (n : ℕ) → slice_get old.answers.items of.unit ≡ Some n → new.answers.items ≡ slice_set old.answers.items of.unit (min (n + 1) (2 ^ 64 - 1))
   pub users : new.users ≡ old.users
 
 -- what the two calls make of the window and the map
@@ -245,6 +251,8 @@ landed_stands i w unit event knows old new of mid full from to simple st is wait
   placed = ap₂ (λ a b. a + b) into.first into.placed ∙ st.placed ∙ sym (front_kept i.shape (log_of w 0) (Landed unit event) knows refl);
   left = into.addresses ∙ st.left ∙ sym (addresses_kept i (log_of w) (Landed unit event) knows refl);
   in_flight = flight;
+  answers = counts;
+  full = full_kept i (log_of w) (Landed unit event) knows refl st.full;
   users = into.users ∙ st.users ∙ ap length (sym (users_landed (log_of w) unit event knows));
 }
   where
@@ -278,6 +286,17 @@ landed_stands i w unit event knows old new of mid full from to simple st is wait
     open_is false e = subst (AreOpenLines i (after (log_of w) (Landed unit event) knows)) (sym (into.stay e))
         (lines_stay i w unit event knows old.placer.entries.pad st.again of old.open mid simple is waits st.open_lines has into.in_slot
         (number_less (landed_count (log_of w 0) is.row.opening + 1) (stripe_count i (now_units i w) is.row.opening.line) few (full_is ∙ e)))
+
+    counts : new.answers.items ≡ answer_counts i.shape (new_logs 0)
+    counts =
+        let own : of.unit ≡ unit = unit_is i w unit of is in
+        let inside : of.unit < units i.shape = subst (λ u. u < units i.shape) (sym own) is.row.inside in
+        let there : slice_get old.answers.items of.unit ≡ Some (answer_count (log_of w 0) of.unit) =
+        ap (λ ns. slice_get ns of.unit) st.answers ∙ count_at i.shape (log_of w 0) of.unit inside in
+        into.answers (answer_count (log_of w 0) of.unit) there
+        ∙ ap (λ ns. slice_set ns of.unit (min (answer_count (log_of w 0) of.unit + 1) (2 ^ 64 - 1))) st.answers
+        ∙ counts_landed i.shape (log_of w) of.unit event knows inside
+        ∙ ap (λ u. answer_counts i.shape (after (log_of w) (Landed u event) knows 0)) own
 
     flight : new.under_way ≡ under_way i.shape (new_logs 0)
     flight =

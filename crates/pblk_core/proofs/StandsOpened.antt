@@ -45,7 +45,7 @@ use Rattle.core_laws.proofs.KeptRows.{begun_kept, known_kept}
 use Rattle.core_laws.proofs.OpenAddresses.{addresses_opened}
 use Rattle.core_laws.proofs.OpenedRows.{rows_opened}
 use Rattle.core_laws.proofs.PlacedFront.{front_kept}
-use Rattle.core_laws.proofs.PlainLogs.{none_freed}
+use Rattle.core_laws.proofs.FreedMoments.{freed_before}
 use Rattle.core_laws.proofs.ChangedTables.{changed_is}
 use Rattle.core_laws.proofs.EntryHolds.{later_same, line_same}
 use Rattle.core_laws.proofs.LeftLines.{left_before, left_more}
@@ -60,6 +60,8 @@ use Rattle.pblk_core.specs.Named.{next_line, next_units, next_start}
 use Rattle.std.proofs.lemmas.Bool.Decides.{eqb_tells}
 use Rattle.pblk_core.proofs.OpeningFacts.{MayOpenNext, IsNextLine, next_line_is, next_may_open}
 use Rattle.core_laws.proofs.Steady.{lost_same}
+use Rattle.pblk_core.proofs.AnswerCounts.{counts_same}
+use Rattle.pblk_core.proofs.FullOpenings.{full_opened}
 use Rattle.pblk_core.proofs.SteadyLines.{open_same, under_way_same}
 use Rattle.pblk_core.proofs.FoundLines.{HasOldRow, free_unstarted, older_kept}
 use Rattle.pblk_core.proofs.KeptResets.{resets_opened, fits_same}
@@ -149,6 +151,7 @@ pub record IsOpenedInto (old new : Core) : Type 0 where
   pub placed : new.placed ≡ old.placed
   pub left : new.left ≡ old.left + data_len old.layout (next_start old).width
   pub under_way : new.under_way ≡ old.under_way
+  pub answers : new.answers.items ≡ old.answers.items
   pub users : new.users ≡ old.users
 
 -- the line of a place is the one that was set there, or stands there as it did
@@ -286,6 +289,8 @@ opened_stands i w knows old new simple st may is = record {
   left = is.left ∙ ap₂ (λ a (s : Shape). a + data_len s (next_start old).width) st.left st.layout
       ∙ sym (addresses_opened i (log_of w) (next_line old) (next_start old) knows line_is.least.in_range line_is.closed);
   in_flight = is.under_way ∙ st.in_flight ∙ under_way_same i.shape (log_of w 0) (new_logs 0) alike;
+  answers = is.answers ∙ st.answers ∙ counts_same i.shape (log_of w 0) (new_logs 0) alike;
+  full = full_opened i (log_of w) (next_line old) (next_start old) knows (sym st.left ∙ may.left) st.full;
   users = is.users ∙ st.users ∙ ap (λ ts. length (filter (λ (t : Taken). is_users t.entry.source) ts)) (sym (takes_same (log_of w 0) e knows quiet));
 }
   where
@@ -326,7 +331,7 @@ opened_stands i w knows old new simple st may is = record {
         changed_is old.lines new.lines (next_line old) (turned states.Open (next_start old).width) (row_of_line i (log_of w) (0 + next_line old)) there is.lines
         ∙ ap (with_row (next_line old) (turned states.Open (next_start old).width)) st.table
         ∙ sym (rows_opened i (log_of w) st.beginning (next_line old) (next_start old) knows simple.mount.accepted.drive
-        (none_freed (log_of w 0) (engine_plain i w simple)) allowed)
+        (freed_before i w simple.mount.legal) allowed)
 
     placing_is : new.placer ≡ placing_of i new_logs new.placer.entries.pad st.again
     placing_is =

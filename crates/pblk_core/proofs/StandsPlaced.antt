@@ -60,6 +60,8 @@ use Rattle.pblk_core.specs.declared.target_core.Core.{Core}
 use Rattle.pblk_core.specs.declared.open_lines.OpenLine.{OpenLine as KeptLine}
 use Rattle.core_laws.proofs.SimpleMounts.{simple_after}
 use Rattle.pblk_core.proofs.PlacedEntries.{rows_length, row_placed_is, lines_placed_are}
+use Rattle.pblk_core.proofs.AnswerCounts.{counts_placed}
+use Rattle.pblk_core.proofs.FullOpenings.{full_kept}
 use Rattle.pblk_core.proofs.PlacedMarks.{line_blocks, marks_before, marks_more, marks_beyond, marks_elsewhere, unlanded_placed, one_more_under_way}
 use Rattle.pblk_core.proofs.PlacedStripe.{IsOfferedNow, IsInPart, IsOfKind, of_kind, HasSlot}
 use Rattle.pblk_core.proofs.SteadyLines.{units_same}
@@ -105,6 +107,7 @@ pub record IsPlacedInto (old new : Core) (k : ℕ) (slot : KeptLine) (of : Progr
   pub placed : new.placed ≡ old.placed + length of.positions
   pub left : new.left + entries_for of.kind old.layout.ws_opt ≡ old.left
   pub under_way : new.under_way ≡ old.under_way + 1
+  pub answers : new.answers.items ≡ old.answers.items
   pub users : new.users ≡ old.users
 
 -- ---- entries
@@ -429,6 +432,8 @@ placed_stands i w knows old new o of stripe simple st has now for count is = rec
   placed = placed_is;
   left = left_is;
   in_flight = is.under_way ∙ ap (λ n. n + 1) st.in_flight ∙ sym (one_more_under_way i.shape (log_of w 0) stripe knows o here.placing here.its.in_range);
+  answers = is.answers ∙ st.answers ∙ counts_placed i.shape (log_of w 0) stripe knows;
+  full = full_kept i (log_of w) (Place stripe) knows refl st.full;
   users = is.users ∙ st.users ∙ ap (λ ts. length (filter (λ (t : Taken). is_users t.entry.source) ts)) (sym takes_are);
 }
   where

@@ -50,6 +50,8 @@ use Rattle.pblk_core.proofs.ResetChunks.{IsNoted, noted}
 use Rattle.pblk_core.proofs.ResetUnits.{units_left, others_left, resets_less, units_kept}
 use Rattle.pblk_core.proofs.ResetRows.{table_stays, table_turns}
 use Rattle.pblk_core.proofs.StandsOpened.{quiet_holds, quiet_freed, takes_same}
+use Rattle.pblk_core.proofs.AnswerCounts.{counts_same}
+use Rattle.pblk_core.proofs.FullOpenings.{full_kept}
 use Rattle.pblk_core.proofs.SteadyLines.{open_lines_same, under_way_same}
 use Rattle.lemmas.proofs.Maps.{map_same}
 
@@ -71,6 +73,7 @@ pub record IsResetInto (old new : Core) (line unit : ℕ) (state : ChunkState) :
   pub placed : new.placed ≡ old.placed
   pub left : new.left ≡ old.left
   pub under_way : new.under_way ≡ old.under_way
+  pub answers : new.answers.items ≡ old.answers.items
   pub users : new.users ≡ old.users
 
 pub named_in : (i : Image) (logs : Logs) (c : Core) (line unit : ℕ) → Stands i logs c → named c ≡ Reset line unit → IsNamedReset i logs line unit
@@ -110,6 +113,8 @@ reset_stands i w line unit event knows state old new simple st names to is = rec
   placed = ap₂ (λ a b. a + b) is.first is.placed ∙ st.placed ∙ sym (front_kept i.shape (log_of w 0) e knows refl);
   left = is.left ∙ st.left ∙ sym (addresses_kept i (log_of w) e knows refl);
   in_flight = is.under_way ∙ st.in_flight ∙ under_way_same i.shape (log_of w 0) (new_logs 0) alike;
+  answers = is.answers ∙ st.answers ∙ counts_same i.shape (log_of w 0) (new_logs 0) alike;
+  full = full_kept i (log_of w) e knows refl st.full;
   users = is.users ∙ st.users ∙ ap (λ ts. length (filter (λ (t : Taken). is_users t.entry.source) ts)) (sym (takes_same (log_of w 0) e knows quiet));
 }
   where

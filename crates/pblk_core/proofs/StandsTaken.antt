@@ -32,6 +32,8 @@ use Rattle.core_laws.proofs.TakenNumbers.{first_stays}
 use Rattle.core_laws.proofs.KeptRows.{begun_kept, known_kept}
 use Rattle.core_laws.proofs.LeastPositions.{least_rises}
 use Rattle.pblk_core.specs.Stands.{Stands, AreOpenLines}
+use Rattle.pblk_core.proofs.AnswerCounts.{counts_same}
+use Rattle.pblk_core.proofs.FullOpenings.{full_kept}
 use Rattle.pblk_core.proofs.SteadyLines.{open_lines_same, under_way_same}
 use Rattle.pblk_world.specs.Starts.{older_rows}
 use Rattle.core_laws.proofs.OpenAddresses.{addresses_kept}
@@ -61,7 +63,7 @@ use Rattle.line_table.specs.Rows.{Table, IsRow}
 use Rattle.core_laws.specs.RowsOf.{row_of_line}
 use Rattle.pblk_world.specs.Victims.{live}
 use Rattle.std.specs.Prelude.{slice_get}
-use Rattle.core_laws.proofs.PlainLogs.{none_freed}
+use Rattle.core_laws.proofs.FreedMoments.{freed_before}
 use Rattle.core_laws.proofs.UsersEntries.{in_order}
 use Rattle.std.proofs.lemmas.Option.{same_Some}
 use Rattle.pblk_core.specs.Taken.{entry_of, mark_of}
@@ -168,6 +170,7 @@ pub record IsTakenInto (old new : Core) (e : FramedEntry) : Type 0 where
   pub placed : new.placed ≡ old.placed
   pub left : new.left ≡ old.left
   pub under_way : new.under_way ≡ old.under_way
+  pub answers : new.answers.items ≡ old.answers.items
   pub users : new.users ≡ old.users + 1
 
 users_more : (log : List Logged) (entry : Entry) (mark : Mark) (knows : List ℕ) → entry.source ≡ None
@@ -266,6 +269,8 @@ taken_stands i w knows old new e simple st is position room class user inside = 
   placed = ap₂ (λ a b. a + b) is.first is.placed ∙ st.placed ∙ sym (front_taken i.shape (log_of w 0) (entry_of e) (mark_of e) knows unplaced);
   left = is.left ∙ st.left ∙ sym (addresses_kept i (log_of w) (Take (entry_of e) (mark_of e)) knows refl);
   in_flight = is.under_way ∙ st.in_flight ∙ under_way_same i.shape (log_of w 0) (new_logs 0) (alike (log_of w 0) (entry_of e) (mark_of e) knows);
+  answers = is.answers ∙ st.answers ∙ counts_same i.shape (log_of w 0) (new_logs 0) (alike (log_of w 0) (entry_of e) (mark_of e) knows);
+  full = full_kept i (log_of w) (Take (entry_of e) (mark_of e)) knows refl st.full;
   users = is.users ∙ ap (λ n. n + 1) st.users
       ∙ sym (users_more (log_of w 0) (entry_of e) (mark_of e) knows
       (ap (option_map (λ (at : EntrySource). record { line = at.line; at = at.at; position = at.position })) user));
@@ -343,7 +348,7 @@ taken_stands i w knows old new e simple st is position room class user inside = 
     table_now : rows_of i new_logs ≡ lose_in (line_of i (log_of w) e.lba (last_take (log_of w 0) e.lba))
         (has_landed_in old.window (slot_of i (log_of w) e.lba)) e.position (rows_of i (log_of w))
     table_now = rows_taken i (log_of w) (entry_of e) (mark_of e) knows (has_landed_in old.window (slot_of i (log_of w) e.lba))
-        (none_freed (log_of w 0) (engine_plain i w simple))
+        (freed_before i w simple.mount.legal)
         (in_order i w (accepted_small i.shape simple.mount.accepted) simple.mount.legal).numbered unplaced taken_is inside
         (landed_is i w old e.lba simple st)
 

@@ -1,10 +1,10 @@
 -- What a step leaves of the rows of the units.
-use Rattle.std.proofs.Common.{◌≡◌, ◌≢◌, ℕ, zero, suc, Bool, true, false, Some, None, List, [], ◌∷◌, replicate, refl, sym, ap, ◌∙◌, if◌then◌else◌}
+use Rattle.std.proofs.Common.{◌≡◌, ◌≢◌, ℕ, zero, suc, Bool, true, false, Some, List, replicate, refl, sym, ap, ◌∙◌, if◌then◌else◌}
 use Rattle.std.specs.Prelude.{slice_get}
 use Rattle.std.specs.Option.{option_map_or}
 use Rattle.pblk_model.specs.Shape.{units}
-use Rattle.stripe_placer.specs.Placing.{Placing, Program, UnitRow, is_stopped, nothing_placed, placed, placed_again, placed_first, with_row}
-use Rattle.stripe_placer.specs.Placing.UnitRow.{Idle, Stopped, UnderWay}
+use Rattle.stripe_placer.specs.Placing.{Placing, Program, UnitRow, is_stopped, placed, placed_again, placed_first, with_row}
+use Rattle.stripe_placer.specs.Placing.UnitRow.{Idle, UnderWay}
 use Rattle.lemmas.proofs.Parts.{get_set_other}
 use Rattle.pblk_core.specs.Landing.{IsResting}
 use Rattle.pblk_core.specs.Made.{IsMadeOn}
@@ -23,7 +23,8 @@ placed_units p of = go (option_map_or is_stopped (slice_get p.units of.unit) fal
     go true = refl
     go false = refl
 
-pub placed_beside : (p : Placing) (of : Program) (unit other : ℕ) → of.unit ≡ unit → other ≢ unit → slice_get (placed p of).units other ≡ slice_get p.units other
+pub placed_beside : (p : Placing) (of : Program) (unit other : ℕ) → of.unit ≡ unit → other ≢ unit
+    → slice_get (placed p of).units other ≡ slice_get p.units other
 placed_beside p of unit other is apart = ap (λ (rows : List UnitRow). slice_get rows other) (placed_units p of)
     ∙ row_beside p of (UnderWay of) unit other is apart
 

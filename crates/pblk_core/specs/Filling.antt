@@ -4,11 +4,14 @@ use Rattle.pblk_model.specs.declared.shape.Shape.{Shape}
 use Rattle.pblk_model.specs.Chunk.{Block}
 use Rattle.pblk_world.specs.Events.{Stripe}
 
--- A stripe, with the shape of its drive. It may have been placed before: then its program was stopped, and is made again.
+-- A stripe, with the shape of its drive. It may have been placed before: then its program was
+-- stopped, and is made again. Its turn is how many stripes of its unit were answered as it was
+-- placed, as far as numbers tell.
 pub record Filling : Type 0 where
   pub shape : Shape
   pub stripe : Stripe
   pub again : Bool
+  pub turn : ℕ
 
 -- a stripe of a line on a unit, from a block of the chunk on, without blocks
 abbrev pub empty_stripe : ℕ → ℕ → ℕ → Stripe
@@ -26,4 +29,5 @@ followed_by f blocks = record {
     blocks = f.stripe.blocks ++ blocks;
   };
   again = f.again;
+  turn = f.turn;
 }

@@ -1,8 +1,9 @@
 -- What a core holds that was made of what recovery found.
-use Rattle.std.specs.Prelude.{ℕ, ◌<◌, ◌≡◌, [], length, map, slice_get, Some}
+use Rattle.std.specs.Prelude.{ℕ, ◌<◌, ◌≡◌, [], length, map, replicate, slice_get, Some}
 use Rattle.std.specs.FinMap as fin
 use Rattle.pblk_model.specs.declared.shape.Shape.{Shape}
 use Rattle.pblk_model.specs.declared.found.Found.{Found}
+use Rattle.pblk_model.specs.Shape.{units}
 use Rattle.pblk_meta.specs.Records.{row_numbers}
 use Rattle.stripe_placer.specs.Placing.{nothing_placed}
 use Rattle.world_laws.specs.MountBeginnings.{seq_after}
@@ -37,6 +38,7 @@ pub record IsMadeOn (s : Shape) (f : Found) (c : Core) : Type 0 where
   pub none_open : c.open.count ≡ 0
   pub left : c.left ≡ 0
   pub in_flight : c.under_way ≡ 0
+  pub none_answered : c.answers.items ≡ replicate (units s) 0
   -- what the next start record says
   pub seq : c.start.seq ≡ seq_after f.lines f.head
   pub first_seq : c.start.first_seq ≡ seq_after f.lines f.head

@@ -1,5 +1,5 @@
 -- A core stands for the logs of a mount: each of its tables holds what the logs say.
-use Rattle.std.specs.Prelude.{ℕ, false, ◌+◌, ◌-◌, ◌*◌, ◌/◌, ◌%◌, ◌^◌, ◌<◌, ◌≤◌, ◌≡◌, List, map, length, slice_get, Some}
+use Rattle.std.specs.Prelude.{ℕ, false, ◌+◌, ◌-◌, ◌*◌, ◌/◌, ◌%◌, ◌^◌, ◌<◌, ◌≤◌, ◌≡◌, List, map, min, length, slice_get, Some}
 use Rattle.std.specs.List.{AllByRecursion, Contains, filter, range_with_len}
 use Rattle.std.specs.Option.{is_some}
 use Rattle.std.specs.FinMap as map
@@ -10,7 +10,7 @@ use Rattle.pblk_model.specs.StartRecord.{Row as OlderLine}
 use Rattle.pblk_meta.specs.Records.{start_numbers}
 use Rattle.pblk_world.specs.Events.{Logged}
 use Rattle.pblk_world.specs.World.{World, Logs, log_of}
-use Rattle.pblk_world.specs.EngineLog.{Begun, begun, Opening, Taken, takes, openings, stripes_of, has_landed}
+use Rattle.pblk_world.specs.EngineLog.{Begun, begun, Opening, Taken, takes, openings, stripes_of, has_landed, answers}
 use Rattle.pblk_world.specs.Fronts.{first_position, user_takes}
 use Rattle.pblk_world.specs.Space.{freed, placed_front, open_addresses}
 use Rattle.pblk_world.specs.Starts.{older_rows}
@@ -21,6 +21,7 @@ use Rattle.core_laws.specs.RowsOf.{rows_of}
 use Rattle.core_laws.specs.SlotOf.{slot_of}
 use Rattle.core_laws.specs.WindowOf.{is_given_back, sectors_in, window_from}
 use Rattle.core_laws.specs.SimpleMounts.{IsSimpleLog}
+use Rattle.core_laws.specs.Spent.{OpensWhenFull}
 use Rattle.world_laws.specs.LegalMounts.{IsLegalMount}
 use Rattle.pblk_core.specs.Holds.{hold_of}
 use Rattle.pblk_core.specs.LineRecords.{AreOf}
@@ -61,8 +62,15 @@ pub record AreOpenLines (i : Image) (logs : Logs) (kept : OpenLines) : Type 0 wh
 abbrev pub under_way : Shape → List Logged → ℕ
 under_way s log = length (filter (λ unit. is_some (unanswered_on log unit)) (range_with_len 0 (units s)))
 
--- The numbers that the mount began with fit a drive: its first position, and the rows of older lines, which are older than
--- the mount and end before it.
+-- how many stripes of each unit were answered, or 2^64 - 1 where that is less
+abbrev pub answer_count : List Logged → ℕ → ℕ
+answer_count log unit = min (length (answers log unit)) (2 ^ 64 - 1)
+
+abbrev pub answer_counts : Shape → List Logged → List ℕ
+answer_counts s log = map (answer_count log) (range_with_len 0 (units s))
+
+-- The numbers that the mount began with fit a drive: its first position, and the rows of older
+-- lines, which are older than the mount and end before it.
 abbrev pub IsOlder : ℕ → ℕ → OlderLine → Type 0
 IsOlder seq first row = (1 ≤ row.seq) × (row.seq < seq) × (row.bound ≤ first)
 
@@ -88,10 +96,13 @@ pub record Stands (i : Image) (logs : Logs) (c : Core) : Type 0 where
   pub from_first : first_position (logs 0) ≤ c.window.freed
   pub to_freed : c.window.freed ≤ freed i.shape (logs 0)
   pub holds : AreHolds i.shape (logs 0) c.holds
-  -- the placer, where the stopped stripes of these units are under way again, and the records of the open lines
+  -- the placer, where the stopped stripes of these units are under way again, and the records of
+  -- the open lines
   pub again : List ℕ
   pub placing : c.placer ≡ placing_of i logs c.placer.entries.pad again
   pub open_lines : AreOpenLines i logs c.open
+  -- and each line was opened where no line that was open then had a data address left
+  pub full : OpensWhenFull i logs
   -- what the next start record says
   pub next_seq : c.start.seq ≡ beginning.beginning.seq + length (openings (logs 0))
   pub first_seq : c.start.first_seq ≡ beginning.beginning.seq
@@ -103,6 +114,7 @@ pub record Stands (i : Image) (logs : Logs) (c : Core) : Type 0 where
   pub placed : c.first + c.placed ≡ placed_front i.shape (logs 0)
   pub left : c.left ≡ open_addresses i logs
   pub in_flight : c.under_way ≡ under_way i.shape (logs 0)
+  pub answers : c.answers.items ≡ answer_counts i.shape (logs 0)
   pub users : c.users ≡ length (user_takes (logs 0))
 
 -- It stands for the logs of some legal mount.

@@ -16,6 +16,7 @@ filling a = record {
     blocks = blocks_of a.shape.sector a.bytes.items a.marks.items;
   };
   again = a.again;
+  turn = a.turn;
 }
 
 pub record IsFilling (a : Inside) : Type 0 where

@@ -19,5 +19,8 @@ mod work;
 
 pub use records::{LineRecords, records_are_an_openings};
 pub use stripe::Stripe;
-pub use target_core::{Core, a_line_is_empty_once_it_was_reset, a_world_of_no_events_is_legal};
+pub use target_core::{
+    Core, a_line_is_empty_once_it_was_reset,
+    a_stripe_waits_while_its_turn_is_the_number_of_answers, a_world_of_no_events_is_legal,
+};
 pub use work::{Why, Work};

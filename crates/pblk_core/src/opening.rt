@@ -1,6 +1,6 @@
 //! What the tables of a core are made of when a target opens: what recovery found.
 
-ghost use Rattle.std.specs.Prelude.{ℕ, ◌≡◌, ◌*◌, ◌<◌, ◌^◌, if◌then◌else◌, List, length, map, slice_get, Some, IfOk};
+ghost use Rattle.std.specs.Prelude.{ℕ, ◌≡◌, ◌*◌, ◌<◌, ◌^◌, if◌then◌else◌, List, length, map, replicate, slice_get, Some, IfOk};
 ghost use Rattle.std.specs.FinMap as fin;
 ghost use Rattle.pblk_model.specs.declared.found.LineRow.{LineRow};
 ghost use Rattle.pblk_model.specs.declared.found.Winner.{Winner};
@@ -36,8 +36,8 @@ pub(crate) fn all_online_units(
     Ok(online)
 }
 
-/// The map of a drive on which these are the winning records: each sector is where its record is. They are of
-/// different sectors below the capacity. Fails only where there isn't the memory.
+/// The map of a drive on which these are the winning records: each sector is where its record is.
+/// They are of different sectors below the capacity. Fails only where there isn't the memory.
 pub(crate) fn found_map(alloc: Global, capacity: u64, winners: &[Winner]) -> Result<Map, AllocError>
     requires inside { (k : ℕ) (w : Winner) → slice_get winners.now k ≡ Some w → w.lba < capacity }
     requires rise { (j k : ℕ) (v w : Winner) → j < k → slice_get winners.now j ≡ Some v
@@ -61,6 +61,15 @@ pub(crate) fn found_map(alloc: Global, capacity: u64, winners: &[Winner]) -> Res
     Ok(map)
 }
 
+/// No stripe of any unit was answered. Fails only where there isn't the memory.
+pub(crate) fn no_answers(alloc: Global, units: u32) -> Result<Vec<u64>, AllocError>
+    ensures { IfOk result (λ counts. counts.items ≡ replicate units 0) }
+{
+    let mut counts = Vec::with_capacity(alloc, units as usize)?;
+    counts.resize(units as usize, 0)?;
+    Ok(counts)
+}
+
 /// The sequence number that follows that of the head, and 1 where there is no head.
 pub(crate) fn next_seq(lines: &[LineRow], head: Option<u32>) -> u64
     requires inside { (line : ℕ) → head ≡ Some line → line < length lines.now }
@@ -77,8 +86,8 @@ pub(crate) fn next_seq(lines: &[LineRow], head: Option<u32>) -> u64
     }
 }
 
-/// The rows of the lines with a sequence number: a line of the head's mount ends at the end, and another at its
-/// bound. Fails only where there isn't the memory.
+/// The rows of the lines with a sequence number: a line of the head's mount ends at the end, and
+/// another at its bound. Fails only where there isn't the memory.
 pub(crate) fn older_rows(alloc: Global, lines: &[LineRow], end: u64) -> Result<Rows, AllocError>
     requires { length lines.now < 2 ^ 32 }
     ensures { IfOk result (λ rows. map row_numbers rows ≡ older_found end lines.now) }

@@ -10,13 +10,15 @@ use pblk_model::{Mark, Shape};
 use std::alloc::{AllocError, Global};
 use std::marker::Model;
 
-/// A stripe: up to WS_OPT consecutive blocks of one chunk, which go to its unit in one program (Open-Channel
-/// SSD Specification 2.0, Vector write; Bjørling, González, Bonnet, FAST 2017, write buffering).
+/// A stripe: up to WS_OPT consecutive blocks of one chunk, which go to its unit in one program
+/// (Open-Channel SSD Specification 2.0, Vector write; Bjørling, González, Bonnet, FAST 2017, write
+/// buffering).
 ///
-/// All its memory is taken when it is made, and it is filled again for each program. A stripe of a line lies
-/// in the chunk of the line's number. It tells whether it was placed before: a stripe whose program was stopped
-/// keeps its place and is programmed again (this project's rule "Stopped stripe" in docs/TARGET.md). Contracts
-/// see the drive's shape, the stripe, and whether it was placed before.
+/// All its memory is taken when it is made, and it is filled again for each program. A stripe of a
+/// line lies in the chunk of the line's number. It tells whether it was placed before: a stripe
+/// whose program was stopped keeps its place and is programmed again (this project's rule "Stopped
+/// stripe" in docs/TARGET.md). Contracts see the drive's shape, the stripe, and whether it was
+/// placed before.
 #[derive(Debug, Drop)]
 pub struct Stripe {
     shape: Shape,
@@ -25,6 +27,8 @@ pub struct Stripe {
     at: u32,
     // whether it was placed before, and its program was stopped
     again: bool,
+    // how many stripes of its unit were answered as it was placed
+    turn: u64,
     bytes: Vec<u8>,
     marks: Vec<Mark>,
 }
@@ -48,7 +52,7 @@ impl Stripe {
     pub fn new(alloc: Global, shape: &Shape) -> Result<Stripe, AllocError>
         requires { IsAccepted shape.now }
         ensures { IfOk result (λ s. s
-            ≡ record { shape = shape.now; stripe = empty_stripe 0 0 0; again = false }) }
+            ≡ record { shape = shape.now; stripe = empty_stripe 0 0 0; again = false; turn = 0 }) }
     {
         let blocks = shape.ws_opt as usize;
         let bytes = Vec::with_capacity(alloc, blocks * shape.sector as usize)?;
@@ -59,21 +63,28 @@ impl Stripe {
             unit: 0,
             at: 0,
             again: false,
+            turn: 0,
             bytes,
             marks,
         })
     }
 
-    /// Begins a stripe of a line on a unit, from the block `at` of the line's chunk on. It has no blocks yet.
-    /// `again` says whether it was placed before.
-    pub fn begin(&mut self, line: u32, unit: u32, at: u32, again: bool)
-        ensures { let stripe = empty_stripe line unit at
-            in self.new ≡ record { shape = self.old.shape; stripe = stripe; again = again } }
+    /// Begins a stripe of a line on a unit, from the block `at` of the line's chunk on. It has no
+    /// blocks yet. `again` says whether it was placed before, and `turn` how many stripes of the
+    /// unit were answered.
+    pub fn begin(&mut self, line: u32, unit: u32, at: u32, again: bool, turn: u64)
+        ensures { let stripe = empty_stripe line unit at in self.new ≡ record {
+          shape = self.old.shape;
+          stripe = stripe;
+          again = again;
+          turn = turn;
+        } }
     {
         self.line = line;
         self.unit = unit;
         self.at = at;
         self.again = again;
+        self.turn = turn;
         self.bytes.clear();
         self.marks.clear();
     }
@@ -88,8 +99,8 @@ impl Stripe {
         self.append_run(mark, 1, sector);
     }
 
-    /// Adds `count` blocks of one mark at the end. The stripe has room for them, and `bytes` has their
-    /// sectors one after another.
+    /// Adds `count` blocks of one mark at the end. The stripe has room for them, and `bytes` has
+    /// their sectors one after another.
     pub fn append_run(&mut self, mark: Mark, count: u32, bytes: &[u8])
         requires room { length self.old.stripe.blocks + count ≤ self.old.shape.ws_opt }
         requires size { length bytes.now ≡ count * self.old.shape.sector }
@@ -134,12 +145,20 @@ impl Stripe {
         self.at
     }
 
-    /// Whether it was placed before, and its program was stopped. Then no second `Place` of it comes into the
-    /// engine's log.
+    /// Whether it was placed before, and its program was stopped. Then no second `Place` of it
+    /// comes into the engine's log.
     pub fn is_again(&self) -> bool
         ensures { result ≡ self.now.again }
     {
         self.again
+    }
+
+    /// How many stripes were placed on its unit before it, or 2^64 - 1 where that is less: all of
+    /// them were answered. As long as just so many of the unit's stripes are answered, it isn't.
+    pub fn turn(&self) -> u64
+        ensures { result ≡ self.now.turn }
+    {
+        self.turn
     }
 
     /// The blocks as a program takes them: their sectors one after another, and their marks.

@@ -1,6 +1,6 @@
 //! Stripes that a core places, stripes that have landed, and those whose programs were stopped.
 
-ghost use Rattle.std.specs.Prelude.{ℕ, true, false, ◌≡◌, ◌+◌, ◌-◌, ◌≤◌, ◌==◌, if◌then◌else◌, List, length, Some, slice_get};
+ghost use Rattle.std.specs.Prelude.{ℕ, true, false, ◌≡◌, ◌^◌, ◌<◌, ◌+◌, ◌-◌, ◌≤◌, ◌==◌, if◌then◌else◌, List, length, min, Some, slice_get, slice_set};
 ghost use Rattle.pblk_model.specs.Frames.{Region};
 ghost use Rattle.pblk_model.specs.Image.{Image};
 ghost use Rattle.pblk_world.specs.Answering.{MayLand, MayOfferAgain};
@@ -15,7 +15,7 @@ ghost use Rattle.stripe_placer.specs.Placing.UnitRow.{Idle, Stopped};
 ghost use Rattle.pblk_core.specs.Landing.{AreKeptBeside, IsIdleOn, IsOfferedOn, IsUnderWayOn, WasStopped, all_landed};
 ghost use Rattle.pblk_core.specs.Named.{named, pad_of};
 ghost use Rattle.pblk_core.specs.Mounts.{InItsMount, StandsAfter};
-ghost use Rattle.pblk_core.specs.Stands.{Stands, IsStanding};
+ghost use Rattle.pblk_core.specs.Stands.{Stands, IsStanding, answer_count};
 ghost use Rattle.pblk_core.specs.declared.work.Work.TheVariants as works;
 
 use crate::filling::{fill, note_takers, settle_holds, settle_lines};
@@ -28,12 +28,12 @@ use stripe_placer::{Placement, StripeKind};
 use write_window::Window;
 
 impl Core {
-    /// Places the next stripe, and fills `into` with it. `next_work` names it, and `into` is a stripe of the
-    /// same drive.
+    /// Places the next stripe, and fills `into` with it. `next_work` names it, and `into` is a
+    /// stripe of the same drive.
     ///
-    /// A stripe whose program was stopped comes before all others. It keeps its place: `into` is then the stripe
-    /// as it was placed, and says that it was placed before (this project's rule "Stopped stripe" in
-    /// docs/TARGET.md).
+    /// A stripe whose program was stopped comes before all others. It keeps its place: `into` is
+    /// then the stripe as it was placed, and says that it was placed before (this project's rule
+    /// "Stopped stripe" in docs/TARGET.md).
     pub fn place(&mut self, into: &mut Stripe)
         requires standing { IsStanding self.old }
         requires named { named self.old ≡ works.Program }
@@ -49,6 +49,8 @@ impl Core {
         ensures under_way { IsUnderWayOn self.new into.new.stripe.unit }
         ensures rows { AreKeptBeside into.new.stripe.unit self.old self.new }
         ensures shape { into.new.shape ≡ into.old.shape }
+        ensures turn { InItsMount self.old (λ i w.
+            into.new.turn ≡ answer_count (log_of w 0) into.new.stripe.unit) }
     {
         let of = match self.placer.next_stripe(0) {
             Some(of) => of,
@@ -75,9 +77,12 @@ impl Core {
         ensures under_way { IsUnderWayOn self.new into.new.stripe.unit }
         ensures rows { AreKeptBeside into.new.stripe.unit self.old self.new }
         ensures shape { into.new.shape ≡ into.old.shape }
+        ensures turn { InItsMount self.old (λ i w.
+            into.new.turn ≡ answer_count (log_of w 0) into.new.stripe.unit) }
     {
         self.placer.placed(of);
-        into.begin(of.line, of.unit, of.block, false);
+        let turn = self.answers[of.unit as usize];
+        into.begin(of.line, of.unit, of.block, false, turn);
         let index = self.open.find(of.line);
         match of.kind {
             StripeKind::Start => self.open.start_stripe(index, of.at, into),
@@ -98,8 +103,8 @@ impl Core {
         self.under_way += 1;
     }
 
-    // Fills `into` with the stripe of a unit whose program was stopped, and has that program under way again.
-    // The placer offers it.
+    // Fills `into` with the stripe of a unit whose program was stopped, and has that program under
+    // way again. The placer offers it.
     fn place_again(&mut self, of: &Placement, into: &mut Stripe)
         requires standing { IsStanding self.old }
         requires next { Some (program self.old.placer of.now) ≡ next_stripe self.old.placer 0 }
@@ -114,8 +119,11 @@ impl Core {
         ensures under_way { IsUnderWayOn self.new into.new.stripe.unit }
         ensures rows { AreKeptBeside into.new.stripe.unit self.old self.new }
         ensures shape { into.new.shape ≡ into.old.shape }
+        ensures turn { InItsMount self.old (λ i w.
+            into.new.turn ≡ answer_count (log_of w 0) into.new.stripe.unit) }
     {
-        into.begin(of.line, of.unit, of.block, true);
+        let turn = self.answers[of.unit as usize];
+        into.begin(of.line, of.unit, of.block, true, turn);
         let index = self.open.find(of.line);
         match of.kind {
             StripeKind::Start => self.open.start_stripe(index, of.at, into),
@@ -130,7 +138,8 @@ impl Core {
         self.placer.placed(of);
     }
 
-    /// Notes that all blocks of a placed stripe have landed. The stripe hasn't been answered before.
+    /// Notes that all blocks of a placed stripe have landed. The stripe hasn't been answered
+    /// before.
     pub fn landed(&mut self, stripe: &Stripe)
         requires standing { IsStanding self.old }
         requires under_way { IsUnderWayOn self.old stripe.now.stripe.unit }
@@ -166,6 +175,7 @@ impl Core {
         );
         self.placer.landed(&of);
         self.under_way -= 1;
+        add_answer(&mut self.answers, unit);
         if self.open.land(index) == 0 {
             let width = self.layout.width(self.open.get(index).live);
             self.lines.turn(of.line, LineState::Full, width);
@@ -173,8 +183,9 @@ impl Core {
         }
     }
 
-    /// Notes that the program of a placed stripe was stopped. The stripe hasn't been answered before. It stays
-    /// placed, and is offered again before all others (this project's rule "Stopped stripe" in docs/TARGET.md).
+    /// Notes that the program of a placed stripe was stopped. The stripe hasn't been answered
+    /// before. It stays placed, and is offered again before all others (this project's rule
+    /// "Stopped stripe" in docs/TARGET.md).
     pub fn stopped(&mut self, stripe: &Stripe)
         requires standing { IsStanding self.old }
         requires under_way { IsUnderWayOn self.old stripe.now.stripe.unit }
@@ -195,6 +206,16 @@ impl Core {
     }
 }
 
+// One more stripe of a unit was answered.
+fn add_answer(answers: &mut Vec<u64>, unit: u32)
+    requires inside { unit < length answers.old.items }
+    ensures { (n : ℕ) → slice_get answers.old.items unit ≡ Some n
+        → answers.new.items ≡ slice_set answers.old.items unit (min (n + 1) (2 ^ 64 - 1)) }
+{
+    let count = &mut answers[unit as usize];
+    *count = count.saturating_add(1);
+}
+
 // Notes in the window that the entries of these positions have landed.
 fn land_entries(window: &mut Window, positions: &[u64])
     requires { (k q : ℕ) → slice_get positions.now k ≡ Some q → view.IsHeld window.old q }
@@ -205,8 +226,8 @@ fn land_entries(window: &mut Window, positions: &[u64])
     }
 }
 
-// The blocks of a chunk that can be read once the stripe that begins at block `at` has landed, and couldn't be
-// read before. They go from the first result to before the second.
+// The blocks of a chunk that can be read once the stripe that begins at block `at` has landed, and
+// couldn't be read before. They go from the first result to before the second.
 fn readable_range(shape: &Shape, at: u32) -> (u32, u32)
     requires inside { at + shape.now.ws_opt ≤ shape.now.clba }
     ensures from { result.0 ≡ at - shape.now.mw_cunits }

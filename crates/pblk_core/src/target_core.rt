@@ -6,6 +6,7 @@ ghost use Rattle.pblk_model.specs.Accepted.{IsAccepted};
 ghost use Rattle.pblk_model.specs.Found.{IsFitFound};
 ghost use Rattle.pblk_model.specs.Image.{Image, IsFit};
 ghost use Rattle.pblk_model.specs.Shape.{units};
+ghost use Rattle.pblk_world.specs.EngineLog.{Placed, answers, is_answered, placements, turn};
 ghost use Rattle.pblk_world.specs.Events.{Begin};
 ghost use Rattle.pblk_world.specs.World.{World, Logs, log_of};
 ghost use Rattle.pblk_world.specs.Lines.{found_image, known_image, is_given_up, are_empty};
@@ -25,11 +26,11 @@ ghost use Rattle.core_laws.specs.WindowOf.{users_below};
 ghost use Rattle.pblk_core.specs.Made.{IsMadeOn};
 ghost use Rattle.pblk_core.specs.Landing.{IsResting};
 ghost use Rattle.pblk_core.specs.Mounts.{InItsMount};
-ghost use Rattle.pblk_core.specs.Stands.{Stands};
+ghost use Rattle.pblk_core.specs.Stands.{Stands, IsStanding, answer_count};
 
 use crate::hold::Holds;
 use crate::open_lines::OpenLines;
-use crate::opening::{all_online_units, found_map, next_seq, older_rows};
+use crate::opening::{all_online_units, found_map, next_seq, no_answers, older_rows};
 use crate::resets::Resets;
 use l2p_map::{Map, Slot};
 use line_table::Lines;
@@ -41,8 +42,8 @@ use std::alloc::{AllocError, Global};
 use stripe_placer::Placer;
 use write_window::Window;
 
-/// The tables of a target, and the steps that it makes over them (Bjørling, González, Bonnet, FAST 2017, write
-/// buffering and mapping; the rules of lines, placing and space are this project's).
+/// The tables of a target, and the steps that it makes over them (Bjørling, González, Bonnet, FAST
+/// 2017, write buffering and mapping; the rules of lines, placing and space are this project's).
 ///
 /// All memory is taken when it is made. Contracts say what its tables hold by the logs of a mount.
 pub struct Core {
@@ -69,13 +70,15 @@ pub struct Core {
     pub(crate) under_way: u32,
     // how many users' writes were taken
     pub(crate) users: u64,
+    // how many stripes of each unit were answered, or 2^64 - 1 where that is less
+    pub(crate) answers: Vec<u64>,
 }
 
 impl Core {
-    /// The core of a target that opens on a drive of an accepted shape, of which recovery found this (Bjørling,
-    /// González, Bonnet, FAST 2017, recovery): it begins at the end that was found. The findings fit the shape,
-    /// as those of any image of it do. The pad target is 0. Fails only where there isn't the memory, of which
-    /// it takes all that the core uses.
+    /// The core of a target that opens on a drive of an accepted shape, of which recovery found
+    /// this (Bjørling, González, Bonnet, FAST 2017, recovery): it begins at the end that was found.
+    /// The findings fit the shape, as those of any image of it do. The pad target is 0. Fails only
+    /// where there isn't the memory, of which it takes all that the core uses.
     pub fn new(alloc: Global, shape: &Shape, found: Found) -> Result<Core, AllocError>
         requires accepted { IsAccepted shape.now }
         requires fit { IsFitFound shape.now found }
@@ -104,6 +107,7 @@ impl Core {
         let open = OpenLines::new(alloc, &layout)?;
         let live = all_online_units(alloc, &layout, found)?;
         let resets = Resets::new(alloc, shape, states, found.strays.as_slice())?;
+        let answers = no_answers(alloc, shape.units())?;
         let seq = next_seq(found.lines.as_slice(), found.head);
         let start = StartRecord {
             line: 0,
@@ -130,11 +134,12 @@ impl Core {
             left: 0,
             under_way: 0,
             users: 0,
+            answers,
         })
     }
 
-    /// Raises the pad target: entries that are fewer than a stripe holds are placed with Pad blocks where one
-    /// of them lies below it. It never falls.
+    /// Raises the pad target: entries that are fewer than a stripe holds are placed with Pad blocks
+    /// where one of them lies below it. It never falls.
     pub fn ask_pad(&mut self, to: u64)
         ensures stands { (i : Image) (logs : Logs)
             → Stands i logs self.old → Stands i logs self.new }
@@ -172,6 +177,16 @@ impl Core {
         self.window.synced()
     }
 
+    /// How many stripes of a unit of the drive were answered, or 2^64 - 1 where that is less. A
+    /// stripe whose turn it is isn't answered.
+    pub fn answers(&self, unit: u32) -> u64
+        requires standing { IsStanding self.now }
+        requires inside { unit < units self.now.layout }
+        ensures { InItsMount self.now (λ i w. result ≡ answer_count (log_of w 0) unit) }
+    {
+        self.answers[unit as usize]
+    }
+
     /// Where the latest content of a sector is. The sector is below the capacity.
     pub fn look(&self, lba: u64) -> Slot
         requires { lba < fin.len self.now.map }
@@ -188,8 +203,8 @@ impl Core {
         self.window.get(position)
     }
 
-    /// The unit and the block of a line address. The line is one of the drive, and the address is below its
-    /// width times CLBA.
+    /// The unit and the block of a line address. The line is one of the drive, and the address is
+    /// below its width times CLBA.
     pub fn address(&self, line: u32, at: u32) -> (u32, u32)
         requires line { line < length self.now.live.items }
         requires live { (live : ℕ) → slice_get self.now.live.items line ≡ Some live
@@ -202,8 +217,8 @@ impl Core {
         self.layout.place(self.live[line as usize].bits(), at)
     }
 
-    /// A frame that the window gives back: that of the position at its front `freed`. None exactly where no
-    /// block of that position can be read.
+    /// A frame that the window gives back: that of the position at its front `freed`. None exactly
+    /// where no block of that position can be read.
     pub fn pop_free(&mut self) -> Option<Frame>
         ensures none { let old = self.old.window
             in IsNone result ↔ (view.is_readable_at old old.freed ≡ false) }
@@ -242,6 +257,7 @@ impl Core {
             left: _,
             under_way: _,
             users: _,
+            answers: _,
         } = self;
         window.close(pool);
     }
@@ -251,6 +267,14 @@ impl Core {
 pub fn a_world_of_no_events_is_legal()
     ensures { (i : Image) (w : World) → IsAccepted i.shape → IsFit i
         → ((author : ℕ) → log_of w author ≡ []) → IsLegalMount i w }
+{}
+
+/// A stripe that was placed isn't answered just as long as its turn is the number of its unit's
+/// answers. Each unit has at most one such stripe.
+pub fn a_stripe_waits_while_its_turn_is_the_number_of_answers()
+    ensures { (i : Image) (w : World) (k : ℕ) (p : Placed) → IsLegalMount i w
+        → slice_get (placements (log_of w 0)) k ≡ Some p → (is_answered (log_of w 0) p ≡ false)
+        ↔ (turn (log_of w 0) p ≡ length (answers (log_of w 0) p.stripe.unit)) }
 {}
 
 /// Where no reset is named, each chunk of a line that was given up is Free or Offline.

@@ -48,7 +48,7 @@ use Rattle.prefix_law.proofs.RecordLines.{IsAt, record_is_at}
 use Rattle.prefix_law.proofs.Reduced.{end_same, contents_same}
 use Rattle.prefix_law.proofs.SectorValues.{AreSectors, contents_are_sectors}
 
-whole : (w : World) → ArePrefixes w (log_of w)
+pub whole : (w : World) → ArePrefixes w (log_of w)
 whole w author = (length (log_of w author), sym (take-length (log_of w author)))
 
 module _ (i : Image) (w : World) (b : Begun) (mount : IsLegalMount i w) (sealed : IsSealed i) (begins : begun (log_of w 0) ≡ Some b) where
@@ -196,7 +196,7 @@ pub without_beginning : (i : Image) (w : World) → IsLegalMount i w → IsSeale
 without_beginning i w mount sealed none =
     early_holds i w (log_of w) mount.accepted mount.fit sealed mount.legal (whole w) (early_before i w mount.legal none)
 
-nothing_logged : (i : Image) (w : World) → IsLegalMount i w → begun (log_of w 0) ≡ None → log_of w 0 ≡ []
+pub nothing_logged : (i : Image) (w : World) → IsLegalMount i w → begun (log_of w 0) ≡ None → log_of w 0 ≡ []
 nothing_logged i w mount none = go (log_of w 0) refl
   where
     go : (log : List Logged) → log_of w 0 ≡ log → log ≡ []

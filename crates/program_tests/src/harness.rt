@@ -27,8 +27,8 @@ use std::alloc::{AllocError, Global};
 use std::sync::Wait;
 use std::test::Fail;
 
-/// Makes the calls of a table's rows, each of which has the usual parts where it lacks its own. Fails with
-/// the first row that doesn't go as told, and names what went otherwise.
+/// Makes the calls of a table's rows, each of which has the usual parts where it lacks its own.
+/// Fails with the first row that doesn't go as told, and names what went otherwise.
 pub(crate) fn check<R: Wait>(rt: &R, alloc: Global, usual: &str, table: &str) -> Result<(), Fail> {
     let mut files = MemoryFiles::new(alloc, &[])?;
     for line in table.split('\n') {
@@ -66,8 +66,8 @@ fn value<'a>(row: &'a str, name: &str, otherwise: &'a str) -> &'a str {
     otherwise
 }
 
-// A number; the greatest, where the text is none.
-fn number(text: &str) -> u64 {
+/// A number; the greatest, where the text is none.
+pub(crate) fn number(text: &str) -> u64 {
     text.parse::<u64>().unwrap_or(u64::MAX)
 }
 
@@ -130,8 +130,8 @@ fn is_text(alloc: Global, bytes: &[u8], text: &str) -> Result<bool, AllocError> 
     Ok(text_of(alloc, text)?.as_bytes() == bytes)
 }
 
-// Calls the program, which gives its status.
-fn call<R: Wait>(
+/// Calls the program, which gives its status.
+pub(crate) fn call<R: Wait>(
     rt: &R,
     alloc: Global,
     line: &str,
@@ -203,7 +203,8 @@ fn add_word(alloc: Global, words: &mut Vec<String>, word: &str) -> Result<(), Al
     Ok(())
 }
 
-fn text_of(alloc: Global, text: &str) -> Result<String, AllocError> {
+/// A text in which `/` ends a line.
+pub(crate) fn text_of(alloc: Global, text: &str) -> Result<String, AllocError> {
     text.replace(alloc, '/', "\n")
 }
 

@@ -22,4 +22,6 @@ mod scripts;
 #[cfg(test)]
 mod show;
 #[cfg(test)]
+mod stops;
+#[cfg(test)]
 mod words;

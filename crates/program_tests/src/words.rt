@@ -44,6 +44,25 @@ call=create|image|--blocks|4294967296
 call=create|image|--capacity|18446744073709551616
 call=create|image|--ring|064
 call=create|image|--mw|-8
+call=run|image|script|--stop|0:0:1
+call=run|image|script|--stop|4294967296:1:1
+call=run|image|--stop|0:4294967296:1|script
+call=run|--stop=0:1:4294967296|image|script
+call=run|image|script|--stop|0:1
+call=run|image|script|--stop|0:1:1:1
+call=run|image|script|--stop=0::1
+call=run|image|script|--stop|0:01:1
+call=run|image|script|--stop|+0:1:1
+call=run|image|script|--stop|
+call=run|image|script|--stop=
+call=run|image|script|--stop
+call=run|image|script|--stop|-1:1:1
+call=run|image|script|--stop|0:1:1|--stop=0:1:1
+call=run|image|--stop|0:1:1
+call=create|image|--stop|0:1:1
+call=geometry|image|--stop=0:1:1
+call=show|image|--stop|0:1:1
+call=report|--stop|0:1:1|image
 ";
 
 #[test]

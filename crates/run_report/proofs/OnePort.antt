@@ -440,7 +440,7 @@ pub no_port : (size : ℕ) (records : Records) (start : List (List ℕ)) (end : 
 no_port size records start end none opened trouble = rw (none, opened) (empty_run size start records.closing trouble (closing_distinct records.closing))
 
 -- an opening that answered an event
-no_more : (script : List (List Command)) → rows_from 0 script [] ≡ []
+pub no_more : (script : List (List Command)) → rows_from 0 script [] ≡ []
 no_more [] = refl
 no_more (commands ∷ script) = refl
 

@@ -15,6 +15,7 @@ pub mod ScanSteps
 pub mod Held
 pub mod MediaLines
 pub mod Wears
+pub mod UnitLogs
 pub mod Losses
 pub mod HandedBack
 pub mod PackedLines

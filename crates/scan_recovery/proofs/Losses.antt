@@ -1,69 +1,79 @@
--- Units that are armed with nothing lose no command.
-use Rattle.std.proofs.Common.{◌≡◌, ℕ, false, Some, List, [], ◌∷◌, ◌++◌, Err, refl, sym, ap, ◌∙◌, subst}
-use Rattle.std.specs.Prelude.{slice_get, slice_set}
+-- Which commands of a padding and of a scan were lost.
+use Rattle.std.proofs.Common.{◌≡◌, ℕ, ◌<◌, ◌||◌, ◌&&◌, true, false, Some, List, [], ◌∷◌, ◌++◌, length, length-append, refl, sym, subst, ap, ◌∙◌, arith}
+use Rattle.std.specs.Prelude.{slice_get}
 use Rattle.std.specs.List.{AllByRecursion}
-use Rattle.std.proofs.lemmas.Option.{same_Some, slice_get_within}
-use native.Mathlib.Decide.{ℕ_discrete}
 use Rattle.pblk_model.specs.declared.shape.Shape.{Shape}
-use Rattle.pblk_model.specs.UnitLog.{UnitOutcome, Answered, Failed, Stopped}
-use Rattle.unit_port.specs.Armed.{IsUnarmed, is_fail, is_stop}
+use Rattle.pblk_model.specs.Chunk.{Block}
+use Rattle.pblk_model.specs.ChunkStep.{ChunkCommand, Write, Read}
+use Rattle.pblk_model.specs.UnitLog.{UnitEvent, UnitOutcome, Answered, Failed, Stopped}
+use Rattle.unit_port.specs.Armed.{is_fail, is_stop}
 use Rattle.unit_port.specs.Unit.{ModelUnit}
-use Rattle.unit_port.specs.Commands.{EventAt, IsNext, AreNext, with_event, after_one, AreUnarmed}
+use Rattle.unit_port.specs.Commands.{EventAt, AreKept, IsKept, after_one, after_all, events_of}
 use Rattle.unit_port.specs.Did.{is_lost}
-use Rattle.unit_port.proofs.Units.{after_one_is}
-use Rattle.scan_recovery.specs.declared.error.ScanErr.TheVariants as errors
-use Rattle.scan_recovery.specs.Fetches.{HasFetched}
-use Rattle.scan_recovery.specs.Pads.{ArePads, HasPadded}
-use Rattle.lemmas.proofs.Parts.{get_set_other, get_set_same}
-use Rattle.lemmas.proofs.Tests.{not_both}
+use Rattle.scan_recovery.specs.Fetches.{IsGood}
+use Rattle.scan_recovery.specs.Lost.{IsLostAt, NoneLost, is_fetch, was_lost}
+use Rattle.scan_recovery.specs.Pads.{ArePads, IsQuiet}
+use Rattle.scan_recovery.specs.Units.{IsLastEvent}
+use Rattle.scan_recovery.proofs.UnitLogs.{all_own, grown_after, some_own}
+use Rattle.lemmas.proofs.Tests.{and_refused, or_left, or_no}
 
--- they are so after an event too
-pub unarmed_after : (us : List ModelUnit) (e : EventAt) (next : IsNext us e) → AreUnarmed us → AreUnarmed (after_one us e)
-unarmed_after us e next calm = subst AreUnarmed (sym (after_one_is us e next.unit next.there)) (λ k u there. go k u there (ℕ_discrete k e.unit))
-  where
-    go : (k : ℕ) (u : ModelUnit) → slice_get (slice_set us e.unit (with_event next.unit e.event)) k ≡ Some u → Dec (k ≡ e.unit) → IsUnarmed u.armed
-    go k u there (yes same) =
-        let is : with_event next.unit e.event ≡ u =
-        same_Some (with_event next.unit e.event) u
-        (sym (get_set_same us e.unit (with_event next.unit e.event) (slice_get_within us e.unit next.unit next.there))
-        ∙ ap (slice_get (slice_set us e.unit (with_event next.unit e.event))) (sym same) ∙ there) in
-        subst (λ (x : ModelUnit). IsUnarmed x.armed) is (calm e.unit next.unit next.there)
-    go k u there (no apart) = calm k u (sym (get_set_other us e.unit k (with_event next.unit e.event) apart) ∙ there)
+abbrev pub WasDone : EventAt → Type 0
+WasDone e = was_lost e.event ≡ false
 
--- neither failed nor stopped
-abbrev IsKept : EventAt → Type 0
-IsKept e = (is_fail e.event.outcome ≡ false) × (is_stop e.event.outcome ≡ false)
+-- ---- one command
 
-pads_kept : (s : Shape) (us : List ModelUnit) (events : List EventAt) → AreUnarmed us → ArePads s us events → AllByRecursion IsKept events
-pads_kept s us [] calm pads = tt
-pads_kept s us (e ∷ events) calm pads =
-    (pads.1.quiet (calm e.unit pads.1.unit pads.1.there), pads_kept s (after_one us e) events (unarmed_after us e pads.1 calm) pads.2)
+pad_done : (command : ChunkCommand) (outcome : UnitOutcome) (at : ℕ) (blocks : List Block) → command ≡ Write at blocks → is_stop outcome ≡ false
+    → (is_stop outcome || (is_fetch command && is_fail outcome)) ≡ false
+pad_done command outcome at blocks is quiet =
+    ap (λ (x : ChunkCommand). is_stop outcome || (is_fetch x && is_fail outcome)) is ∙ or_no (is_stop outcome) ∙ quiet
 
-next_kept : (us : List ModelUnit) (events : List EventAt) → AreUnarmed us → AreNext us events → AllByRecursion IsKept events
-next_kept us [] calm next = tt
-next_kept us (e ∷ events) calm next =
-    (next.0.quiet (calm e.unit next.0.unit next.0.there), next_kept (after_one us e) events (unarmed_after us e next.0 calm) next.1)
+fetch_done : (command : ChunkCommand) (outcome : UnitOutcome) → is_lost outcome ≡ false
+    → (is_stop outcome || (is_fetch command && is_fail outcome)) ≡ false
+fetch_done command (Answered answer) good = and_refused (is_fetch command)
+fetch_done command (Failed k) good = absurd cc
+fetch_done command (Stopped k) good = absurd cc
 
-last_kept : (front : List EventAt) (last : EventAt) → AllByRecursion IsKept (front ++ last ∷ []) → IsKept last
-last_kept [] last all = all.0
-last_kept (e ∷ front) last all = last_kept front last all.1
+pub fetch_lost : (command : ChunkCommand) (outcome : UnitOutcome) (block : ℕ) → command ≡ Read block → is_lost outcome ≡ true
+    → (is_stop outcome || (is_fetch command && is_fail outcome)) ≡ true
+fetch_lost command (Answered answer) block is lost = absurd cc
+fetch_lost command (Failed k) block is lost = ap (λ (x : ChunkCommand). is_fetch x && true) is
+fetch_lost command (Stopped k) block is lost = refl
 
-not_lost : (outcome : UnitOutcome) → is_fail outcome ≡ false → is_stop outcome ≡ false → is_lost outcome ≡ false
-not_lost (Answered answer) f g = refl
-not_lost (Failed k) f g = absurd cc
-not_lost (Stopped k) f g = absurd cc
+pub stop_lost : (e : UnitEvent) → is_stop e.outcome ≡ true → was_lost e ≡ true
+stop_lost e stopped = or_left (is_stop e.outcome) (is_fetch e.command && is_fail e.outcome) stopped
 
-pub none_stopped : (s : Shape) (old new : List ModelUnit) (events : List EventAt) (unit event : ℕ) → AreUnarmed old
-    → HasPadded s old new events (Err (errors.Drive unit event)) → ⊥
-none_stopped s old new events unit event calm padded =
-    let all : AllByRecursion IsKept (padded.ends.0 ++ padded.ends.1 ∷ []) =
-    subst (AllByRecursion IsKept) padded.ends.2 (pads_kept s old events calm padded.pads) in
-    not_both (is_stop padded.ends.1.event.outcome) padded.ends.5 (last_kept padded.ends.0 padded.ends.1 all).1
+-- ---- several
 
-pub none_lost : (s : Shape) (old new : List ModelUnit) (events : List EventAt) (unit event : ℕ) → AreUnarmed old
-    → HasFetched s old new events (Some (errors.Drive unit event)) → ⊥
-none_lost s old new events unit event calm fetched =
-    let all : AllByRecursion IsKept (fetched.ends.0 ++ fetched.ends.1 ∷ []) =
-    subst (AllByRecursion IsKept) fetched.ends.2 (next_kept old events calm fetched.next) in
-    let kept : IsKept fetched.ends.1 = last_kept fetched.ends.0 fetched.ends.1 all in
-    not_both (is_lost fetched.ends.1.event.outcome) fetched.ends.5 (not_lost fetched.ends.1.event.outcome kept.0 kept.1)
+pub pads_done : (s : Shape) (us : List ModelUnit) (events : List EventAt) → ArePads s us events → AllByRecursion IsQuiet events
+    → AllByRecursion WasDone events
+pads_done s us [] pads quiet = tt
+pads_done s us (e ∷ events) pads quiet =
+    (pad_done e.event.command e.event.outcome _ _ pads.0.command quiet.0, pads_done s (after_one us e) events pads.2 quiet.1)
+
+pub fetches_done : (events : List EventAt) → AllByRecursion IsGood events → AllByRecursion WasDone events
+fetches_done [] good = tt
+fetches_done (e ∷ events) good = (fetch_done e.event.command e.event.outcome good.0, fetches_done events good.1)
+
+-- ---- what becomes of the units
+
+pub none_lost : (old new : List ModelUnit) (events : List EventAt) → new ≡ after_all old events → AllByRecursion WasDone events → NoneLost old new
+none_lost old new events is done = λ number u v there after.
+    let grown = grown_after events old number u v there (ap (λ (us : List ModelUnit). slice_get us number) (sym is) ∙ after) in
+    subst (AllByRecursion (λ (e : UnitEvent). was_lost e ≡ false)) (sym grown.1) (all_own (λ (e : UnitEvent). was_lost e ≡ false) number events done)
+
+pub lost_at : (old new : List ModelUnit) (front : List EventAt) (last : EventAt) (unit number : ℕ) → AreKept old new
+    → new ≡ after_all old (front ++ last ∷ []) → last.unit ≡ unit → was_lost last.event ≡ true → IsLastEvent new unit number last.event
+    → IsLostAt old new unit number
+lost_at old new front last unit number kept is same lost ends =
+    let was : (u : ModelUnit) × (slice_get old unit ≡ Some u) × IsKept u ends.of = kept.each unit ends.of ends.there in
+    let grown = grown_after (front ++ last ∷ []) old unit was.0 ends.of was.1 (ap (λ (us : List ModelUnit). slice_get us unit) (sym is) ∙ ends.there) in
+    let some : 0 < length (events_of unit (front ++ last ∷ [])) = some_own front last unit same in
+    let long : length ends.of.log ≡ length (was.0.log ++ events_of unit (front ++ last ∷ [])) = ap length grown.0 in
+    record {
+      event = last.event;
+      last = ends;
+      lost = lost;
+      earlier = was.0;
+      there = was.1;
+      since = omega (arith, length-append was.0.log (events_of unit (front ++ last ∷ [])));
+    }

@@ -13,3 +13,5 @@ pub mod Held
 pub mod Packed
 pub mod LineBuffer
 pub mod Readying
+pub mod Lost
+pub mod MayStop

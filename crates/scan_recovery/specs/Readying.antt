@@ -1,5 +1,5 @@
 -- What becomes of the units of a drive that is made ready, and what is found of them.
-use Rattle.std.specs.Prelude.{◌≡◌, ◌⊎◌, List}
+use Rattle.std.specs.Prelude.{◌≡◌, ◌⊎◌, List, Result, Ok, Err}
 use Rattle.std.specs.List.{AllByRecursion}
 use Rattle.pblk_model.specs.declared.shape.Shape.{Shape}
 use Rattle.pblk_model.specs.declared.found.Found.{Found}
@@ -9,7 +9,10 @@ use Rattle.pblk_model.specs.Sealed.{IsSealed}
 use Rattle.unit_port.specs.Unit.{ModelUnit}
 use Rattle.unit_port.specs.Commands.{EventAt, AreKept, AreNext, after_all}
 use Rattle.world_laws.specs.Finding.{IsFoundOf, NoneOpen}
+use Rattle.scan_recovery.specs.declared.error.ScanErr.{ScanErr}
+use Rattle.scan_recovery.specs.declared.error.ScanErr.TheVariants as errors
 use Rattle.scan_recovery.specs.Fetches.{IsFetch}
+use Rattle.scan_recovery.specs.Lost.{IsLostAt, NoneLost}
 use Rattle.scan_recovery.specs.Pads.{ArePads}
 use Rattle.scan_recovery.specs.Units.{image_of}
 
@@ -44,3 +47,10 @@ pub record IsFoundAfter (s : Shape) (old new : List ModelUnit) (found : Found) :
   pub units : AreHandedBack s old new
   pub closed : NoneOpen (image_of s new)
   pub found_is : IsFoundOf (image_of s new) found
+
+-- Why a drive couldn't be made ready: the last event of this unit was a command that was stopped,
+-- or a fetch that failed. Where the call answers anything else, none was.
+abbrev pub ReadyCause : List ModelUnit → List ModelUnit → Result Found ScanErr → Type 0
+ReadyCause old new (Ok found) = NoneLost old new
+ReadyCause old new (Err (errors.Drive unit event)) = IsLostAt old new unit event
+ReadyCause old new (Err errors.Memory) = NoneLost old new

@@ -1,5 +1,5 @@
 -- The first event of an engine that knows all logs.
-use Rattle.std.proofs.Common.{◌≡◌, ℕ, ◌+◌, ◌<◌, ◌≤◌, ◌&&◌, zero, suc, nat_lt, false, cond, Some, None, Option, List, [], ◌∷◌, ◌++◌, length, take, refl, sym, ap, ◌∙◌, arith}
+use Rattle.std.proofs.Common.{◌≡◌, inl, ℕ, ◌+◌, ◌<◌, ◌≤◌, ◌&&◌, zero, suc, nat_lt, false, cond, Some, None, Option, List, [], ◌∷◌, ◌++◌, length, take, refl, sym, ap, ◌∙◌, arith}
 use Rattle.std.specs.Prelude.{slice_get, slice_index}
 use Rattle.std.specs.List.{Contains, filter, filter_map}
 use Rattle.std.specs.Option.{option_map, option_map_or}
@@ -8,6 +8,7 @@ use Rattle.pblk_model.specs.declared.shape.Shape.{Shape}
 use Rattle.pblk_model.specs.Chunk.{Chunk}
 use Rattle.pblk_model.specs.UnitLog.{UnitEvent, after_log}
 use Rattle.pblk_model.specs.Image.{Image}
+use Rattle.pblk_laws.specs.LineBlocks.{chunk_in}
 use Rattle.pblk_world.specs.Events.{Beginning, Begin, Decides, Logged}
 use Rattle.pblk_world.specs.World.{World, Logs, log_of, known, knows_engine, cut_logs, media, unit_event_of}
 use Rattle.pblk_world.specs.EngineLog.{begun, answers}
@@ -16,19 +17,17 @@ use Rattle.pblk_world.specs.Commanding.{ends_program, ends_stripe, ended_stripes
 use Rattle.pblk_world.specs.Opening.{MayBegin}
 use Rattle.pblk_world.specs.Legal.{IsLegal}
 use Rattle.world_laws.proofs.Made.{known_within}
-use Rattle.core_laws.specs.FaultlessMounts.{IsFaultlessMount}
-use Rattle.core_laws.proofs.FaultlessMounts.{still_faultless}
-use Rattle.step_laws.specs.Whole.{knows_all, engine_step, after_begin, IsLevel, IsKnown}
+use Rattle.core_laws.specs.SimpleMounts.{IsSimpleMount}
+use Rattle.step_laws.specs.Whole.{knows_all, after_begin, IsLevel, IsKnown}
 use Rattle.step_laws.proofs.ChunkEvents.{same_images}
-use Rattle.step_laws.proofs.EngineSteps.{engine_logs, media_still}
-use Rattle.step_laws.proofs.Knowing.{next_step, known_whole}
+use Rattle.step_laws.proofs.EngineSteps.{decided_next, engine_logs, media_still}
+use Rattle.step_laws.proofs.Knowing.{known_whole}
 use Rattle.step_laws.proofs.Levels.{level_by}
 use Rattle.lemmas.proofs.Maps.{numbered_at}
 use Rattle.lemmas.proofs.Numbers.{fun_same}
 
-pub mount_begins : (i : Image) (w : World) (b : Beginning) → IsFaultlessMount i w → MayBegin i (log_of w) b → IsFaultlessMount i (after_begin i.shape b w)
-mount_begins i w b faultless may =
-    still_faultless i (engine_step i.shape (Begin b) w) w faultless (next_step i w 0 (Decides (Begin b)) faultless.simple.mount.legal (omega arith) may) refl
+pub mount_begins : (i : Image) (w : World) (b : Beginning) → IsSimpleMount i w → MayBegin i (log_of w) b → IsSimpleMount i (after_begin i.shape b w)
+mount_begins i w b simple may = decided_next i w (Begin b) simple may refl
 
 -- ---- the engine's log
 
@@ -67,8 +66,9 @@ untold : (s : Shape) (o : Option (List Chunk)) → option_map (λ cs. after_log 
 untold s None = refl
 untold s (Some chunks) = refl
 
-pub known_is : (i : Image) (w : World) (b : Beginning) → IsLegal i w → log_of w 0 ≡ [] → IsKnown i (after_begin i.shape b w)
-known_is i w b legal none =
+image_is : (i : Image) (w : World) (b : Beginning) → IsLegal i w → log_of w 0 ≡ []
+    → known_image i (log_of (after_begin i.shape b w)) ≡ media i (log_of (after_begin i.shape b w))
+image_is i w b legal none =
     let new : Logs = log_of (after_begin i.shape b w) in
     same_images i.shape (known_image i new).units (media i (log_of w)).units
     (λ unit. one unit ∙ ap (λ (j : Image). slice_get j.units unit) (found_is i w b legal none))
@@ -83,6 +83,9 @@ known_is i w b legal none =
         numbered_at (λ unit. after_log i.shape unit.1 (told_events new unit.0)) 0 (found_image i new).units unit
         ∙ ap (λ (es : List UnitEvent). option_map (λ cs. after_log i.shape cs es) (slice_get (found_image i new).units unit)) none_told
         ∙ untold i.shape (slice_get (found_image i new).units unit)
+
+pub known_is : (i : Image) (w : World) (b : Beginning) → IsLegal i w → log_of w 0 ≡ [] → IsKnown i (after_begin i.shape b w)
+known_is i w b legal none unit line = inl (ap (λ (j : Image). chunk_in j line unit) (image_is i w b legal none))
 
 -- ---- nothing is under way
 

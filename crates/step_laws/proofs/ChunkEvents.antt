@@ -1,12 +1,14 @@
 -- A chunk of a unit after an event, and images by their units.
-use Rattle.std.proofs.Common.{◌≡◌, ◌≢◌, ℕ, Some, None, Option, List, refl, ap, ◌∙◌}
+use Rattle.std.proofs.Common.{◌≡◌, ◌≢◌, ◌⊎◌, inl, inr, ℕ, Some, None, Option, List, refl, sym, subst, ap, ◌∙◌}
 use Rattle.std.specs.Prelude.{slice_get, slice_set}
 use Rattle.std.specs.Option.{option_map, option_map_or, option_and_then}
-use Rattle.std.proofs.lemmas.Option.{none-some}
+use native.Mathlib.Decide.{ℕ_discrete}
 use Rattle.pblk_model.specs.declared.shape.Shape.{Shape}
 use Rattle.pblk_model.specs.Chunk.{Chunk}
-use Rattle.pblk_model.specs.UnitLog.{UnitEvent, after_outcome, after_event}
+use Rattle.pblk_model.specs.ChunkStep.{ChunkCommand, Write, Read, Reset}
+use Rattle.pblk_model.specs.UnitLog.{UnitOutcome, Answered, Failed, Stopped, UnitEvent, after_outcome, after_event}
 use Rattle.pblk_model.specs.Image.{Image}
+use Rattle.pblk_laws.specs.LineBlocks.{chunk_in}
 use Rattle.core_laws.proofs.LandedRows.{event_beside as beside_in}
 use Rattle.lemmas.proofs.Parts.{got_here, same_lists}
 
@@ -32,7 +34,88 @@ pub chunk_beside : (s : Shape) (o : Option (List Chunk)) (e : UnitEvent) (line :
 chunk_beside s None e line apart = refl
 chunk_beside s (Some chunks) e line apart = beside_in s chunks e line apart
 
+-- the chunk of the command is what its outcome leaves
+pub chunk_turned : (s : Shape) (o : Option (List Chunk)) (e : UnitEvent)
+    → option_and_then (λ chunks. slice_get chunks e.chunk) (option_map (λ chunks. after_event s chunks e) o) ≡ option_map
+    (λ c. after_outcome s c e.command e.outcome) (option_and_then (λ chunks. slice_get chunks e.chunk) o)
+chunk_turned s None e = refl
+chunk_turned s (Some chunks) e = go (slice_get chunks e.chunk) refl
+  where
+    go : (o : Option Chunk) → slice_get chunks e.chunk ≡ o
+        → slice_get (after_event s chunks e) e.chunk ≡ option_map (λ c. after_outcome s c e.command e.outcome) o
+    go None none =
+        ap (λ (o : Option Chunk). slice_get (option_map_or (λ (c : Chunk). slice_set chunks e.chunk (after_outcome s c e.command e.outcome)) o chunks) e.chunk)
+        none
+        ∙ none
+    go (Some c) there = here_in s chunks e c there
+
 pub chunk_here : (s : Shape) (o : Option (List Chunk)) (e : UnitEvent) (c : Chunk) → option_and_then (λ chunks. slice_get chunks e.chunk) o ≡ Some c
     → option_and_then (λ chunks. slice_get chunks e.chunk) (option_map (λ chunks. after_event s chunks e) o) ≡ Some (after_outcome s c e.command e.outcome)
-chunk_here s None e c there = absurd (none-some c there)
-chunk_here s (Some chunks) e c there = here_in s chunks e c there
+chunk_here s o e c there = chunk_turned s o e ∙ ap (option_map (λ (c : Chunk). after_outcome s c e.command e.outcome)) there
+
+-- ---- images
+
+-- the event was done by the unit, and nothing else changed
+pub record IsTurned (s : Shape) (j k : Image) (unit : ℕ) (e : UnitEvent) : Type 0 where
+  pub own : slice_get k.units unit ≡ option_map (λ chunks. after_event s chunks e) (slice_get j.units unit)
+  pub others : (other : ℕ) → other ≢ unit → slice_get k.units other ≡ slice_get j.units other
+
+pub turned_here : (s : Shape) (j k : Image) (unit : ℕ) (e : UnitEvent) → IsTurned s j k unit e
+    → chunk_in k e.chunk unit ≡ option_map (λ c. after_outcome s c e.command e.outcome) (chunk_in j e.chunk unit)
+turned_here s j k unit e is = ap (option_and_then (λ (chunks : List Chunk). slice_get chunks e.chunk)) is.own ∙ chunk_turned s (slice_get j.units unit) e
+
+-- a chunk is that of the command, or another
+pub here_or_beside : (unit chunk other line : ℕ) → ((other ≡ unit) × (line ≡ chunk)) ⊎ ((other ≢ unit) ⊎ (line ≢ chunk))
+here_or_beside unit chunk other line = go (ℕ_discrete other unit) (ℕ_discrete line chunk)
+  where
+    go : Dec (other ≡ unit) → Dec (line ≡ chunk) → ((other ≡ unit) × (line ≡ chunk)) ⊎ ((other ≢ unit) ⊎ (line ≢ chunk))
+    go (yes same) (yes its) = inl (same, its)
+    go (yes same) (no apart) = inr (inr apart)
+    go (no apart) its = inr (inl apart)
+
+pub turned_beside : (s : Shape) (j k : Image) (unit : ℕ) (e : UnitEvent) (other line : ℕ) → IsTurned s j k unit e → (other ≢ unit) ⊎ (line ≢ e.chunk)
+    → chunk_in k line other ≡ chunk_in j line other
+turned_beside s j k unit e other line is (inl apart) = ap (option_and_then (λ (chunks : List Chunk). slice_get chunks line)) (is.others other apart)
+turned_beside s j k unit e other line is (inr apart) = go (ℕ_discrete other unit)
+  where
+    go : Dec (other ≡ unit) → chunk_in k line other ≡ chunk_in j line other
+    go (yes same) = subst (λ u. chunk_in k line u ≡ chunk_in j line u) (sym same)
+        (ap (option_and_then (λ (chunks : List Chunk). slice_get chunks line)) is.own ∙ chunk_beside s (slice_get j.units unit) e line apart)
+    go (no far) = ap (option_and_then (λ (chunks : List Chunk). slice_get chunks line)) (is.others other far)
+
+-- ---- events that leave nothing
+
+-- a fetch
+pub fetch_leaves : (s : Shape) (c : Chunk) (e : UnitEvent) (block : ℕ) → e.command ≡ Read block → after_outcome s c e.command e.outcome ≡ c
+fetch_leaves s c e block is = ap (λ (command : ChunkCommand). after_outcome s c command e.outcome) is ∙ go e.outcome
+  where
+    go : (outcome : UnitOutcome) → after_outcome s c (Read block) outcome ≡ c
+    go (Answered answer) = refl
+    go (Failed k) = refl
+    go (Stopped k) = refl
+
+-- a command of a stopped unit
+pub stop_leaves : (s : Shape) (c : Chunk) (e : UnitEvent) → e.outcome ≡ Stopped 0 → after_outcome s c e.command e.outcome ≡ c
+stop_leaves s c e is = ap (after_outcome s c e.command) is ∙ go e.command
+  where
+    go : (command : ChunkCommand) → after_outcome s c command (Stopped 0) ≡ c
+    go (Write at blocks) = refl
+    go (Read b) = refl
+    go Reset = refl
+
+-- so the chunks are as they were
+same_chunk : (f : Chunk → Chunk) (o : Option Chunk) → ((c : Chunk) → f c ≡ c) → option_map f o ≡ o
+same_chunk f None same = refl
+same_chunk f (Some c) same = ap (λ (d : Chunk). Some d) (same c)
+
+pub turned_still : (s : Shape) (j k : Image) (unit : ℕ) (e : UnitEvent) → IsTurned s j k unit e
+    → ((c : Chunk) → after_outcome s c e.command e.outcome ≡ c) → (other line : ℕ) → chunk_in k line other ≡ chunk_in j line other
+turned_still s j k unit e is leaves other line = go (here_or_beside unit e.chunk other line)
+  where
+    here : chunk_in k e.chunk unit ≡ chunk_in j e.chunk unit
+    here = turned_here s j k unit e is ∙ same_chunk (λ (c : Chunk). after_outcome s c e.command e.outcome) (chunk_in j e.chunk unit) leaves
+
+    go : ((other ≡ unit) × (line ≡ e.chunk)) ⊎ ((other ≢ unit) ⊎ (line ≢ e.chunk)) → chunk_in k line other ≡ chunk_in j line other
+    go (inl same) = subst (λ u. chunk_in k line u ≡ chunk_in j line u) (sym same.0)
+        (subst (λ n. chunk_in k n unit ≡ chunk_in j n unit) (sym same.1) here)
+    go (inr apart) = turned_beside s j k unit e other line is apart

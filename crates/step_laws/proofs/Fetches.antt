@@ -1,78 +1,69 @@
--- A fetch of a block.
-use Rattle.std.proofs.Common.{◌≡◌, ◌⊎◌, inl, inr, ℕ, ◌<◌, suc, false, Some, None, Option, List, ◌∷◌, refl, sym, subst, ap, ◌∙◌, arith}
+-- A fetch of a block: it leaves the media as they were, whatever its outcome.
+use Rattle.std.proofs.Common.{◌≡◌, ℕ, Some, None, Option, List, refl, sym, subst, ap, ◌∙◌}
 use Rattle.std.specs.Prelude.{slice_get, slice_set}
 use Rattle.std.specs.Option.{option_map, option_map_or}
-use Rattle.std.proofs.lemmas.Bool.{cases_order}
+use native.Mathlib.Decide.{ℕ_discrete}
 use Rattle.pblk_model.specs.declared.shape.Shape.{Shape}
-use Rattle.pblk_model.specs.Shape.{units}
 use Rattle.pblk_model.specs.Chunk.{Chunk}
-use Rattle.pblk_model.specs.ChunkStep.{ChunkAnswer, ChunkStep, Read}
-use Rattle.pblk_model.specs.UnitLog.{NotRefused, after_event}
+use Rattle.pblk_model.specs.ChunkStep.{ChunkCommand, Read}
+use Rattle.pblk_model.specs.UnitLog.{UnitEvent, after_event, after_outcome}
 use Rattle.pblk_model.specs.Image.{Image}
-use Rattle.pblk_world.specs.Events.{Does, Maker}
-use Rattle.pblk_world.specs.World.{World, log_of, media, unit_events}
+use Rattle.pblk_world.specs.Events.{Maker}
+use Rattle.pblk_world.specs.World.{World, Logs, log_of, media}
 use Rattle.pblk_world.specs.EngineLog.{Begun, begun}
-use Rattle.pblk_world.specs.Commanding.{has_stopped, IsCommand, MayDo}
-use Rattle.pblk_laws.specs.LineBlocks.{chunk_in}
-use Rattle.core_laws.specs.FaultlessMounts.{IsFaultlessMount}
-use Rattle.core_laws.proofs.FaultlessMounts.{still_faultless}
-use Rattle.step_laws.specs.Whole.{unit_step, fetch_of}
-use Rattle.step_laws.proofs.ChunkEvents.{same_images}
-use Rattle.step_laws.proofs.Knowing.{next_step}
-use Rattle.step_laws.proofs.UnitSteps.{none_stopped, has_chunks, media_now, media_elsewhere}
+use Rattle.pblk_world.specs.Commanding.{is_program, IsCommand}
+use Rattle.core_laws.specs.SimpleMounts.{IsSimpleMount}
+use Rattle.step_laws.specs.NextEvents.{CanFetch}
+use Rattle.step_laws.specs.Whole.{after_unit, IsLevel}
+use Rattle.step_laws.proofs.ChunkEvents.{same_images, fetch_leaves}
+use Rattle.step_laws.proofs.Levels.{ends_by_command, level_unit}
+use Rattle.step_laws.proofs.UnitSteps.{unit_next, media_now, media_elsewhere}
 use Rattle.lemmas.proofs.Parts.{set_same}
 
-may_read : (i : Image) (w : World) (unit chunk block : ℕ) (c : Chunk) (o : Option Begun) → IsCommand i (log_of w) unit c chunk (Read block) o
-may_read i w unit chunk block c None = tt
-may_read i w unit chunk block c (Some b) = tt
+-- each block may be fetched, before the mount begins and after it
+pub may_read : (i : Image) (logs : Logs) (unit chunk block : ℕ) (c : Chunk) (command : ChunkCommand) (o : Option Begun) → command ≡ Read block
+    → IsCommand i logs unit c chunk command o
+may_read i logs unit chunk block c command o is = subst (λ (x : ChunkCommand). IsCommand i logs unit c chunk x o) (sym is) (go o)
+  where
+    go : (o : Option Begun) → IsCommand i logs unit c chunk (Read block) o
+    go None = tt
+    go (Some b) = tt
 
-pub may_fetch : (i : Image) (w : World) (unit chunk block : ℕ) (c : Chunk) (answer : ChunkAnswer) → IsFaultlessMount i w
-    → chunk_in (media i (log_of w)) chunk unit ≡ Some c
-    → NotRefused answer → ChunkStep i.shape c (Read block) answer c → MayDo i (log_of w) unit (fetch_of chunk block answer)
-may_fetch i w unit chunk block c answer faultless there given step =
-    let chunks = has_chunks (slice_get (media i (log_of w)).units unit) chunk c there in record {
-      chunks = chunks.0;
-      has_chunks = chunks.1;
-      event = record { found = c; there = chunks.2; blocks = tt; outcome = (given, step) };
-      stopped = λ was. let none : has_stopped (unit_events (log_of w) unit) ≡ false =
-          none_stopped (unit_events (log_of w) unit) (faultless.answered unit) in absurd (cc);
-      command = may_read i w unit chunk block c (begun (log_of w 0));
-    }
+pub fetch_next : (i : Image) (w : World) (unit block : ℕ) (e : UnitEvent) (maker : Maker) → IsSimpleMount i w → CanFetch i (log_of w) unit block e
+    → IsSimpleMount i (after_unit i.shape unit e maker w)
+fetch_next i w unit block e maker simple fetch =
+    unit_next i w unit e maker simple fetch.can
+    (may_read i (log_of w) unit e.chunk block fetch.can.event.found e.command (begun (log_of w 0)) fetch.command)
 
-pub fetch_next : (i : Image) (w : World) (unit chunk block : ℕ) (c : Chunk) (answer : ChunkAnswer) (maker : Maker) → IsFaultlessMount i w → unit < units i.shape
-    → chunk_in (media i (log_of w)) chunk unit ≡ Some c
-    → NotRefused answer → ChunkStep i.shape c (Read block) answer c → IsFaultlessMount i (unit_step i.shape unit (fetch_of chunk block answer) maker w ∷ w)
-fetch_next i w unit chunk block c answer maker faultless range there given step =
-    still_faultless i (unit_step i.shape unit (fetch_of chunk block answer) maker w) w faultless
-    (next_step i w (suc unit) (Does (fetch_of chunk block answer) maker) faultless.simple.mount.legal (omega arith)
-    (may_fetch i w unit chunk block c answer faultless there given step)) refl
+pub fetch_level : (s : Shape) (unit block : ℕ) (e : UnitEvent) (maker : Maker) (w : World) → e.command ≡ Read block → IsLevel w
+    → IsLevel (after_unit s unit e maker w)
+fetch_level s unit block e maker w fetch level = level_unit s unit e maker w (ends_by_command e (ap is_program fetch)) level
 
 -- ---- the media
 
-read_leaves : (s : Shape) (chunks : List Chunk) (chunk block : ℕ) (answer : ChunkAnswer) → after_event s chunks (fetch_of chunk block answer) ≡ chunks
-read_leaves s chunks chunk block answer = go (slice_get chunks chunk) refl
+read_leaves : (s : Shape) (chunks : List Chunk) (e : UnitEvent) (block : ℕ) → e.command ≡ Read block → after_event s chunks e ≡ chunks
+read_leaves s chunks e block fetch = go (slice_get chunks e.chunk) refl
   where
-    go : (o : Option Chunk) → slice_get chunks chunk ≡ o → option_map_or (λ c. slice_set chunks chunk c) o chunks ≡ chunks
-    go None e = refl
-    go (Some c) e = set_same chunks chunk c e
+    go : (o : Option Chunk) → slice_get chunks e.chunk ≡ o
+        → option_map_or (λ c. slice_set chunks e.chunk (after_outcome s c e.command e.outcome)) o chunks ≡ chunks
+    go None there = refl
+    go (Some c) there = ap (slice_set chunks e.chunk) (fetch_leaves s c e block fetch) ∙ set_same chunks e.chunk c there
 
-all_left : (s : Shape) (o : Option (List Chunk)) (chunk block : ℕ) (answer : ChunkAnswer)
-    → option_map (λ chunks. after_event s chunks (fetch_of chunk block answer)) o ≡ o
-all_left s None chunk block answer = refl
-all_left s (Some chunks) chunk block answer = ap (λ (cs : List Chunk). Some cs) (read_leaves s chunks chunk block answer)
+all_left : (s : Shape) (o : Option (List Chunk)) (e : UnitEvent) (block : ℕ) → e.command ≡ Read block
+    → option_map (λ chunks. after_event s chunks e) o ≡ o
+all_left s None e block fetch = refl
+all_left s (Some chunks) e block fetch = ap (λ (cs : List Chunk). Some cs) (read_leaves s chunks e block fetch)
 
-pub media_stays : (i : Image) (w : World) (unit chunk block : ℕ) (answer : ChunkAnswer) (maker : Maker)
-    → media i (log_of (unit_step i.shape unit (fetch_of chunk block answer) maker w ∷ w)) ≡ media i (log_of w)
-media_stays i w unit chunk block answer maker =
-    same_images i.shape (media i (log_of (unit_step i.shape unit (fetch_of chunk block answer) maker w ∷ w))).units (media i (log_of w)).units
-    (λ u. go u (cases_order u unit))
+pub media_stays : (i : Image) (w : World) (unit block : ℕ) (e : UnitEvent) (maker : Maker) → e.command ≡ Read block
+    → media i (log_of (after_unit i.shape unit e maker w)) ≡ media i (log_of w)
+media_stays i w unit block e maker fetch =
+    same_images i.shape (media i (log_of (after_unit i.shape unit e maker w))).units (media i (log_of w)).units (λ u. go u (ℕ_discrete u unit))
   where
-    own : slice_get (media i (log_of (unit_step i.shape unit (fetch_of chunk block answer) maker w ∷ w))).units unit ≡ slice_get (media i (log_of w)).units unit
-    own = media_now i unit (fetch_of chunk block answer) maker w ∙ all_left i.shape (slice_get (media i (log_of w)).units unit) chunk block answer
+    own : slice_get (media i (log_of (after_unit i.shape unit e maker w))).units unit ≡ slice_get (media i (log_of w)).units unit
+    own = media_now i unit e maker w ∙ all_left i.shape (slice_get (media i (log_of w)).units unit) e block fetch
 
-    go : (u : ℕ) → (u ≡ unit) ⊎ ((u < unit) ⊎ (unit < u))
-        → slice_get (media i (log_of (unit_step i.shape unit (fetch_of chunk block answer) maker w ∷ w))).units u ≡ slice_get (media i (log_of w)).units u
-    go u (inl same) = subst (λ v. slice_get (media i (log_of (unit_step i.shape unit (fetch_of chunk block answer) maker w ∷ w))).units v ≡ slice_get
-        (media i (log_of w)).units v) (sym same) own
-    go u (inr (inl below)) = media_elsewhere i unit (fetch_of chunk block answer) maker w u (λ same. absurd (omega arith))
-    go u (inr (inr above)) = media_elsewhere i unit (fetch_of chunk block answer) maker w u (λ same. absurd (omega arith))
+    go : (u : ℕ) → Dec (u ≡ unit)
+        → slice_get (media i (log_of (after_unit i.shape unit e maker w))).units u ≡ slice_get (media i (log_of w)).units u
+    go u (yes same) = subst (λ v. slice_get (media i (log_of (after_unit i.shape unit e maker w))).units v ≡ slice_get (media i (log_of w)).units v)
+        (sym same) own
+    go u (no apart) = media_elsewhere i unit e maker w u apart

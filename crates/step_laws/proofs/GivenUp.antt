@@ -1,178 +1,135 @@
--- The reset of a chunk of a line that was given up.
-use Rattle.std.proofs.Common.{◌≡◌, ◌≢◌, ◌⊎◌, inl, inr, ℕ, ◌<◌, ◌==◌, suc, Bool, true, false, Some, None, Option, List, [], ◌∷◌, ◌++◌, length, refl, sym, subst, ap, ap₂, ◌∙◌, arith, append-nil, if◌then◌else◌}
-use Rattle.std.specs.Prelude.{slice_get}
-use Rattle.std.specs.List.{Contains, filter}
-use Rattle.std.specs.Option.{option_and_then}
-use Rattle.std.proofs.lemmas.Bool.{cases_order}
+-- The reset of a chunk of a line that was given up, and how the engine notes it.
+use Rattle.std.proofs.Common.{◌≡◌, ◌⊎◌, ℕ, ◌<◌, true, false, Some, None, Option, List, [], ◌∷◌, length, refl, sym, subst, ap, ◌∙◌, arith}
+use Rattle.std.specs.List.{list_any}
+use Rattle.std.proofs.lemmas.Option.{same_Some}
 use Rattle.pblk_model.specs.declared.shape.Shape.{Shape}
 use Rattle.pblk_model.specs.declared.chunk.ChunkState.{ChunkState}
 use Rattle.pblk_model.specs.declared.chunk.ChunkState.TheVariants as states
-use Rattle.pblk_model.specs.Shape.{units}
 use Rattle.pblk_model.specs.Chunk.{Chunk}
-use Rattle.pblk_model.specs.ChunkStep.{Reset, after_reset, reset_in, reset_refusal_in}
+use Rattle.pblk_model.specs.ChunkStep.{ChunkCommand, Done, Gave, Empty, Refused, Reset, reset_refusal_in}
+use Rattle.pblk_model.specs.UnitLog.{UnitOutcome, Answered, Failed, Stopped, UnitEvent, IsOutcome}
 use Rattle.pblk_model.specs.Found.{IsUsed}
 use Rattle.pblk_model.specs.Image.{Image}
-use Rattle.pblk_world.specs.Events.{ResetDone, Does, Maker, Logged, Step}
-use Rattle.pblk_world.specs.World.{World, log_of, media, unit_events}
-use Rattle.pblk_world.specs.EngineLog.{Begun, begun, Answer, answers, Placed, placements, named_events}
-use Rattle.pblk_world.specs.Lines.{is_empty_state, is_given_up}
-use Rattle.pblk_world.specs.Commanding.{has_stopped, IsGivenUp, IsCommand, MayDo}
-use Rattle.pblk_world.specs.Answering.{MayNoteReset}
-use Rattle.pblk_world.specs.Legal.{IsLegal}
-use Rattle.pblk_world.proofs.Appending.{placements_more}
 use Rattle.pblk_laws.specs.LineBlocks.{chunk_in}
-use Rattle.core_laws.specs.FaultlessMounts.{IsFaultlessMount}
-use Rattle.core_laws.specs.PlacerOf.{unanswered_on}
-use Rattle.core_laws.proofs.FaultlessMounts.{still_faultless}
+use Rattle.pblk_world.specs.Events.{ResetDone, Maker, Logged}
+use Rattle.pblk_world.specs.World.{World, Logs, log_of, unit_events}
+use Rattle.pblk_world.specs.EngineLog.{Begun, begun}
+use Rattle.pblk_world.specs.Lines.{is_given_up, known_image}
+use Rattle.pblk_world.specs.Commanding.{is_program, was_stopped, is_stopped_reset, IsCommand}
+use Rattle.pblk_world.specs.Answering.{IsDoneReset, MayNoteReset}
+use Rattle.pblk_world.specs.Legal.{IsLegal}
+use Rattle.core_laws.specs.SimpleMounts.{IsSimpleMount}
+use Rattle.core_laws.specs.PlacerOf.{unanswered_on, was_stopped_on}
 use Rattle.core_laws.proofs.BegunOnce.{begun_once}
-use Rattle.step_laws.specs.Whole.{engine_step, unit_step, reset_of, after_reset_of, after_noted_reset, IsLevel, IsKnown}
-use Rattle.step_laws.proofs.ChunkEvents.{chunk_beside, chunk_here}
+use Rattle.step_laws.specs.NextEvents.{CanDo, CanReset}
+use Rattle.step_laws.specs.Whole.{after_unit, next_event, after_reset_noted, IsLevel, IsKnownChunk, IsKnown}
 use Rattle.step_laws.proofs.EngineSteps.{engine_next}
-use Rattle.step_laws.proofs.Knowing.{next_step}
-use Rattle.step_laws.proofs.Known.{known_told}
-use Rattle.step_laws.proofs.Levels.{level_by, level_unit}
-use Rattle.step_laws.proofs.UnitSteps.{unit_log, engine_log, media_now, media_elsewhere, none_stopped, named_within, has_chunks}
-use Rattle.lemmas.proofs.Lists.{all_contains}
-use Rattle.lemmas.proofs.Parts.{get_last}
-use Rattle.pblk_world.proofs.EngineLogLemmas.{answers_more}
-use Rattle.pblk_world.proofs.WorldLemmas.{log_here}
+use Rattle.step_laws.proofs.Known.{known_told, known_at_stop, used_or_stopped}
+use Rattle.step_laws.proofs.Levels.{ends_by_command, level_by, level_unit}
+use Rattle.step_laws.proofs.UnitSteps.{engine_log, found_there, is_new, unit_next}
+use Rattle.step_laws.proofs.Waiting.{waits_still, stopped_now}
 
--- ---- it may be done
-
+-- a chunk that holds something doesn't refuse a reset
 pub reset_taken : (state : ChunkState) → IsUsed state → reset_refusal_in state ≡ None
 reset_taken states.Free used = absurd used
 reset_taken states.Open used = refl
 reset_taken states.Closed used = refl
 reset_taken states.Offline used = absurd used
 
+-- What the engine knows of a chunk is enough to have it reset.
+pub can_reset : (i : Image) (logs : Logs) (unit : ℕ) (e : UnitEvent) (c : Chunk) → CanDo i logs unit e → e.command ≡ Reset
+    → is_given_up (logs 0) e.chunk ≡ true → IsKnownChunk i logs unit e.chunk → chunk_in (known_image i logs) e.chunk unit ≡ Some c → IsUsed c.state
+    → CanReset i logs unit e
+can_reset i logs unit e c can resets given known there used =
+    let its = used_or_stopped i logs unit e.chunk c known there used in
+    let same : its.0 ≡ can.event.found = same_Some its.0 can.event.found (sym its.1 ∙ found_there i logs unit e can) in
+    record {
+      can = can;
+      command = resets;
+      given = record {
+        line = given;
+        used = subst (λ (d : Chunk). IsUsed d.state ⊎ (list_any (is_stopped_reset e.chunk) (unit_events logs unit) ≡ true)) same its.2;
+      };
+    }
+
+-- a reset that wasn't stopped was done, or failed
+done_reset : (s : Shape) (c : Chunk) (outcome : UnitOutcome) → IsOutcome s c Reset outcome → was_stopped outcome ≡ false → IsDoneReset outcome
+done_reset s c (Answered Done) is ends = refl
+done_reset s c (Answered (Gave block)) is ends = absurd is.1
+done_reset s c (Answered Empty) is ends = absurd is.1
+done_reset s c (Answered (Refused e)) is ends = absurd is.0
+done_reset s c (Failed k) is ends = tt
+done_reset s c (Stopped k) is ends = absurd cc
+
 some_given : (log : List Logged) (line : ℕ) → is_given_up log line ≡ true → 0 < length log
 some_given [] line e = absurd (cc)
 some_given (l ∷ log) line e = omega arith
 
-given_begun : (i : Image) (w : World) (line : ℕ) → IsFaultlessMount i w → is_given_up (log_of w 0) line ≡ true → (b : Begun) × (begun (log_of w 0) ≡ Some b)
-given_begun i w line faultless given = begun_once i w faultless.simple.mount.legal (some_given (log_of w 0) line given)
+module _ (i : Image) (w : World) (unit : ℕ) (e : UnitEvent) (maker : Maker) (reset : CanReset i (log_of w) unit e) where
+  abbrev mid : World
+  mid = after_unit i.shape unit e maker w
 
-may_reset : (i : Image) (w : World) (unit chunk : ℕ) (c : Chunk) → IsFaultlessMount i w → is_given_up (log_of w 0) chunk ≡ true
-    → chunk_in (media i (log_of w)) chunk unit ≡ Some c → IsUsed c.state → MayDo i (log_of w) unit (reset_of chunk)
-may_reset i w unit chunk c faultless given there used =
-    let chunks = has_chunks (slice_get (media i (log_of w)).units unit) chunk c there in
-    let begins = given_begun i w chunk faultless given in
-    let its : IsGivenUp (log_of w) unit c chunk = record { line = given; used = inl used } in record {
-      chunks = chunks.0;
-      has_chunks = chunks.1;
-      event = record { found = c; there = chunks.2; blocks = tt; outcome = (tt, (reset_taken c.state used, refl)) };
-      stopped = λ was. let none : has_stopped (unit_events (log_of w) unit) ≡ false =
-          none_stopped (unit_events (log_of w) unit) (faultless.answered unit) in absurd (cc);
-      command = subst (λ (o : Option Begun). IsCommand i (log_of w) unit c chunk Reset o) (sym begins.1) its;
-    }
+  abbrev end_ : World
+  end_ = after_reset_noted i.shape unit e maker w
 
-pub reset_legal : (i : Image) (w : World) (unit chunk : ℕ) (c : Chunk) (maker : Maker) → IsFaultlessMount i w → is_given_up (log_of w 0) chunk ≡ true
-    → unit < units i.shape → chunk_in (media i (log_of w)) chunk unit ≡ Some c → IsUsed c.state
-    → IsFaultlessMount i (after_reset_of i.shape unit chunk maker w)
-reset_legal i w unit chunk c maker faultless given range there used =
-    still_faultless i (unit_step i.shape unit (reset_of chunk) maker w) w faultless
-    (next_step i w (suc unit) (Does (reset_of chunk) maker) faultless.simple.mount.legal (omega arith) (may_reset i w unit chunk c faultless given there used))
-    refl
+  -- ---- it may be done
 
--- ---- what it leaves
+  some : 0 < length (log_of w 0)
+  some = some_given (log_of w 0) e.chunk reset.given.line
 
-pub reset_chunk : (i : Image) (w : World) (unit chunk : ℕ) (c : Chunk) (maker : Maker) → chunk_in (media i (log_of w)) chunk unit ≡ Some c
-    → chunk_in (media i (log_of (after_reset_of i.shape unit chunk maker w))) chunk unit ≡ Some (after_reset i.shape c)
-reset_chunk i w unit chunk c maker there =
-    ap (option_and_then (λ (chunks : List Chunk). slice_get chunks chunk)) (media_now i unit (reset_of chunk) maker w)
-    ∙ chunk_here i.shape (slice_get (media i (log_of w)).units unit) (reset_of chunk) c there
+  pub reset_next : IsSimpleMount i w → IsSimpleMount i (after_unit i.shape unit e maker w)
+  reset_next simple =
+      let begins = begun_once i w simple.mount.legal some in
+      let c : Chunk = reset.can.event.found in
+      unit_next i w unit e maker simple reset.can
+      (subst (λ (command : ChunkCommand). IsCommand i (log_of w) unit c e.chunk command (begun (log_of w 0))) (sym reset.command)
+      (subst (λ (o : Option Begun). IsCommand i (log_of w) unit c e.chunk Reset o) (sym begins.1) reset.given))
 
-pub reset_empties : (s : Shape) (c : Chunk) → (is_empty_state (after_reset s c).state ≡ true) × ((after_reset s c).blocks ≡ [])
-reset_empties s c = go c.state
-  where
-    closed : (b : Bool) (free offline : Chunk) → (is_empty_state free.state ≡ true) × (free.blocks ≡ [])
-        → (is_empty_state offline.state ≡ true) × (offline.blocks ≡ [])
-        → (is_empty_state (if b then free else offline).state ≡ true) × ((if b then free else offline).blocks ≡ [])
-    closed true free offline first other = first
-    closed false free offline first other = other
+  pub reset_level : IsLevel w → IsLevel (after_unit i.shape unit e maker w)
+  reset_level level = level_unit i.shape unit e maker w (ends_by_command e (ap is_program reset.command)) level
 
-    go : (state : ChunkState) → (is_empty_state (reset_in s state (length c.blocks)).state ≡ true) × ((reset_in s state (length c.blocks)).blocks ≡ [])
-    go states.Free = (refl, refl)
-    go states.Open = (refl, refl)
-    go states.Closed = closed (length c.blocks == s.clba) _ _ (refl, refl) (refl, refl)
-    go states.Offline = (refl, refl)
+  -- where it was stopped it isn't noted
+  pub reset_stopped : was_stopped e.outcome ≡ true → IsLegal i w → IsKnown i w → IsKnown i (after_unit i.shape unit e maker w)
+  reset_stopped stopped legal known = known_at_stop i w unit e maker legal reset.can stopped known
 
-pub reset_beside : (i : Image) (w : World) (unit chunk other line : ℕ) (maker : Maker) → (other ≢ unit) ⊎ (line ≢ chunk)
-    → chunk_in (media i (log_of (after_reset_of i.shape unit chunk maker w))) line other ≡ chunk_in (media i (log_of w)) line other
-reset_beside i w unit chunk other line maker (inl apart) =
-    ap (option_and_then (λ (chunks : List Chunk). slice_get chunks line)) (media_elsewhere i unit (reset_of chunk) maker w other apart)
-reset_beside i w unit chunk other line maker (inr apart) = go (cases_order other unit)
-  where
-    own : chunk_in (media i (log_of (after_reset_of i.shape unit chunk maker w))) line unit ≡ chunk_in (media i (log_of w)) line unit
-    own = ap (option_and_then (λ (chunks : List Chunk). slice_get chunks line)) (media_now i unit (reset_of chunk) maker w)
-        ∙ chunk_beside i.shape (slice_get (media i (log_of w)).units unit) (reset_of chunk) line apart
+  -- ---- it is noted
 
-    elsewhere : other ≢ unit → chunk_in (media i (log_of (after_reset_of i.shape unit chunk maker w))) line other ≡ chunk_in (media i (log_of w)) line other
-    elsewhere far = ap (option_and_then (λ (chunks : List Chunk). slice_get chunks line)) (media_elsewhere i unit (reset_of chunk) maker w other far)
-
-    go : (other ≡ unit) ⊎ ((other < unit) ⊎ (unit < other))
-        → chunk_in (media i (log_of (after_reset_of i.shape unit chunk maker w))) line other ≡ chunk_in (media i (log_of w)) line other
-    go (inl same) = subst (λ u. chunk_in (media i (log_of (after_reset_of i.shape unit chunk maker w))) line u ≡ chunk_in (media i (log_of w)) line u)
-        (sym same) own
-    go (inr (inl below)) = elsewhere (λ same. absurd (omega arith))
-    go (inr (inr above)) = elsewhere (λ same. absurd (omega arith))
-
-pub reset_level : (s : Shape) (w : World) (unit chunk : ℕ) (maker : Maker) → IsLevel w → IsLevel (after_reset_of s unit chunk maker w)
-reset_level s w unit chunk maker level = level_unit s unit (reset_of chunk) maker w refl level
-
--- ---- it is noted
-
-pub may_note : (i : Image) (w : World) (unit chunk : ℕ) (maker : Maker) → IsLegal i w
-    → (may : MayNoteReset (log_of (after_reset_of i.shape unit chunk maker w)) unit (length (log_of w (suc unit)))) × (may.reset ≡ reset_of chunk)
-may_note i w unit chunk maker legal =
-    let s : Step = unit_step i.shape unit (reset_of chunk) maker w in
-    let own : log_of (s ∷ w) 0 ≡ log_of w 0 = engine_log i.shape unit (reset_of chunk) maker w in
-    let last : slice_get (log_of (s ∷ w) (suc unit)) (length (log_of w (suc unit))) ≡ Some s.logged =
-    ap (λ (log : List Logged). slice_get log (length (log_of w (suc unit)))) (unit_log i.shape unit (reset_of chunk) maker w)
-    ∙ get_last (log_of w (suc unit)) s.logged in (
+  module _ (ends : was_stopped e.outcome ≡ false) where
+    pub may_note : IsLegal i w → (may : MayNoteReset (log_of mid) unit (next_event w unit)) × (may.reset ≡ e)
+    may_note legal = (
       record {
-        reset = reset_of chunk;
-        new = record {
-          logged = s.logged;
-          is_known = last;
-          event = refl;
-          once = λ named.
-              let within : length (log_of w (suc unit)) < length (log_of w (suc unit)) =
-              all_contains (λ n. n < length (log_of w (suc unit))) (named_events (log_of w 0) unit) (length (log_of w (suc unit))) (named_within i w unit legal)
-              (subst (λ (log : List Logged). Contains (named_events log unit) (length (log_of w (suc unit)))) own named) in absurd (omega arith);
-        };
-        is_reset = refl;
-        not_stopped = refl;
+        reset = e;
+        new = is_new i w unit e maker legal;
+        is_reset = reset.command;
+        not_stopped = done_reset i.shape reset.can.event.found e.outcome
+            (subst (λ (command : ChunkCommand). IsOutcome i.shape reset.can.event.found command e.outcome) reset.command reset.can.event.outcome) ends;
       },
       refl,
     )
 
-module _ (i : Image) (w : World) (unit chunk : ℕ) (c : Chunk) (maker : Maker) (faultless : IsFaultlessMount i w) (given : is_given_up (log_of w 0) chunk ≡ true)
-    (range : unit < units i.shape) (there : chunk_in (media i (log_of w)) chunk unit ≡ Some c)
-    (used : IsUsed c.state) where
-  pub noted_legal : IsFaultlessMount i (after_noted_reset i.shape unit chunk maker w)
-  noted_legal =
-      let begins = given_begun i w chunk faultless given in
-      engine_next i (after_reset_of i.shape unit chunk maker w) begins.0 (ResetDone unit (length (log_of w (suc unit))))
-      (reset_legal i w unit chunk c maker faultless given range there used)
-      (ap begun (engine_log i.shape unit (reset_of chunk) maker w) ∙ begins.1) (may_note i w unit chunk maker faultless.simple.mount.legal).0 refl
+    pub noted_legal : IsSimpleMount i w → IsSimpleMount i end_
+    noted_legal simple =
+        let begins = begun_once i w simple.mount.legal some in
+        engine_next i mid begins.0 (ResetDone unit (next_event w unit)) (reset_next simple)
+        (ap begun (engine_log i.shape unit e maker w) ∙ begins.1) (may_note simple.mount.legal).0 refl
 
-  pub noted_known : IsKnown i w → IsKnown i (after_noted_reset i.shape unit chunk maker w)
-  noted_known = known_told i w unit (reset_of chunk) maker (ResetDone unit (length (log_of w (suc unit)))) faultless.simple.mount.legal
-      (reset_legal i w unit chunk c maker faultless given range there used).simple.mount.legal (some_given (log_of w 0) chunk given) (λ logs u. refl)
+    pub noted_known : IsSimpleMount i w → IsKnown i w → IsKnown i end_
+    noted_known simple = known_told i w unit e maker (ResetDone unit (next_event w unit)) reset.can ends simple.mount.legal (reset_next simple).mount.legal
+        some (λ logs u. refl)
 
-pub noted_level : (s : Shape) (w : World) (unit chunk : ℕ) (maker : Maker) → IsLevel w → IsLevel (after_noted_reset s unit chunk maker w)
-noted_level s w unit chunk maker level =
-    level_by s (ResetDone unit (length (log_of w (suc unit)))) (after_reset_of s unit chunk maker w) (λ u. refl) (reset_level s w unit chunk maker level)
+  pub noted_level : IsLevel w → IsLevel end_
+  noted_level level = level_by i.shape (ResetDone unit (next_event w unit)) mid (λ u. refl) (reset_level level)
 
-pub noted_waits : (s : Shape) (w : World) (unit chunk other : ℕ) (maker : Maker)
-    → unanswered_on (log_of (after_noted_reset s unit chunk maker w) 0) other ≡ unanswered_on (log_of w 0) other
-noted_waits s w unit chunk other maker =
-    let mid : World = after_reset_of s unit chunk maker w in
-    let l : Logged = (engine_step s (ResetDone unit (length (log_of w (suc unit)))) mid).logged in
-    let log : log_of (after_noted_reset s unit chunk maker w) 0 ≡ log_of w 0 ++ l ∷ [] =
-    log_here (engine_step s (ResetDone unit (length (log_of w (suc unit)))) mid) mid 0 refl
-    ∙ ap (λ (log : List Logged). log ++ l ∷ []) (engine_log s unit (reset_of chunk) maker w) in
-    ap (λ (log : List Logged). unanswered_on log other) log
-    ∙ ap₂ (λ (ps : List Placed) (xs : List Answer). slice_get (filter (λ (p : Placed). p.stripe.unit == other) ps) (length xs))
-    (placements_more (log_of w 0) l ∙ append-nil (placements (log_of w 0))) (answers_more (log_of w 0) l other ∙ append-nil (answers (log_of w 0) other))
+-- ---- the stripes that aren't answered are the same, and the units that were stopped
+
+pub noted_waits : (s : Shape) (unit : ℕ) (e : UnitEvent) (maker : Maker) (w : World) (other : ℕ)
+    → unanswered_on (log_of (after_reset_noted s unit e maker w) 0) other ≡ unanswered_on (log_of w 0) other
+noted_waits s unit e maker w other =
+    waits_still s (ResetDone unit (next_event w unit)) (after_unit s unit e maker w) refl other refl
+    ∙ ap (λ log. unanswered_on log other) (engine_log s unit e maker w)
+
+pub noted_stops : (s : Shape) (unit : ℕ) (e : UnitEvent) (maker : Maker) (w : World) (other : ℕ)
+    → was_stopped_on (log_of (after_reset_noted s unit e maker w) 0) other ≡ was_stopped_on (log_of w 0) other
+noted_stops s unit e maker w other =
+    stopped_now s (ResetDone unit (next_event w unit)) (after_unit s unit e maker w) other
+    ∙ ap (λ log. was_stopped_on log other) (engine_log s unit e maker w)

@@ -1,18 +1,15 @@
 -- What an author who knows all logs knows, and the next step of such an author.
-use Rattle.std.proofs.Common.{◌≡◌, ℕ, ◌+◌, ◌<◌, ◌≤◌, ◌⊎◌, ◌==◌, zero, suc, Bool, true, false, Some, List, [], ◌∷◌, ◌++◌, length, take, get_or, refl, sym, subst, ap, ◌∙◌, arith, if◌then◌else◌, inl, inr}
+use Rattle.std.proofs.Common.{◌≡◌, ℕ, ◌+◌, ◌<◌, ◌≤◌, ◌⊎◌, zero, suc, Some, List, [], ◌∷◌, length, take, get_or, refl, sym, subst, ap, ◌∙◌, arith, inl, inr}
 use Rattle.std.specs.Prelude.{slice_get, slice_index}
-use Rattle.std.specs.List.{Contains}
 use Rattle.std.proofs.lemmas.Bool.{cases_order}
 use Rattle.std.proofs.lemmas.List.{get_or_past}
 use Rattle.std.proofs.lemmas.List.FromFn.{length-map-range_with_len, get_or-map-range_with_len}
 use Rattle.std.proofs.Math.Seq.{take-length}
 use Rattle.pblk_model.specs.Shape.{units}
 use Rattle.pblk_model.specs.Image.{Image}
-use Rattle.pblk_world.specs.Events.{Event, Logged, Step}
+use Rattle.pblk_world.specs.Events.{Event, Logged}
 use Rattle.pblk_world.specs.World.{World, Logs, log_of, known, cut_logs}
 use Rattle.pblk_world.specs.Legal.{IsAllowed, IsKnowledge, IsLegalStep, IsLegal}
-use Rattle.core_laws.specs.StripePrograms.{HasHappened}
-use Rattle.core_laws.proofs.Happened.{happened}
 use Rattle.step_laws.specs.Whole.{knows_all}
 use Rattle.lemmas.proofs.Numbers.{fun_same}
 use Rattle.pblk_world.proofs.WorldLemmas.{log_elsewhere}

@@ -3,14 +3,14 @@ pub mod ChunkEvents
 pub mod EngineSteps
 pub mod NextProgram
 pub mod UnitSteps
-pub mod StripeBlocks
 pub mod Programs
 pub mod OtherUnits
 pub mod UnitStays
 pub mod Fetches
 pub mod Known
 pub mod Levels
-pub mod Pads
+pub mod Waiting
+pub mod Noted
 pub mod Beginning
 pub mod GivenUp
 pub mod Given

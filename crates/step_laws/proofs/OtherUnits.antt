@@ -6,7 +6,8 @@ use Rattle.std.specs.Option.{option_map_or, unwrap_or}
 use Rattle.std.proofs.lemmas.Bool.{cases_order}
 use Rattle.std.proofs.lemmas.List.{take-take}
 use Rattle.pblk_model.specs.Shape.{units}
-use Rattle.pblk_model.specs.Image.{Image, line_units}
+use Rattle.pblk_model.specs.Image.{Image, line_units, width}
+use Rattle.std.specs.Prelude.{slice_index}
 use Rattle.pblk_model.specs.StartRecord.{StartRecord, start_of}
 use Rattle.pblk_model.specs.Contents.{head, counted, winner}
 use Rattle.pblk_world.specs.Events.{Logged}
@@ -23,11 +24,11 @@ use Rattle.stripe_placer.specs.Placing.UnitRow.{Idle}
 use Rattle.l2p_map.specs.declared.slot.Slot.TheVariants.{Cached, Media}
 use Rattle.core_laws.specs.OpenedLines.{bits_of, live_now, as_opened, with_outcomes, open_line, standing, open_lines}
 use Rattle.core_laws.specs.PlacerOf.{entries_of, unanswered_on, waits_again, row_of_program, program_of_stripe, row_in, row_of, number_of, placing_of}
-use Rattle.core_laws.specs.RowsOf.{rows_of}
+use Rattle.core_laws.specs.RowsOf.{logs_then, rows_of}
+use Rattle.core_laws.proofs.KeptRows.{KeepsThen, taker_kept}
 use Rattle.core_laws.specs.SlotOf.{address_in, readable_block, media_of, slot_of_winner, slot_by, slot_of}
 use Rattle.core_laws.specs.KnownLogs.{AreKnown}
-use Rattle.core_laws.specs.PlainLogs.{NoLineFreed}
-use Rattle.core_laws.proofs.KnownLines.{rows_known, room_known}
+use Rattle.core_laws.proofs.KnownLines.{lines_known, rows_known, room_known}
 use Rattle.core_laws.specs.LeftOpenings.{left_openings}
 use Rattle.lemmas.proofs.Maps.{filter_same, made_same, map_same}
 use Rattle.lemmas.proofs.Numbers.{fun_same}
@@ -42,6 +43,7 @@ with_units us logs (suc unit) = us unit
 pub record AreAlike (i : Image) (us : ℕ → List Logged) (logs : Logs) : Type 0 where
   pub found : found_image i (with_units us logs) ≡ found_image i logs
   pub image : known_image i (with_units us logs) ≡ known_image i logs
+  pub founds : (n : ℕ) → found_image i (engine_prefix n (with_units us logs)) ≡ found_image i (engine_prefix n logs)
   pub images : (n : ℕ) → known_image i (engine_prefix n (with_units us logs)) ≡ known_image i (engine_prefix n logs)
 
 -- a prefix of a prefix is one
@@ -70,8 +72,20 @@ module _ (i : Image) (us : ℕ → List Logged) (logs : Logs) (alike : AreAlike 
   pub room_beside : room i more ≡ room i logs
   room_beside = room_known i logs more are_known
 
-  pub rows_beside : NoLineFreed (logs 0) → rows_of i more ≡ rows_of i logs
-  rows_beside freed = rows_known i logs more are_known freed
+  pub rows_beside : rows_of i more ≡ rows_of i logs
+  rows_beside = rows_known i logs more are_known (λ line. by_life line (life_of (logs 0) line))
+    where
+      by_life : (line : ℕ) (life : LineLife) → KeepsThen i logs more line life
+      by_life line AsFound = tt
+      by_life line (Opened o) = tt
+      by_life line (Freed past knows) = (
+        ap (λ (j : Image). width j line) (alike.images (slice_index knows 0)),
+        taker_kept i (logs_then knows logs) (logs_then knows more) line (lines_known i (logs_then knows logs) (logs_then knows more) (record {
+          own = refl;
+          found = alike.founds (slice_index knows 0);
+          image = alike.images (slice_index knows 0);
+        })),
+      )
 
   pub live_beside : (line : ℕ) → live_now i more line ≡ live_now i logs line
   live_beside line = ap (λ (j : Image). bits_of (line_units j line)) alike.image

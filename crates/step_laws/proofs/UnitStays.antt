@@ -63,6 +63,7 @@ module _ (i : Image) (w : World) (unit : ℕ) (e : UnitEvent) (maker : Maker) wh
   alike legal = record {
     found = (told legal).found;
     image = whole legal;
+    founds = λ n. (told_then i (log_of w) swapped n (told legal)).found;
     images = λ n. image_same i (engine_prefix n (log_of w)) (engine_prefix n swapped) (told_then i (log_of w) swapped n (told legal));
   }
 
@@ -75,8 +76,8 @@ module _ (i : Image) (w : World) (unit : ℕ) (e : UnitEvent) (maker : Maker) wh
   pub room_stays : IsLegal i w → room i after_ ≡ room i (log_of w)
   room_stays legal = ap (room i) is_swapped ∙ room_beside i us (log_of w) (alike legal)
 
-  pub rows_stay : IsSimpleMount i w → rows_of i after_ ≡ rows_of i (log_of w)
-  rows_stay simple = ap (rows_of i) is_swapped ∙ rows_beside i us (log_of w) (alike simple.mount.legal) (none_freed (log_of w 0) (engine_plain i w simple))
+  pub rows_stay : IsLegal i w → rows_of i after_ ≡ rows_of i (log_of w)
+  rows_stay legal = ap (rows_of i) is_swapped ∙ rows_beside i us (log_of w) (alike legal)
 
   pub live_stays : (line : ℕ) → IsLegal i w → live_now i after_ line ≡ live_now i (log_of w) line
   live_stays line legal = ap (λ (ls : Logs). live_now i ls line) is_swapped ∙ live_beside i us (log_of w) (alike legal) line

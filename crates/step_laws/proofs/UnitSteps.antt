@@ -1,40 +1,39 @@
 -- The next step of a unit whose author knows all logs.
-use Rattle.std.proofs.Common.{◌≡◌, ◌≢◌, ℕ, ◌<◌, ◌==◌, ◌||◌, suc, cond, Bool, true, false, Some, None, Option, List, [], ◌∷◌, ◌++◌, length, take, refl, sym, subst, ap, ◌∙◌, arith, if◌then◌else◌}
+use Rattle.std.proofs.Common.{◌≡◌, ◌≢◌, ◌⊎◌, ℕ, ◌<◌, ◌==◌, ◌||◌, suc, cond, Bool, true, false, Some, None, Option, List, [], ◌∷◌, ◌++◌, length, refl, sym, subst, ap, ◌∙◌, arith, if◌then◌else◌}
 use Rattle.std.specs.Prelude.{slice_get}
-use Rattle.std.specs.List.{AllByRecursion, Contains, filter, filter_map, cons_option}
+use Rattle.std.specs.List.{AllByRecursion, Contains, filter, filter_map}
 use Rattle.std.specs.Option.{option_map, option_and_then, IfSome}
 use Rattle.std.proofs.lemmas.Bool.{eqb-true}
+use Rattle.std.proofs.lemmas.List.Folds.{list_any-append}
 use Rattle.std.proofs.lemmas.List.Sums.{fold-append}
 use Rattle.std.proofs.lemmas.Option.{none-some, slice_get_within}
-use Rattle.std.proofs.Math.Seq.{take-append_seam}
 use Rattle.pblk_model.specs.declared.shape.Shape.{Shape}
 use Rattle.pblk_model.specs.Shape.{units}
-use Rattle.pblk_model.specs.Chunk.{Chunk, IsBlock}
-use Rattle.pblk_model.specs.ChunkStep.{Write, refusal}
-use Rattle.pblk_model.specs.UnitLog.{UnitOutcome, Answered, Failed, Stopped, UnitEvent, after_event, after_log}
-use Rattle.pblk_model.specs.Image.{Image}
+use Rattle.pblk_model.specs.Chunk.{Chunk}
+use Rattle.pblk_model.specs.UnitLog.{UnitEvent, after_outcome, after_event, after_log}
+use Rattle.pblk_model.specs.Image.{Image, IsFit}
+use Rattle.pblk_laws.specs.LineBlocks.{chunk_in}
 use Rattle.pblk_world.specs.Events.{EngineEvent, Landed, Lost, Again, ResetDone, Event, Decides, Does, Maker, Logged, Step}
 use Rattle.pblk_world.specs.World.{World, Logs, log_of, known, prefixes, media, unit_events, unit_event_of}
-use Rattle.pblk_world.specs.EngineLog.{Begun, begun, Placed, placed_on, answers, named_by, named_events}
-use Rattle.pblk_world.specs.Commanding.{was_stopped, has_stopped, ended_stripes, IsCommand, IsStripe, MayDo}
-use Rattle.pblk_world.specs.Answering.{IsNew, MayLand}
+use Rattle.pblk_world.specs.EngineLog.{Begun, begun, Placed, placed_on, named_by, named_events}
+use Rattle.pblk_world.specs.Commanding.{was_stopped, has_stopped, IsCommand}
+use Rattle.pblk_world.specs.Answering.{IsNew}
 use Rattle.pblk_world.specs.Legal.{IsAllowed, IsLegal}
-use Rattle.pblk_laws.specs.LineBlocks.{chunk_in}
-use Rattle.core_laws.specs.FaultlessMounts.{AreAnswered, IsFaultlessMount, is_answered}
-use Rattle.core_laws.specs.PlacerOf.{unanswered_on}
-use Rattle.core_laws.proofs.FaultlessMounts.{still_faultless}
+use Rattle.world_laws.specs.LegalMounts.{IsLegalMount}
+use Rattle.core_laws.specs.SimpleMounts.{IsSimpleLog, IsSimpleMount}
 use Rattle.core_laws.proofs.BegunOnce.{begun_once}
 use Rattle.core_laws.specs.StripePrograms.{HasHappened}
 use Rattle.core_laws.proofs.Happened.{happened}
 use Rattle.pblk_world.specs.Makers.{is_made_by, commands_of}
-use Rattle.step_laws.specs.Whole.{engine_step, unit_step, program_of}
-use Rattle.step_laws.proofs.Knowing.{known_whole, next_step}
-use Rattle.step_laws.proofs.NextProgram.{program_is_taken}
+use Rattle.step_laws.specs.NextEvents.{CanDo}
+use Rattle.step_laws.specs.Whole.{engine_step, unit_step, after_unit, next_event}
+use Rattle.step_laws.proofs.ChunkEvents.{IsTurned, turned_here, turned_beside}
+use Rattle.step_laws.proofs.Knowing.{next_legal}
 use Rattle.lemmas.proofs.Lists.{all_contains}
 use Rattle.lemmas.proofs.Maps.{all_filter_map, more}
-use Rattle.lemmas.proofs.Parts.{all_by_get, get_last, get_whole_within}
-use Rattle.lemmas.proofs.Tests.{other_number, same_number}
-use Rattle.pblk_world.proofs.WorldLemmas.{log_elsewhere, log_here, media_at}
+use Rattle.lemmas.proofs.Parts.{all_by_get, get_last, get_more, get_whole_within}
+use Rattle.lemmas.proofs.Tests.{not_both, or_no, other_number, same_number}
+use Rattle.pblk_world.proofs.WorldLemmas.{length_media, log_elsewhere, log_here, media_at}
 
 -- ---- the logs
 
@@ -48,6 +47,13 @@ other_log s unit e maker w author apart = log_elsewhere (unit_step s unit e make
 
 pub engine_log : (s : Shape) (unit : ℕ) (e : UnitEvent) (maker : Maker) (w : World) → log_of (unit_step s unit e maker w ∷ w) 0 ≡ log_of w 0
 engine_log s unit e maker w = other_log s unit e maker w 0 (λ same. let no : 0 ≡ suc unit = same in absurd (omega arith))
+
+-- its number is how long the log was
+pub new_event : (s : Shape) (unit : ℕ) (e : UnitEvent) (maker : Maker) (w : World)
+    → slice_get (log_of (unit_step s unit e maker w ∷ w) (suc unit)) (next_event w unit) ≡ Some (unit_step s unit e maker w).logged
+new_event s unit e maker w =
+    ap (λ (log : List Logged). slice_get log (next_event w unit)) (unit_log s unit e maker w)
+    ∙ get_last (log_of w (suc unit)) (unit_step s unit e maker w).logged
 
 -- ---- how many commands a worker made
 
@@ -75,12 +81,38 @@ pub engines_count : (s : Shape) (e : EngineEvent) (w : World) (worker : ℕ) →
 unfolding made_before
 engines_count s e w worker = no_more false (engine_step s e w) (made_before worker w) refl
 
--- ---- the media
+-- ---- its events
 
-events_now : (s : Shape) (unit : ℕ) (e : UnitEvent) (maker : Maker) (w : World)
+pub events_now : (s : Shape) (unit : ℕ) (e : UnitEvent) (maker : Maker) (w : World)
     → unit_events (log_of (unit_step s unit e maker w ∷ w)) unit ≡ unit_events (log_of w) unit ++ e ∷ []
 events_now s unit e maker w = ap (λ (log : List Logged). filter_map (λ l. unit_event_of l.event) log) (unit_log s unit e maker w)
     ∙ more (λ (l : Logged). unit_event_of l.event) (log_of w (suc unit)) (unit_step s unit e maker w).logged
+
+pub events_elsewhere : (s : Shape) (unit : ℕ) (e : UnitEvent) (maker : Maker) (w : World) (other : ℕ) → other ≢ unit
+    → unit_events (log_of (unit_step s unit e maker w ∷ w)) other ≡ unit_events (log_of w) other
+events_elsewhere s unit e maker w other apart = ap (λ (log : List Logged). filter_map (λ l. unit_event_of l.event) log)
+    (other_log s unit e maker w (suc other) (λ same. let is : suc other ≡ suc unit = same in apart (omega arith)))
+
+-- those that it had keep their numbers
+pub events_kept : (s : Shape) (unit : ℕ) (e : UnitEvent) (maker : Maker) (w : World) (n : ℕ) (x : UnitEvent)
+    → slice_get (unit_events (log_of w) unit) n ≡ Some x
+    → slice_get (unit_events (log_of (unit_step s unit e maker w ∷ w)) unit) n ≡ Some x
+events_kept s unit e maker w n x there =
+    ap (λ (es : List UnitEvent). slice_get es n) (events_now s unit e maker w) ∙ get_more (unit_events (log_of w) unit) (e ∷ []) n x there
+
+-- whether one of them was stopped
+pub stops_now : (s : Shape) (unit : ℕ) (e : UnitEvent) (maker : Maker) (w : World)
+    → has_stopped (unit_events (log_of (unit_step s unit e maker w ∷ w)) unit) ≡ (has_stopped (unit_events (log_of w) unit) || was_stopped e.outcome)
+stops_now s unit e maker w =
+    ap has_stopped (events_now s unit e maker w)
+    ∙ list_any-append (λ (x : UnitEvent). was_stopped x.outcome) (unit_events (log_of w) unit) (e ∷ [])
+    ∙ ap (λ b. has_stopped (unit_events (log_of w) unit) || b) (or_no (was_stopped e.outcome))
+
+pub stops_elsewhere : (s : Shape) (unit : ℕ) (e : UnitEvent) (maker : Maker) (w : World) (other : ℕ) → other ≢ unit
+    → has_stopped (unit_events (log_of (unit_step s unit e maker w ∷ w)) other) ≡ has_stopped (unit_events (log_of w) other)
+stops_elsewhere s unit e maker w other apart = ap has_stopped (events_elsewhere s unit e maker w other apart)
+
+-- ---- the media
 
 after_last : (s : Shape) (es : List UnitEvent) (e : UnitEvent) (o : Option (List Chunk))
     → option_map (λ cs. after_log s cs (es ++ e ∷ [])) o ≡ option_map (λ cs. after_event s cs e) (option_map (λ cs. after_log s cs es) o)
@@ -100,20 +132,25 @@ pub media_elsewhere : (i : Image) (unit : ℕ) (e : UnitEvent) (maker : Maker) (
     → slice_get (media i (log_of (unit_step i.shape unit e maker w ∷ w))).units other ≡ slice_get (media i (log_of w)).units other
 media_elsewhere i unit e maker w other apart =
     media_at i (log_of (unit_step i.shape unit e maker w ∷ w)) other
-    ∙ ap (λ (log : List Logged). option_map (λ cs. after_log i.shape cs (filter_map (λ l. unit_event_of l.event) log)) (slice_get i.units other))
-    (other_log i.shape unit e maker w (suc other) (λ same. let is : suc other ≡ suc unit = same in apart (omega arith)))
+    ∙ ap (λ es. option_map (λ cs. after_log i.shape cs es) (slice_get i.units other)) (events_elsewhere i.shape unit e maker w other apart)
     ∙ sym (media_at i (log_of w) other)
 
--- ---- a faultless unit was not stopped
+pub media_turned : (i : Image) (unit : ℕ) (e : UnitEvent) (maker : Maker) (w : World)
+    → IsTurned i.shape (media i (log_of w)) (media i (log_of (unit_step i.shape unit e maker w ∷ w))) unit e
+media_turned i unit e maker w =
+    record { own = media_now i unit e maker w; others = λ other apart. media_elsewhere i unit e maker w other apart }
 
-never : (o : UnitOutcome) (b : Bool) → is_answered o ≡ true → b ≡ false → (was_stopped o || b) ≡ false
-never (Answered a) b answered rest = rest
-never (Failed k) b answered rest = rest
-never (Stopped k) b answered rest = absurd (cc)
+-- of one chunk
+pub chunk_now : (i : Image) (unit : ℕ) (e : UnitEvent) (maker : Maker) (w : World)
+    → chunk_in (media i (log_of (unit_step i.shape unit e maker w ∷ w))) e.chunk unit ≡ option_map
+    (λ c. after_outcome i.shape c e.command e.outcome) (chunk_in (media i (log_of w)) e.chunk unit)
+chunk_now i unit e maker w =
+    turned_here i.shape (media i (log_of w)) (media i (log_of (unit_step i.shape unit e maker w ∷ w))) unit e (media_turned i unit e maker w)
 
-pub none_stopped : (es : List UnitEvent) → AreAnswered es → has_stopped es ≡ false
-none_stopped [] answered = refl
-none_stopped (e ∷ es) answered = never e.outcome (has_stopped es) answered.0 (none_stopped es answered.1)
+pub chunk_elsewhere : (i : Image) (unit : ℕ) (e : UnitEvent) (maker : Maker) (w : World) (other line : ℕ) → (other ≢ unit) ⊎ (line ≢ e.chunk)
+    → chunk_in (media i (log_of (unit_step i.shape unit e maker w ∷ w))) line other ≡ chunk_in (media i (log_of w)) line other
+chunk_elsewhere i unit e maker w other line apart =
+    turned_beside i.shape (media i (log_of w)) (media i (log_of (unit_step i.shape unit e maker w ∷ w))) unit e other line (media_turned i unit e maker w) apart
 
 -- ---- what the engine named is in the unit's log
 
@@ -140,11 +177,11 @@ named_within i w unit legal =
     (all_by_get (λ (l : Logged). IfSome (named_by unit l.event) (λ n. n < length (log_of w (suc unit)))) (log_of w 0) (λ k l there.
     let is : HasHappened i (log_of w) 0 k l = happened i w 0 legal k l there in named_by_event i (log_of w) l unit l.event is.allowed))
 
--- ---- a program
+-- ---- it may be done
 
-pub has_begun : (i : Image) (w : World) (unit k : ℕ) (p : Placed) → IsFaultlessMount i w → slice_get (placed_on (log_of w 0) unit) k ≡ Some p
+pub has_begun : (i : Image) (w : World) (unit k : ℕ) (p : Placed) → IsLegal i w → slice_get (placed_on (log_of w 0) unit) k ≡ Some p
     → (b : Begun) × (begun (log_of w 0) ≡ Some b)
-has_begun i w unit k p faultless there = begun_once i w faultless.simple.mount.legal (some (log_of w 0) there)
+has_begun i w unit k p legal there = begun_once i w legal (some (log_of w 0) there)
   where
     some : (log : List Logged) → slice_get (placed_on log unit) k ≡ Some p → 0 < length log
     some [] e = absurd (none-some p e)
@@ -162,66 +199,61 @@ pub has_chunks : (o : Option (List Chunk)) (chunk : ℕ) (c : Chunk) → option_
 has_chunks None chunk c e = absurd (none-some c e)
 has_chunks (Some chunks) chunk c e = (chunks, refl, e)
 
-pub may_program : (i : Image) (w : World) (unit : ℕ) (p : Placed) → IsFaultlessMount i w → unit < units i.shape
-    → slice_get (placed_on (log_of w 0) unit) (ended_stripes (log_of w (suc unit))) ≡ Some p
-    → AllByRecursion (IsBlock i.shape) p.stripe.blocks → MayDo i (log_of w) unit (program_of p.stripe)
-may_program i w unit p faultless range there blocks =
-    let taken : (c : Chunk) × (chunk_in (media i (log_of w)) p.stripe.chunk unit ≡ Some c) × (refusal i.shape c (Write p.stripe.at p.stripe.blocks) ≡ None) =
-    program_is_taken i w unit p faultless.simple.mount range there (none_stopped (unit_events (log_of w) unit) (faultless.answered unit)) in
-    let chunks = has_chunks (slice_get (media i (log_of w)).units unit) p.stripe.chunk taken.0 taken.1 in
-    let begins = has_begun i w unit (ended_stripes (log_of w (suc unit))) p faultless there in
-    let stripe : IsStripe (log_of w) unit p.stripe.chunk p.stripe.at p.stripe.blocks =
-    record { placed = p; earliest = there; its_chunk = refl; its_place = refl; its_blocks = refl } in record {
-      chunks = chunks.0;
-      has_chunks = chunks.1;
-      event = record { found = taken.0; there = chunks.2; blocks = blocks; outcome = (tt, (taken.2, refl)) };
-      stopped = λ was. let none : has_stopped (unit_events (log_of w) unit) ≡ false =
-          none_stopped (unit_events (log_of w) unit) (faultless.answered unit) in absurd (cc);
-      command = subst (λ o. IsCommand i (log_of w) unit taken.0 p.stripe.chunk (Write p.stripe.at p.stripe.blocks) o) (sym begins.1) stripe;
+-- what has chunks is one of the drive's units
+pub unit_inside : (i : Image) (logs : Logs) (unit : ℕ) (chunks : List Chunk) → IsFit i → slice_get (media i logs).units unit ≡ Some chunks
+    → unit < units i.shape
+unit_inside i logs unit chunks fit has =
+    let within : unit < length (media i logs).units = slice_get_within (media i logs).units unit chunks has in
+    let count : length (media i logs).units ≡ length i.units = length_media i logs in
+    let all : length i.units ≡ units i.shape = fit.units in
+    omega arith
+
+-- the chunk of the command stands on the drive
+pub found_there : (i : Image) (logs : Logs) (unit : ℕ) (e : UnitEvent) (can : CanDo i logs unit e)
+    → chunk_in (media i logs) e.chunk unit ≡ Some can.event.found
+found_there i logs unit e can = ap (option_and_then (λ (chunks : List Chunk). slice_get chunks e.chunk)) can.has_chunks ∙ can.event.there
+
+-- a command that isn't stopped is one of a unit that wasn't
+pub running : (i : Image) (logs : Logs) (unit : ℕ) (e : UnitEvent) → CanDo i logs unit e → was_stopped e.outcome ≡ false
+    → has_stopped (unit_events logs unit) ≡ false
+running i logs unit e can ends = go (has_stopped (unit_events logs unit)) refl
+  where
+    go : (b : Bool) → has_stopped (unit_events logs unit) ≡ b → b ≡ false
+    go true was = absurd (not_both (was_stopped e.outcome) (ap was_stopped (can.stopped was)) ends)
+    go false was = refl
+
+-- a unit does what it can do and may be told to
+pub next_legal_mount : (i : Image) (w : World) (unit : ℕ) (e : UnitEvent) (maker : Maker) → IsLegalMount i w → (can : CanDo i (log_of w) unit e)
+    → IsCommand i (log_of w) unit can.event.found e.chunk e.command (begun (log_of w 0))
+    → IsLegalMount i (after_unit i.shape unit e maker w)
+next_legal_mount i w unit e maker mount can command =
+    let range : unit < units i.shape = unit_inside i (log_of w) unit can.chunks mount.fit can.has_chunks in record {
+      accepted = mount.accepted;
+      fit = mount.fit;
+      legal = next_legal i w (suc unit) (Does e maker) mount.legal (omega arith)
+          (record { chunks = can.chunks; has_chunks = can.has_chunks; event = can.event; stopped = can.stopped; command = command });
     }
 
-pub program_next : (i : Image) (w : World) (unit : ℕ) (p : Placed) (maker : Maker) → IsFaultlessMount i w → unit < units i.shape
-    → slice_get (placed_on (log_of w 0) unit) (ended_stripes (log_of w (suc unit))) ≡ Some p
-    → AllByRecursion (IsBlock i.shape) p.stripe.blocks → IsFaultlessMount i (unit_step i.shape unit (program_of p.stripe) maker w ∷ w)
-program_next i w unit p maker faultless range there blocks =
-    still_faultless i (unit_step i.shape unit (program_of p.stripe) maker w) w faultless
-    (next_step i w (suc unit) (Does (program_of p.stripe) maker) faultless.simple.mount.legal (omega arith)
-    (may_program i w unit p faultless range there blocks)) refl
+pub unit_next : (i : Image) (w : World) (unit : ℕ) (e : UnitEvent) (maker : Maker) → IsSimpleMount i w → (can : CanDo i (log_of w) unit e)
+    → IsCommand i (log_of w) unit can.event.found e.chunk e.command (begun (log_of w 0))
+    → IsSimpleMount i (after_unit i.shape unit e maker w)
+unit_next i w unit e maker simple can command = record {
+  mount = next_legal_mount i w unit e maker simple.mount can command;
+  engine = subst IsSimpleLog (sym (engine_log i.shape unit e maker w)) simple.engine;
+}
 
-pub may_land : (i : Image) (w : World) (unit : ℕ) (p : Placed) (maker : Maker) → IsFaultlessMount i w → unanswered_on (log_of w 0) unit ≡ Some p
-    → ended_stripes (log_of w (suc unit)) ≡ length (answers (log_of w 0) unit)
-    → MayLand (log_of (unit_step i.shape unit (program_of p.stripe) maker w ∷ w)) unit (length (log_of w (suc unit)))
-may_land i w unit p maker faultless waits level =
-    let s : Step = unit_step i.shape unit (program_of p.stripe) maker w in
-    let here : log_of (s ∷ w) (suc unit) ≡ log_of w (suc unit) ++ s.logged ∷ [] = unit_log i.shape unit (program_of p.stripe) maker w in
-    let own : log_of (s ∷ w) 0 ≡ log_of w 0 = engine_log i.shape unit (program_of p.stripe) maker w in
-    let last : slice_get (log_of (s ∷ w) (suc unit)) (length (log_of w (suc unit))) ≡ Some s.logged =
-    ap (λ (log : List Logged). slice_get log (length (log_of w (suc unit)))) here ∙ get_last (log_of w (suc unit)) s.logged in
-    let before : take (length (log_of w (suc unit))) (log_of (s ∷ w) (suc unit)) ≡ log_of w (suc unit) =
-    ap (λ (log : List Logged). take (length (log_of w (suc unit))) log) here ∙ take-append_seam (log_of w (suc unit)) (s.logged ∷ []) in
-    let begins = has_begun i w unit (length (answers (log_of w 0) unit)) p faultless waits in
-    let some : 0 < length (log_of w 0) = engine_longer w begins.0 begins.1 in
-    let knows : known s.logged 0 ≡ length (log_of w 0) = known_whole i w faultless.simple.mount.legal 0 in
-    let fewer : length (answers (log_of w 0) unit) < length (placed_on (log_of w 0) unit) =
-    slice_get_within (placed_on (log_of w 0) unit) (length (answers (log_of w 0) unit)) p waits in record {
-      program = program_of p.stripe;
-      new = record {
-        logged = s.logged;
-        is_known = last;
-        event = refl;
-        once = λ named.
-            let within : length (log_of w (suc unit)) < length (log_of w (suc unit)) =
-            all_contains (λ n. n < length (log_of w (suc unit))) (named_events (log_of w 0) unit) (length (log_of w (suc unit)))
-            (named_within i w unit faultless.simple.mount.legal)
-            (subst (λ (log : List Logged). Contains (named_events log unit) (length (log_of w (suc unit)))) own named) in absurd (omega arith);
-      };
-      stripe = record {
-        program = refl;
-        logged = s.logged;
-        is_logged = last;
-        after_begin = omega arith;
-        placed = subst (λ (log : List Logged). length (answers log unit) < length (placed_on log unit)) (sym own) fewer;
-        its_turn = ap ended_stripes before ∙ level ∙ ap (λ (log : List Logged). length (answers log unit)) (sym own);
-      };
-      done = refl;
+-- ---- the engine didn't name it yet
+
+pub is_new : (i : Image) (w : World) (unit : ℕ) (e : UnitEvent) (maker : Maker) → IsLegal i w
+    → IsNew (log_of (after_unit i.shape unit e maker w)) unit (next_event w unit) e
+is_new i w unit e maker legal =
+    let s : Step = unit_step i.shape unit e maker w in record {
+      logged = s.logged;
+      is_known = new_event i.shape unit e maker w;
+      event = refl;
+      once = λ named.
+          let within : next_event w unit < length (log_of w (suc unit)) =
+          all_contains (λ n. n < length (log_of w (suc unit))) (named_events (log_of w 0) unit) (next_event w unit) (named_within i w unit legal)
+          (subst (λ (log : List Logged). Contains (named_events log unit) (next_event w unit)) (engine_log i.shape unit e maker w) named) in
+          absurd (omega arith);
     }

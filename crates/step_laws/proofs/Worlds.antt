@@ -1,119 +1,112 @@
 -- What all units did, as a world.
-use Rattle.std.proofs.Common.{◌≡◌, ◌⊎◌, inl, inr, ℕ, ◌+◌, ◌<◌, ◌≤◌, zero, suc, Some, None, List, [], ◌∷◌, ◌++◌, length, drop, get_or, refl, sym, subst, ap, ◌∙◌, arith}
+use Rattle.std.proofs.Common.{◌≡◌, ◌⊎◌, inl, inr, ℕ, ◌+◌, ◌<◌, ◌≤◌, zero, suc, true, Some, None, List, [], ◌∷◌, ◌++◌, length, get_or, refl, sym, subst, ap, ◌∙◌, arith}
 use Rattle.std.specs.Prelude.{map, slice_get}
 use Rattle.std.specs.List.{enumerate_from}
 use Rattle.std.specs.Option.{option_map}
 use Rattle.std.proofs.lemmas.List.{length-map}
+use Rattle.std.proofs.lemmas.List.Sums.{fold-append}
 use Rattle.std.proofs.lemmas.Option.{same_Some, none-some, slice_get-map, slice_get_cases}
 use Rattle.pblk_model.specs.declared.shape.Shape.{Shape}
 use Rattle.pblk_model.specs.Accepted.{IsAccepted}
-use Rattle.pblk_model.specs.Shape.{units}
 use Rattle.pblk_model.specs.Chunk.{Chunk}
 use Rattle.pblk_model.specs.UnitLog.{UnitEvent, after_log}
 use Rattle.pblk_model.specs.Image.{Image}
-use Rattle.pblk_world.specs.World.{World, Logs, log_of, media, unit_events}
+use Rattle.pblk_world.specs.Commanding.{has_stopped}
+use Rattle.pblk_world.specs.World.{World, log_of, media, unit_events}
 use Rattle.pblk_world.specs.Legal.{IsLegal}
-use Rattle.core_laws.specs.FaultlessMounts.{IsFaultlessMount}
-use Rattle.step_laws.specs.Whole.{unit_step, opening_maker}
-use Rattle.step_laws.proofs.ChunkEvents.{same_images}
-use Rattle.step_laws.proofs.UnitSteps.{engine_log}
-use Rattle.unit_port.specs.Unit.{ModelUnit}
-use Rattle.unit_port.specs.Commands.{events_of, AreUnarmed}
+use Rattle.pblk_world.proofs.WorldLemmas.{length_media, media_at}
+use Rattle.core_laws.specs.SimpleMounts.{IsSimpleMount}
+use Rattle.unit_port.specs.Unit.{ModelUnit, IsStopped}
+use Rattle.unit_port.specs.Commands.{EventAt, after_one, after_all, events_of}
+use Rattle.scan_recovery.specs.Lost.{grown_by}
+use Rattle.scan_recovery.specs.MayStop.{AllMayStop}
+use Rattle.scan_recovery.specs.Readying.{WereReadied}
 use Rattle.scan_recovery.specs.Units.{AreFit, image_of}
 use Rattle.scan_recovery.proofs.PadLoops.{fit_image}
-use Rattle.scan_recovery.specs.Readying.{WereReadied}
-use Rattle.step_laws.specs.Opened.{grown_by, new_events, after_events, after_units}
-use Rattle.step_laws.proofs.UnitEvents.{AreReadying, HasReadied, all_steps}
-use Rattle.step_laws.proofs.Readied.{AreCalm, HasItsOwn, has_its_own, all_ready, as_many}
+use Rattle.scan_recovery.proofs.UnitLogs.{as_many, grown_after, media_after, unit_after, with_events}
+use Rattle.step_laws.specs.Opened.{new_events, after_events, after_units}
+use Rattle.step_laws.proofs.ChunkEvents.{same_images}
+use Rattle.step_laws.proofs.Readied.{all_ready, own_ready}
+use Rattle.step_laws.proofs.UnitEvents.{AreReadying, IsAt, all_steps, at_elsewhere, events_quiet, others_events, own_events, stopped_after}
 use Rattle.lemmas.proofs.Parts.{get_past}
 
 -- ---- units one after another
 
--- the unit has these chunks, and its events make them ready
-abbrev HasReady : Image → World → ℕ → List UnitEvent → Type 0
-HasReady i w n events = (chunks : List Chunk) × (slice_get (media i (log_of w)).units n ≡ Some chunks) × AreReadying i chunks events
+events_below : (s : Shape) (all : List (List UnitEvent)) (unit : ℕ) (w : World) (n : ℕ) → n < unit
+    → unit_events (log_of (after_units s unit w all)) n ≡ unit_events (log_of w) n
+events_below s [] unit w n low = refl
+events_below s (events ∷ all) unit w n low =
+    events_below s all (suc unit) (after_events s unit w events) n (omega arith)
+    ∙ others_events s unit events w n (λ same. absurd (omega arith))
 
-record HaveReadied (i : Image) (w : World) (unit : ℕ) (all : List (List UnitEvent)) : Type 0 where
-  faultless : IsFaultlessMount i (after_units i.shape unit w all)
-  none : log_of (after_units i.shape unit w all) 0 ≡ []
-  own : (n k : ℕ) (events : List UnitEvent) (chunks : List Chunk) → n ≡ unit + k → slice_get all k ≡ Some events
-      → slice_get (media i (log_of w)).units n ≡ Some chunks
-      → slice_get (media i (log_of (after_units i.shape unit w all))).units n ≡ Some (after_log i.shape chunks events)
-  below : (n : ℕ) → n < unit → slice_get (media i (log_of (after_units i.shape unit w all))).units n ≡ slice_get (media i (log_of w)).units n
+-- a unit has its events
+its_events : (s : Shape) (all : List (List UnitEvent)) (unit : ℕ) (w : World) (n k : ℕ) (events : List UnitEvent) → n ≡ unit + k
+    → slice_get all k ≡ Some events → unit_events (log_of (after_units s unit w all)) n ≡ unit_events (log_of w) n ++ events
+its_events s [] unit w n k events at there = absurd (none-some events there)
+its_events s (first ∷ all) unit w n zero events at there =
+    let same : n ≡ unit = omega arith in
+    events_below s all (suc unit) (after_events s unit w first) n (omega arith)
+    ∙ subst (λ m. unit_events (log_of (after_events s unit w first)) m ≡ unit_events (log_of w) m ++ first) (sym same) (own_events s unit first w)
+    ∙ ap (λ (es : List UnitEvent). unit_events (log_of w) n ++ es) (same_Some first events there)
+its_events s (first ∷ all) unit w n (suc k) events at there =
+    its_events s all (suc unit) (after_events s unit w first) n k events (omega arith) there
+    ∙ ap (λ (es : List UnitEvent). es ++ events) (others_events s unit first w n (λ same. absurd (omega arith)))
 
-joined : (i : Image) (w : World) (unit : ℕ) (first : List UnitEvent) (all : List (List UnitEvent)) (its : HasReady i w unit first)
-    (step : HasReadied i w unit its.0 first)
-    → HaveReadied i (after_events i.shape unit w first) (suc unit) all → HaveReadied i w unit (first ∷ all)
-joined i w unit first all its step rest = record {
-  faultless = rest.faultless;
-  none = rest.none;
-  own = own;
-  below = λ n low. rest.below n (omega arith) ∙ step.elsewhere n (λ same. omega arith);
-}
-  where
-    own : (n k : ℕ) (events : List UnitEvent) (chunks : List Chunk) → n ≡ unit + k → slice_get (first ∷ all) k ≡ Some events
-        → slice_get (media i (log_of w)).units n ≡ Some chunks
-        → slice_get (media i (log_of (after_units i.shape unit w (first ∷ all)))).units n ≡ Some (after_log i.shape chunks events)
-    own n zero events chunks at there has =
-        let same : n ≡ unit = omega arith in
-        let is : first ≡ events = same_Some first events there in
-        let before : its.0 ≡ chunks = same_Some its.0 chunks (sym its.1 ∙ ap (slice_get (media i (log_of w)).units) (sym same) ∙ has) in
-        ap (slice_get (media i (log_of (after_units i.shape unit w (first ∷ all)))).units) same
-        ∙ rest.below unit (omega arith) ∙ step.own ∙ ap (λ (cs : List Chunk). Some (after_log i.shape cs first)) before
-        ∙ ap (λ (es : List UnitEvent). Some (after_log i.shape chunks es)) is
-    own n (suc k) events chunks at there has = rest.own n k events chunks (omega arith) there (step.elsewhere n (λ same. omega arith) ∙ has)
+-- the engine did nothing
+pub units_quiet : (s : Shape) (unit : ℕ) (w : World) (all : List (List UnitEvent)) → log_of (after_units s unit w all) 0 ≡ log_of w 0
+units_quiet s unit w [] = refl
+units_quiet s unit w (events ∷ all) = units_quiet s (suc unit) (after_events s unit w events) all ∙ events_quiet s unit events w
 
-all_units : (i : Image) (w : World) (unit : ℕ) (all : List (List UnitEvent)) → IsFaultlessMount i w → log_of w 0 ≡ [] → unit + length all ≤ units i.shape
-    → ((n k : ℕ) (events : List UnitEvent) → n ≡ unit + k → slice_get all k ≡ Some events → HasReady i w n events) → HaveReadied i w unit all
-all_units i w unit [] faultless none few ready =
-    record { faultless = faultless; none = none; own = λ n k events chunks at there has. absurd (none-some events there); below = λ n low. refl }
-all_units i w unit (first ∷ all) faultless none few ready =
-    let its : HasReady i w unit first = ready unit 0 first (omega arith) refl in
-    let step : HasReadied i w unit its.0 first = all_steps i w unit its.0 first faultless none (omega arith) its.1 its.2 in
-    joined i w unit first all its step
-    (all_units i (after_events i.shape unit w first) (suc unit) all step.faultless step.none (omega arith)
+-- the unit of that number can have them
+abbrev CanHave : Image → World → ℕ → List UnitEvent → Type 0
+CanHave i w n events = (u : ModelUnit) × IsAt i w n u × AreReadying i u events
+
+abbrev CanAll : Image → World → ℕ → List (List UnitEvent) → Type 0
+CanAll i w unit all = (n k : ℕ) (events : List UnitEvent) → n ≡ unit + k → slice_get all k ≡ Some events → CanHave i w n events
+
+all_units : (i : Image) (all : List (List UnitEvent)) (unit : ℕ) (w : World) → IsSimpleMount i w → log_of w 0 ≡ [] → CanAll i w unit all
+    → IsSimpleMount i (after_units i.shape unit w all)
+all_units i [] unit w simple none can = simple
+all_units i (first ∷ all) unit w simple none can =
+    let its : CanHave i w unit first = can unit 0 first (omega arith) refl in
+    all_units i all (suc unit) (after_events i.shape unit w first) (all_steps i first w unit its.0 simple none its.1 its.2)
+    (events_quiet i.shape unit first w ∙ none)
     (λ n k events at there.
-    let h : HasReady i w n events = ready n (suc k) events (omega arith) there in
-    (h.0, step.elsewhere n (λ same. omega arith) ∙ h.1, h.2)))
+    let h : CanHave i w n events = can n (suc k) events (omega arith) there in
+    (h.0, at_elsewhere i unit first w n h.0 (λ same. absurd (omega arith)) h.1, h.2))
 
--- ---- the image that units are
+-- ---- before all of it
 
 still : (s : Shape) (n k : ℕ) (xs : List (List Chunk)) → slice_get (map (λ unit. after_log s unit.1 []) (enumerate_from n xs)) k ≡ slice_get xs k
 still s n k [] = refl
 still s n zero (x ∷ xs) = refl
 still s n (suc k) (x ∷ xs) = still s (n + 1) k xs
 
-media_first : (s : Shape) (us : List ModelUnit) (k : ℕ)
-    → slice_get (media (image_of s us) (log_of [])).units k ≡ option_map (λ (u : ModelUnit). u.media) (slice_get us k)
-media_first s us k = still s 0 k (map (λ (u : ModelUnit). u.media) us) ∙ slice_get-map (λ (u : ModelUnit). u.media) us k
-
-nothing_done : (s : Shape) (us : List ModelUnit) → IsAccepted s → AreFit s us → IsFaultlessMount (image_of s us) []
-unfolding IsLegal
-nothing_done s us accepted fit = record {
-  simple = record { mount = record { accepted = accepted; fit = fit_image s us fit; legal = tt }; engine = record { freed = tt; copied = tt; lost = tt } };
-  answered = λ unit. tt;
+at_first : (s : Shape) (us : List ModelUnit) (k : ℕ) (u : ModelUnit) → AreFit s us → slice_get us k ≡ Some u → IsAt (image_of s us) [] k u
+at_first s us k u fit there = record {
+  shape = (fit.each k u there).shape;
+  media = still s 0 k (map (λ (u : ModelUnit). u.media) us) ∙ slice_get-map (λ (u : ModelUnit). u.media) us k
+      ∙ ap (option_map (λ (u : ModelUnit). u.media)) there;
+  stopped = λ was. absurd cc;
 }
 
-long_media : (s : Shape) (logs : Logs) (n : ℕ) (xs : List (List Chunk))
-    → length (map (λ unit. after_log s unit.1 (unit_events logs unit.0)) (enumerate_from n xs)) ≡ length xs
-long_media s logs n [] = refl
-long_media s logs n (x ∷ xs) = ap suc (long_media s logs (n + 1) xs)
+nothing_done : (s : Shape) (us : List ModelUnit) → IsAccepted s → AreFit s us → IsSimpleMount (image_of s us) []
+unfolding IsLegal
+nothing_done s us accepted fit = record {
+  mount = record { accepted = accepted; fit = fit_image s us fit; legal = tt };
+  engine = record { freed = tt; copied = tt; lost = tt };
+}
 
 -- ---- an opening
 
-few_events : (old new : List ModelUnit) → length (new_events old new) ≤ length old
-few_events [] new = omega arith
-few_events (u ∷ old) [] = omega arith
-few_events (u ∷ old) (v ∷ new) = let rest : length (new_events old new) ≤ length old = few_events old new in omega arith
-
 -- what a unit has done is what its log grew by
-events_at : (old new : List ModelUnit) (k : ℕ) (u v : ModelUnit) → slice_get old k ≡ Some u → slice_get new k ≡ Some v
+new_at : (old new : List ModelUnit) (k : ℕ) (u v : ModelUnit) → slice_get old k ≡ Some u → slice_get new k ≡ Some v
     → slice_get (new_events old new) k ≡ Some (grown_by u v)
-events_at [] new k u v a b = absurd (none-some u a)
-events_at (x ∷ old) [] k u v a b = absurd (none-some v b)
-events_at (x ∷ old) (y ∷ new) zero u v a b = ap (λ (z : ModelUnit). Some (grown_by z y)) (same_Some x u a)
+new_at [] new k u v a b = absurd (none-some u a)
+new_at (x ∷ old) [] k u v a b = absurd (none-some v b)
+new_at (x ∷ old) (y ∷ new) zero u v a b = ap (λ (z : ModelUnit). Some (grown_by z y)) (same_Some x u a)
     ∙ ap (λ (z : ModelUnit). Some (grown_by u z)) (same_Some y v b)
-events_at (x ∷ old) (y ∷ new) (suc k) u v a b = events_at old new k u v a b
+new_at (x ∷ old) (y ∷ new) (suc k) u v a b = new_at old new k u v a b
 
 units_at : (old new : List ModelUnit) (k : ℕ) (events : List UnitEvent) → slice_get (new_events old new) k ≡ Some events
     → (u v : ModelUnit) × (slice_get old k ≡ Some u) × (slice_get new k ≡ Some v) × (grown_by u v ≡ events)
@@ -122,77 +115,91 @@ units_at (u ∷ old) [] k events e = absurd (none-some events e)
 units_at (u ∷ old) (v ∷ new) zero events e = (u, v, refl, refl, same_Some (grown_by u v) events e)
 units_at (u ∷ old) (v ∷ new) (suc k) events e = units_at old new k events e
 
-past_front : {X : Type 0} (xs ys : List X) → drop (length xs) (xs ++ ys) ≡ ys
-past_front [] ys = refl
-past_front (x ∷ xs) ys = past_front xs ys
-
-module _ (s : Shape) (old new : List ModelUnit) (accepted : IsAccepted s) (fit : AreFit s old) (unarmed : AreUnarmed old) (were : WereReadied s old new) where
+module _ (s : Shape) (old new : List ModelUnit) (were : WereReadied s old new) where
   abbrev i : Image
   i = image_of s old
 
-  calm : AreCalm s old
-  calm = λ k u there. ((fit.each k u there).shape, unarmed k u there)
+  abbrev all : List EventAt
+  all = were.pads ++ were.fetches
 
-  own : (k : ℕ) (u : ModelUnit) → slice_get old k ≡ Some u → HasItsOwn i old (were.pads ++ were.fetches) k u
-  own k u there = has_its_own i (were.pads ++ were.fetches) old k u there (all_ready i old new accepted.drive.ws_opt calm were).0
+  abbrev opened : World
+  opened = after_units s 0 [] (new_events old new)
 
-  now : (k : ℕ) (u : ModelUnit) (there : slice_get old k ≡ Some u) → slice_get new k ≡ Some (own k u there).now
-  now k u there = ap (λ (us : List ModelUnit). slice_get us k) (all_ready i old new accepted.drive.ws_opt calm were).1 ∙ (own k u there).there
+  new_is : new ≡ after_all old all
+  new_is = were.units ∙ sym (fold-append after_one old were.pads were.fetches)
 
-  grew : (k : ℕ) (u : ModelUnit) (there : slice_get old k ≡ Some u) → grown_by u (own k u there).now ≡ events_of k (were.pads ++ were.fetches)
-  grew k u there = ap (drop (length u.log)) (own k u there).log ∙ past_front u.log (events_of k (were.pads ++ were.fetches))
+  now : (k : ℕ) (u : ModelUnit) → slice_get old k ≡ Some u → slice_get new k ≡ Some (with_events u (events_of k all))
+  now k u there = ap (λ (us : List ModelUnit). slice_get us k) new_is ∙ unit_after all old k u there
 
-  ready : (n k : ℕ) (events : List UnitEvent) → n ≡ 0 + k → slice_get (new_events old new) k ≡ Some events → HasReady i [] n events
-  ready n k events at there =
-      let of = units_at old new k events there in
-      let its : HasItsOwn i old (were.pads ++ were.fetches) k of.0 = own k of.0 of.2 in
-      let is : its.now ≡ of.1 = same_Some its.now of.1 (sym (now k of.0 of.2) ∙ of.3) in
-      let same : n ≡ k = omega arith in
-      let which : events_of k (were.pads ++ were.fetches) ≡ events = sym (grew k of.0 of.2) ∙ ap (grown_by of.0) is ∙ of.4 in (
-        of.0.media,
-        ap (slice_get (media i (log_of [])).units) same ∙ media_first s old k ∙ ap (option_map (λ (u : ModelUnit). u.media)) of.2,
-        subst (AreReadying i of.0.media) which its.readying,
-      )
+  grown : (k : ℕ) (u v : ModelUnit) → slice_get old k ≡ Some u → slice_get new k ≡ Some v
+      → (v.log ≡ u.log ++ events_of k all) × (grown_by u v ≡ events_of k all)
+  grown k u v there after = grown_after all old k u v there (ap (λ (us : List ModelUnit). slice_get us k) (sym new_is) ∙ after)
 
-  few : 0 + length (new_events old new) ≤ units s
-  few = let low : length (new_events old new) ≤ length old = few_events old new in let count : length old ≡ units s = fit.count in omega arith
+  did : (k : ℕ) (u v : ModelUnit) → slice_get old k ≡ Some u → slice_get new k ≡ Some v → unit_events (log_of opened) k ≡ events_of k all
+  did k u v there after = its_events s (new_events old new) 0 [] k k (grown_by u v) (omega arith) (new_at old new k u v there after)
+      ∙ (grown k u v there after).1
 
-  done : HaveReadied i [] 0 (new_events old new)
-  done = all_units i [] 0 (new_events old new) (nothing_done s old accepted fit) refl few ready
-
-  pub faultless_mount : IsFaultlessMount i (after_units s 0 [] (new_events old new))
-  faultless_mount = done.faultless
+  pub logs_are : (number : ℕ) (u v : ModelUnit) → slice_get old number ≡ Some u → slice_get new number ≡ Some v
+      → v.log ≡ u.log ++ unit_events (log_of opened) number
+  logs_are number u v there after = (grown number u v there after).0
+      ∙ ap (λ (es : List UnitEvent). u.log ++ es) (sym (did number u v there after))
 
   as_long : length new ≡ length old
-  as_long = ap (λ (us : List ModelUnit). length us) (all_ready i old new accepted.drive.ws_opt calm were).1 ∙ as_many (were.pads ++ were.fetches) old
+  as_long = ap (λ (us : List ModelUnit). length us) new_is ∙ as_many all old
 
-  pub media_are : media i (log_of (after_units s 0 [] (new_events old new))) ≡ image_of s new
-  media_are = same_images s (media i (log_of (after_units s 0 [] (new_events old new)))).units (map (λ (u : ModelUnit). u.media) new)
-      (λ k. at k (slice_get_cases old k).1)
+  pub media_are : AreFit s old → media i (log_of opened) ≡ image_of s new
+  media_are fit = same_images s (media i (log_of opened)).units (map (λ (u : ModelUnit). u.media) new) (λ k. at k (slice_get_cases old k).1)
     where
       at : (k : ℕ) → ((u : ModelUnit) × (k < length old) × (slice_get old k ≡ Some u) × (get_or old k u ≡ u)) ⊎ ((length old ≤ k) × (slice_get old k ≡ None))
-          → slice_get (media i (log_of (after_units s 0 [] (new_events old new)))).units k ≡ slice_get (map (λ (u : ModelUnit). u.media) new) k
+          → slice_get (media i (log_of opened)).units k ≡ slice_get (map (λ (u : ModelUnit). u.media) new) k
       at k (inl is) =
           let u : ModelUnit = is.0 in
-          let its : HasItsOwn i old (were.pads ++ were.fetches) k is.0 = own k is.0 is.2 in
-          done.own k k (grown_by is.0 its.now) is.0.media (omega arith) (events_at old new k is.0 its.now is.2 (now k is.0 is.2))
-          (media_first s old k ∙ ap (option_map (λ (u : ModelUnit). u.media)) is.2)
-          ∙ ap (λ (es : List UnitEvent). Some (after_log s is.0.media es)) (grew k is.0 is.2)
-          ∙ ap (λ (cs : List Chunk). Some cs) (sym its.media)
-          ∙ sym (slice_get-map (λ (u : ModelUnit). u.media) new k ∙ ap (option_map (λ (u : ModelUnit). u.media)) (now k is.0 is.2))
+          let v : ModelUnit = with_events is.0 (events_of k all) in
+          media_at i (log_of opened) k
+          ∙ ap (λ (es : List UnitEvent). option_map (λ (cs : List Chunk). after_log s cs es) (slice_get i.units k)) (did k is.0 v is.2 (now k is.0 is.2))
+          ∙ ap (option_map (λ (cs : List Chunk). after_log s cs (events_of k all)))
+          (slice_get-map (λ (x : ModelUnit). x.media) old k ∙ ap (option_map (λ (x : ModelUnit). x.media)) is.2)
+          ∙ ap (λ (t : Shape). Some (after_log t is.0.media (events_of k all))) (sym (fit.each k is.0 is.2).shape)
+          ∙ ap (λ (cs : List Chunk). Some cs) (sym (media_after (events_of k all) is.0))
+          ∙ sym (slice_get-map (λ (x : ModelUnit). x.media) new k ∙ ap (option_map (λ (x : ModelUnit). x.media)) (now k is.0 is.2))
       at k (inr past) =
-          let long : length (media i (log_of (after_units s 0 [] (new_events old new)))).units ≡ length old =
-          long_media s (log_of (after_units s 0 [] (new_events old new))) 0 (map (λ (u : ModelUnit). u.media) old)
-          ∙ length-map old (λ (u : ModelUnit). u.media) in
+          let long : length (media i (log_of opened)).units ≡ length old =
+          length_media i (log_of opened) ∙ length-map old (λ (u : ModelUnit). u.media) in
           let many : length (map (λ (u : ModelUnit). u.media) new) ≡ length old = length-map new (λ (u : ModelUnit). u.media) ∙ as_long in
-          get_past (media i (log_of (after_units s 0 [] (new_events old new)))).units k (omega arith)
+          get_past (media i (log_of opened)).units k (omega arith)
           ∙ sym (get_past (map (λ (u : ModelUnit). u.media) new) k (omega arith))
 
--- the engine did nothing
-events_quiet : (s : Shape) (unit : ℕ) (w : World) (events : List UnitEvent) → log_of (after_events s unit w events) 0 ≡ log_of w 0
-events_quiet s unit w [] = refl
-events_quiet s unit w (e ∷ events) = events_quiet s unit (unit_step s unit e (opening_maker w) w ∷ w) events ∙ engine_log s unit e (opening_maker w) w
+-- where a stop shows in the logs
+module _ (s : Shape) (old new : List ModelUnit) (accepted : IsAccepted s) (fit : AreFit s old) (may : AllMayStop old) (were : WereReadied s old new) where
+  ready : (k : ℕ) (u : ModelUnit) → slice_get old k ≡ Some u → AreReadying (image_of s old) u (events_of k (were.pads ++ were.fetches))
+  ready k u there =
+      own_ready (image_of s old) (were.pads ++ were.fetches) old k u there
+      (all_ready (image_of s old) old new accepted.drive.ws_opt (λ n v at. ((fit.each n v at).shape, may n v at)) were)
 
-pub units_quiet : (s : Shape) (unit : ℕ) (w : World) (all : List (List UnitEvent)) → log_of (after_units s unit w all) 0 ≡ log_of w 0
-units_quiet s unit w [] = refl
-units_quiet s unit w (events ∷ all) = units_quiet s (suc unit) (after_events s unit w events) all ∙ events_quiet s unit w events
+  can : (n k : ℕ) (events : List UnitEvent) → n ≡ 0 + k → slice_get (new_events old new) k ≡ Some events → CanHave (image_of s old) [] n events
+  can n k events at there =
+      let of = units_at old new k events there in
+      let same : k ≡ n = omega arith in
+      let which : events_of k (were.pads ++ were.fetches) ≡ events = sym (grown s old new were k of.0 of.1 of.2 of.3).1 ∙ of.4 in
+      subst (λ m. CanHave (image_of s old) [] m events) same
+      (of.0, at_first s old k of.0 fit of.2, subst (AreReadying (image_of s old) of.0) which (ready k of.0 of.2))
+
+  pub simple_mount : IsSimpleMount (image_of s old) (after_units s 0 [] (new_events old new))
+  simple_mount = all_units (image_of s old) (new_events old new) 0 [] (nothing_done s old accepted fit) refl can
+
+  pub stops_there : (number : ℕ) (v : ModelUnit) → slice_get new number ≡ Some v
+      → has_stopped (unit_events (log_of (after_units s 0 [] (new_events old new))) number) ≡ true → IsStopped v
+  stops_there number v after was = at (slice_get_cases old number).1
+    where
+      at : ((u : ModelUnit) × (number < length old) × (slice_get old number ≡ Some u) × (get_or old number u ≡ u))
+          ⊎ ((length old ≤ number) × (slice_get old number ≡ None)) → IsStopped v
+      at (inl is) =
+          let events : List UnitEvent = events_of number (were.pads ++ were.fetches) in
+          let which : with_events is.0 events ≡ v = same_Some (with_events is.0 events) v (sym (now s old new were number is.0 is.2) ∙ after) in
+          subst IsStopped which
+          (stopped_after (image_of s old) events is.0 (ready number is.0 is.2)
+          (sym (ap has_stopped (did s old new were number is.0 v is.2 after)) ∙ was))
+      at (inr past) =
+          let none : slice_get new number ≡ None =
+          get_past new number (let long : length new ≡ length old = as_long s old new were in omega arith) in
+          absurd (none-some v (sym none ∙ after))

@@ -1,3 +1,4 @@
 pub mod Whole
+pub mod NextEvents
 pub mod Opened
 pub mod SlotBlocks

@@ -1,17 +1,15 @@
 -- What the units of a drive did while it was made ready for a mount, and the world that these steps
 -- make.
-use Rattle.std.specs.Prelude.{ℕ, suc, List, [], ◌∷◌, drop, length}
+use Rattle.std.specs.Prelude.{ℕ, suc, List, [], ◌∷◌}
 use Rattle.std.specs.List.{fold}
 use Rattle.pblk_model.specs.declared.shape.Shape.{Shape}
 use Rattle.pblk_model.specs.UnitLog.{UnitEvent}
 use Rattle.pblk_world.specs.World.{World}
 use Rattle.unit_port.specs.Unit.{ModelUnit}
+use Rattle.scan_recovery.specs.Lost.{grown_by}
 use Rattle.step_laws.specs.Whole.{unit_step, opening_maker}
 
--- what each unit did, in the order of the units: what its log grew by
-abbrev pub grown_by : ModelUnit → ModelUnit → List UnitEvent
-grown_by old new = drop (length old.log) new.log
-
+-- what each unit did, in the order of the units
 abbrev pub new_events : List ModelUnit → List ModelUnit → List (List UnitEvent)
 new_events [] new = []
 new_events (u ∷ old) [] = []

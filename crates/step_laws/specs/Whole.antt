@@ -1,18 +1,20 @@
 -- Steps that are made one after another. The author of each knows every log to its end.
-use Rattle.std.specs.Prelude.{ℕ, suc, ◌+◌, ◌≡◌, List, ◌∷◌, map, length}
+use Rattle.std.specs.Prelude.{ℕ, suc, ◌+◌, ◌≡◌, ◌⊎◌, true, List, ◌∷◌, map, length, slice_get, Some}
 use Rattle.std.specs.List.{range_with_len}
+use Rattle.std.specs.Option.{option_map}
 use Rattle.pblk_model.specs.declared.shape.Shape.{Shape}
 use Rattle.pblk_model.specs.Shape.{units}
 use Rattle.pblk_model.specs.Chunk.{Block}
 use Rattle.pblk_model.specs.ChunkStep.{ChunkAnswer, Write, Read, Reset, Done}
-use Rattle.pblk_model.specs.UnitLog.{UnitOutcome, UnitEvent, Answered}
+use Rattle.pblk_model.specs.UnitLog.{UnitOutcome, UnitEvent, Answered, after_outcome}
 use Rattle.pblk_model.specs.Image.{Image}
-use Rattle.pblk_world.specs.Events.{Beginning, EngineEvent, Begin, Landed, ResetDone, Stripe, Decides, Does, Maker, Step}
+use Rattle.pblk_laws.specs.LineBlocks.{chunk_in}
+use Rattle.pblk_world.specs.Events.{Beginning, EngineEvent, Begin, Landed, Again, ResetDone, Stripe, Decides, Does, Maker, Step}
 use Rattle.pblk_world.specs.Makers.{maker_of, opening_worker}
-use Rattle.pblk_world.specs.World.{World, log_of, media}
+use Rattle.pblk_world.specs.World.{World, Logs, log_of, unit_events, media}
 use Rattle.pblk_world.specs.EngineLog.{answers}
 use Rattle.pblk_world.specs.Lines.{known_image}
-use Rattle.pblk_world.specs.Commanding.{ended_stripes}
+use Rattle.pblk_world.specs.Commanding.{was_stopped, ended_stripes}
 
 -- the lengths of all logs, in the order of their authors' numbers
 abbrev pub knows_all : Shape → World → List ℕ
@@ -48,45 +50,70 @@ write_of chunk at blocks outcome = record { chunk = chunk; command = Write at bl
 abbrev pub program_of : Stripe → UnitEvent
 program_of stripe = write_of stripe.chunk stripe.at stripe.blocks (Answered Done)
 
--- the reset of a chunk that was done
-abbrev pub reset_of : ℕ → UnitEvent
-reset_of chunk = record { chunk = chunk; command = Reset; outcome = Answered Done }
+-- the reset of a chunk, with its outcome, and one that was done
+abbrev pub reset_with : ℕ → UnitOutcome → UnitEvent
+reset_with chunk outcome = record { chunk = chunk; command = Reset; outcome = outcome }
 
--- the fetch of a block, with its answer
+abbrev pub reset_of : ℕ → UnitEvent
+reset_of chunk = reset_with chunk (Answered Done)
+
+-- the fetch of a block, with its outcome, and one that was answered
+abbrev pub read_with : ℕ → ℕ → UnitOutcome → UnitEvent
+read_with chunk block outcome = record { chunk = chunk; command = Read block; outcome = outcome }
+
 abbrev pub fetch_of : ℕ → ℕ → ChunkAnswer → UnitEvent
-fetch_of chunk block answer = record { chunk = chunk; command = Read block; outcome = Answered answer }
+fetch_of chunk block answer = read_with chunk block (Answered answer)
 
 -- The world after a step, or two.
-
--- after a mount began
-abbrev pub after_begin : Shape → Beginning → World → World
-after_begin s b w = engine_step s (Begin b) w ∷ w
-
--- after a unit programmed a stripe, and after the engine noted that
-abbrev pub after_program : Shape → ℕ → Stripe → Maker → World → World
-after_program s unit stripe maker w = unit_step s unit (program_of stripe) maker w ∷ w
 
 abbrev pub noted : Shape → EngineEvent → World → World
 noted s e w = engine_step s e w ∷ w
 
-abbrev pub after_landing : Shape → ℕ → Stripe → Maker → World → World
-after_landing s unit stripe maker w =
-    noted s (Landed unit (length (log_of w (suc unit)))) (after_program s unit stripe maker w)
+-- after a mount began
+abbrev pub after_begin : Shape → Beginning → World → World
+after_begin s b w = noted s (Begin b) w
 
--- after a unit reset a chunk, and after the engine noted that
-abbrev pub after_reset_of : Shape → ℕ → ℕ → Maker → World → World
-after_reset_of s unit chunk maker w = unit_step s unit (reset_of chunk) maker w ∷ w
+-- after a unit did something
+abbrev pub after_unit : Shape → ℕ → UnitEvent → Maker → World → World
+after_unit s unit e maker w = unit_step s unit e maker w ∷ w
 
-abbrev pub after_noted_reset : Shape → ℕ → ℕ → Maker → World → World
-after_noted_reset s unit chunk maker w =
-    noted s (ResetDone unit (length (log_of w (suc unit)))) (after_reset_of s unit chunk maker w)
+-- the number of a unit's next event
+abbrev pub next_event : World → ℕ → ℕ
+next_event w unit = length (log_of w (suc unit))
+
+-- After the engine noted what a unit did: as the program of a stripe that was done, as one that was
+-- stopped, and as a reset that wasn't stopped.
+abbrev pub after_landing : Shape → ℕ → UnitEvent → Maker → World → World
+after_landing s unit e maker w = noted s (Landed unit (next_event w unit)) (after_unit s unit e maker w)
+
+abbrev pub after_stopping : Shape → ℕ → UnitEvent → Maker → World → World
+after_stopping s unit e maker w = noted s (Again unit (next_event w unit)) (after_unit s unit e maker w)
+
+abbrev pub after_reset_noted : Shape → ℕ → UnitEvent → Maker → World → World
+after_reset_noted s unit e maker w = noted s (ResetDone unit (next_event w unit)) (after_unit s unit e maker w)
 
 -- What holds where the engine notes each answer before anything else is done.
 
--- each unit has ended as many stripes as the engine noted answers
+-- Each unit has ended as many stripes as the engine noted answers. A stripe whose program was
+-- stopped isn't ended, and has no answer.
 abbrev pub IsLevel : World → Type 0
 IsLevel w = (unit : ℕ) → ended_stripes (log_of w (suc unit)) ≡ length (answers (log_of w 0) unit)
 
--- the engine knows the chunks as they are
+-- A command on the chunk was stopped, and the engine knows the chunk as that command found it: of
+-- what a stop leaves it isn't told.
+pub record IsKnownBefore (i : Image) (logs : Logs) (unit line : ℕ) : Type 0 where
+  pub number : ℕ
+  pub event : UnitEvent
+  pub there : slice_get (unit_events logs unit) number ≡ Some event
+  pub of_line : event.chunk ≡ line
+  pub stopped : was_stopped event.outcome ≡ true
+  pub left : chunk_in (media i logs) line unit ≡ option_map (λ c. after_outcome i.shape c event.command event.outcome)
+      (chunk_in (known_image i logs) line unit)
+
+-- The engine knows the chunk as it is, unless a command on it was stopped.
+abbrev pub IsKnownChunk : Image → Logs → ℕ → ℕ → Type 0
+IsKnownChunk i logs unit line = (chunk_in (known_image i logs) line unit ≡ chunk_in (media i logs) line unit) ⊎ IsKnownBefore i logs unit line
+
+-- so it knows all chunks
 abbrev pub IsKnown : Image → World → Type 0
-IsKnown i w = known_image i (log_of w) ≡ media i (log_of w)
+IsKnown i w = (unit line : ℕ) → IsKnownChunk i (log_of w) unit line

@@ -1,8 +1,8 @@
 //! Scripts that are run on a target over new units, and what is told of them.
 ghost use Rattle.std.specs.Prelude.{◌≡◌, [], ◌∷◌, map, IfOk};
 ghost use Rattle.pblk_model.specs.Accepted.{IsAccepted};
+ghost use Rattle.scan_recovery.specs.MayStop.{AllMayStop};
 ghost use Rattle.scan_recovery.specs.Units.{AreFit};
-ghost use Rattle.unit_port.specs.Commands.{AreUnarmed};
 ghost use Rattle.block_target.specs.Serial.{SerialView};
 
 use block_target::{Refused, Serial, SettleErr};
@@ -16,9 +16,9 @@ use std::sync::Wait;
 use unit_port::Unit;
 
 /// What is told of a script of one thread that is run on a target over new units, and of its close:
-/// a line for each answer, one for the close, and one for each unit: how many events it had, and the
-/// state and write pointer of each of its chunks that has blocks, with their marks where they are
-/// asked for.
+/// a line for each answer, one for the close, and one for each unit: how many events it had, and
+/// the state and write pointer of each of its chunks that has blocks, with their marks where they
+/// are asked for.
 pub(crate) fn told<R: Wait>(
     rt: &R,
     alloc: Global,
@@ -83,7 +83,7 @@ pub(crate) fn open(alloc: Global, shape: &Shape) -> Result<Serial<MemoryUnit>, A
 fn new_units(alloc: Global, shape: &Shape) -> Result<Vec<MemoryUnit>, AllocError>
     requires { IsAccepted shape.now }
     ensures fit { IfOk result (λ made. AreFit shape.now (map (λ u. u.unit) made.items)) }
-    ensures unarmed { IfOk result (λ made. AreUnarmed (map (λ u. u.unit) made.items)) }
+    ensures armed { IfOk result (λ made. AllMayStop (map (λ u. u.unit) made.items)) }
 {
     let mut made = Vec::new(alloc);
     for _unit in 0..shape.units() {
@@ -182,8 +182,8 @@ fn put_chunk(text: &mut String, chunk: &Chunk, marks: bool) -> Result<(), AllocE
     Ok(())
 }
 
-// A sector's lba, the first byte of its tag and its position; a record's sequence number; or a Pad block,
-// which has zeros.
+// A sector's lba, the first byte of its tag and its position; a record's sequence number; or a Pad
+// block, which has zeros.
 fn put_block(text: &mut String, sector: &[u8], mark: Mark) -> Result<(), AllocError> {
     let Mark { lba, position } = mark;
     match sector.first() {

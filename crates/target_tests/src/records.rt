@@ -44,7 +44,7 @@ fn padded_stripe(alloc: Global) -> Result<Stripe, AllocError> {
         return Err(AllocError);
     }
     let mut stripe = Stripe::new(alloc, &Shape::SMALL)?;
-    stripe.begin(3, 1, 8, false);
+    stripe.begin(3, 1, 8, false, 0);
     stripe.append(
         Mark {
             lba: 5,

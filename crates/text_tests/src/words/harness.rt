@@ -1,10 +1,10 @@
 //! Words that are read, and what they say.
 
-use command_words::{CommandLine, CreateNumbers, read_words};
+use command_words::{CommandLine, CreateNumbers, RunOptions, read_words};
 use std::alloc::{AllocError, Global};
 
-/// What the words of a line say, which are parted by `|`: the command, its file names and its numbers in their
-/// order, each in brackets; or `refused`.
+/// What the words of a line say, which are parted by `|`: the command, its file names and its
+/// numbers in their order, each in brackets; or `refused`.
 pub fn told(alloc: Global, line: &str) -> Result<String, AllocError> {
     let mut words = Vec::new(alloc);
     for word in line.split('|') {
@@ -15,7 +15,13 @@ pub fn told(alloc: Global, line: &str) -> Result<String, AllocError> {
         Some(CommandLine::Geometry { image }) => format!(in alloc; "geometry [{image}]"),
         Some(CommandLine::Show { image }) => format!(in alloc; "show [{image}]"),
         Some(CommandLine::Report { image }) => format!(in alloc; "report [{image}]"),
-        Some(CommandLine::Run { image, script }) => format!(in alloc; "run [{image}] [{script}]"),
+        Some(
+            CommandLine::Run {
+                image,
+                script,
+                options,
+            },
+        ) => run(alloc, image, script, options),
         None => format!(in alloc; "refused"),
     }
 }
@@ -24,5 +30,18 @@ fn created(alloc: Global, image: &str, n: CreateNumbers) -> Result<String, Alloc
     let mut text = format!(in alloc; "create [{image}] {} {} {}", n.groups, n.units, n.chunks)?;
     write!(text, " {} {} {} {}", n.blocks, n.ws_min, n.ws_opt, n.mw)?;
     write!(text, " {} {} {}", n.sector, n.capacity, n.ring)?;
+    Ok(text)
+}
+
+fn run(
+    alloc: Global,
+    image: &str,
+    script: &str,
+    options: RunOptions,
+) -> Result<String, AllocError> {
+    let mut text = format!(in alloc; "run [{image}] [{script}]")?;
+    if let Some(fuse) = options.stop {
+        write!(text, " stop {} {} {}", fuse.unit, fuse.nth, fuse.cut)?;
+    }
     Ok(text)
 }

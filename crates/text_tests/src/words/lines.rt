@@ -55,6 +55,12 @@ const ACCEPTED: &[(&str, &str)] = &[
     ("run|=|a=b", "run [=] [a=b]"),
     ("run|a|a", "run [a] [a]"),
     ("run|a b|c-", "run [a b] [c-]"),
+    ("run|a|b|--stop|0:1:0", "run [a] [b] stop 0 1 0"),
+    ("run|--stop=7:2:3|a|b", "run [a] [b] stop 7 2 3"),
+    (
+        "run|a|--stop|4294967295:4294967295:4294967295|b",
+        "run [a] [b] stop 4294967295 4294967295 4294967295",
+    ),
     ("geometry| -", "geometry [ -]"),
 ];
 
@@ -125,6 +131,29 @@ const REFUSED: &[&str] = &[
     "run|a|b|c",
     "run|a|",
     "run|a|--ring=1|b",
+    "run|a|b|--stop",
+    "run|a|b|--stop=",
+    "run|a|b|--stop|0:0:0",
+    "run|a|b|--stop|0:1",
+    "run|a|b|--stop|0:1:0:0",
+    "run|a|b|--stop|0:1:",
+    "run|a|b|--stop|:1:0",
+    "run|a|b|--stop|0::0",
+    "run|a|b|--stop|0 1 0",
+    "run|a|b|--stop|0:01:0",
+    "run|a|b|--stop|0:+1:0",
+    "run|a|b|--stop|p:0:1:0",
+    "run|a|b|--stop|4294967296:1:0",
+    "run|a|b|--stop|0:4294967296:0",
+    "run|a|b|--stop|0:1:4294967296",
+    "run|a|b|--stop|0:1:0|--stop|0:1:0",
+    "run|a|b|--stop=0:1:0|--stop=1:1:0",
+    "run|a|--stop|0:1:0",
+    "run|a|b|c|--stop|0:1:0",
+    "create|a|--stop|0:1:0",
+    "geometry|a|--stop|0:1:0",
+    "show|a|--stop=0:1:0",
+    "report|a|--stop=0:1:0",
 ];
 
 #[test]

@@ -1,10 +1,13 @@
 use Rattle.std.specs.Prelude.{map}
-use Rattle.scan_recovery.proofs.HandedBack.{back_as_they_were}
+use Rattle.scan_recovery.proofs.HandedBack.{back_as_they_were, none_lost_there}
 use Rattle.block_target.proofs.Readied.{ready_lists}
 use Rattle.block_target.proofs.readying.ready_drive.Goals as goal
 
 pub returns-in_default-clause-handed_back : goal.returns-in_default-clause-handed_back
 returns-in_default-clause-handed_back g c = back_as_they_were c.args.shape.now (map g.U.Unit.model c.args.units.now)
+
+pub returns-in_default-clause-cause : goal.returns-in_default-clause-cause
+returns-in_default-clause-cause g c = none_lost_there (map g.U.Unit.model c.args.units.now)
 
 pub returns-in-Ok-make_ready-clause-ready : goal.returns-in-Ok-make_ready-clause-ready
 returns-in-Ok-make_ready-clause-ready g c =

@@ -1,7 +1,7 @@
 use Rattle.std.proofs.Common.{◌≡◌, Some, map, string_bytes, ◌∙◌, ap}
 use Rattle.command_words.specs.Grammar as model
 use Rattle.command_words.specs.Grammar.{IsCommandLine}
-use Rattle.command_words.specs.Words.{numbers_seen}
+use Rattle.command_words.specs.Words.{numbers_seen, options_seen}
 use Rattle.command_words.proofs.ItemWords.{first_word_of}
 use Rattle.command_words.proofs.Names.{as_create, as_geometry, as_show, as_report, as_run, command_of, name_of_geometry, name_of_show, name_of_report, words_of_geometry, words_of_show, words_of_report}
 use Rattle.command_words.proofs.words.read_words.Goals as goal
@@ -62,13 +62,13 @@ returns-in_err-image-in-run-clause-none c =
     let first = first_word_of c.args.words.now c.first-item.result c.as_str.result.now c.in-len1-up.len_at_least c.first-item.is c.as_str.ensures.value in
     rw c.from_residual-in_err-image-in-run.ensures
     (as_run (map string_bytes c.args.words.now) _ c.as_str.result.now (λ x. ⊥) first c.in-run.is
-    (λ image script h. c.in_err-image-in-run.ensures.only image script h))
+    c.in_err-image-in-run.ensures.only)
 
 pub returns-in_err-image-in-run-clause-only : goal.returns-in_err-image-in-run-clause-only
 returns-in_err-image-in-run-clause-only c = λ line h.
     let first = first_word_of c.args.words.now c.first-item.result c.as_str.result.now c.in-len1-up.len_at_least c.first-item.is c.as_str.ensures.value in
     absurd (as_run (map string_bytes c.args.words.now) _ c.as_str.result.now (λ x. ⊥) first c.in-run.is
-    (λ image script h. c.in_err-image-in-run.ensures.only image script h) line h)
+    c.in_err-image-in-run.ensures.only line h)
 
 pub returns-in_ok-image-in-create-clause-only : goal.returns-in_ok-image-in-create-clause-only
 returns-in_ok-image-in-create-clause-only c =
@@ -102,9 +102,11 @@ pub returns-in_ok-image-in-run-clause-only : goal.returns-in_ok-image-in-run-cla
 returns-in_ok-image-in-run-clause-only c =
     let first = first_word_of c.args.words.now c.first-item.result c.as_str.result.now c.in-len1-up.len_at_least c.first-item.is c.as_str.ensures.value in
     as_run (map string_bytes c.args.words.now) _ c.as_str.result.now
-    (λ line. Some (model.Run c.in_ok-image-in-run.image.now c.in_ok-image-in-run.script.now) ≡ Some line) first c.in-run.is
-    (λ image script h. let same = c.in_ok-image-in-run.ensures.only image script h in ap (λ x. Some (model.Run x c.in_ok-image-in-run.script.now)) same.0
-    ∙ ap (λ x. Some (model.Run image x)) same.1)
+    (λ line. Some (model.Run c.in_ok-image-in-run.image.now c.in_ok-image-in-run.script.now (options_seen c.in_ok-image-in-run.options)) ≡ Some line)
+    first c.in-run.is
+    (λ image script options h. let same = c.in_ok-image-in-run.ensures.only image script options h in
+    ap (λ x. Some (model.Run x c.in_ok-image-in-run.script.now (options_seen c.in_ok-image-in-run.options))) same.0
+    ∙ ap (λ x. Some (model.Run image x (options_seen c.in_ok-image-in-run.options))) same.1 ∙ ap (λ x. Some (model.Run image script x)) same.2)
 
 pub returns-in_ok-image-in-geometry-clause-found : goal.returns-in_ok-image-in-geometry-clause-found
 returns-in_ok-image-in-geometry-clause-found c =

@@ -1,11 +1,16 @@
-use Rattle.std.proofs.Common.{◌≡◌, ◌⊎◌, inl, inr, ℕ, List, [], ◌∷◌, subst, arith}
+use Rattle.std.proofs.Common.{◌≡◌, ◌⊎◌, inl, inr, ℕ, ◌<◌, ◌≤◌, Some, List, [], ◌∷◌, length, refl, subst, ap, arith}
 use Rattle.std.specs.List.{Contains}
 use Rattle.pblk_model.specs.Image.{Image}
 use Rattle.pblk_model.specs.ImageFile.{image_of}
-use Rattle.pblk_world.specs.World.{Logs, log_of}
+use Rattle.pblk_world.specs.EngineLog.{Begun, begun}
+use Rattle.pblk_world.specs.Events.{Logged}
+use Rattle.pblk_world.specs.Legal.{IsLegal}
+use Rattle.pblk_world.specs.World.{Logs, World, log_of}
+use Rattle.world_laws.proofs.Beginnings.{has_begun}
 use Rattle.block_port.specs.declared.rows.WornAnswer.{WornAnswer}
-use Rattle.block_target.specs.NothingLeft.{AreRefusals, IsRefusal, IsRefusedAt}
+use Rattle.block_target.specs.NothingLeft.{AreRefusals, IsFlushRefusal, IsRefusal, IsRefusedAt}
 use Rattle.lemmas.proofs.Lists.{contains_cases}
+use Rattle.pblk_cli.specs.Worn.{worns_of}
 use Rattle.pblk_cli.proofs.laws.a_worn_flush_tells_the_end.Goals as goal
 
 -- one of the answers was refused at some length of the engine's log
@@ -18,10 +23,24 @@ one i logs from (b ∷ worns) a are among = go (λ more. one i logs are.0 worns 
     go later (inl same) = (are.0, subst (IsRefusedAt i logs are.0) same are.2)
     go later (inr more) = later more
 
+-- the mount has begun, since it took something
+begins : (i : Image) (w : World) (n : ℕ) (a : WornAnswer) → IsLegal i w → IsRefusedAt i (log_of w) n a → a.count ≡ 0
+    → (b : Begun) × (begun (log_of w 0) ≡ Some b)
+begins i w n a legal refused flush =
+    let is : IsFlushRefusal i (log_of w) n a.wanted a.have = subst (λ count. IsRefusal i (log_of w) n count a.wanted a.have) flush refused.cause in
+    let some : 0 < n = is.nothing_left.has_begun in
+    let within : n ≤ length (log_of w 0) = is.nothing_left.within in
+    go (log_of w 0) refl (omega arith)
+  where
+    go : (log : List Logged) → log_of w 0 ≡ log → 0 < length (log_of w 0) → (b : Begun) × (begun (log_of w 0) ≡ Some b)
+    go [] e some = let none : length (log_of w 0) ≡ 0 = ap length e in absurd (omega arith)
+    go (l ∷ log) e some = has_begun i w l log legal e
+
 pub returns : goal.returns
-returns c = λ found left writes worns a run sealed among flush.
+returns c = λ found left stop commands t a run sealed among flush.
     let i : Image = image_of found in
-    let is = one i (log_of run.world) 0 worns a run.worn among in
+    let is = one i (log_of run.world) 0 (worns_of commands t) a run.worn among in
+    let begun_is = begins i run.world is.0 a run.legal.mount.legal is.1 flush in
     let refused = subst (λ count. IsRefusal i (log_of run.world) is.0 count a.wanted a.have) flush is.1.cause in
-    let told = c.a_refused_flush_tells_the_end.ensures i run.world run.beginning is.0 a.wanted a.have run.legal.simple sealed run.has_begun refused in
+    let told = c.a_refused_flush_tells_the_end.ensures i run.world begun_is.0 is.0 a.wanted a.have run.legal sealed begun_is.1 refused in
     (is.0, told.0, told.1, told.2, told.3)

@@ -1,14 +1,13 @@
-use Rattle.pblk_model.specs.Contents.{end}
-use Rattle.pblk_model.specs.ImageFile.{image_of}
-use Rattle.ocssd_drive.specs.Drive.{stored}
-use Rattle.pblk_cli.proofs.LeftDrives.{run_to}
+use Rattle.std.proofs.Common.{refl}
+use Rattle.std.proofs.lemmas.Result.{IfOk-weaker}
+use Rattle.pblk_cli.proofs.LeftDrives.{armed_may_stop, armed_run_to}
 use Rattle.pblk_cli.proofs.run.run_and_store.Goals as goal
 
-pub transcript_text-requires : goal.transcript_text-requires
-transcript_text-requires g c = c.in_ok-ran.ensures.serving.recorded
+pub run_drive-requires-clause-stops : goal.run_drive-requires-clause-stops
+run_drive-requires-clause-stops g c = armed_may_stop c.args.drive c.arm.new.self c.args.stop _ refl c.requires.quiet c.in_ok-arm.ensures.armed
 
-pub returns : goal.returns
-returns g c =
-    run_to c.args.drive c.args.script.now c.in_ok-ran.ran c.in_ok-text.text.items c.in_ok-bytes.bytes.items c.status_of-status.result c.in_ok-ran.ensures
-    c.in_ok-text.ensures (c.status_of-status.ensures c.args.script.now (end (image_of (stored c.in_ok-ran.ran.drive))))
-    c.in_ok-bytes.ensures.image c.in_ok-bytes.ensures.read_back
+pub returns-in-Ok : goal.returns-in-Ok
+returns-in-Ok g c =
+    IfOk-weaker c.store_run.result _ _ (λ made h.
+    armed_run_to c.args.drive c.arm.new.self c.args.stop _ c.args.script.now c.in-Ok.drive c.in-Ok.records made.1.status made.1.text.items made.0.items refl
+    c.requires.quiet c.in_ok-arm.ensures.armed c.in-Ok.ensures.ran h) c.store_run.ensures

@@ -7,4 +7,4 @@ use Rattle.pblk_cli.proofs.run.transcript_text.Goals as goal
 pub returns : goal.returns
 returns c =
     IfOk-weaker c.transcript.result _ _ (λ text h. h
-    ∙ ap (λ e. text_of (transcript_of c.args.script.now c.args.ran.now.records e)) c.in_ok-held.ensures.end) c.transcript.ensures
+    ∙ ap (λ e. text_of (transcript_of c.args.script.now c.args.records.now e)) c.in_ok-held.ensures.end) c.transcript.ensures

@@ -1,10 +1,38 @@
-use Rattle.pblk_cli.proofs.Servings.{fits_target, served_of}
+use Rattle.pblk_cli.specs.Serving.{IsNewTarget}
+use Rattle.pblk_cli.proofs.Servings.{refused_back, refused_served, served_back, served_if}
 use Rattle.pblk_cli.proofs.serve.serve.Goals as goal
 
-pub run_session-requires-clause-fits : goal.run_session-requires-clause-fits
-run_session-requires-clause-fits g c =
-    fits_target c.args.shape.now c.args.units.items c.in_ok-target.target c.args.script.now c.in_ok-target.ensures c.requires.fits
+pub returns-in-Ok-clause-back : goal.returns-in-Ok-clause-back
+returns-in-Ok-clause-back g c =
+    let fresh : IsNewTarget c.args.shape.now c.args.units.items c.in-Ok.target = record {
+      opened = c.in-Ok.ensures.opened;
+      wear = c.in-Ok.ensures.wear;
+      unwritten = c.in-Ok.ensures.new_port.1;
+      faultless = c.in-Ok.ensures.new_port.2;
+      calm = c.in-Ok.ensures.new_port.3;
+    } in
+    served_back c.args.shape.now c.args.script.now c.args.units.items c.serve_on.result.units.items c.in-Ok.target c.requires.fit fresh
+    c.serve_on.result.records c.serve_on.ensures
 
-pub returns : goal.returns
-returns g c = served_of c.args.shape.now c.args.script.now c.args.units.items c.in_ok-target.target c.in_ok-target-2.target c.in_ok-target-2.records
-    c.close.result c.requires.accepted c.requires.one c.requires.fits c.in_ok-target.ensures c.in_ok-target-2.ensures c.close.ensures
+pub returns-in-Ok-clause-served : goal.returns-in-Ok-clause-served
+returns-in-Ok-clause-served g c =
+    let fresh : IsNewTarget c.args.shape.now c.args.units.items c.in-Ok.target = record {
+      opened = c.in-Ok.ensures.opened;
+      wear = c.in-Ok.ensures.wear;
+      unwritten = c.in-Ok.ensures.new_port.1;
+      faultless = c.in-Ok.ensures.new_port.2;
+      calm = c.in-Ok.ensures.new_port.3;
+    } in
+    served_if c.args.shape.now c.args.script.now c.args.units.items c.serve_on.result.units.items c.in-Ok.target c.requires.fit fresh
+    c.serve_on.result.records c.requires.accepted c.requires.one c.requires.fits c.serve_on.ensures
+
+pub returns-in-Err-clause-back : goal.returns-in-Err-clause-back
+returns-in-Err-clause-back g c =
+    refused_back c.args.shape.now c.args.units.items c.in-Err.field-0.units.items c.requires.accepted c.requires.fit c.requires.armed
+    c.in-Err.ensures.refused c.in-Err.ensures.refused_wear
+
+pub returns-in-Err-clause-served : goal.returns-in-Err-clause-served
+returns-in-Err-clause-served g c =
+    refused_served c.args.shape.now c.args.units.items c.in-Err.field-0.units.items c.requires.accepted c.requires.fit c.requires.armed
+    c.in-Err.ensures.refused c.args.script.now c.in-Err.field-0.cause c.not_opened.result c.in-Err.ensures.cause c.not_opened.ensures.named
+    c.not_opened.ensures.memory c.requires.fits

@@ -1,4 +1,4 @@
-use Rattle.std.proofs.Common.{◌≡◌, map, ℕ, zero, suc, List, length, slice_get, replicate, Some, refl, sym, subst, arith, ◌∙◌, ap}
+use Rattle.std.proofs.Common.{◌≡◌, inl, map, ℕ, zero, suc, List, length, slice_get, replicate, Some, refl, sym, subst, arith, ◌∙◌, ap}
 use Rattle.std.specs.List.{AllByRecursion}
 use Rattle.std.proofs.lemmas.List.{length-replicate}
 use Rattle.std.proofs.lemmas.Option.{none-some, same_Some}
@@ -7,8 +7,8 @@ use Rattle.pblk_model.specs.Shape.{units}
 use Rattle.pblk_model.specs.Chunk.{IsChunk, free_chunk}
 use Rattle.unit_port.specs.Unit.{ModelUnit}
 use Rattle.ocssd_drive.specs.Units.{WornUnit, new_unit}
+use Rattle.scan_recovery.specs.MayStop.{AllMayStop}
 use Rattle.scan_recovery.specs.Units.{AreFit, IsUnitOf}
-use Rattle.unit_port.specs.Commands.{AreUnarmed}
 use Rattle.target_tests.proofs.harness.new_units.Goals as goal
 use Rattle.lemmas.proofs.Lists.{all_replicated}
 use Rattle.pblk_model.proofs.ChunkLemmas.{free_is_chunk}
@@ -35,14 +35,17 @@ are_fit s us e =
     = record { count = count_new s (units s); each = λ k u is. subst (λ (x : ModelUnit). IsUnitOf s x) (sym (each_new s (units s) k u is)) (is_fit s) } in
     subst (λ (xs : List WornUnit). AreFit s (map (λ (v : WornUnit). v.unit) xs)) (sym e) all
 
-are_unarmed : (s : Shape) (us : List WornUnit) → us ≡ replicate (units s) (new_unit s) → AreUnarmed (map (λ (v : WornUnit). v.unit) us)
-are_unarmed s us e =
-    subst (λ (xs : List WornUnit). AreUnarmed (map (λ (v : WornUnit). v.unit) xs)) (sym e)
-    (λ k u is. (ap (λ (x : ModelUnit). x.armed.plans) (each_new s (units s) k u is), ap (λ (x : ModelUnit). x.armed.fuse) (each_new s (units s) k u is)))
+may_stop : (s : Shape) (us : List WornUnit) → us ≡ replicate (units s) (new_unit s) → AllMayStop (map (λ (v : WornUnit). v.unit) us)
+may_stop s us e =
+    subst (λ (xs : List WornUnit). AllMayStop (map (λ (v : WornUnit). v.unit) xs)) (sym e)
+    (λ k u is. record {
+      plans = ap (λ (x : ModelUnit). x.armed.plans) (each_new s (units s) k u is);
+      fuse = inl (ap (λ (x : ModelUnit). x.armed.fuse) (each_new s (units s) k u is));
+    })
 
 pub returns : goal.returns
 returns c =
     let s = c.args.shape.now in
     let reached : c.loop-unit._unit ≡ c.units-unit-end.result = omega arith in
     let same = c.loop-unit.invariant ∙ ap (λ n. replicate n (new_unit s)) (reached ∙ c.units-unit-end.ensures) in
-    record { fit = are_fit s c.loop-unit.made.items same; unarmed = are_unarmed s c.loop-unit.made.items same }
+    record { fit = are_fit s c.loop-unit.made.items same; armed = may_stop s c.loop-unit.made.items same }

@@ -1,45 +1,35 @@
-use Rattle.std.proofs.Common.{◌≡◌, ◌++◌, take, drop, length, map, sym, subst}
-use Rattle.scan_recovery.specs.Units.{image_of}
+use Rattle.std.proofs.Common.{◌≡◌, ◌++◌, take, drop, length, map, refl, sym, subst, ap}
+use Rattle.scan_recovery.specs.Lost.{NoneLost}
+use Rattle.scan_recovery.specs.MayStop.{AllMayStop}
 use Rattle.scan_recovery.specs.Readying.{AreHandedBack}
+use Rattle.pblk_core.specs.Filling.{Filling}
 use Rattle.pblk_core.specs.Named.{pad_of}
-use Rattle.block_target.specs.Deeds.{drive_before, drive_found}
-use Rattle.block_target.specs.Mount.{IsMount}
+use Rattle.block_target.specs.Mount.{IsMount, mount_view}
 use Rattle.block_target.specs.Opened.{IsReady, IsOpened}
-use Rattle.block_target.proofs.Begun.{first_world, first_legal, found_fit, core_stands, core_standing, first_unread, mount_opens, opened_view, all_written}
+use Rattle.block_target.proofs.Begun.{all_written, can_begin, first_grant, found_fit, mount_opens, opened_view}
 use Rattle.block_target.proofs.mount.Mount.open.Goals as goal
 
-pub make_parts-requires-clause-fit : goal.make_parts-requires-clause-fit
-make_parts-requires-clause-fit g c =
-    let s = c.args.shape.now in
-    let items = c.args.units.items in
-    let old = map g.U.Unit.model items in
-    let made = c.ready_drive.new.units in
-    let new = map g.U.Unit.model made in
-    let ready : IsReady s old new c.in-Ok.ready =
-    subst (λ xs. IsReady s (map g.U.Unit.model xs) new c.in-Ok.ready) c.as_mut_slice.ensures.value c.in-Ok.ensures.ready in
-    found_fit s old new c.in-Ok.ready.found c.requires.accepted c.requires.fit c.requires.unarmed ready.found
+pub ready_drive-requires-clause-armed : goal.ready_drive-requires-clause-armed
+ready_drive-requires-clause-armed g c =
+    subst (λ xs. AllMayStop (map g.U.Unit.model xs)) (sym c.as_mut_slice.ensures.value) c.requires.armed
 
-pub grant-granted-requires-clause-standing : goal.grant-granted-requires-clause-standing
-grant-granted-requires-clause-standing g c =
-    let s = c.args.shape.now in
-    let items = c.args.units.items in
-    let old = map g.U.Unit.model items in
-    let made = c.ready_drive.new.units in
-    let new = map g.U.Unit.model made in
-    let ready : IsReady s old new c.in-Ok.ready =
-    subst (λ xs. IsReady s (map g.U.Unit.model xs) new c.in-Ok.ready) c.as_mut_slice.ensures.value c.in-Ok.ensures.ready in
-    core_standing s old new c.in-Ok.ready.found c.requires.accepted c.requires.fit c.requires.unarmed ready.found c.in-Ok-make_parts.parts.core
-    c.in-Ok-make_parts.ensures.core
-
-pub grant-granted-requires-clause-drained : goal.grant-granted-requires-clause-drained
-grant-granted-requires-clause-drained g c =
+pub new-requires-2-clause-fit : goal.new-requires-2-clause-fit
+new-requires-2-clause-fit g c =
     let s = c.args.shape.now in
     let old = map g.U.Unit.model c.args.units.items in
     let new = map g.U.Unit.model c.ready_drive.new.units in
     let ready : IsReady s old new c.in-Ok.ready =
     subst (λ xs. IsReady s (map g.U.Unit.model xs) new c.in-Ok.ready) c.as_mut_slice.ensures.value c.in-Ok.ensures.ready in
-    first_unread s old new c.in-Ok.ready.found c.requires.accepted c.requires.fit c.requires.unarmed ready.found c.in-Ok-make_parts.parts.core
-    c.in-Ok-make_parts.ensures.core
+    found_fit s old new c.in-Ok.ready.found c.requires.accepted c.requires.fit c.requires.armed ready.found
+
+pub new-requires-2-clause-can : goal.new-requires-2-clause-can
+new-requires-2-clause-can g c =
+    let s = c.args.shape.now in
+    let old = map g.U.Unit.model c.args.units.items in
+    let new = map g.U.Unit.model c.ready_drive.new.units in
+    let ready : IsReady s old new c.in-Ok.ready =
+    subst (λ xs. IsReady s (map g.U.Unit.model xs) new c.in-Ok.ready) c.as_mut_slice.ensures.value c.in-Ok.ensures.ready in
+    can_begin s old new c.in-Ok.ready.found c.requires.accepted c.requires.fit c.requires.armed ready.found
 
 pub invariant_of-result : goal.invariant_of-result
 invariant_of-result g c =
@@ -52,28 +42,38 @@ invariant_of-result g c =
     subst (λ xs. IsReady s (map g.U.Unit.model xs) new c.in-Ok.ready) c.as_mut_slice.ensures.value c.in-Ok.ensures.ready in
     let back : take c.args.units.len (made ++ drop (length made) items) ≡ made =
     all_written c.args.units.len made items c.as_mut_slice.result.now c.ready_drive.auto.units c.as_mut_slice.ensures.value c.args.units.ok.0 in
-    let parts = c.in-Ok-make_parts.parts in
-    let begun = c.in-Ok-make_parts.ensures in
-    let f = c.in-Ok.ready.found in
-    let grants = c.grant-granted.ensures (image_of s old) (first_world s old new f c.requires.accepted c.requires.fit c.requires.unarmed ready.found)
-    (first_legal s old new f c.requires.accepted c.requires.fit c.requires.unarmed ready.found).simple.mount
-    (core_stands s old new f c.requires.accepted c.requires.fit c.requires.unarmed ready.found parts.core begun.core) in
-    subst (λ xs. IsMount (record {
-      image = image_of s (drive_before c.in-Ok.ready.drives);
-      found = image_of s (drive_found c.in-Ok.ready.drives);
-      deeds =
-          c.in-Ok.ready.deeds;
-      units = map g.U.Unit.model xs;
-      wear = map g.U.Unit.wear xs;
-      granted = c.grant-granted.result;
-      pad = pad_of parts.core;
-    }) parts.core
-    parts.pool parts.stripe) (sym back)
-    (mount_opens s old new f c.requires.accepted c.requires.fit c.requires.unarmed ready.found c.in-Ok.ready.drives c.in-Ok.ready.deeds
-    (map g.U.Unit.wear made) c.grant-granted.result parts ready.drives ready.deeds begun grants)
+    let heart = c.in-Ok-new-2.heart in
+    let stripe = c.in-Ok-new.stripe in
+    subst (λ xs. IsMount
+    (mount_view s c.in-Ok.ready.drives c.in-Ok.ready.deeds (map g.U.Unit.model xs) (map g.U.Unit.wear xs) heart.granted (pad_of heart.core))
+    heart stripe) (sym back)
+    (mount_opens s old new c.in-Ok.ready.found c.requires.accepted c.requires.fit c.requires.armed ready.found c.in-Ok.ready.drives c.in-Ok.ready.deeds
+    (map g.U.Unit.wear made) heart stripe ready.drives ready.deeds c.in-Ok-new-2.ensures.begun c.in-Ok-new-2.ensures.resting
+    (ap (λ (x : Filling). x.shape) c.in-Ok-new.ensures))
 
-pub returns-in-Err-make_parts-clause-refused : goal.returns-in-Err-make_parts-clause-refused
-returns-in-Err-make_parts-clause-refused g c =
+pub returns-in-Ok-new-2-clause-opened : goal.returns-in-Ok-new-2-clause-opened
+returns-in-Ok-new-2-clause-opened g c =
+    let s = c.args.shape.now in
+    let items = c.args.units.items in
+    let old = map g.U.Unit.model items in
+    let made = c.ready_drive.new.units in
+    let new = map g.U.Unit.model made in
+    let ready : IsReady s old new c.in-Ok.ready =
+    subst (λ xs. IsReady s (map g.U.Unit.model xs) new c.in-Ok.ready) c.as_mut_slice.ensures.value c.in-Ok.ensures.ready in
+    let back : take c.args.units.len (made ++ drop (length made) items) ≡ made =
+    all_written c.args.units.len made items c.as_mut_slice.result.now c.ready_drive.auto.units c.as_mut_slice.ensures.value c.args.units.ok.0 in
+    let heart = c.in-Ok-new-2.heart in
+    let grant = first_grant s old new c.in-Ok.ready.found c.requires.accepted c.requires.fit c.requires.armed ready.found heart c.in-Ok-new-2.ensures.begun in
+    subst (λ xs. IsOpened s old
+    (mount_view s c.in-Ok.ready.drives c.in-Ok.ready.deeds (map g.U.Unit.model xs) (map g.U.Unit.wear xs) heart.granted (pad_of heart.core))) (sym back)
+    (opened_view s old new c.in-Ok.ready.found c.in-Ok.ready.drives c.in-Ok.ready.deeds (map g.U.Unit.wear made) heart.granted (pad_of heart.core)
+    ready.found ready.drives ready.deeds grant c.in-Ok-new-2.ensures.pad)
+
+pub returns-in-Ok-new-2-clause-sound : goal.returns-in-Ok-new-2-clause-sound
+returns-in-Ok-new-2-clause-sound g c = (invariant_of-result g c).sound
+
+pub returns-in_default-clause-refused : goal.returns-in_default-clause-refused
+returns-in_default-clause-refused g c =
     let s = c.args.shape.now in
     let items = c.args.units.items in
     let old = map g.U.Unit.model items in
@@ -85,8 +85,21 @@ returns-in-Err-make_parts-clause-refused g c =
     all_written c.args.units.len made items c.as_mut_slice.result.now c.ready_drive.auto.units c.as_mut_slice.ensures.value c.args.units.ok.0 in
     subst (λ xs. AreHandedBack s old (map g.U.Unit.model xs)) (sym back) ready.found.units
 
-pub returns-in-Ok-make_parts-clause-opened : goal.returns-in-Ok-make_parts-clause-opened
-returns-in-Ok-make_parts-clause-opened g c =
+pub returns-in_default-clause-cause : goal.returns-in_default-clause-cause
+returns-in_default-clause-cause g c =
+    let s = c.args.shape.now in
+    let items = c.args.units.items in
+    let old = map g.U.Unit.model items in
+    let made = c.ready_drive.new.units in
+    let new = map g.U.Unit.model made in
+    let back : take c.args.units.len (made ++ drop (length made) items) ≡ made =
+    all_written c.args.units.len made items c.as_mut_slice.result.now c.ready_drive.auto.units c.as_mut_slice.ensures.value c.args.units.ok.0 in
+    let done : NoneLost old new =
+    subst (λ xs. NoneLost (map g.U.Unit.model xs) new) c.as_mut_slice.ensures.value (c.in-Ok.ensures.done refl) in
+    subst (λ xs. NoneLost old (map g.U.Unit.model xs)) (sym back) done
+
+pub returns-in-Err-new-clause-refused : goal.returns-in-Err-new-clause-refused
+returns-in-Err-new-clause-refused g c =
     let s = c.args.shape.now in
     let items = c.args.units.items in
     let old = map g.U.Unit.model items in
@@ -96,25 +109,30 @@ returns-in-Ok-make_parts-clause-opened g c =
     subst (λ xs. IsReady s (map g.U.Unit.model xs) new c.in-Ok.ready) c.as_mut_slice.ensures.value c.in-Ok.ensures.ready in
     let back : take c.args.units.len (made ++ drop (length made) items) ≡ made =
     all_written c.args.units.len made items c.as_mut_slice.result.now c.ready_drive.auto.units c.as_mut_slice.ensures.value c.args.units.ok.0 in
-    let parts = c.in-Ok-make_parts.parts in
-    let begun = c.in-Ok-make_parts.ensures in
-    let f = c.in-Ok.ready.found in
-    let grants = c.grant-granted.ensures (image_of s old) (first_world s old new f c.requires.accepted c.requires.fit c.requires.unarmed ready.found)
-    (first_legal s old new f c.requires.accepted c.requires.fit c.requires.unarmed ready.found).simple.mount
-    (core_stands s old new f c.requires.accepted c.requires.fit c.requires.unarmed ready.found parts.core begun.core) in
-    subst (λ xs. IsOpened s old (record {
-      image = image_of s (drive_before c.in-Ok.ready.drives);
-      found = image_of s (drive_found c.in-Ok.ready.drives);
-      deeds =
-          c.in-Ok.ready.deeds;
-      units = map g.U.Unit.model xs;
-      wear = map g.U.Unit.wear xs;
-      granted = c.grant-granted.result;
-      pad =
-          pad_of c.in-Ok-make_parts.parts.core;
-    })) (sym back)
-    (opened_view s old new c.in-Ok.ready.found c.in-Ok.ready.drives c.in-Ok.ready.deeds (map g.U.Unit.wear made) c.grant-granted.result
-    (pad_of c.in-Ok-make_parts.parts.core) ready.found ready.drives ready.deeds grants begun.pad)
+    subst (λ xs. AreHandedBack s old (map g.U.Unit.model xs)) (sym back) ready.found.units
 
-pub returns-in-Ok-make_parts-clause-sound : goal.returns-in-Ok-make_parts-clause-sound
-returns-in-Ok-make_parts-clause-sound g c = (invariant_of-result g c).sound
+pub returns-in-Err-new-clause-cause : goal.returns-in-Err-new-clause-cause
+returns-in-Err-new-clause-cause g c =
+    let s = c.args.shape.now in
+    let items = c.args.units.items in
+    let old = map g.U.Unit.model items in
+    let made = c.ready_drive.new.units in
+    let new = map g.U.Unit.model made in
+    let back : take c.args.units.len (made ++ drop (length made) items) ≡ made =
+    all_written c.args.units.len made items c.as_mut_slice.result.now c.ready_drive.auto.units c.as_mut_slice.ensures.value c.args.units.ok.0 in
+    let done : NoneLost old new =
+    subst (λ xs. NoneLost (map g.U.Unit.model xs) new) c.as_mut_slice.ensures.value (c.in-Ok.ensures.done refl) in
+    subst (λ xs. NoneLost old (map g.U.Unit.model xs)) (sym back) done
+
+pub returns-in-Ok-new-2-clause-done : goal.returns-in-Ok-new-2-clause-done
+returns-in-Ok-new-2-clause-done g c =
+    let s = c.args.shape.now in
+    let items = c.args.units.items in
+    let old = map g.U.Unit.model items in
+    let made = c.ready_drive.new.units in
+    let new = map g.U.Unit.model made in
+    let back : take c.args.units.len (made ++ drop (length made) items) ≡ made =
+    all_written c.args.units.len made items c.as_mut_slice.result.now c.ready_drive.auto.units c.as_mut_slice.ensures.value c.args.units.ok.0 in
+    let done : NoneLost old new =
+    subst (λ xs. NoneLost (map g.U.Unit.model xs) new) c.as_mut_slice.ensures.value (c.in-Ok.ensures.done refl) in
+    subst (λ xs. NoneLost old (map g.U.Unit.model xs)) (sym back) done

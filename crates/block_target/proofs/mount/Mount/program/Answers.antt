@@ -1,285 +1,231 @@
-use Rattle.std.proofs.Common.{◌≡◌, ◌≤◌, ◌<◌, ◌+◌, ◌*◌, ◌++◌, [], ◌∷◌, max, false, true, List, ℕ, Some, map, length, sym, subst, ap, ap₂, ◌∙◌, refl, arith}
+use Rattle.std.proofs.Common.{◌≡◌, ◌≤◌, ◌<◌, ◌++◌, [], ◌∷◌, List, ℕ, Some, map, length, sym, subst, ap, ap₂, ◌∙◌, arith, le_trans}
 use Rattle.std.specs.Prelude.{slice_get, slice_set}
-use Rattle.std.proofs.lemmas.List.{length-map}
-use Rattle.pblk_model.specs.Frames.{count_out}
-use Rattle.pblk_model.specs.declared.shape.Shape.{Shape}
-use Rattle.pblk_model.specs.Blocks.{blocks_of}
-use Rattle.pblk_world.specs.Events.{Place}
-use Rattle.pblk_world.specs.Placing.{MayPlace}
-use Rattle.pblk_world.specs.Space.{room}
+use Rattle.pblk_model.specs.ChunkStep.{Done, Write}
+use Rattle.pblk_model.specs.UnitLog.{Answered, Stopped}
 use Rattle.pblk_world.specs.World.{log_of}
-use Rattle.core_laws.specs.Stepping.{after}
-use Rattle.pblk_world.specs.Space.{freed}
-use Rattle.step_laws.specs.Whole.{program_of}
-use Rattle.write_window.specs.Window as view
+use Rattle.step_laws.specs.Whole.{next_maker}
+use Rattle.pblk_core.specs.Filling.{Filling}
 use Rattle.pblk_core.specs.Named.{pad_of}
-use Rattle.pblk_core.specs.Stands.{Stands}
-use Rattle.pblk_core.proofs.WorkOf.{work_is}
-use Rattle.scan_recovery.specs.Units.{image_of}
-use Rattle.block_target.specs.Deeds.{Deed, Does, Lands, world_of, drive_before}
-use Rattle.block_target.specs.Mount.{MountView, IsMount, IsSameMount, IsUnitIn, work_in, world_in, logs_in, engine_log, mount_view}
-use Rattle.block_target.proofs.MountLemmas.{named_work, placed_once, stands_in_mount}
-use Rattle.block_target.proofs.PumpedProgram.{landed_deeds}
-use Rattle.block_target.proofs.PumpedMount.{mount_programmed, same_programmed, more_programmed}
-use Rattle.block_target.proofs.PumpedCall.{unit_there, unit_within, takes_program, placed_standing, end_legal, end_stands, end_sound}
-use Rattle.block_target.proofs.KeptWear.{wear_kept, at_same, unit_inside_all}
+use Rattle.pblk_core.specs.declared.work.Work.TheVariants as works
+use Rattle.unit_port.specs.Unit.{ModelUnit, TellsDone}
+use Rattle.block_target.specs.Arm.{WasGiven, last_of}
+use Rattle.block_target.specs.Deeds.{Deed, Does, Lands, Offers, world_of}
+use Rattle.scan_recovery.specs.Lost.{IsLostAt, NoneLost}
+use Rattle.block_target.specs.Mount.{IsMount, MountView, engine_log, mount_view, work_in}
+use Rattle.block_target.proofs.GivenCommands.{was_done, was_halted}
+use Rattle.block_target.proofs.GoingOn.{Leaves, moved_on}
+use Rattle.block_target.proofs.MountLemmas.{is_named, same_from}
+use Rattle.block_target.proofs.PumpedProgram.{IsToProgram, WerePlaced, before_of, beating_programmed, landed_done, landed_more, leaves_landed, leaves_stopped, may_be_landed, placed_more, rests_idle, rests_offered, stopped_lost, stopped_more, stripe_there, to_program, unit_within, with_answer}
+use Rattle.block_target.proofs.UnitLists.{unit_inside_all, unit_there, units_set, wear_kept}
+use Rattle.block_target.proofs.mount.Mount.program.Given.{Over}
+use Rattle.block_target.proofs.mount.Mount.program.Goals.{After-add, After-landed, After-stopped}
 use Rattle.block_target.proofs.mount.Mount.program.Goals as goal
 
-pub place-requires-clause-named : goal.place-requires-clause-named
-place-requires-clause-named g c =
-    work_is (image_of c.self.inside.shape (drive_before c.self.inside.drives))
-    (world_of c.self.inside.shape c.self.inside.deeds) c.self.inside.core c.self.invariant.sound.legal.simple c.self.invariant.stands
-    ∙ named_work _ c.self.inside.core c.self.inside.pool c.self.inside.stripe c.self.invariant ∙ ap work_in c.self.view_is ∙ c.requires
+same_least : {a b : ℕ} → a ≡ b → a ≤ b
+same_least same = omega arith
 
-pub index_mut-to-requires : goal.index_mut-to-requires
-index_mut-to-requires g c =
+pub place-requires-clause-named : goal.place-requires-clause-named
+place-requires-clause-named g c = is_named c.self.invariant works.Program (ap work_in c.self.view_is ∙ c.requires)
+
+pub index_mut-unit-requires : goal.index_mut-unit-requires
+index_mut-unit-requires g c =
     let m = c.self.invariant in
     let v : MountView = mount_view c.self.inside.shape c.self.inside.drives c.self.inside.deeds (map g.U.Unit.model c.self.inside.units.items)
-    (map g.U.Unit.wear c.self.inside.units.items) c.self.inside.granted (pad_of c.self.inside.core) in
-    let once : c.place.new.into.again ≡ false =
-    placed_once v c.self.inside.core c.self.inside.pool c.self.inside.stripe m c.place.new.self c.place.new.into c.place.ensures.again in
-    let may : MayPlace v.image (logs_in v) c.place.new.into.stripe = c.place.ensures.legal once v.image (world_in v) m.sound.legal.simple.mount m.stands in
-    let low : c.place.new.into.stripe.unit < length (map g.U.Unit.model c.self.inside.units.items) =
-    unit_within v c.self.inside.core c.self.inside.pool c.self.inside.stripe m c.place.new.into.stripe may in
-    let many : length (map g.U.Unit.model c.self.inside.units.items) ≡ length c.self.inside.units.items = length-map c.self.inside.units.items g.U.Unit.model in
+    (map g.U.Unit.wear c.self.inside.units.items) c.self.inside.heart.granted (pad_of c.self.inside.heart.core) in
+    let into = c.place.new.into in
+    let deeds = c.add_placed.new.deeds in
+    let were : WerePlaced v into deeds = record { new = c.add_placed.ensures.new; again = c.add_placed.ensures.again } in
+    let ready = to_program m c.place.new.self into
+    (record { legal = c.place.ensures.legal; beats = c.place.ensures.beats; again = c.place.ensures.again }) deeds were in
     let len : c.self.inside.units.len ≡ length c.self.inside.units.items = c.self.inside.units.ok.0 in
-    let same : c.unit-unit.result ≡ c.place.new.into.stripe.unit = c.unit-unit.ensures in
-    let it : c.unit-unit.result < c.self.inside.units.len = omega arith in
+    let low : c.unit-number.result < length c.self.inside.units.items =
+    unit_inside_all g.U.Unit.model c.self.inside.units.items c.unit-number.result into.stripe.unit c.unit-number.ensures (unit_within m deeds ready) in
+    let it : c.unit-number.result < c.self.inside.units.len = omega arith in
     it
 
-pub program-requires-clause-whole : goal.program-requires-clause-whole
-program-requires-clause-whole g c =
+pub program-answer-requires : goal.program-answer-requires
+program-answer-requires g c =
     let m = c.self.invariant in
     let v : MountView = mount_view c.self.inside.shape c.self.inside.drives c.self.inside.deeds (map g.U.Unit.model c.self.inside.units.items)
-    (map g.U.Unit.wear c.self.inside.units.items) c.self.inside.granted (pad_of c.self.inside.core) in
-    let once : c.place.new.into.again ≡ false =
-    placed_once v c.self.inside.core c.self.inside.pool c.self.inside.stripe m c.place.new.self c.place.new.into c.place.ensures.again in
-    let may : MayPlace v.image (logs_in v) c.place.new.into.stripe = c.place.ensures.legal once v.image (world_in v) m.sound.legal.simple.mount m.stands in
-    let there : slice_get v.units c.place.new.into.stripe.unit ≡ Some (g.U.Unit.model c.index_mut-to.result.now) =
-    unit_there g.U.Unit.model c.self.inside.units.items c.unit-unit.result c.place.new.into.stripe.unit c.index_mut-to.result.now c.unit-unit.ensures
-    (unit_within v c.self.inside.core c.self.inside.pool c.self.inside.stripe m c.place.new.into.stripe may) c.index_mut-to.ensures.value in
-    let was : IsUnitIn v c.place.new.into.stripe.unit (g.U.Unit.model c.index_mut-to.result.now) =
-    m.sound.each c.place.new.into.stripe.unit (g.U.Unit.model c.index_mut-to.result.now) there in
-    let shapes : c.place.new.into.shape ≡ v.image.shape = c.place.ensures.shape ∙ m.stripe in
-    c.parts.ensures.whole ∙ ap (λ (s : Shape). length c.parts.result.1.now * s.sector) (shapes ∙ sym was.shape)
-
-pub program-requires-clause-taken : goal.program-requires-clause-taken
-program-requires-clause-taken g c =
-    let m = c.self.invariant in
-    let v : MountView = mount_view c.self.inside.shape c.self.inside.drives c.self.inside.deeds (map g.U.Unit.model c.self.inside.units.items)
-    (map g.U.Unit.wear c.self.inside.units.items) c.self.inside.granted (pad_of c.self.inside.core) in
-    let once : c.place.new.into.again ≡ false =
-    placed_once v c.self.inside.core c.self.inside.pool c.self.inside.stripe m c.place.new.self c.place.new.into c.place.ensures.again in
-    let may : MayPlace v.image (logs_in v) c.place.new.into.stripe = c.place.ensures.legal once v.image (world_in v) m.sound.legal.simple.mount m.stands in
-    let there : slice_get v.units c.place.new.into.stripe.unit ≡ Some (g.U.Unit.model c.index_mut-to.result.now) =
-    unit_there g.U.Unit.model c.self.inside.units.items c.unit-unit.result c.place.new.into.stripe.unit c.index_mut-to.result.now c.unit-unit.ensures
-    (unit_within v c.self.inside.core c.self.inside.pool c.self.inside.stripe m c.place.new.into.stripe may) c.index_mut-to.ensures.value in
-    let was : IsUnitIn v c.place.new.into.stripe.unit (g.U.Unit.model c.index_mut-to.result.now) =
-    m.sound.each c.place.new.into.stripe.unit (g.U.Unit.model c.index_mut-to.result.now) there in
-    let shapes : c.place.new.into.shape ≡ v.image.shape = c.place.ensures.shape ∙ m.stripe in
-    let blocks : blocks_of (g.U.Unit.model c.index_mut-to.result.now).shape.sector c.parts.result.0.now c.parts.result.1.now ≡ c.place.new.into.stripe.blocks =
-    ap (λ (s : Shape). blocks_of s.sector c.parts.result.0.now c.parts.result.1.now) (was.shape ∙ sym shapes) ∙ c.parts.ensures.blocks in
-    takes_program v c.self.inside.core c.self.inside.pool c.self.inside.stripe m c.place.new.into.stripe may
-    (g.U.Unit.model c.index_mut-to.result.now) c.chunk.result c.at.result
-    (blocks_of (g.U.Unit.model c.index_mut-to.result.now).shape.sector c.parts.result.0.now c.parts.result.1.now) there c.chunk.ensures.chunk c.at.ensures
-    blocks
-
-pub unreachable-requires : goal.unreachable-requires
-unreachable-requires g c =
-    let m = c.self.invariant in
-    let v : MountView = mount_view c.self.inside.shape c.self.inside.drives c.self.inside.deeds (map g.U.Unit.model c.self.inside.units.items)
-    (map g.U.Unit.wear c.self.inside.units.items) c.self.inside.granted (pad_of c.self.inside.core) in
-    let once : c.place.new.into.again ≡ false =
-    placed_once v c.self.inside.core c.self.inside.pool c.self.inside.stripe m c.place.new.self c.place.new.into c.place.ensures.again in
-    let may : MayPlace v.image (logs_in v) c.place.new.into.stripe = c.place.ensures.legal once v.image (world_in v) m.sound.legal.simple.mount m.stands in
-    let there : slice_get v.units c.place.new.into.stripe.unit ≡ Some (g.U.Unit.model c.index_mut-to.result.now) =
-    unit_there g.U.Unit.model c.self.inside.units.items c.unit-unit.result c.place.new.into.stripe.unit c.index_mut-to.result.now c.unit-unit.ensures
-    (unit_within v c.self.inside.core c.self.inside.pool c.self.inside.stripe m c.place.new.into.stripe may) c.index_mut-to.ensures.value in
-    let was : IsUnitIn v c.place.new.into.stripe.unit (g.U.Unit.model c.index_mut-to.result.now) =
-    m.sound.each c.place.new.into.stripe.unit (g.U.Unit.model c.index_mut-to.result.now) there in
-    let no : false ≡ true = c.in-Err.ensures.quiet was.unarmed in
-    cc
-
-pub landed-requires-clause-standing : goal.landed-requires-clause-standing
-landed-requires-clause-standing g c =
-    let m = c.self.invariant in
-    let v : MountView = mount_view c.self.inside.shape c.self.inside.drives c.self.inside.deeds (map g.U.Unit.model c.self.inside.units.items)
-    (map g.U.Unit.wear c.self.inside.units.items) c.self.inside.granted (pad_of c.self.inside.core) in
-    let once : c.place.new.into.again ≡ false =
-    placed_once v c.self.inside.core c.self.inside.pool c.self.inside.stripe m c.place.new.self c.place.new.into c.place.ensures.again in
-    let may : MayPlace v.image (logs_in v) c.place.new.into.stripe = c.place.ensures.legal once v.image (world_in v) m.sound.legal.simple.mount m.stands in
-    let placed : (knows : List ℕ) → Stands v.image (after (logs_in v) (Place c.place.new.into.stripe) knows) c.place.new.self =
-    λ knows. c.place.ensures.stands once v.image (world_in v) knows m.sound.legal.simple.mount m.stands in
-    placed_standing v c.self.inside.core c.self.inside.pool c.self.inside.stripe m c.place.new.into.stripe may c.place.new.self placed
-
-pub free_frames-requires : goal.free_frames-requires
-free_frames-requires g c =
-    let m = c.self.invariant in
-    let window : c.place.new.self.window ≡ c.self.inside.core.window = c.place.ensures.window in
-    let own : view.AreOf c.self.inside.pool.region c.place.new.self.window.entries → view.AreOf c.self.inside.pool.region c.landed.new.self.window.entries =
-    c.landed.ensures.own c.self.inside.pool.region in
-    own (subst (λ (w : view.WindowView). view.AreOf c.self.inside.pool.region w.entries) (sym window) m.own)
-
-pub grant-requires-clause-standing : goal.grant-requires-clause-standing
-grant-requires-clause-standing g c =
-    let m = c.self.invariant in
-    let v : MountView = mount_view c.self.inside.shape c.self.inside.drives c.self.inside.deeds (map g.U.Unit.model c.self.inside.units.items)
-    (map g.U.Unit.wear c.self.inside.units.items) c.self.inside.granted (pad_of c.self.inside.core) in
-    let once : c.place.new.into.again ≡ false =
-    placed_once v c.self.inside.core c.self.inside.pool c.self.inside.stripe m c.place.new.self c.place.new.into c.place.ensures.again in
-    let may : MayPlace v.image (logs_in v) c.place.new.into.stripe = c.place.ensures.legal once v.image (world_in v) m.sound.legal.simple.mount m.stands in
-    let placed : (knows : List ℕ) → Stands v.image (after (logs_in v) (Place c.place.new.into.stripe) knows) c.place.new.self =
-    λ knows. c.place.ensures.stands once v.image (world_in v) knows m.sound.legal.simple.mount m.stands in
-    let legal = end_legal v c.self.inside.core c.self.inside.pool c.self.inside.stripe m c.place.new.into.stripe may in
-    let stood : Stands v.image (log_of (world_of v.image.shape (landed_deeds v.image v.deeds c.place.new.into.stripe))) c.landed.new.self =
-    end_stands v c.self.inside.core c.self.inside.pool c.self.inside.stripe m c.place.new.into.stripe may c.place.new.self c.landed.new.self placed
-    c.landed.ensures.stands in
-    let stands : Stands v.image (log_of (world_of v.image.shape (landed_deeds v.image v.deeds c.place.new.into.stripe))) c.free_frames.new.core =
-    c.free_frames.ensures.stands v.image (world_of v.image.shape (landed_deeds v.image v.deeds c.place.new.into.stripe)) legal.simple.mount stood in
+    (map g.U.Unit.wear c.self.inside.units.items) c.self.inside.heart.granted (pad_of c.self.inside.heart.core) in
+    let into = c.place.new.into in
+    let deeds = c.add_placed.new.deeds in
+    let were : WerePlaced v into deeds = record { new = c.add_placed.ensures.new; again = c.add_placed.ensures.again } in
+    let ready = to_program m c.place.new.self into
+    (record { legal = c.place.ensures.legal; beats = c.place.ensures.beats; again = c.place.ensures.again }) deeds were in
+    let was = g.U.Unit.model c.index_mut-unit.result.now in
+    let there : slice_get v.units into.stripe.unit ≡ Some was =
+    unit_there g.U.Unit.model c.self.inside.units.items c.unit-number.result into.stripe.unit c.index_mut-unit.result.now c.unit-number.ensures
+    (unit_within m deeds ready) c.index_mut-unit.ensures.value in
     record {
-      image = v.image;
-      world = world_of v.image.shape (landed_deeds v.image v.deeds c.place.new.into.stripe);
-      legal = legal.simple.mount;
-      stands =
-          stands;
+      shape = c.place.ensures.shape ∙ m.stripe ∙ sym (stripe_there m deeds ready was there).arm.shape;
+      there = (v.image, world_of v.image.shape deeds, before_of m deeds ready was there, stripe_there m deeds ready was there);
     }
 
+-- ---- once the unit was given the command
+
+module _ (g : Over) (c : After-add g) where
+  -- the mount before
+  abbrev v : MountView
+  v = mount_view c.self.inside.shape c.self.inside.drives c.self.inside.deeds (map g.U.Unit.model c.self.inside.units.items)
+      (map g.U.Unit.wear c.self.inside.units.items) c.self.inside.heart.granted (pad_of c.self.inside.heart.core)
+
+  m : IsMount v c.self.inside.heart c.self.inside.stripe
+  m = c.self.invariant
+
+  -- the stripe, and what was done once it was placed
+  abbrev into : Filling
+  into = c.place.new.into
+
+  abbrev deeds : List Deed
+  deeds = c.add_placed.new.deeds
+
+  were : WerePlaced v into deeds
+  were = record { new = c.add_placed.ensures.new; again = c.add_placed.ensures.again }
+
+  ready : IsToProgram v c.place.new.self into.stripe (world_of v.image.shape deeds)
+  ready = to_program m c.place.new.self into
+      (record { legal = c.place.ensures.legal; beats = c.place.ensures.beats; again = c.place.ensures.again }) deeds were
+
+  within : into.stripe.unit < length v.units
+  within = unit_within m deeds ready
+
+  -- the unit before and after
+  abbrev was : ModelUnit
+  was = g.U.Unit.model c.index_mut-unit.result.now
+
+  abbrev new : ModelUnit
+  new = g.U.Unit.model c.program-answer.new.unit
+
+  there : slice_get v.units into.stripe.unit ≡ Some was
+  there = unit_there g.U.Unit.model c.self.inside.units.items c.unit-number.result into.stripe.unit c.index_mut-unit.result.now c.unit-number.ensures within
+      c.index_mut-unit.ensures.value
+
+  given : WasGiven v.image (world_of v.image.shape deeds) into.stripe.unit (before_of m deeds ready was there) (next_maker (world_of v.image.shape deeds))
+      into.stripe.chunk (Write into.stripe.at into.stripe.blocks) (TellsDone c.program-answer.result) new
+  given = c.program-answer.ensures.given v.image (world_of v.image.shape deeds) (before_of m deeds ready was there)
+      (next_maker (world_of v.image.shape deeds)) (stripe_there m deeds ready was there)
+
+  -- the units then
+  abbrev us : List ModelUnit
+  us = map g.U.Unit.model (slice_set c.self.inside.units.items c.unit-number.result c.program-answer.new.unit)
+
+  abbrev wear : List (List ℕ)
+  wear = map g.U.Unit.wear (slice_set c.self.inside.units.items c.unit-number.result c.program-answer.new.unit)
+
+  units_are : us ≡ slice_set v.units into.stripe.unit new
+  units_are = units_set g.U.Unit.model c.self.inside.units.items c.unit-number.result into.stripe.unit c.program-answer.new.unit c.unit-number.ensures
+
+  same_wear : wear ≡ v.wear
+  same_wear =
+      wear_kept g.U.Unit.wear c.self.inside.units.items c.unit-number.result c.index_mut-unit.result.now c.program-answer.new.unit
+      (unit_inside_all g.U.Unit.model c.self.inside.units.items c.unit-number.result into.stripe.unit c.unit-number.ensures within)
+      c.index_mut-unit.ensures.value c.program-answer.ensures.wear
+
+  -- and what is done, once the engine has noted it
+  lasts : (note : ℕ → Deed) (last : List Deed) → last ≡ c.add.new.self ++ note c.unit-number.result ∷ []
+      → last ≡ with_answer deeds into.stripe.unit (last_of new) (note into.stripe.unit)
+  lasts note last is = is ∙ ap₂ (λ (ds : List Deed) n. ds ++ note n ∷ [])
+      (c.add.ensures ∙ ap (λ n. deeds ++ Does n (last_of new) ∷ []) c.unit-number.ensures) c.unit-number.ensures
+
+-- ---- it was done
+
+pub landed-requires-clause-under_way : goal.landed-requires-clause-under_way
+landed-requires-clause-under_way g c = c.place.ensures.under_way
+
+pub landed-requires-clause-may : goal.landed-requires-clause-may
+landed-requires-clause-may g c =
+    let d = (goal.at.landed-requires-clause-may g c).After-add in
+    let done = was_done (given g d).event.outcome c.program-answer.result c.in-Ok.field-0 c.in-Ok.is (given g d).told in
+    may_be_landed (m g d) (deeds g d) (ready g d) (was g d) (new g d) (there g d) (given g d) done
+
+module _ (g : Over) (c : After-landed g) where
+  abbrev d : After-add g
+  d = (goal.at.invariant_of-self g c).After-add
+
+  done : (given g d).event.outcome ≡ Answered Done
+  done = was_done (given g d).event.outcome c.program-answer.result c.in-Ok.field-0 c.in-Ok.is (given g d).told
+
+  last : c.add-in-Ok.new.self ≡ with_answer (deeds g d) (into g d).stripe.unit (last_of (new g d)) (Lands (into g d).stripe.unit)
+  last = lasts g d Lands c.add-in-Ok.new.self c.add-in-Ok.ensures
+
+  leaves_ok : Leaves (v g d) (moved_on (v g d) c.add-in-Ok.new.self (us g d) (wear g d) c.landed.new.self.granted (pad_of c.landed.new.self.core))
+      c.landed.new.self (into g d)
+  leaves_ok = leaves_landed (m g d) (deeds g d) (ready g d) (was g d) (new g d) (there g d) (given g d) done c.add-in-Ok.new.self (us g d) (wear g d)
+      c.landed.new.self (into g d) (placed_more (v g d) (into g d) (deeds g d) (were g d)) last (units_are g d) c.landed.ensures.beats
+      (rests_idle c.self.inside.heart.core c.place.new.self.core c.landed.new.self.core (into g d).stripe.unit (m g d).resting c.place.ensures.rows
+      c.landed.ensures.rows c.landed.ensures.idle) (c.place.ensures.shape ∙ (m g d).stripe) (same_wear g d)
+      (le_trans c.place.ensures.granted c.landed.ensures.granted) (c.landed.ensures.pad ∙ c.place.ensures.pad)
+
 pub invariant_of-self : goal.invariant_of-self
-invariant_of-self g c =
-    let m = c.self.invariant in
-    let v : MountView = mount_view c.self.inside.shape c.self.inside.drives c.self.inside.deeds (map g.U.Unit.model c.self.inside.units.items)
-    (map g.U.Unit.wear c.self.inside.units.items) c.self.inside.granted (pad_of c.self.inside.core) in
-    let once : c.place.new.into.again ≡ false =
-    placed_once v c.self.inside.core c.self.inside.pool c.self.inside.stripe m c.place.new.self c.place.new.into c.place.ensures.again in
-    let may : MayPlace v.image (logs_in v) c.place.new.into.stripe = c.place.ensures.legal once v.image (world_in v) m.sound.legal.simple.mount m.stands in
-    let there : slice_get v.units c.place.new.into.stripe.unit ≡ Some (g.U.Unit.model c.index_mut-to.result.now) =
-    unit_there g.U.Unit.model c.self.inside.units.items c.unit-unit.result c.place.new.into.stripe.unit c.index_mut-to.result.now c.unit-unit.ensures
-    (unit_within v c.self.inside.core c.self.inside.pool c.self.inside.stripe m c.place.new.into.stripe may) c.index_mut-to.ensures.value in
-    let was : IsUnitIn v c.place.new.into.stripe.unit (g.U.Unit.model c.index_mut-to.result.now) =
-    m.sound.each c.place.new.into.stripe.unit (g.U.Unit.model c.index_mut-to.result.now) there in
-    let shapes : c.place.new.into.shape ≡ v.image.shape = c.place.ensures.shape ∙ m.stripe in
-    let blocks : blocks_of (g.U.Unit.model c.index_mut-to.result.now).shape.sector c.parts.result.0.now c.parts.result.1.now ≡ c.place.new.into.stripe.blocks =
-    ap (λ (s : Shape). blocks_of s.sector c.parts.result.0.now c.parts.result.1.now) (was.shape ∙ sym shapes) ∙ c.parts.ensures.blocks in
-    let placed : (knows : List ℕ) → Stands v.image (after (logs_in v) (Place c.place.new.into.stripe) knows) c.place.new.self =
-    λ knows. c.place.ensures.stands once v.image (world_in v) knows m.sound.legal.simple.mount m.stands in
-    let legal = end_legal v c.self.inside.core c.self.inside.pool c.self.inside.stripe m c.place.new.into.stripe may in
-    let stood : Stands v.image (log_of (world_of v.image.shape (landed_deeds v.image v.deeds c.place.new.into.stripe))) c.landed.new.self =
-    end_stands v c.self.inside.core c.self.inside.pool c.self.inside.stripe m c.place.new.into.stripe may c.place.new.self c.landed.new.self placed
-    c.landed.ensures.stands in
-    let stands : Stands v.image (log_of (world_of v.image.shape (landed_deeds v.image v.deeds c.place.new.into.stripe))) c.free_frames.new.core =
-    c.free_frames.ensures.stands v.image (world_of v.image.shape (landed_deeds v.image v.deeds c.place.new.into.stripe)) legal.simple.mount stood in
-    let deeds : c.add-3.new.self ≡ landed_deeds v.image v.deeds c.place.new.into.stripe =
-    c.add-3.ensures ∙ ap₂ (λ (ds : List Deed) n. ds ++ Lands n ∷ [])
-    (c.add-2.ensures ∙ ap (λ (ds : List Deed). ds ++ Does c.place.new.into.stripe.unit (program_of c.place.new.into.stripe) ∷ []) c.add.ensures)
-    c.unit-unit.ensures in
-    let window : c.place.new.self.window ≡ c.self.inside.core.window = c.place.ensures.window in
-    let many : length c.landed.new.self.window.entries ≡ length c.place.new.self.window.entries = c.landed.ensures.count in
-    let event = c.in-Ok.ensures.event in
-    let sound = end_sound v c.self.inside.core c.self.inside.pool c.self.inside.stripe m c.place.new.into.stripe may g.U.Unit.model c.self.inside.units.items
-    c.unit-unit.result c.index_mut-to.result.now c.program.new.self c.chunk.result c.at.result
-    (blocks_of (g.U.Unit.model c.index_mut-to.result.now).shape.sector c.parts.result.0.now c.parts.result.1.now)
-    (map g.U.Unit.wear (slice_set c.self.inside.units.items c.unit-unit.result c.program.new.self)) c.max-self-inside.result (pad_of c.free_frames.new.core)
-    refl c.unit-unit.ensures there c.chunk.ensures.chunk c.at.ensures blocks event.0 event.1 event.2 (c.program.ensures.fits was.fit) in
-    let drained : c.free_frames.new.core.window.freed ≡ freed v.image.shape
-    (log_of (world_of v.image.shape (landed_deeds v.image v.deeds c.place.new.into.stripe)) 0) =
-    c.free_frames.ensures.drained v.image (world_of v.image.shape (landed_deeds v.image v.deeds c.place.new.into.stripe)) legal.simple.mount stood in
-    let granted : c.max-self-inside.result ≡ max v.granted
-    (room v.image (log_of (world_of v.image.shape (landed_deeds v.image v.deeds c.place.new.into.stripe)))) =
-    c.max-self-inside.ensures ∙ ap (max v.granted)
-    (c.grant.ensures v.image (world_of v.image.shape (landed_deeds v.image v.deeds c.place.new.into.stripe)) legal.simple.mount stands) in
-    let was_out : count_out c.self.inside.pool.left ≡ length c.self.inside.core.window.entries = m.out in
-    let kept_out : length c.place.new.self.window.entries ≡ length c.self.inside.core.window.entries = ap (λ (w : view.WindowView). length w.entries) window in
-    let moved_out : count_out c.self.inside.pool.left + length c.free_frames.new.core.window.entries ≡ count_out c.free_frames.new.pool.left + length
-    c.landed.new.self.window.entries = c.free_frames.ensures.out in
-    let out : count_out c.free_frames.new.pool.left ≡ length c.free_frames.new.core.window.entries = omega arith in
-    subst (λ (ds : List Deed). IsMount
-    (record {
-      image = v.image;
-      found = v.found;
-      deeds = ds;
-      units =
-          map g.U.Unit.model (slice_set c.self.inside.units.items c.unit-unit.result c.program.new.self);
-      wear =
-          map g.U.Unit.wear (slice_set c.self.inside.units.items c.unit-unit.result c.program.new.self);
-      granted = c.max-self-inside.result;
-      pad =
-          pad_of c.free_frames.new.core;
-    })
-    c.free_frames.new.core c.free_frames.new.pool c.place.new.into) (sym deeds)
-    (mount_programmed v c.self.inside.core c.self.inside.pool c.self.inside.stripe m c.place.new.into.stripe may c.free_frames.new.core c.free_frames.new.pool
-    c.place.new.into (map g.U.Unit.model (slice_set c.self.inside.units.items c.unit-unit.result c.program.new.self))
-    (map g.U.Unit.wear (slice_set c.self.inside.units.items c.unit-unit.result c.program.new.self)) c.max-self-inside.result
-    sound stands drained c.free_frames.ensures.own out c.free_frames.ensures.region shapes granted)
+invariant_of-self g c = (leaves_ok g c).mount
 
-pub returns-clause-same : goal.returns-clause-same
-returns-clause-same g c =
-    let m = c.self.invariant in
-    let v : MountView = mount_view c.self.inside.shape c.self.inside.drives c.self.inside.deeds (map g.U.Unit.model c.self.inside.units.items)
-    (map g.U.Unit.wear c.self.inside.units.items) c.self.inside.granted (pad_of c.self.inside.core) in
-    let once : c.place.new.into.again ≡ false =
-    placed_once v c.self.inside.core c.self.inside.pool c.self.inside.stripe m c.place.new.self c.place.new.into c.place.ensures.again in
-    let may : MayPlace v.image (logs_in v) c.place.new.into.stripe = c.place.ensures.legal once v.image (world_in v) m.sound.legal.simple.mount m.stands in
-    let deeds : c.add-3.new.self ≡ landed_deeds v.image v.deeds c.place.new.into.stripe =
-    c.add-3.ensures ∙ ap₂ (λ (ds : List Deed) n. ds ++ Lands n ∷ [])
-    (c.add-2.ensures ∙ ap (λ (ds : List Deed). ds ++ Does c.place.new.into.stripe.unit (program_of c.place.new.into.stripe) ∷ []) c.add.ensures)
-    c.unit-unit.ensures in
-    let pad : pad_of c.landed.new.self ≡ pad_of c.self.inside.core = c.landed.ensures.pad ∙ c.place.ensures.pad in
-    let frames : pad_of c.free_frames.new.core ≡ pad_of c.landed.new.self = c.free_frames.ensures.pad in
-    let is : c.max-self-inside.result ≡ max v.granted c.grant.result = c.max-self-inside.ensures in
-    let more : v.granted ≤ c.max-self-inside.result = omega arith in
-    let least : v.pad ≤ pad_of c.free_frames.new.core = omega arith in
-    subst (λ (old : MountView). IsSameMount old
-    (record {
-      image = v.image;
-      found = v.found;
-      deeds = c.add-3.new.self;
-      units =
-          map g.U.Unit.model (slice_set c.self.inside.units.items c.unit-unit.result c.program.new.self);
-      wear =
-          map g.U.Unit.wear (slice_set c.self.inside.units.items c.unit-unit.result c.program.new.self);
-      granted = c.max-self-inside.result;
-      pad =
-          pad_of c.free_frames.new.core;
-    })) c.self.view_is
-    (subst (λ (ds : List Deed). IsSameMount v
-    (record {
-      image = v.image;
-      found = v.found;
-      deeds = ds;
-      units =
-          map g.U.Unit.model (slice_set c.self.inside.units.items c.unit-unit.result c.program.new.self);
-      wear =
-          map g.U.Unit.wear (slice_set c.self.inside.units.items c.unit-unit.result c.program.new.self);
-      granted = c.max-self-inside.result;
-      pad =
-          pad_of c.free_frames.new.core;
-    })) (sym deeds)
-    (same_programmed v c.self.inside.core c.self.inside.pool c.self.inside.stripe m c.place.new.into.stripe may
-    (map g.U.Unit.model (slice_set c.self.inside.units.items c.unit-unit.result c.program.new.self))
-    (map g.U.Unit.wear (slice_set c.self.inside.units.items c.unit-unit.result c.program.new.self)) c.max-self-inside.result (pad_of c.free_frames.new.core)
-    (wear_kept g.U.Unit.wear c.self.inside.units.items c.unit-unit.result c.index_mut-to.result.now c.program.new.self
-    (at_same c.unit-unit.ensures (unit_inside_all g.U.Unit.model c.self.inside.units.items c.place.new.into.stripe.unit
-    (unit_within v c.self.inside.core c.self.inside.pool c.self.inside.stripe m c.place.new.into.stripe may))) c.index_mut-to.ensures.value
-    c.program.ensures.wear) more least))
+pub returns-in-Ok-clause-same : goal.returns-in-Ok-clause-same
+returns-in-Ok-clause-same g c = same_from c.self.view_is (leaves_ok g c).same
 
-pub returns-clause-pad : goal.returns-clause-pad
-returns-clause-pad g c = c.free_frames.ensures.pad ∙ c.landed.ensures.pad ∙ c.place.ensures.pad ∙ ap (λ (v : MountView). v.pad) c.self.view_is
+pub returns-in-Ok-clause-pad : goal.returns-in-Ok-clause-pad
+returns-in-Ok-clause-pad g c = c.landed.ensures.pad ∙ c.place.ensures.pad ∙ ap (λ (v : MountView). v.pad) c.self.view_is
 
-pub returns-clause-more : goal.returns-clause-more
-returns-clause-more g c =
-    let m = c.self.invariant in
-    let v : MountView = mount_view c.self.inside.shape c.self.inside.drives c.self.inside.deeds (map g.U.Unit.model c.self.inside.units.items)
-    (map g.U.Unit.wear c.self.inside.units.items) c.self.inside.granted (pad_of c.self.inside.core) in
-    let once : c.place.new.into.again ≡ false =
-    placed_once v c.self.inside.core c.self.inside.pool c.self.inside.stripe m c.place.new.self c.place.new.into c.place.ensures.again in
-    let may : MayPlace v.image (logs_in v) c.place.new.into.stripe = c.place.ensures.legal once v.image (world_in v) m.sound.legal.simple.mount m.stands in
-    let deeds : c.add-3.new.self ≡ landed_deeds v.image v.deeds c.place.new.into.stripe =
-    c.add-3.ensures ∙ ap₂ (λ (ds : List Deed) n. ds ++ Lands n ∷ [])
-    (c.add-2.ensures ∙ ap (λ (ds : List Deed). ds ++ Does c.place.new.into.stripe.unit (program_of c.place.new.into.stripe) ∷ []) c.add.ensures)
-    c.unit-unit.ensures in
-    subst (λ (old : MountView). length (engine_log old) < length (log_of (world_of v.image.shape c.add-3.new.self) 0)) c.self.view_is
-    (subst (λ (ds : List Deed). length (engine_log v) < length (log_of (world_of v.image.shape ds) 0)) (sym deeds)
-    (more_programmed v c.self.inside.core c.self.inside.pool c.self.inside.stripe m c.place.new.into.stripe may))
+pub returns-in-Ok-clause-done : goal.returns-in-Ok-clause-done
+returns-in-Ok-clause-done g c = λ ok.
+    let d = (goal.at.returns-in-Ok-clause-done g c).After-add in
+    subst (λ (old : MountView). NoneLost old.units (us g d)) c.self.view_is
+    (landed_done (m g d) (deeds g d) (ready g d) (was g d) (new g d) (there g d) (given g d) (done g c) (us g d) (units_are g d))
 
-pub place-requires-clause-standing : goal.place-requires-clause-standing
-place-requires-clause-standing g c = stands_in_mount _ c.self.inside.core c.self.inside.pool c.self.inside.stripe c.self.invariant
+pub returns-in-Ok-clause-more : goal.returns-in-Ok-clause-more
+returns-in-Ok-clause-more g c =
+    let d = (goal.at.returns-in-Ok-clause-more g c).After-add in
+    subst (λ (old : MountView). length (engine_log old) < length (log_of (world_of (v g d).image.shape c.add-in-Ok.new.self) 0)) c.self.view_is
+    (landed_more (m g d) (deeds g d) (ready g d) (was g d) (new g d) (there g d) (given g d) (done g c) c.add-in-Ok.new.self (last g c))
+
+-- ---- it was stopped
+
+pub stopped-requires-clause-beating : goal.stopped-requires-clause-beating
+stopped-requires-clause-beating g c =
+    let d = (goal.at.stopped-requires-clause-beating g c).After-add in
+    beating_programmed (m g d) (deeds g d) (ready g d) (was g d) (new g d) (there g d) (given g d)
+
+pub stopped-requires-clause-under_way : goal.stopped-requires-clause-under_way
+stopped-requires-clause-under_way g c = c.place.ensures.under_way
+
+module _ (g : Over) (c : After-stopped g) where
+  abbrev e : After-add g
+  e = (goal.at.invariant_of-self-in-Err g c).After-add
+
+  stops : (k : ℕ) × ((given g e).event.outcome ≡ Stopped k)
+  stops = was_halted (given g e).event.outcome c.program-answer.result c.in-Err.field-0 c.in-Err.is c.program-answer.ensures.unfailing (given g e).told
+
+  last_err : c.add-in-Err.new.self ≡ with_answer (deeds g e) (into g e).stripe.unit (last_of (new g e)) (Offers (into g e).stripe.unit)
+  last_err = lasts g e Offers c.add-in-Err.new.self c.add-in-Err.ensures
+
+  leaves_err : Leaves (v g e) (moved_on (v g e) c.add-in-Err.new.self (us g e) (wear g e) c.stopped.new.self.granted (pad_of c.stopped.new.self.core))
+      c.stopped.new.self (into g e)
+  leaves_err = leaves_stopped (m g e) (deeds g e) (ready g e) (was g e) (new g e) (there g e) (given g e) stops.0 stops.1 c.add-in-Err.new.self (us g e)
+      (wear g e) c.stopped.new.self (into g e) (placed_more (v g e) (into g e) (deeds g e) (were g e)) last_err (units_are g e) c.stopped.ensures.beats
+      (rests_offered c.self.inside.heart.core c.place.new.self.core c.stopped.new.self.core (into g e).stripe.unit (m g e).resting c.place.ensures.rows
+      c.stopped.ensures.rows c.stopped.ensures.offered) (c.place.ensures.shape ∙ (m g e).stripe) (same_wear g e)
+      (le_trans c.place.ensures.granted (same_least (sym c.stopped.ensures.granted))) (c.stopped.ensures.pad ∙ c.place.ensures.pad)
+
+pub invariant_of-self-in-Err : goal.invariant_of-self-in-Err
+invariant_of-self-in-Err g c = (leaves_err g c).mount
+
+pub returns-in-Err-clause-same : goal.returns-in-Err-clause-same
+returns-in-Err-clause-same g c = same_from c.self.view_is (leaves_err g c).same
+
+pub returns-in-Err-clause-pad : goal.returns-in-Err-clause-pad
+returns-in-Err-clause-pad g c = c.stopped.ensures.pad ∙ c.place.ensures.pad ∙ ap (λ (v : MountView). v.pad) c.self.view_is
+
+pub returns-in-Err-clause-lost : goal.returns-in-Err-clause-lost
+returns-in-Err-clause-lost g c =
+    let d = (goal.at.returns-in-Err-clause-lost g c).After-add in
+    subst (λ n. IsLostAt c.args.self.now.units (us g d) n c.events-event.result) (sym c.unit-number.ensures)
+    (subst (λ (old : MountView). IsLostAt old.units (us g d) (into g d).stripe.unit c.events-event.result) c.self.view_is
+    (stopped_lost (m g d) (deeds g d) (ready g d) (was g d) (new g d) (there g d) (given g d) (stops g c).0 (stops g c).1 (us g d)
+    c.events-event.result (units_are g d) c.events-event.ensures.count))
+
+pub returns-in-Err-clause-more : goal.returns-in-Err-clause-more
+returns-in-Err-clause-more g c =
+    let d = (goal.at.returns-in-Err-clause-more g c).After-add in
+    subst (λ (old : MountView). length (engine_log old) < length (log_of (world_of (v g d).image.shape c.add-in-Err.new.self) 0)) c.self.view_is
+    (stopped_more (m g d) (deeds g d) (ready g d) (was g d) (new g d) (there g d) (given g d) (stops g c).0 (stops g c).1 c.add-in-Err.new.self
+    (last_err g c))

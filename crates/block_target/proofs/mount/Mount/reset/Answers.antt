@@ -1,250 +1,167 @@
-use Rattle.std.proofs.Common.{◌≡◌, ◌≤◌, ◌<◌, ◌+◌, ◌++◌, [], ◌∷◌, false, true, max, length, Some, List, map, refl, sym, subst, ap, ◌∙◌, arith}
+use Rattle.std.proofs.Common.{◌≡◌, ◌<◌, ◌++◌, [], ◌∷◌, List, ℕ, Some, length, map, refl, sym, subst, ap, ◌∙◌}
 use Rattle.std.specs.Prelude.{slice_get, slice_set}
-use Rattle.std.proofs.lemmas.List.{length-map}
-use Rattle.pblk_model.specs.ChunkStep.{after_reset}
-use Rattle.pblk_model.specs.Frames.{count_out}
+use Rattle.pblk_model.specs.ChunkStep.{Done, Reset}
+use Rattle.pblk_model.specs.UnitLog.{Answered, Stopped}
 use Rattle.pblk_world.specs.World.{log_of}
-use Rattle.pblk_world.specs.Space.{freed, room}
-use Rattle.write_window.specs.Window as view
-use Rattle.scan_recovery.specs.Units.{image_of}
+use Rattle.step_laws.specs.Whole.{next_maker}
 use Rattle.pblk_core.specs.Named.{pad_of}
 use Rattle.pblk_core.specs.Resets.{IsToReset}
-use Rattle.pblk_core.specs.Stands.{Stands}
-use Rattle.pblk_core.proofs.WorkOf.{work_is}
-use Rattle.block_target.specs.Deeds.{Deed, NotesReset, world_of, drive_before}
-use Rattle.block_target.specs.Mount.{MountView, IsMount, IsSameMount, IsUnitIn, work_in, logs_in, engine_log, mount_view}
-use Rattle.block_target.proofs.KeptWear.{wear_kept, unit_inside_all}
-use Rattle.block_target.proofs.PumpedCall.{unit_there}
-use Rattle.block_target.proofs.PumpedReset.{end_world, reset_deeds, unit_within, takes_reset, end_legal, end_stands, end_sound, chunk_after, has_line, mount_reset, more_reset, same_reset}
-use Rattle.block_target.proofs.MountLemmas.{named_work}
+use Rattle.pblk_core.specs.declared.work.Work.TheVariants as works
+use Rattle.unit_port.specs.Unit.{ModelUnit, TellsDone}
+use Rattle.scan_recovery.specs.Lost.{IsLostAt, NoneLost}
+use Rattle.block_target.specs.Arm.{WasGiven}
+use Rattle.block_target.specs.Deeds.{Deed, NotesReset, world_of}
+use Rattle.block_target.specs.Mount.{MountView, IsMount, engine_log, logs_in, mount_view, work_in, world_in}
+use Rattle.block_target.proofs.GivenCommands.{was_done, was_halted}
+use Rattle.block_target.proofs.GoingOn.{Leaves, moved_on}
+use Rattle.block_target.proofs.MountLemmas.{is_named, same_from}
+use Rattle.block_target.proofs.PumpedReset.{before_of, has_line, leaves_reset, leaves_stopped, may_be_noted, reset_deeds, reset_kept, reset_longer, reset_there, stopped_lost, unit_within}
+use Rattle.block_target.proofs.UnitLists.{unit_inside_all, unit_there, units_set, wear_kept}
+use Rattle.block_target.proofs.mount.Mount.reset.Given.{Over}
+use Rattle.block_target.proofs.mount.Mount.reset.Goals.{After-add, After-reset_done}
 use Rattle.block_target.proofs.mount.Mount.reset.Goals as goal
 
-pub index_mut-of-requires : goal.index_mut-of-requires
-index_mut-of-requires g c =
+pub reset-answer-requires : goal.reset-answer-requires
+reset-answer-requires g c =
     let m = c.self.invariant in
-    let core = c.self.inside.core in
-    let p = c.self.inside.pool in
-    let f = c.self.inside.stripe in
     let v : MountView = mount_view c.self.inside.shape c.self.inside.drives c.self.inside.deeds (map g.U.Unit.model c.self.inside.units.items)
-    (map g.U.Unit.wear c.self.inside.units.items) c.self.inside.granted (pad_of c.self.inside.core) in
+    (map g.U.Unit.wear c.self.inside.units.items) c.self.inside.heart.granted (pad_of c.self.inside.heart.core) in
     let is : IsToReset v.image (logs_in v) c.args.line c.args.unit =
     subst (λ (x : MountView). IsToReset x.image (logs_in x) c.args.line c.args.unit) (sym c.self.view_is) c.requires.given_up in
-    let low : c.args.unit < length (map g.U.Unit.model c.self.inside.units.items) = unit_within v core p f m c.args.line c.args.unit is in
-    let many : length (map g.U.Unit.model c.self.inside.units.items) ≡ length c.self.inside.units.items = length-map c.self.inside.units.items g.U.Unit.model in
-    let len : c.self.inside.units.len ≡ length c.self.inside.units.items = c.self.inside.units.ok.0 in
-    let it : c.args.unit < c.self.inside.units.len = omega arith in
-    it
-
-pub reset-requires : goal.reset-requires
-reset-requires g c =
-    let m = c.self.invariant in
-    let core = c.self.inside.core in
-    let p = c.self.inside.pool in
-    let f = c.self.inside.stripe in
-    let v : MountView = mount_view c.self.inside.shape c.self.inside.drives c.self.inside.deeds (map g.U.Unit.model c.self.inside.units.items)
-    (map g.U.Unit.wear c.self.inside.units.items) c.self.inside.granted (pad_of c.self.inside.core) in
-    let is : IsToReset v.image (logs_in v) c.args.line c.args.unit =
-    subst (λ (x : MountView). IsToReset x.image (logs_in x) c.args.line c.args.unit) (sym c.self.view_is) c.requires.given_up in
-    let here : slice_get v.units c.args.unit ≡ Some (g.U.Unit.model c.index_mut-of.result.now) =
+    let was = g.U.Unit.model c.index_mut-of.result.now in
+    let there : slice_get v.units c.args.unit ≡ Some was =
     unit_there g.U.Unit.model c.self.inside.units.items c.args.unit c.args.unit c.index_mut-of.result.now refl
-    (unit_within v core p f m c.args.line c.args.unit is) c.index_mut-of.ensures.value in
-    takes_reset v core p f m c.args.line c.args.unit is (g.U.Unit.model c.index_mut-of.result.now) here
-
-pub unreachable-requires : goal.unreachable-requires
-unreachable-requires g c =
-    let m = c.self.invariant in
-    let core = c.self.inside.core in
-    let p = c.self.inside.pool in
-    let f = c.self.inside.stripe in
-    let v : MountView = mount_view c.self.inside.shape c.self.inside.drives c.self.inside.deeds (map g.U.Unit.model c.self.inside.units.items)
-    (map g.U.Unit.wear c.self.inside.units.items) c.self.inside.granted (pad_of c.self.inside.core) in
-    let is : IsToReset v.image (logs_in v) c.args.line c.args.unit =
-    subst (λ (x : MountView). IsToReset x.image (logs_in x) c.args.line c.args.unit) (sym c.self.view_is) c.requires.given_up in
-    let here : slice_get v.units c.args.unit ≡ Some (g.U.Unit.model c.index_mut-of.result.now) =
-    unit_there g.U.Unit.model c.self.inside.units.items c.args.unit c.args.unit c.index_mut-of.result.now refl
-    (unit_within v core p f m c.args.line c.args.unit is) c.index_mut-of.ensures.value in
-    let was : IsUnitIn v c.args.unit (g.U.Unit.model c.index_mut-of.result.now) = m.sound.each c.args.unit (g.U.Unit.model c.index_mut-of.result.now) here in
-    let no : false ≡ true = c.in-Err.ensures.quiet was.unarmed in
-    cc
-
-pub state-state-requires : goal.state-state-requires
-state-state-requires g c =
-    let m = c.self.invariant in
-    let core = c.self.inside.core in
-    let p = c.self.inside.pool in
-    let f = c.self.inside.stripe in
-    let v : MountView = mount_view c.self.inside.shape c.self.inside.drives c.self.inside.deeds (map g.U.Unit.model c.self.inside.units.items)
-    (map g.U.Unit.wear c.self.inside.units.items) c.self.inside.granted (pad_of c.self.inside.core) in
-    let is : IsToReset v.image (logs_in v) c.args.line c.args.unit =
-    subst (λ (x : MountView). IsToReset x.image (logs_in x) c.args.line c.args.unit) (sym c.self.view_is) c.requires.given_up in
-    let here : slice_get v.units c.args.unit ≡ Some (g.U.Unit.model c.index_mut-of.result.now) =
-    unit_there g.U.Unit.model c.self.inside.units.items c.args.unit c.args.unit c.index_mut-of.result.now refl
-    (unit_within v core p f m c.args.line c.args.unit is) c.index_mut-of.ensures.value in
-    has_line v core p f m c.args.line c.args.unit is (g.U.Unit.model c.index_mut-of.result.now)
-    (g.U.Unit.model c.reset.new.self) here c.reset.ensures.event.0 c.reset.ensures.event.2
-
-pub reset_done-requires-clause-standing : goal.reset_done-requires-clause-standing
-reset_done-requires-clause-standing g c =
+    (unit_within m c.args.line c.args.unit is) c.index_mut-of.ensures.value in
     record {
-      image = image_of c.self.inside.shape (drive_before c.self.inside.drives);
-      world = world_of c.self.inside.shape c.self.inside.deeds;
-      legal =
-          c.self.invariant.sound.legal.simple.mount;
-      stands = c.self.invariant.stands;
+      there = (v.image, world_in v, c.args.unit, before_of m c.args.line c.args.unit is was there, reset_there m c.args.line c.args.unit is was there);
     }
 
-pub reset_done-requires-clause-named : goal.reset_done-requires-clause-named
-reset_done-requires-clause-named g c =
-    work_is (image_of c.self.inside.shape (drive_before c.self.inside.drives))
-    (world_of c.self.inside.shape c.self.inside.deeds) c.self.inside.core c.self.invariant.sound.legal.simple c.self.invariant.stands
-    ∙ named_work _ c.self.inside.core c.self.inside.pool c.self.inside.stripe c.self.invariant ∙ ap work_in c.self.view_is ∙ c.requires.named
+-- ---- once the unit was given the command
 
-pub free_frames-requires : goal.free_frames-requires
-free_frames-requires g c = subst (λ (w : view.WindowView). view.AreOf c.self.inside.pool.region w.entries)
-    (sym c.reset_done.ensures.window) c.self.invariant.own
+module _ (g : Over) (c : After-add g) where
+  -- the mount before
+  abbrev v : MountView
+  v = mount_view c.self.inside.shape c.self.inside.drives c.self.inside.deeds (map g.U.Unit.model c.self.inside.units.items)
+      (map g.U.Unit.wear c.self.inside.units.items) c.self.inside.heart.granted (pad_of c.self.inside.heart.core)
 
-pub grant-requires-clause-standing : goal.grant-requires-clause-standing
-grant-requires-clause-standing g c =
-    let m = c.self.invariant in
-    let core = c.self.inside.core in
-    let p = c.self.inside.pool in
-    let f = c.self.inside.stripe in
-    let v : MountView = mount_view c.self.inside.shape c.self.inside.drives c.self.inside.deeds (map g.U.Unit.model c.self.inside.units.items)
-    (map g.U.Unit.wear c.self.inside.units.items) c.self.inside.granted (pad_of c.self.inside.core) in
-    let is : IsToReset v.image (logs_in v) c.args.line c.args.unit =
-    subst (λ (x : MountView). IsToReset x.image (logs_in x) c.args.line c.args.unit) (sym c.self.view_is) c.requires.given_up in
-    let here : slice_get v.units c.args.unit ≡ Some (g.U.Unit.model c.index_mut-of.result.now) =
-    unit_there g.U.Unit.model c.self.inside.units.items c.args.unit c.args.unit c.index_mut-of.result.now refl
-    (unit_within v core p f m c.args.line c.args.unit is) c.index_mut-of.ensures.value in
-    let event = c.in-Ok.ensures.event in
-    let state : c.state-state.result.0 ≡ (after_reset v.image.shape is.chunk).state =
-    c.state-state.ensures.2 ∙ chunk_after v core p f m c.args.line c.args.unit is (g.U.Unit.model c.index_mut-of.result.now)
-    (g.U.Unit.model c.reset.new.self) c.state-state.ensures.0 here event.0 event.1 event.2 c.state-state.ensures.1 in
-    let legal = end_legal v core p f m c.args.line c.args.unit is in
-    let stood : Stands v.image (log_of (end_world v core p f m c.args.line c.args.unit is)) c.reset_done.new.self =
-    end_stands v core p f m c.args.line c.args.unit is c.reset_done.new.self c.state-state.result.0 state c.reset_done.ensures.stands in
-    let stands : Stands v.image (log_of (end_world v core p f m c.args.line c.args.unit is)) c.free_frames.new.core =
-    c.free_frames.ensures.stands v.image (end_world v core p f m c.args.line c.args.unit is) legal.simple.mount stood in
-    record { image = v.image; world = end_world v core p f m c.args.line c.args.unit is; legal = legal.simple.mount; stands = stands }
+  m : IsMount v c.self.inside.heart c.self.inside.stripe
+  m = c.self.invariant
+
+  is : IsToReset v.image (logs_in v) c.args.line c.args.unit
+  is = subst (λ (x : MountView). IsToReset x.image (logs_in x) c.args.line c.args.unit) (sym c.self.view_is) c.requires.given_up
+
+  within : c.args.unit < length v.units
+  within = unit_within m c.args.line c.args.unit is
+
+  -- the unit before and after
+  abbrev was : ModelUnit
+  was = g.U.Unit.model c.index_mut-of.result.now
+
+  abbrev new : ModelUnit
+  new = g.U.Unit.model c.reset-answer.new.unit
+
+  there : slice_get v.units c.args.unit ≡ Some was
+  there = unit_there g.U.Unit.model c.self.inside.units.items c.args.unit c.args.unit c.index_mut-of.result.now refl within c.index_mut-of.ensures.value
+
+  given : WasGiven v.image (world_in v) c.args.unit (before_of m c.args.line c.args.unit is was there) (next_maker (world_in v)) c.args.line Reset
+      (TellsDone c.reset-answer.result) new
+  given = c.reset-answer.ensures.given v.image (world_in v) c.args.unit (before_of m c.args.line c.args.unit is was there) (next_maker (world_in v))
+      (reset_there m c.args.line c.args.unit is was there)
+
+  -- the units then
+  abbrev us : List ModelUnit
+  us = map g.U.Unit.model (slice_set c.self.inside.units.items c.args.unit c.reset-answer.new.unit)
+
+  abbrev wear : List (List ℕ)
+  wear = map g.U.Unit.wear (slice_set c.self.inside.units.items c.args.unit c.reset-answer.new.unit)
+
+  units_are : us ≡ slice_set v.units c.args.unit new
+  units_are = units_set g.U.Unit.model c.self.inside.units.items c.args.unit c.args.unit c.reset-answer.new.unit refl
+
+  same_wear : wear ≡ v.wear
+  same_wear =
+      wear_kept g.U.Unit.wear c.self.inside.units.items c.args.unit c.index_mut-of.result.now c.reset-answer.new.unit
+      (unit_inside_all g.U.Unit.model c.self.inside.units.items c.args.unit c.args.unit refl within) c.index_mut-of.ensures.value c.reset-answer.ensures.wear
+
+  -- it was stopped
+  module _ (k : ℕ) (stops : given.event.outcome ≡ Stopped k) where
+    leaves_err : Leaves v (moved_on v c.add.new.self us wear c.self.inside.heart.granted (pad_of c.self.inside.heart.core)) c.self.inside.heart
+        c.self.inside.stripe
+    leaves_err = leaves_stopped m c.args.line c.args.unit is was new there given k stops c.add.new.self us wear c.add.ensures units_are same_wear
+
+-- ---- it was stopped
 
 pub invariant_of-self : goal.invariant_of-self
 invariant_of-self g c =
-    let m = c.self.invariant in
-    let core = c.self.inside.core in
-    let p = c.self.inside.pool in
-    let f = c.self.inside.stripe in
-    let v : MountView = mount_view c.self.inside.shape c.self.inside.drives c.self.inside.deeds (map g.U.Unit.model c.self.inside.units.items)
-    (map g.U.Unit.wear c.self.inside.units.items) c.self.inside.granted (pad_of c.self.inside.core) in
-    let is : IsToReset v.image (logs_in v) c.args.line c.args.unit =
-    subst (λ (x : MountView). IsToReset x.image (logs_in x) c.args.line c.args.unit) (sym c.self.view_is) c.requires.given_up in
-    let here : slice_get v.units c.args.unit ≡ Some (g.U.Unit.model c.index_mut-of.result.now) =
-    unit_there g.U.Unit.model c.self.inside.units.items c.args.unit c.args.unit c.index_mut-of.result.now refl
-    (unit_within v core p f m c.args.line c.args.unit is) c.index_mut-of.ensures.value in
-    let event = c.in-Ok.ensures.event in
-    let state : c.state-state.result.0 ≡ (after_reset v.image.shape is.chunk).state =
-    c.state-state.ensures.2 ∙ chunk_after v core p f m c.args.line c.args.unit is (g.U.Unit.model c.index_mut-of.result.now)
-    (g.U.Unit.model c.reset.new.self) c.state-state.ensures.0 here event.0 event.1 event.2 c.state-state.ensures.1 in
-    let legal = end_legal v core p f m c.args.line c.args.unit is in
-    let stood : Stands v.image (log_of (end_world v core p f m c.args.line c.args.unit is)) c.reset_done.new.self =
-    end_stands v core p f m c.args.line c.args.unit is c.reset_done.new.self c.state-state.result.0 state c.reset_done.ensures.stands in
-    let stands : Stands v.image (log_of (end_world v core p f m c.args.line c.args.unit is)) c.free_frames.new.core =
-    c.free_frames.ensures.stands v.image (end_world v core p f m c.args.line c.args.unit is) legal.simple.mount stood in
-    let was : IsUnitIn v c.args.unit (g.U.Unit.model c.index_mut-of.result.now) = m.sound.each c.args.unit (g.U.Unit.model c.index_mut-of.result.now) here in
-    let deeds : c.add-2.new.self ≡ reset_deeds v.deeds c.args.line c.args.unit = c.add-2.ensures
-    ∙ ap (λ (ds : List Deed). ds ++ NotesReset c.args.unit ∷ []) c.add.ensures in
-    let window : c.reset_done.new.self.window ≡ c.self.inside.core.window = c.reset_done.ensures.window in
-    let told = c.in-Ok.ensures.event in
-    let us = map g.U.Unit.model (slice_set c.self.inside.units.items c.args.unit c.reset.new.self) in
-    let wear = map g.U.Unit.wear (slice_set c.self.inside.units.items c.args.unit c.reset.new.self) in
-    let sound = end_sound v core p f m c.args.line c.args.unit is g.U.Unit.model c.self.inside.units.items c.args.unit c.index_mut-of.result.now
-    c.reset.new.self wear c.max-self-inside.result (pad_of c.free_frames.new.core)
-    refl refl here told.0 told.1 told.2 (c.reset.ensures.fits was.fit) in
-    let drained : c.free_frames.new.core.window.freed ≡ freed v.image.shape (log_of (end_world v core p f m c.args.line c.args.unit is) 0) =
-    c.free_frames.ensures.drained v.image (end_world v core p f m c.args.line c.args.unit is) legal.simple.mount stood in
-    let granted : c.max-self-inside.result ≡ max v.granted (room v.image (log_of (end_world v core p f m c.args.line c.args.unit is))) =
-    c.max-self-inside.ensures ∙ ap (max v.granted) (c.grant.ensures v.image (end_world v core p f m c.args.line c.args.unit is) legal.simple.mount stands) in
-    let was_out : count_out c.self.inside.pool.left ≡ length c.self.inside.core.window.entries = m.out in
-    let kept_out : length c.reset_done.new.self.window.entries ≡ length c.self.inside.core.window.entries =
-    ap (λ (w : view.WindowView). length w.entries) window in
-    let moved_out : count_out c.self.inside.pool.left + length c.free_frames.new.core.window.entries ≡ count_out c.free_frames.new.pool.left + length
-    c.reset_done.new.self.window.entries = c.free_frames.ensures.out in
-    let out : count_out c.free_frames.new.pool.left ≡ length c.free_frames.new.core.window.entries = omega arith in
-    subst (λ (ds : List Deed). IsMount
-    (record {
-      image = v.image;
-      found = v.found;
-      deeds = ds;
-      units = us;
-      wear = wear;
-      granted = c.max-self-inside.result;
-      pad =
-          pad_of c.free_frames.new.core;
-    }) c.free_frames.new.core c.free_frames.new.pool f) (sym deeds)
-    (mount_reset v core p f m c.args.line c.args.unit is c.free_frames.new.core c.free_frames.new.pool us wear c.max-self-inside.result sound stands drained
-    c.free_frames.ensures.own out c.free_frames.ensures.region granted)
+    let d = (goal.at.invariant_of-self g c).After-add in
+    let stops = was_halted (given g d).event.outcome c.reset-answer.result c.in-Err.field-0 c.in-Err.is c.reset-answer.ensures.unfailing (given g d).told in
+    (leaves_err g d stops.0 stops.1).mount
+
+pub returns-in-Err-clause-same : goal.returns-in-Err-clause-same
+returns-in-Err-clause-same g c =
+    let d = (goal.at.returns-in-Err-clause-same g c).After-add in
+    let stops = was_halted (given g d).event.outcome c.reset-answer.result c.in-Err.field-0 c.in-Err.is c.reset-answer.ensures.unfailing (given g d).told in
+    same_from c.self.view_is (leaves_err g d stops.0 stops.1).same
+
+pub returns-in-Err-clause-lost : goal.returns-in-Err-clause-lost
+returns-in-Err-clause-lost g c =
+    let d = (goal.at.returns-in-Err-clause-lost g c).After-add in
+    let stops = was_halted (given g d).event.outcome c.reset-answer.result c.in-Err.field-0 c.in-Err.is c.reset-answer.ensures.unfailing (given g d).told in
+    subst (λ (old : MountView). IsLostAt old.units (us g d) c.args.unit c.events.result) c.self.view_is
+    (stopped_lost (m g d) c.args.line c.args.unit (is g d) (was g d) (new g d) (there g d) (given g d) stops.0 stops.1 (us g d) c.events.result (units_are g d)
+    c.events.ensures.count)
+
+-- ---- it was done
+
+pub state-state-requires : goal.state-state-requires
+state-state-requires g c =
+    let d = (goal.at.state-state-requires g c).After-add in
+    has_line (m g d) c.args.line c.args.unit (is g d) (was g d) (new g d) (there g d) (given g d)
+
+pub reset_done-requires-clause-named : goal.reset_done-requires-clause-named
+reset_done-requires-clause-named g c =
+    is_named c.self.invariant (works.Reset c.args.line c.args.unit) (ap work_in c.self.view_is ∙ c.requires.named)
+
+pub reset_done-requires-clause-may : goal.reset_done-requires-clause-may
+reset_done-requires-clause-may g c =
+    let d = (goal.at.reset_done-requires-clause-may g c).After-add in
+    let done = was_done (given g d).event.outcome c.reset-answer.result c.in-Ok.field-0 c.in-Ok.is (given g d).told in
+    let state = c.state-state.ensures in
+    may_be_noted (m g d) c.args.line c.args.unit (is g d) (was g d) (new g d) (there g d) (given g d) done c.state-state.result.0 state.0 state.1 state.2
+
+module _ (g : Over) (c : After-reset_done g) where
+  abbrev e : After-add g
+  e = (goal.at.invariant_of-self-2 g c).After-add
+
+  done : (given g e).event.outcome ≡ Answered Done
+  done = was_done (given g e).event.outcome c.reset-answer.result c.in-Ok.field-0 c.in-Ok.is (given g e).told
+
+  last : c.add-2.new.self ≡ reset_deeds (m g e) c.args.line c.args.unit (is g e) (was g e) (new g e) (there g e) (given g e) done
+  last = c.add-2.ensures ∙ ap (λ (ds : List Deed). ds ++ NotesReset c.args.unit ∷ []) c.add.ensures
+
+  leaves_ok : Leaves (v g e)
+      (moved_on (v g e) c.add-2.new.self (us g e) (wear g e) c.reset_done.new.self.granted (pad_of c.reset_done.new.self.core))
+      c.reset_done.new.self c.self.inside.stripe
+  leaves_ok =
+      let state = c.state-state.ensures in
+      leaves_reset (m g e) c.args.line c.args.unit (is g e) (was g e) (new g e) (there g e) (given g e) done c.add-2.new.self (us g e) (wear g e)
+      c.reset_done.new.self c.state-state.result.0 state.0 state.1 state.2 last (units_are g e) c.reset_done.ensures.beats c.reset_done.ensures.rows
+      (same_wear g e) c.reset_done.ensures.granted c.reset_done.ensures.pad
+
+pub invariant_of-self-2 : goal.invariant_of-self-2
+invariant_of-self-2 g c = (leaves_ok g c).mount
 
 pub returns-clause-same : goal.returns-clause-same
-returns-clause-same g c =
-    let m = c.self.invariant in
-    let core = c.self.inside.core in
-    let p = c.self.inside.pool in
-    let f = c.self.inside.stripe in
-    let v : MountView = mount_view c.self.inside.shape c.self.inside.drives c.self.inside.deeds (map g.U.Unit.model c.self.inside.units.items)
-    (map g.U.Unit.wear c.self.inside.units.items) c.self.inside.granted (pad_of c.self.inside.core) in
-    let is : IsToReset v.image (logs_in v) c.args.line c.args.unit =
-    subst (λ (x : MountView). IsToReset x.image (logs_in x) c.args.line c.args.unit) (sym c.self.view_is) c.requires.given_up in
-    let here : slice_get v.units c.args.unit ≡ Some (g.U.Unit.model c.index_mut-of.result.now) =
-    unit_there g.U.Unit.model c.self.inside.units.items c.args.unit c.args.unit c.index_mut-of.result.now refl
-    (unit_within v core p f m c.args.line c.args.unit is) c.index_mut-of.ensures.value in
-    let deeds : c.add-2.new.self ≡ reset_deeds v.deeds c.args.line c.args.unit = c.add-2.ensures
-    ∙ ap (λ (ds : List Deed). ds ++ NotesReset c.args.unit ∷ []) c.add.ensures in
-    let us = map g.U.Unit.model (slice_set c.self.inside.units.items c.args.unit c.reset.new.self) in
-    let wear = map g.U.Unit.wear (slice_set c.self.inside.units.items c.args.unit c.reset.new.self) in
-    let pad : pad_of c.reset_done.new.self ≡ pad_of c.self.inside.core = c.reset_done.ensures.pad in
-    let frames : pad_of c.free_frames.new.core ≡ pad_of c.reset_done.new.self = c.free_frames.ensures.pad in
-    let more_granted : c.max-self-inside.result ≡ max v.granted c.grant.result = c.max-self-inside.ensures in
-    let more : v.granted ≤ c.max-self-inside.result = omega arith in
-    let least : v.pad ≤ pad_of c.free_frames.new.core = omega arith in
-    let within : c.args.unit < length c.self.inside.units.items =
-    unit_inside_all g.U.Unit.model c.self.inside.units.items c.args.unit (unit_within v core p f m c.args.line c.args.unit is) in
-    subst (λ (old : MountView). IsSameMount old
-    (record {
-      image = v.image;
-      found = v.found;
-      deeds = c.add-2.new.self;
-      units = us;
-      wear = wear;
-      granted = c.max-self-inside.result;
-      pad =
-          pad_of c.free_frames.new.core;
-    })) c.self.view_is
-    (subst (λ (ds : List Deed). IsSameMount v
-    (record {
-      image = v.image;
-      found = v.found;
-      deeds = ds;
-      units = us;
-      wear = wear;
-      granted = c.max-self-inside.result;
-      pad =
-          pad_of c.free_frames.new.core;
-    })) (sym deeds)
-    (same_reset v core p f m c.args.line c.args.unit is us wear c.max-self-inside.result (pad_of c.free_frames.new.core)
-    (wear_kept g.U.Unit.wear c.self.inside.units.items c.args.unit c.index_mut-of.result.now c.reset.new.self within c.index_mut-of.ensures.value
-    c.reset.ensures.wear) more least))
+returns-clause-same g c = same_from c.self.view_is (leaves_ok g c).same
 
-pub returns-clause-pad : goal.returns-clause-pad
-returns-clause-pad g c = c.free_frames.ensures.pad ∙ c.reset_done.ensures.pad ∙ ap (λ (v : MountView). v.pad) c.self.view_is
+pub returns-clause-done : goal.returns-clause-done
+returns-clause-done g c = λ ok.
+    let d = (goal.at.returns-clause-done g c).After-add in
+    subst (λ (old : MountView). NoneLost old.units (us g d)) c.self.view_is
+    (reset_kept (m g d) c.args.line c.args.unit (is g d) (was g d) (new g d) (there g d) (given g d) (done g c) (us g d) (units_are g d))
 
 pub returns-clause-more : goal.returns-clause-more
-returns-clause-more g c =
-    let m = c.self.invariant in
-    let v : MountView = mount_view c.self.inside.shape c.self.inside.drives c.self.inside.deeds (map g.U.Unit.model c.self.inside.units.items)
-    (map g.U.Unit.wear c.self.inside.units.items) c.self.inside.granted (pad_of c.self.inside.core) in
-    let is : IsToReset v.image (logs_in v) c.args.line c.args.unit =
-    subst (λ (x : MountView). IsToReset x.image (logs_in x) c.args.line c.args.unit) (sym c.self.view_is) c.requires.given_up in
-    let deeds : c.add-2.new.self ≡ reset_deeds v.deeds c.args.line c.args.unit = c.add-2.ensures
-    ∙ ap (λ (ds : List Deed). ds ++ NotesReset c.args.unit ∷ []) c.add.ensures in
-    subst (λ (old : MountView). length (engine_log old) < length (log_of (world_of v.image.shape c.add-2.new.self) 0)) c.self.view_is
-    (subst (λ (ds : List Deed). length (engine_log v) < length (log_of (world_of v.image.shape ds) 0)) (sym deeds)
-    (more_reset v c.self.inside.core c.self.inside.pool c.self.inside.stripe m c.args.line c.args.unit is))
+returns-clause-more g c = λ ok.
+    let d = (goal.at.returns-clause-more g c).After-add in
+    subst (λ (old : MountView). length (engine_log old) < length (log_of (world_of (v g d).image.shape c.add-2.new.self) 0)) c.self.view_is
+    (reset_longer (m g d) c.args.line c.args.unit (is g d) (was g d) (new g d) (there g d) (given g d) (done g c) c.add-2.new.self (last g c))

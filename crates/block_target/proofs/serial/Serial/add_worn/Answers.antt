@@ -9,14 +9,21 @@ use Rattle.block_target.proofs.Written.{refused_now, users_written}
 use Rattle.block_target.proofs.serial.Serial.add_worn.Goals as goal
 
 abbrev with_worns : SerialView → List WornAnswer → SerialView
-with_worns s worns = record { mount = s.mount; seen = s.seen; own = s.own; worns = worns }
+with_worns s worns = record { mount = s.mount; seen = s.seen; own = s.own; faults = s.faults; worns = worns }
 
 abbrev worn_row : ℕ → ℕ → ℕ → ℕ → WornAnswer
 worn_row written count wanted have = record { written = written; count = count; wanted = wanted; have = have }
 
 pub invariant_of-self : goal.invariant_of-self
 invariant_of-self g c =
-    let was : SerialView = record { mount = c.self.inside.mount; seen = c.self.inside.seen; own = c.self.inside.own; worns = c.self.inside.worns } in
+    let was : SerialView = record {
+      mount = c.self.inside.mount;
+      seen = c.self.inside.seen;
+      own = c.self.inside.own;
+      faults = c.self.inside.faults;
+      worns =
+          c.self.inside.worns;
+    } in
     let a : WornAnswer = record { written = c.front-written.result.users; count = c.args.count; wanted = c.args.wanted; have = c.args.have } in
     let cause : IsRefusal was.mount.image (logs_in was.mount) (length (engine_log was.mount)) a.count a.wanted a.have =
     subst (λ (s : SerialView). IsRefusal s.mount.image (logs_in s.mount) (length (engine_log s.mount)) a.count a.wanted a.have)
@@ -25,6 +32,7 @@ invariant_of-self g c =
       sound = c.self.invariant.sound;
       alone = c.self.invariant.alone;
       small = c.self.invariant.small;
+      faults = c.self.invariant.faults;
       worns = subst (λ (ws : List WornAnswer). AreRefusals was.mount.image (logs_in was.mount) 0 ws) (sym c.add.ensures)
           (refusals_more was.mount.image (logs_in was.mount) 0 was.worns a (omega arith) c.self.invariant.worns
           (refused_now was a c.self.invariant.sound c.self.invariant
@@ -34,7 +42,14 @@ invariant_of-self g c =
 
 pub returns : goal.returns
 returns g c =
-    let was : SerialView = record { mount = c.self.inside.mount; seen = c.self.inside.seen; own = c.self.inside.own; worns = c.self.inside.worns } in
+    let was : SerialView = record {
+      mount = c.self.inside.mount;
+      seen = c.self.inside.seen;
+      own = c.self.inside.own;
+      faults = c.self.inside.faults;
+      worns =
+          c.self.inside.worns;
+    } in
     ap (λ (ws : List WornAnswer). with_worns was ws) (c.add.ensures
     ∙ ap (λ n. was.worns ++ worn_row n c.args.count c.args.wanted c.args.have ∷ [])
     (users_written was c.front-written.result c.self.invariant c.front-written.ensures))

@@ -8,5 +8,6 @@ returns-in_default-clause-refused g c = back_as_they_were c.args.shape.now (map 
 
 pub invariant_of-result : goal.invariant_of-result
 invariant_of-result g c = new_serial c.args.shape.now
-    (map g.U.Unit.model c.args.units.items) c.in-Ok-open.mount c.in-Ok.field-0.own c.in-Ok.field-0.worns c.in-Ok-open.ensures.opened c.in-Ok-open.ensures.sound
-    c.in-Ok.ensures.0 c.in-Ok.ensures.1
+    (map g.U.Unit.model c.args.units.items) c.in-Ok-open.mount c.in-Ok.field-0.own c.in-Ok.field-0.faults c.in-Ok.field-0.worns c.in-Ok-open.ensures.opened
+    c.in-Ok-open.ensures.sound
+    c.in-Ok.ensures.0 c.in-Ok.ensures.1 c.in-Ok.ensures.2

@@ -1,58 +1,111 @@
-use Rattle.std.proofs.Common.{length, max, refl, ap, ap₂, sym, subst, ◌∙◌}
+use Rattle.std.proofs.Common.{◌≡◌, ◌≤◌, List, length, max, refl, ap, ap₂, sym, subst, ◌∙◌, arith}
 use Rattle.block_port.specs.Port.{Learns}
+use Rattle.unit_port.specs.Unit.{ModelUnit}
+use Rattle.scan_recovery.specs.Lost.{IsLostAt, NoneLost}
 use Rattle.block_target.specs.NothingLeft.{IsFlushRefusal}
-use Rattle.block_target.specs.Mount.{logs_in, engine_log, taken_in}
+use Rattle.block_target.specs.Mount.{logs_in, engine_log, synced_in, taken_in}
 use Rattle.block_target.specs.Serial.{SerialView, device}
+use Rattle.block_target.specs.Waiting.{Waits}
 use Rattle.block_target.proofs.DeviceFronts.{same_serial, all_taken, synced_small, flush_front, learns_from}
 use Rattle.block_target.proofs.Refusals.{flush_refused}
 use Rattle.block_target.proofs.serial.SerialPort.flush.Goals as goal
 
 pub invariant_of-self : goal.invariant_of-self
-invariant_of-self g c = same_serial _ _ c.sync-synced.ensures.sound c.self.invariant c.sync-synced.ensures.same refl refl
-    (synced_small c.sync-synced.new.self c.in-Ok.front c.sync-synced.ensures.sound c.in-Ok.ensures.synced.0)
+invariant_of-self g c = same_serial _ _ c.sync.ensures.sound c.self.invariant c.sync.ensures.same refl refl refl
+    (synced_small c.sync.new.self c.in-Ok.front c.sync.ensures.sound c.in-Ok.ensures.synced.0)
 
-pub invariant_of-self-in-Err : goal.invariant_of-self-in-Err
-invariant_of-self-in-Err g c = same_serial _ _ c.sync-synced.ensures.sound c.self.invariant c.sync-synced.ensures.same refl refl c.self.invariant.small
+pub invariant_of-self-in-Err-Drive : goal.invariant_of-self-in-Err-Drive
+invariant_of-self-in-Err-Drive g c = same_serial _ _ c.sync.ensures.sound c.self.invariant c.sync.ensures.same refl refl refl c.self.invariant.small
+
+pub invariant_of-self-in-Err-Stuck : goal.invariant_of-self-in-Err-Stuck
+invariant_of-self-in-Err-Stuck g c = same_serial _ _ c.sync.ensures.sound c.self.invariant c.sync.ensures.same refl refl refl c.self.invariant.small
+
+pub add_fault-requires : goal.add_fault-requires
+add_fault-requires g c = record {
+  before = c.self.inside.mount;
+  sound = c.self.invariant.sound;
+  named = c.self.invariant.faults;
+  same = c.sync.ensures.same;
+  lost = subst (Waits c.self.inside.mount c.sync.new.self c.front-wanted.result.position (synced_in c.sync.new.self)) c.in-Err-Drive.field-0-is
+      c.in-Err-Drive.ensures.refused;
+}
 
 pub add_worn-requires : goal.add_worn-requires
 add_worn-requires g c =
-    let all = all_taken c.self.inside.mount c.sync-synced.new.self c.front-wanted.result.position c.self.invariant.sound c.sync-synced.ensures.sound
-    c.sync-synced.ensures.same (ap (λ f. f.position) c.front-wanted.ensures) in
-    flush_refused c.sync-synced.new.self c.front-wanted.result.position c.in-Err.have c.in-Err.ensures.stuck.2 c.in-Err.ensures.stuck.0 c.in-Err.ensures.stuck.1
-    all
+    let waits = subst (Waits c.self.inside.mount c.sync.new.self c.front-wanted.result.position (synced_in c.sync.new.self))
+    c.in-Err-Stuck.field-0-is c.in-Err-Stuck.ensures.refused in
+    let pad : c.sync.new.self.pad ≡ max c.self.inside.mount.pad c.front-wanted.result.position = c.sync.ensures.pad in
+    let asked : c.front-wanted.result.position ≤ c.sync.new.self.pad = omega arith in
+    let all = all_taken c.self.inside.mount c.sync.new.self c.front-wanted.result.position c.self.invariant.sound c.sync.ensures.sound
+    c.sync.ensures.same (ap (λ f. f.position) c.front-wanted.ensures) in
+    flush_refused c.sync.new.self c.front-wanted.result.position c.in-Err-Stuck.have waits.2 waits.1 asked all
 
-pub returns-in-Err-clause-cause : goal.returns-in-Err-clause-cause
-returns-in-Err-clause-cause g c =
-    let all = all_taken c.self.inside.mount c.sync-synced.new.self c.front-wanted.result.position c.self.invariant.sound c.sync-synced.ensures.sound
-    c.sync-synced.ensures.same (ap (λ f. f.position) c.front-wanted.ensures) in
-    subst (λ (s : SerialView). IsFlushRefusal s.mount.image (logs_in s.mount) (length (engine_log s.mount)) c.front-wanted.result.position c.in-Err.have)
-    (sym c.add_worn.ensures)
-    (flush_refused c.sync-synced.new.self c.front-wanted.result.position c.in-Err.have c.in-Err.ensures.stuck.2 c.in-Err.ensures.stuck.0
-    c.in-Err.ensures.stuck.1 all)
+pub returns-in-Ok-clause-cause : goal.returns-in-Ok-clause-cause
+returns-in-Ok-clause-cause g c =
+    subst (λ (s : SerialView). NoneLost s.mount.units c.sync.new.self.units) c.self.view_is (c.in-Ok.ensures.done refl)
+
+pub returns-in-Err-Drive-clause-cause : goal.returns-in-Err-Drive-clause-cause
+returns-in-Err-Drive-clause-cause g c =
+    let lost = subst (Waits c.self.inside.mount c.sync.new.self c.front-wanted.result.position (synced_in c.sync.new.self)) c.in-Err-Drive.field-0-is
+    c.in-Err-Drive.ensures.refused in
+    subst (λ (us : List ModelUnit). IsLostAt c.args.self.now.mount.units us c.in-Err-Drive.unit c.in-Err-Drive.event)
+    (sym (ap (λ (s : SerialView). s.mount.units) c.add_fault.ensures))
+    (subst (λ (s : SerialView). IsLostAt s.mount.units c.sync.new.self.units c.in-Err-Drive.unit c.in-Err-Drive.event) c.self.view_is lost)
+
+pub returns-in-Err-Stuck-clause-cause : goal.returns-in-Err-Stuck-clause-cause
+returns-in-Err-Stuck-clause-cause g c =
+    let waits = subst (Waits c.self.inside.mount c.sync.new.self c.front-wanted.result.position (synced_in c.sync.new.self))
+    c.in-Err-Stuck.field-0-is c.in-Err-Stuck.ensures.refused in
+    let pad : c.sync.new.self.pad ≡ max c.self.inside.mount.pad c.front-wanted.result.position = c.sync.ensures.pad in
+    let asked : c.front-wanted.result.position ≤ c.sync.new.self.pad = omega arith in
+    let all = all_taken c.self.inside.mount c.sync.new.self c.front-wanted.result.position c.self.invariant.sound c.sync.ensures.sound
+    c.sync.ensures.same (ap (λ f. f.position) c.front-wanted.ensures) in
+    subst (λ (s : SerialView). NoneLost c.args.self.now.mount.units s.mount.units
+    × IsFlushRefusal s.mount.image (logs_in s.mount) (length (engine_log s.mount)) c.front-wanted.result.position c.in-Err-Stuck.have)
+    (sym c.add_worn.ensures) (
+      subst (λ (s : SerialView). NoneLost s.mount.units c.sync.new.self.units) c.self.view_is waits.0,
+      flush_refused c.sync.new.self c.front-wanted.result.position c.in-Err-Stuck.have waits.2 waits.1 asked all,
+    )
 
 pub returns-in-Ok-clause-front : goal.returns-in-Ok-clause-front
 returns-in-Ok-clause-front g c =
-    flush_front _ c.args.self.now (record
-    { mount = c.sync-synced.new.self; seen = c.in-Ok.front.position; own = c.self.inside.own; worns = c.self.inside.worns }) c.in-Ok.front
+    flush_front _ c.args.self.now (record {
+      mount = c.sync.new.self;
+      seen = c.in-Ok.front.position;
+      own = c.self.inside.own;
+      faults = c.self.inside.faults;
+      worns = c.self.inside.worns;
+    }) c.in-Ok.front
     c.front-wanted.result.position c.self.view_is c.catch_up.ensures
     (ap (λ f. f.position) c.front-wanted.ensures) c.in-Ok.ensures.synced.0 c.in-Ok.ensures.synced.1 refl
 
 pub returns-in-Ok-clause-learns : goal.returns-in-Ok-clause-learns
-returns-in-Ok-clause-learns g c = learns_from _ c.args.self.now _ c.self.view_is c.self.invariant.sound c.sync-synced.ensures.sound c.sync-synced.ensures.same
+returns-in-Ok-clause-learns g c = learns_from _ c.args.self.now _ c.self.view_is c.self.invariant.sound c.sync.ensures.sound c.sync.ensures.same
 
-pub returns-in-Err-clause-learns : goal.returns-in-Err-clause-learns
-returns-in-Err-clause-learns g c =
+pub returns-in-Err-Drive-clause-learns : goal.returns-in-Err-Drive-clause-learns
+returns-in-Err-Drive-clause-learns g c =
+    subst (λ n. Learns (device c.args.self.now) (device n)) (sym c.add_fault.ensures)
+    (learns_from _ c.args.self.now _ c.self.view_is c.self.invariant.sound c.sync.ensures.sound c.sync.ensures.same)
+
+pub returns-in-Err-Stuck-clause-learns : goal.returns-in-Err-Stuck-clause-learns
+returns-in-Err-Stuck-clause-learns g c =
     subst (λ n. Learns (device c.args.self.now) (device n)) (sym c.add_worn.ensures)
-    (learns_from _ c.args.self.now _ c.self.view_is c.self.invariant.sound c.sync-synced.ensures.sound c.sync-synced.ensures.same)
+    (learns_from _ c.args.self.now _ c.self.view_is c.self.invariant.sound c.sync.ensures.sound c.sync.ensures.same)
 
 pub returns-in-Ok-clause-pad : goal.returns-in-Ok-clause-pad
 returns-in-Ok-clause-pad g c =
-    c.sync-synced.ensures.pad
+    c.sync.ensures.pad
     ∙ ap₂ (λ m n. max m n) (ap (λ (s : SerialView). s.mount.pad) c.self.view_is)
     (ap (λ f. f.position) c.front-wanted.ensures ∙ ap (λ (s : SerialView). taken_in s.mount) c.self.view_is)
 
-pub returns-in-Err-clause-pad : goal.returns-in-Err-clause-pad
-returns-in-Err-clause-pad g c =
-    ap (λ (s : SerialView). s.mount.pad) c.add_worn.ensures ∙ c.sync-synced.ensures.pad
+pub returns-in-Err-Drive-clause-pad : goal.returns-in-Err-Drive-clause-pad
+returns-in-Err-Drive-clause-pad g c =
+    ap (λ (s : SerialView). s.mount.pad) c.add_fault.ensures ∙ c.sync.ensures.pad
+    ∙ ap₂ (λ m n. max m n) (ap (λ (s : SerialView). s.mount.pad) c.self.view_is)
+    (ap (λ f. f.position) c.front-wanted.ensures ∙ ap (λ (s : SerialView). taken_in s.mount) c.self.view_is)
+
+pub returns-in-Err-Stuck-clause-pad : goal.returns-in-Err-Stuck-clause-pad
+returns-in-Err-Stuck-clause-pad g c =
+    ap (λ (s : SerialView). s.mount.pad) c.add_worn.ensures ∙ c.sync.ensures.pad
     ∙ ap₂ (λ m n. max m n) (ap (λ (s : SerialView). s.mount.pad) c.self.view_is)
     (ap (λ f. f.position) c.front-wanted.ensures ∙ ap (λ (s : SerialView). taken_in s.mount) c.self.view_is)

@@ -1,29 +1,80 @@
-use Rattle.std.proofs.Common.{length, refl, ap, ◌∙◌}
-use Rattle.block_target.specs.Serial.{SerialView}
+use Rattle.std.proofs.Common.{length, refl, ap, sym, subst, ◌∙◌}
+use Rattle.block_port.specs.Port.{Learns}
+use Rattle.scan_recovery.specs.Lost.{IsLostAt, NoneLost}
+use Rattle.block_target.specs.Serial.{SerialView, device}
 use Rattle.block_target.proofs.DeviceFronts.{same_serial, taken_front_small, read_front, learns_from}
 use Rattle.block_target.proofs.ReadSectors.{read_words}
 use Rattle.block_target.proofs.serial.SerialPort.read.Goals as goal
+use Rattle.scan_recovery.proofs.HandedBack.{none_lost_there}
 
 pub invariant_of-self : goal.invariant_of-self
-invariant_of-self g c = same_serial _ _ c.read_all.ensures.sound c.self.invariant c.read_all.ensures.same refl refl
+invariant_of-self g c = same_serial _ _ c.read_all.ensures.sound c.self.invariant c.read_all.ensures.same refl refl refl
     (taken_front_small c.self.inside.mount c.front-front.result c.self.invariant.sound c.front-front.ensures)
 
-pub returns-clause-front : goal.returns-clause-front
-returns-clause-front g c =
-    read_front _ c.args.self.now (record
-    { mount = c.read_all.new.mount; seen = c.front-front.result.position; own = c.self.inside.own; worns = c.self.inside.worns }) c.front-front.result
-    c.self.view_is c.catch_up.ensures c.front-front.ensures
+pub invariant_of-self-in-Err : goal.invariant_of-self-in-Err
+invariant_of-self-in-Err g c = same_serial _ _ c.read_all.ensures.sound c.self.invariant c.read_all.ensures.same refl refl refl c.self.invariant.small
+
+pub add_fault-requires : goal.add_fault-requires
+add_fault-requires g c = record {
+  before = c.self.inside.mount;
+  sound = c.self.invariant.sound;
+  named = c.self.invariant.faults;
+  same = c.read_all.ensures.same;
+  lost = c.in-Err.ensures.lost;
+}
+
+pub returns-then-is_past_end-clause-cause : goal.returns-then-is_past_end-clause-cause
+returns-then-is_past_end-clause-cause g c = none_lost_there c.args.self.now.mount.units
+
+pub returns-in-Ok-clause-cause : goal.returns-in-Ok-clause-cause
+returns-in-Ok-clause-cause g c =
+    subst (λ (s : SerialView). NoneLost s.mount.units c.read_all.new.mount.units) c.self.view_is (c.in-Ok.ensures.done refl)
+
+pub returns-in-Ok-clause-front : goal.returns-in-Ok-clause-front
+returns-in-Ok-clause-front g c =
+    read_front _ c.args.self.now (record {
+      mount = c.read_all.new.mount;
+      seen = c.front-front.result.position;
+      own = c.self.inside.own;
+      faults = c.self.inside.faults;
+      worns = c.self.inside.worns;
+    }) c.front-front.result c.self.view_is c.catch_up.ensures c.front-front.ensures
     c.self.invariant.sound c.read_all.ensures.sound c.read_all.ensures.same refl
 
-pub returns-clause-words : goal.returns-clause-words
-returns-clause-words g c =
-    read_words (record { mount = c.self.inside.mount; seen = c.self.inside.seen; own = c.self.inside.own; worns = c.self.inside.worns }) c.args.self.now
-    (record { mount = c.read_all.new.mount; seen = c.front-front.result.position; own = c.self.inside.own; worns = c.self.inside.worns }) c.front-front.result
-    c.args.lba c.shape.result.now.sector (length c.args.out.now) c.read_all.new.out
-    c.self.view_is c.read_all.ensures.same c.front-front.ensures (ap (λ s. s.sector) c.shape.ensures) c.read_all.ensures.latest
+pub returns-in-Ok-clause-words : goal.returns-in-Ok-clause-words
+returns-in-Ok-clause-words g c =
+    read_words (record {
+      mount = c.self.inside.mount;
+      seen = c.self.inside.seen;
+      own = c.self.inside.own;
+      faults = c.self.inside.faults;
+      worns = c.self.inside.worns;
+    }) c.args.self.now (record {
+      mount = c.read_all.new.mount;
+      seen = c.front-front.result.position;
+      own = c.self.inside.own;
+      faults = c.self.inside.faults;
+      worns = c.self.inside.worns;
+    }) c.front-front.result c.args.lba c.shape.result.now.sector (length c.args.out.now) c.read_all.new.out
+    c.self.view_is c.read_all.ensures.same c.front-front.ensures (ap (λ s. s.sector) c.shape.ensures) (c.in-Ok.ensures.latest refl)
 
-pub returns-clause-learns : goal.returns-clause-learns
-returns-clause-learns g c = learns_from _ c.args.self.now _ c.self.view_is c.self.invariant.sound c.read_all.ensures.sound c.read_all.ensures.same
+pub returns-in-Ok-clause-learns : goal.returns-in-Ok-clause-learns
+returns-in-Ok-clause-learns g c = learns_from _ c.args.self.now _ c.self.view_is c.self.invariant.sound c.read_all.ensures.sound c.read_all.ensures.same
 
-pub returns-clause-pad : goal.returns-clause-pad
-returns-clause-pad g c = c.read_all.ensures.pad ∙ ap (λ (s : SerialView). s.mount.pad) c.self.view_is
+pub returns-in-Ok-clause-pad : goal.returns-in-Ok-clause-pad
+returns-in-Ok-clause-pad g c = c.read_all.ensures.pad ∙ ap (λ (s : SerialView). s.mount.pad) c.self.view_is
+
+pub returns-in-Err-clause-cause : goal.returns-in-Err-clause-cause
+returns-in-Err-clause-cause g c =
+    subst (λ (s : SerialView). IsLostAt c.args.self.now.mount.units s.mount.units c.in-Err.field-0.unit c.in-Err.field-0.event) (sym c.add_fault.ensures)
+    (subst (λ (s : SerialView). IsLostAt s.mount.units c.read_all.new.mount.units c.in-Err.field-0.unit c.in-Err.field-0.event) c.self.view_is
+    c.in-Err.ensures.lost)
+
+pub returns-in-Err-clause-learns : goal.returns-in-Err-clause-learns
+returns-in-Err-clause-learns g c =
+    subst (λ (n : SerialView). Learns (device c.args.self.now) (device n)) (sym c.add_fault.ensures)
+    (learns_from _ c.args.self.now _ c.self.view_is c.self.invariant.sound c.read_all.ensures.sound c.read_all.ensures.same)
+
+pub returns-in-Err-clause-pad : goal.returns-in-Err-clause-pad
+returns-in-Err-clause-pad g c = ap (λ (s : SerialView). s.mount.pad) c.add_fault.ensures ∙ c.read_all.ensures.pad
+    ∙ ap (λ (s : SerialView). s.mount.pad) c.self.view_is

@@ -1,18 +1,22 @@
-use Rattle.std.proofs.Common.{[], ◌∷◌, ◌++◌, ◌≡◌, ◌+◌, ◌/◌, ◌<◌, ◌^◌, ◌∙◌, refl, sym, subst, ap, arith, length}
+use Rattle.std.proofs.Common.{List, [], ◌∷◌, ◌++◌, ◌≡◌, ◌+◌, ◌/◌, ◌<◌, ◌^◌, ◌∙◌, refl, sym, subst, ap, arith, length}
 use Rattle.std.specs.List.{flat_map}
 use Rattle.pblk_model.specs.declared.run.Front.{Front}
 use Rattle.pblk_model.specs.declared.run.Place.{Place}
 use Rattle.pblk_model.specs.declared.shape.Shape.{Shape}
 use Rattle.block_port.specs.Own.{lines_of, sectors_of}
-use Rattle.block_port.specs.Port.{AreSectors}
+use Rattle.block_port.specs.Port.{AreSectors, Learns}
+use Rattle.unit_port.specs.Unit.{ModelUnit}
+use Rattle.scan_recovery.specs.Lost.{IsLostAt, NoneLost}
 use Rattle.block_target.specs.NothingLeft.{IsWriteRefusal}
 use Rattle.block_target.specs.Mount.{MountView, logs_in, engine_log, taken_in}
-use Rattle.block_target.specs.Serial.{SerialView}
-use Rattle.block_target.proofs.DeviceFronts.{same_serial}
+use Rattle.block_target.specs.Serial.{SerialView, device}
+use Rattle.block_target.specs.Waiting.{Waits}
+use Rattle.block_target.proofs.DeviceFronts.{learns_from, same_serial}
 use Rattle.block_target.proofs.GrantedTakes.{granted_write, granted_place}
 use Rattle.block_target.proofs.Refusals.{refusal_of_write}
-use Rattle.block_target.proofs.Written.{some_sectors, write_cause, worns_write, learns_none, learns_write, target_write, alone_write, end_low, granted_room, learns_at, target_at, pad_all, whole_sectors}
+use Rattle.block_target.proofs.Written.{some_sectors, write_cause, named_write, none_lost_write, worns_write, learns_none, learns_write, target_write, alone_write, end_low, granted_room, learns_at, target_at, pad_all, whole_sectors}
 use Rattle.block_target.proofs.serial.SerialPort.write.Goals as goal
+use Rattle.scan_recovery.proofs.HandedBack.{none_lost_there}
 
 pub overflow_add-wanted : goal.overflow_add-wanted
 overflow_add-wanted g c =
@@ -30,70 +34,124 @@ take_all-requires-clause-bytes g c =
 
 pub take_all-requires-clause-room : goal.take_all-requires-clause-room
 take_all-requires-clause-room g c =
-    granted_room c.self.inside.mount c.claim-claimed.new.self c.front-first.result.position c.from.result (length c.args.bytes.now / c.shape.result.now.sector)
-    c.self.invariant.sound c.claim-claimed.ensures.sound c.claim-claimed.ensures.same (ap (λ (f : Front). f.position) c.front-first.ensures) c.from.ensures
-    (c.in_default.ensures.granted refl)
+    granted_room c.self.inside.mount c.claim.new.self c.front-first.result.position c.from.result (length c.args.bytes.now / c.shape.result.now.sector)
+    c.self.invariant.sound c.claim.ensures.sound c.claim.ensures.same (ap (λ (f : Front). f.position) c.front-first.ensures) c.from.ensures
+    (c.in-Ok.ensures.granted refl)
 
 pub invariant_of-self : goal.invariant_of-self
-invariant_of-self g c = same_serial _ _ c.claim-claimed.ensures.sound c.self.invariant c.claim-claimed.ensures.same refl refl c.self.invariant.small
+invariant_of-self g c = same_serial _ _ c.claim.ensures.sound c.self.invariant c.claim.ensures.same refl refl refl c.self.invariant.small
+
+pub invariant_of-self-in-Err-Stuck : goal.invariant_of-self-in-Err-Stuck
+invariant_of-self-in-Err-Stuck g c = same_serial _ _ c.claim.ensures.sound c.self.invariant c.claim.ensures.same refl refl refl c.self.invariant.small
+
+pub add_fault-requires : goal.add_fault-requires
+add_fault-requires g c = record {
+  before = c.self.inside.mount;
+  sound = c.self.invariant.sound;
+  named = c.self.invariant.faults;
+  same = c.claim.ensures.same;
+  lost = subst (Waits c.self.inside.mount c.claim.new.self (c.front-first.result.position + c.from.result) c.claim.new.self.granted) c.in-Err-Drive.field-0-is
+      c.in-Err-Drive.ensures.refused;
+}
 
 pub add_worn-requires : goal.add_worn-requires
 add_worn-requires g c =
     let sectors : AreSectors c.self.inside.mount.image.shape.sector (length c.args.bytes.now) =
     subst (λ (s : SerialView). AreSectors s.mount.image.shape.sector (length c.args.bytes.now)) (sym c.self.view_is) c.requires.sectors in
     let first : c.front-first.result.position ≡ taken_in c.self.inside.mount = ap (λ (f : Front). f.position) c.front-first.ensures in
-    refusal_of_write c.claim-claimed.new.self.image (logs_in c.claim-claimed.new.self) (length (engine_log c.claim-claimed.new.self))
+    let waits = subst (Waits c.self.inside.mount c.claim.new.self (c.front-first.result.position + c.from.result) c.claim.new.self.granted)
+    c.in-Err-Stuck.field-0-is
+    c.in-Err-Stuck.ensures.refused in
+    refusal_of_write c.claim.new.self.image (logs_in c.claim.new.self) (length (engine_log c.claim.new.self))
     (length c.args.bytes.now / c.shape.result.now.sector)
-    (c.front-first.result.position + c.from.result) c.in-Err.have
+    (c.front-first.result.position + c.from.result) c.in-Err-Stuck.have
     (some_sectors c.self.inside.mount c.shape.result.now (length c.args.bytes.now) c.self.invariant.sound c.shape.ensures sectors)
-    (write_cause c.self.inside.mount c.claim-claimed.new.self c.front-first.result.position c.from.result
-    (length c.args.bytes.now / c.shape.result.now.sector) c.in-Err.have
-    c.self.invariant.sound c.claim-claimed.ensures.sound c.claim-claimed.ensures.same first c.from.ensures c.in-Err.ensures.stuck.0 c.claim-claimed.ensures.once
-    c.in-Err.ensures.stuck.1)
+    (write_cause c.self.inside.mount c.claim.new.self c.front-first.result.position c.from.result
+    (length c.args.bytes.now / c.shape.result.now.sector) c.in-Err-Stuck.have
+    c.self.invariant.sound c.claim.ensures.sound c.claim.ensures.same first c.from.ensures waits.1 c.claim.ensures.once waits.2)
 
-pub returns-in-Err-clause-cause : goal.returns-in-Err-clause-cause
-returns-in-Err-clause-cause g c =
+pub returns-then-is_past_end-clause-cause : goal.returns-then-is_past_end-clause-cause
+returns-then-is_past_end-clause-cause g c = none_lost_there c.args.self.now.mount.units
+
+pub returns-in-Err-Drive-clause-cause : goal.returns-in-Err-Drive-clause-cause
+returns-in-Err-Drive-clause-cause g c =
+    let lost = subst (Waits c.self.inside.mount c.claim.new.self (c.front-first.result.position + c.from.result) c.claim.new.self.granted)
+    c.in-Err-Drive.field-0-is
+    c.in-Err-Drive.ensures.refused in
+    subst (λ (us : List ModelUnit). IsLostAt c.args.self.now.mount.units us c.in-Err-Drive.unit c.in-Err-Drive.event)
+    (sym (ap (λ (s : SerialView). s.mount.units) c.add_fault.ensures))
+    (subst (λ (s : SerialView). IsLostAt s.mount.units c.claim.new.self.units c.in-Err-Drive.unit c.in-Err-Drive.event) c.self.view_is lost)
+
+pub returns-in-Err-Drive-clause-learns : goal.returns-in-Err-Drive-clause-learns
+returns-in-Err-Drive-clause-learns g c =
+    subst (λ (n : SerialView). Learns (device c.args.self.now) (device n)) (sym c.add_fault.ensures)
+    (learns_from _ c.args.self.now _ c.self.view_is c.self.invariant.sound c.claim.ensures.sound c.claim.ensures.same)
+
+pub returns-in-Err-Drive-clause-pad : goal.returns-in-Err-Drive-clause-pad
+returns-in-Err-Drive-clause-pad g c = ap (λ (s : SerialView). s.mount.pad) c.add_fault.ensures ∙ c.claim.ensures.pad
+    ∙ ap (λ (s : SerialView). s.mount.pad) c.self.view_is
+
+pub returns-in-Err-Stuck-clause-cause : goal.returns-in-Err-Stuck-clause-cause
+returns-in-Err-Stuck-clause-cause g c =
     let first : c.front-first.result.position ≡ taken_in c.self.inside.mount = ap (λ (f : Front). f.position) c.front-first.ensures in
     let count : c.from.result ≡ length c.args.bytes.now / c.args.self.now.mount.image.shape.sector =
     c.from.ensures ∙ ap (λ (s : Shape). length c.args.bytes.now / s.sector) (c.shape.ensures ∙ ap (λ (s : SerialView). s.mount.image.shape) c.self.view_is) in
-    subst (λ (s : SerialView). (c.in-Err.have ≡ s.mount.granted)
+    let waits = subst (Waits c.self.inside.mount c.claim.new.self (c.front-first.result.position + c.from.result) c.claim.new.self.granted)
+    c.in-Err-Stuck.field-0-is
+    c.in-Err-Stuck.ensures.refused in
+    subst (λ (s : SerialView). NoneLost c.args.self.now.mount.units s.mount.units × (c.in-Err-Stuck.have ≡ s.mount.granted)
     × IsWriteRefusal s.mount.image (logs_in s.mount) (length (engine_log s.mount)) (length c.args.bytes.now / c.args.self.now.mount.image.shape.sector)
-    (c.front-first.result.position + c.from.result) c.in-Err.have)
+    (c.front-first.result.position + c.from.result) c.in-Err-Stuck.have)
     (sym c.add_worn.ensures) (
-      c.in-Err.ensures.stuck.0,
-      write_cause c.self.inside.mount c.claim-claimed.new.self c.front-first.result.position c.from.result
-          (length c.args.bytes.now / c.args.self.now.mount.image.shape.sector) c.in-Err.have
-          c.self.invariant.sound c.claim-claimed.ensures.sound c.claim-claimed.ensures.same first count c.in-Err.ensures.stuck.0 c.claim-claimed.ensures.once
-          c.in-Err.ensures.stuck.1,
+      subst (λ (s : SerialView). NoneLost s.mount.units c.claim.new.self.units) c.self.view_is waits.0,
+      waits.1,
+      write_cause c.self.inside.mount c.claim.new.self c.front-first.result.position c.from.result
+          (length c.args.bytes.now / c.args.self.now.mount.image.shape.sector) c.in-Err-Stuck.have
+          c.self.invariant.sound c.claim.ensures.sound c.claim.ensures.same first count waits.1 c.claim.ensures.once waits.2,
     )
 
-pub returns-in-Err-clause-learns : goal.returns-in-Err-clause-learns
-returns-in-Err-clause-learns g c =
-    let was : SerialView = record { mount = c.self.inside.mount; seen = c.self.inside.seen; own = c.self.inside.own; worns = c.self.inside.worns } in
-    let now : SerialView = record {
-      mount = c.claim-claimed.new.self;
+pub returns-in-Err-Stuck-clause-learns : goal.returns-in-Err-Stuck-clause-learns
+returns-in-Err-Stuck-clause-learns g c =
+    let was : SerialView = record {
+      mount = c.self.inside.mount;
       seen = c.self.inside.seen;
       own = c.self.inside.own;
+      faults = c.self.inside.faults;
+      worns =
+          c.self.inside.worns;
+    } in
+    let now : SerialView = record {
+      mount = c.claim.new.self;
+      seen = c.self.inside.seen;
+      own = c.self.inside.own;
+      faults = c.self.inside.faults;
       worns = c.self.inside.worns ++ record {
         written = length (flat_map lines_of c.self.inside.own);
         count = length c.args.bytes.now / c.shape.result.now.sector;
         wanted =
             c.front-first.result.position + c.from.result;
-        have = c.in-Err.have;
+        have = c.in-Err-Stuck.have;
       } ∷ [];
     } in
     learns_at was c.args.self.now now c.add_worn.new.self c.self.view_is c.add_worn.ensures
-    (learns_none was now c.self.invariant.sound c.claim-claimed.ensures.sound c.claim-claimed.ensures.same)
+    (learns_none was now c.self.invariant.sound c.claim.ensures.sound c.claim.ensures.same)
 
 pub invariant_of-self-2 : goal.invariant_of-self-2
 invariant_of-self-2 g c =
-    let was : SerialView = record { mount = c.self.inside.mount; seen = c.self.inside.seen; own = c.self.inside.own; worns = c.self.inside.worns } in
+    let was : SerialView = record {
+      mount = c.self.inside.mount;
+      seen = c.self.inside.seen;
+      own = c.self.inside.own;
+      faults = c.self.inside.faults;
+      worns =
+          c.self.inside.worns;
+    } in
     let new : SerialView = record {
       mount = c.take_all.new.mount;
       seen = c.front-first.result.position + c.from.result;
       own = c.add.new.self;
-      worns =
-          c.self.inside.worns;
+      faults = c.self.inside.faults;
+      worns = c.self.inside.worns;
     } in
     let sectors : AreSectors c.self.inside.mount.image.shape.sector (length c.args.bytes.now) =
     subst (λ (s : SerialView). AreSectors s.mount.image.shape.sector (length c.args.bytes.now)) (sym c.self.view_is) c.requires.sectors in
@@ -101,94 +159,143 @@ invariant_of-self-2 g c =
     let place : Place = record { first = c.front-first.result.position; count = length c.args.bytes.now / c.shape.result.now.sector } in
     record {
       sound = c.take_all.ensures.sound;
-      alone = alone_write was new c.claim-claimed.new.self c.args.lba
+      alone = alone_write was new c.claim.new.self c.args.lba
           (sectors_of c.shape.result.now.sector (length c.args.bytes.now / c.shape.result.now.sector) c.args.bytes.now) place
           (record {
             was = c.self.invariant.sound;
-            between = c.claim-claimed.ensures.sound;
-            same = c.claim-claimed.ensures.same;
-            mount =
-                c.take_all.ensures.taken;
+            between = c.claim.ensures.sound;
+            same = c.claim.ensures.same;
+            mount = c.take_all.ensures.taken;
           }) c.self.invariant first c.add.ensures;
       small = end_low c.self.inside.mount c.shape.result.now c.front-first.result.position c.from.result
           (length c.args.bytes.now) c.self.invariant.sound first c.shape.ensures c.from.ensures sectors;
-      worns = worns_write was new c.claim-claimed.new.self c.args.lba
+      faults = named_write was new c.claim.new.self c.args.lba
           (sectors_of c.shape.result.now.sector (length c.args.bytes.now / c.shape.result.now.sector) c.args.bytes.now)
           (record {
             was = c.self.invariant.sound;
-            between = c.claim-claimed.ensures.sound;
-            same = c.claim-claimed.ensures.same;
-            mount =
-                c.take_all.ensures.taken;
+            between = c.claim.ensures.sound;
+            same = c.claim.ensures.same;
+            mount = c.take_all.ensures.taken;
           }) c.self.invariant refl;
-      granted = granted_write was new c.claim-claimed.new.self c.args.lba c.shape.result.now.sector
+      worns = worns_write was new c.claim.new.self c.args.lba
+          (sectors_of c.shape.result.now.sector (length c.args.bytes.now / c.shape.result.now.sector) c.args.bytes.now)
+          (record {
+            was = c.self.invariant.sound;
+            between = c.claim.ensures.sound;
+            same = c.claim.ensures.same;
+            mount = c.take_all.ensures.taken;
+          }) c.self.invariant refl;
+      granted = granted_write was new c.claim.new.self c.args.lba c.shape.result.now.sector
           (length c.args.bytes.now / c.shape.result.now.sector) c.args.bytes.now
           (record {
             was = c.self.invariant.sound;
-            between = c.claim-claimed.ensures.sound;
-            same = c.claim-claimed.ensures.same;
-            mount =
-                c.take_all.ensures.taken;
+            between = c.claim.ensures.sound;
+            same = c.claim.ensures.same;
+            mount = c.take_all.ensures.taken;
           })
-          (granted_room c.self.inside.mount c.claim-claimed.new.self c.front-first.result.position c.from.result
+          (granted_room c.self.inside.mount c.claim.new.self c.front-first.result.position c.from.result
           (length c.args.bytes.now / c.shape.result.now.sector)
-          c.self.invariant.sound c.claim-claimed.ensures.sound c.claim-claimed.ensures.same first c.from.ensures (c.in_default.ensures.granted refl))
-          c.claim-claimed.ensures.once c.self.invariant;
+          c.self.invariant.sound c.claim.ensures.sound c.claim.ensures.same first c.from.ensures (c.in-Ok.ensures.granted refl))
+          c.claim.ensures.once c.self.invariant;
     }
+
+pub returns-clause-cause : goal.returns-clause-cause
+returns-clause-cause g c =
+    let was : SerialView = record {
+      mount = c.self.inside.mount;
+      seen = c.self.inside.seen;
+      own = c.self.inside.own;
+      faults = c.self.inside.faults;
+      worns =
+          c.self.inside.worns;
+    } in
+    let new : SerialView = record {
+      mount = c.take_all.new.mount;
+      seen = c.front-first.result.position + c.from.result;
+      own = c.add.new.self;
+      faults = c.self.inside.faults;
+      worns = c.self.inside.worns;
+    } in
+    subst (λ (s : SerialView). NoneLost s.mount.units c.take_all.new.mount.units) c.self.view_is
+    (none_lost_write was new c.claim.new.self c.args.lba
+    (sectors_of c.shape.result.now.sector (length c.args.bytes.now / c.shape.result.now.sector) c.args.bytes.now)
+    (record { was = c.self.invariant.sound; between = c.claim.ensures.sound; same = c.claim.ensures.same; mount = c.take_all.ensures.taken })
+    (c.in-Ok.ensures.done refl))
 
 pub returns-clause-learns : goal.returns-clause-learns
 returns-clause-learns g c =
-    let was : SerialView = record { mount = c.self.inside.mount; seen = c.self.inside.seen; own = c.self.inside.own; worns = c.self.inside.worns } in
+    let was : SerialView = record {
+      mount = c.self.inside.mount;
+      seen = c.self.inside.seen;
+      own = c.self.inside.own;
+      faults = c.self.inside.faults;
+      worns =
+          c.self.inside.worns;
+    } in
     let new : SerialView = record {
       mount = c.take_all.new.mount;
       seen = c.front-first.result.position + c.from.result;
       own = c.add.new.self;
-      worns =
-          c.self.inside.worns;
+      faults = c.self.inside.faults;
+      worns = c.self.inside.worns;
     } in
     learns_at was c.args.self.now new new c.self.view_is refl
-    (learns_write was new c.claim-claimed.new.self c.args.lba
+    (learns_write was new c.claim.new.self c.args.lba
     (sectors_of c.shape.result.now.sector (length c.args.bytes.now / c.shape.result.now.sector) c.args.bytes.now)
-    (record { was = c.self.invariant.sound; between = c.claim-claimed.ensures.sound; same = c.claim-claimed.ensures.same; mount = c.take_all.ensures.taken }))
+    (record { was = c.self.invariant.sound; between = c.claim.ensures.sound; same = c.claim.ensures.same; mount = c.take_all.ensures.taken }))
 
 pub returns-clause-target : goal.returns-clause-target
 returns-clause-target g c =
-    let was : SerialView = record { mount = c.self.inside.mount; seen = c.self.inside.seen; own = c.self.inside.own; worns = c.self.inside.worns } in
+    let was : SerialView = record {
+      mount = c.self.inside.mount;
+      seen = c.self.inside.seen;
+      own = c.self.inside.own;
+      faults = c.self.inside.faults;
+      worns =
+          c.self.inside.worns;
+    } in
     let new : SerialView = record {
       mount = c.take_all.new.mount;
       seen = c.front-first.result.position + c.from.result;
       own = c.add.new.self;
-      worns =
-          c.self.inside.worns;
+      faults = c.self.inside.faults;
+      worns = c.self.inside.worns;
     } in
     target_at was c.args.self.now new c.self.view_is
-    (target_write was new c.claim-claimed.new.self c.args.lba
+    (target_write was new c.claim.new.self c.args.lba
     (sectors_of c.shape.result.now.sector (length c.args.bytes.now / c.shape.result.now.sector) c.args.bytes.now)
-    (record { was = c.self.invariant.sound; between = c.claim-claimed.ensures.sound; same = c.claim-claimed.ensures.same; mount = c.take_all.ensures.taken }))
+    (record { was = c.self.invariant.sound; between = c.claim.ensures.sound; same = c.claim.ensures.same; mount = c.take_all.ensures.taken }))
 
 pub returns-clause-granted : goal.returns-clause-granted
 returns-clause-granted g c =
-    let was : SerialView = record { mount = c.self.inside.mount; seen = c.self.inside.seen; own = c.self.inside.own; worns = c.self.inside.worns } in
+    let was : SerialView = record {
+      mount = c.self.inside.mount;
+      seen = c.self.inside.seen;
+      own = c.self.inside.own;
+      faults = c.self.inside.faults;
+      worns =
+          c.self.inside.worns;
+    } in
     let new : SerialView = record {
       mount = c.take_all.new.mount;
       seen = c.front-first.result.position + c.from.result;
       own = c.add.new.self;
-      worns =
-          c.self.inside.worns;
+      faults = c.self.inside.faults;
+      worns = c.self.inside.worns;
     } in
     let first : c.front-first.result.position ≡ taken_in c.self.inside.mount = ap (λ (f : Front). f.position) c.front-first.ensures in
-    granted_place was new c.claim-claimed.new.self c.args.lba c.shape.result.now.sector (length c.args.bytes.now / c.shape.result.now.sector) c.args.bytes.now
-    (record { was = c.self.invariant.sound; between = c.claim-claimed.ensures.sound; same = c.claim-claimed.ensures.same; mount = c.take_all.ensures.taken })
-    (granted_room c.self.inside.mount c.claim-claimed.new.self c.front-first.result.position c.from.result (length c.args.bytes.now / c.shape.result.now.sector)
-    c.self.invariant.sound c.claim-claimed.ensures.sound c.claim-claimed.ensures.same first c.from.ensures (c.in_default.ensures.granted refl))
-    c.claim-claimed.ensures.once c.front-first.result.position first
+    granted_place was new c.claim.new.self c.args.lba c.shape.result.now.sector (length c.args.bytes.now / c.shape.result.now.sector) c.args.bytes.now
+    (record { was = c.self.invariant.sound; between = c.claim.ensures.sound; same = c.claim.ensures.same; mount = c.take_all.ensures.taken })
+    (granted_room c.self.inside.mount c.claim.new.self c.front-first.result.position c.from.result (length c.args.bytes.now / c.shape.result.now.sector)
+    c.self.invariant.sound c.claim.ensures.sound c.claim.ensures.same first c.from.ensures (c.in-Ok.ensures.granted refl))
+    c.claim.ensures.once c.front-first.result.position first
 
 pub returns-clause-pad : goal.returns-clause-pad
 returns-clause-pad g c =
     ap (λ (v : MountView). v.pad) c.take_all.ensures.taken
-    ∙ pad_all c.claim-claimed.new.self c.args.lba (sectors_of c.shape.result.now.sector (length c.args.bytes.now / c.shape.result.now.sector) c.args.bytes.now)
-    ∙ c.claim-claimed.ensures.pad ∙ ap (λ (s : SerialView). s.mount.pad) c.self.view_is
+    ∙ pad_all c.claim.new.self c.args.lba (sectors_of c.shape.result.now.sector (length c.args.bytes.now / c.shape.result.now.sector) c.args.bytes.now)
+    ∙ c.claim.ensures.pad ∙ ap (λ (s : SerialView). s.mount.pad) c.self.view_is
 
-pub returns-in-Err-clause-pad : goal.returns-in-Err-clause-pad
-returns-in-Err-clause-pad g c = ap (λ (s : SerialView). s.mount.pad) c.add_worn.ensures ∙ c.claim-claimed.ensures.pad
+pub returns-in-Err-Stuck-clause-pad : goal.returns-in-Err-Stuck-clause-pad
+returns-in-Err-Stuck-clause-pad g c = ap (λ (s : SerialView). s.mount.pad) c.add_worn.ensures ∙ c.claim.ensures.pad
     ∙ ap (λ (s : SerialView). s.mount.pad) c.self.view_is

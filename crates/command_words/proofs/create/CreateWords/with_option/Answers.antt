@@ -2,7 +2,7 @@ use Rattle.std.proofs.Common.{◌<◌, ◌+◌, ◌^◌, ◌∙◌, sym, refl, N
 use Rattle.std.proofs.lemmas.Fmt.{decimal_injective}
 use Rattle.command_words.specs.Grammar.{create_options}
 use Rattle.command_words.proofs.OptionValues.{small_options, below_all}
-use Rattle.command_words.proofs.Reading.{read_option, other_option, second_option, other_number}
+use Rattle.command_words.proofs.CreateReading.{read_option, other_option, second_option, other_number}
 use Rattle.command_words.proofs.create.CreateWords.with_option.Goals as goal
 use Rattle.lemmas.proofs.Options.{none_there, some_value}
 

@@ -1,5 +1,5 @@
 use Rattle.std.proofs.Common.{◌≡◌, ◌≢◌, ℕ, ◌+◌, ◌-◌, ◌^◌, ◌<◌, ◌≤◌, true, false, Some, [], length, refl, sym, subst, ap, ◌∙◌, arith}
-use Rattle.std.specs.Prelude.{slice_get}
+use Rattle.std.specs.Prelude.{min, slice_get, slice_set}
 use Rattle.pblk_model.specs.declared.shape.Shape.{Shape}
 use Rattle.pblk_model.specs.Shape.{units}
 use Rattle.pblk_model.specs.LineOrder.{data_len}
@@ -364,6 +364,9 @@ returns-then-land-eq0-clause-stands c =
       placed = refl;
       addresses = refl;
       under_way = refl;
+      answers = subst (λ u. (n : ℕ) → slice_get core.answers.items u ≡ Some n
+          → c.add_answer.new.answers.items ≡ slice_set core.answers.items u (min (n + 1) (2 ^ 64 - 1))) (c.unit-unit.ensures ∙ sym (its_unit at.In-Some))
+          c.add_answer.ensures;
       users = refl;
     } in
     landed_stands i w unit event knows core _ of c.land.new.self true from to simple st its.is (its.waits st.again st.placing) may its.has into
@@ -415,6 +418,9 @@ returns-else-land-eq0-clause-stands c =
       placed = refl;
       addresses = refl;
       under_way = refl;
+      answers = subst (λ u. (n : ℕ) → slice_get core.answers.items u ≡ Some n
+          → c.add_answer.new.answers.items ≡ slice_set core.answers.items u (min (n + 1) (2 ^ 64 - 1))) (c.unit-unit.ensures ∙ sym (its_unit at.In-Some))
+          c.add_answer.ensures;
       users = refl;
     } in
     landed_stands i w unit event knows core _ of c.land.new.self false from to simple st its.is (its.waits st.again st.placing) may its.has into

@@ -1,5 +1,5 @@
 use Rattle.std.proofs.Common.{◌<◌, Some, length, refl, sym, subst, ap, ap₂, ◌∙◌}
-use Rattle.std.specs.Prelude.{slice_get}
+use Rattle.std.specs.Prelude.{replicate, slice_get}
 use Rattle.std.specs.FinMap as fin
 use Rattle.pblk_model.specs.declared.shape.Shape.{Shape}
 use Rattle.stripe_placer.specs.Placing.{nothing_placed}
@@ -57,6 +57,7 @@ returns c = record {
   none_open = c.in_ok-open.ensures.none;
   left = refl;
   in_flight = refl;
+  none_answered = c.in_ok-answers.ensures ∙ ap (λ n. replicate n 0) c.units.ensures;
   seq = c.next_seq-seq.ensures ∙ ap (λ lines. seq_after lines c.args.found.now.head) c.as_slice-3.ensures;
   first_seq = c.next_seq-seq.ensures ∙ ap (λ lines. seq_after lines c.args.found.now.head) c.as_slice-3.ensures;
   own_capacity = refl;

@@ -217,6 +217,7 @@ returns-clause-stands c = λ i w knows mount st. let simple = simple_in i w moun
       placed = refl;
       left = ap (λ n. c.args.self.now.left + n) (c.from.ensures ∙ c.data_len.ensures.len ∙ ap (data_len c.args.self.now.layout) width);
       under_way = refl;
+      answers = refl;
       users = refl;
     })
 

@@ -15,7 +15,8 @@ use Rattle.pblk_core.specs.Entries.{entry_blocks}
 use Rattle.pblk_core.specs.Filling.{Filling, followed_by}
 use Rattle.pblk_core.specs.LineRecords.{blocks_at_start, blocks_at_end, end_begins}
 use Rattle.pblk_core.specs.Slots.{IsSlot}
-use Rattle.pblk_core.specs.Stands.{Stands}
+use Rattle.pblk_core.specs.Stands.{Stands, answer_count}
+use Rattle.pblk_core.proofs.AnswerCounts.{count_told}
 use Rattle.pblk_core.specs.declared.target_core.Core.{Core}
 use Rattle.pblk_core.proofs.KeptFrames.{placed_pad}
 use Rattle.pblk_core.proofs.PlacedStripe.{IsInPart}
@@ -161,7 +162,7 @@ the_stripe c i w simple st its there =
           let blocks : List Block = entry_blocks core.window core.holds.rows.items of.positions in
           let told : v.positions-positions.result.now ≡ of.positions = v.positions-positions.ensures (Stopped of) c.requires.stopped in
           let filled = v.fill.ensures ∙ ap (λ qs. followed_by begun (entry_blocks core.window core.holds.rows.items qs)) told in
-          let padded = padded_is of c.args.into.now.shape true blocks begun v.fill.new.into v.pad.new.self c.begin.ensures filled v.pad.ensures in
+          let padded = padded_is of c.args.into.now.shape true _ blocks begun v.fill.new.into v.pad.new.self c.begin.ensures filled v.pad.ensures in
           ap (λ f. f.stripe) v.into-is ∙ padded
           ∙ data_again i w of.unit of simple its.is core c.args.into.now.shape v.in-Data.is st (c.requires.shape ∙ st.layout)
       | in-Pad v ↦ absurd (subst (IsInPart i.shape its.is.row.opening of.at) v.in-Pad.is (part i w of.unit of simple its.is))
@@ -206,27 +207,30 @@ the_rest c new placing =
 record IsFilledAgain (c : Joined-of) : Type 0 where
   again : c.match-of.into.again ≡ true
   shape : c.match-of.into.shape ≡ c.args.into.now.shape
+  turn : c.match-of.into.turn ≡ c.index-turn.result.now
 
 the_filling : (c : Joined-of) (i : Image) (w : World) (its : IsStoppedIn c i w) → IsSlot (core_in c).open c.find-index.result its.has.slot → IsFilledAgain c
 the_filling c i w its there =
     let again : c.begin.new.self.again ≡ true = ap (λ f. f.again) c.begin.ensures in
     let shape : c.begin.new.self.shape ≡ c.args.into.now.shape = ap (λ f. f.shape) c.begin.ensures in
+    let turn : c.begin.new.self.turn ≡ c.index-turn.result.now = ap (λ f. f.turn) c.begin.ensures in
     elim c.match-of.branch as (λ b. IsFilledAgain c) [
       | in-Start v ↦
           let is = v.into-is ∙ v.start_stripe.ensures its.has.slot there in
-          record { again = ap (λ f. f.again) is ∙ again; shape = ap (λ f. f.shape) is ∙ shape }
+          record { again = ap (λ f. f.again) is ∙ again; shape = ap (λ f. f.shape) is ∙ shape; turn = ap (λ f. f.turn) is ∙ turn }
       | in-Data v ↦
           let is = v.into-is ∙ v.pad.ensures in
           record {
             again = ap (λ f. f.again) is ∙ ap (λ f. f.again) v.fill.ensures ∙ again;
             shape = ap (λ f. f.shape) is ∙ ap (λ f. f.shape) v.fill.ensures ∙ shape;
+            turn = ap (λ f. f.turn) is ∙ ap (λ f. f.turn) v.fill.ensures ∙ turn;
           }
       | in-Pad v ↦
           let is = v.into-is ∙ v.pad-in-Pad.ensures in
-          record { again = ap (λ f. f.again) is ∙ again; shape = ap (λ f. f.shape) is ∙ shape }
+          record { again = ap (λ f. f.again) is ∙ again; shape = ap (λ f. f.shape) is ∙ shape; turn = ap (λ f. f.turn) is ∙ turn }
       | in-End v ↦
           let is = v.into-is ∙ v.end_stripe.ensures.filled its.has.slot there in
-          record { again = ap (λ f. f.again) is ∙ again; shape = ap (λ f. f.shape) is ∙ shape }
+          record { again = ap (λ f. f.again) is ∙ again; shape = ap (λ f. f.shape) is ∙ shape; turn = ap (λ f. f.turn) is ∙ turn }
     ]
 
 pub returns-clause-again : goal.returns-clause-again
@@ -287,6 +291,19 @@ returns-clause-rows c = λ other apart.
     let at = all.Joined-of in
     let sd = c.requires.standing in
     let its = its_stopped sd.image sd.world (core_in at) (program_in at) (its_simple sd) sd.stands c.requires.stopped in
-    let same = the_stripe at sd.image sd.world (its_simple sd) sd.stands its (found_slot all.After-find-index sd.image sd.world (its_simple sd) sd.stands its) in
+    let same = the_stripe at sd.image sd.world (its_simple sd) sd.stands its
+    (found_slot all.After-find-index sd.image sd.world (its_simple sd) sd.stands its) in
     ap (λ (p : Placing). slice_get p.units other) (the_rest at c.placed.new.self c.placed.ensures.placed).placer
     ∙ placed_beside c.args.self.now.placer (program_in at) c.match-of.into.stripe.unit other (sym (ap (λ s. s.unit) same ∙ its.is.its_unit)) apart
+
+pub returns-clause-turn : goal.returns-clause-turn
+returns-clause-turn c = λ i w mount st.
+    let simple = simple_in i w mount st in
+    let all = goal.at.returns-clause-turn c in
+    let at = all.Joined-of in
+    let its = its_stopped i w (core_in at) (program_in at) simple st c.requires.stopped in
+    let slot = found_slot all.After-find-index i w simple st its in
+    let unit : c.match-of.into.stripe.unit ≡ c.args.of.now.unit = ap (λ s. s.unit) (the_stripe at i w simple st its slot) ∙ its.is.its_unit in
+    (the_filling at i w its slot).turn
+    ∙ count_told i (log_of w) c.args.self.now c.args.of.now.unit c.index-turn.result.now st its.is.row.inside c.index-turn.ensures
+    ∙ ap (answer_count (log_of w 0)) (sym unit)

@@ -21,7 +21,8 @@ use Rattle.pblk_world.specs.Placing.{stripe_at}
 use Rattle.core_laws.specs.SimpleMounts.{IsSimpleMount}
 use Rattle.stripe_placer.specs.Placing.{Program, Placing, program}
 use Rattle.pblk_model.specs.Shape.{units}
-use Rattle.pblk_core.specs.Stands.{Stands}
+use Rattle.pblk_core.specs.Stands.{Stands, answer_count}
+use Rattle.pblk_core.proofs.AnswerCounts.{count_told}
 use Rattle.pblk_core.specs.declared.open_lines.OpenLine.{OpenLine as KeptLine}
 use Rattle.pblk_core.specs.declared.target_core.Core.{Core}
 use Rattle.pblk_core.proofs.PlacedStripe.{IsInPart}
@@ -237,7 +238,7 @@ the_stripe c i v simple st f =
           let blocks : List Block = entry_blocks core.window core.holds.rows.items of.positions in
           let told = told_entries i v core c.placed.new.self f.o of _ st f.now c.placed.ensures.placed w.positions-positions.ensures in
           let filled = w.fill.ensures ∙ ap (λ qs. followed_by begun (entry_blocks core.window core.holds.rows.items qs)) told in
-          let padded = padded_is of c.args.into.now.shape false blocks begun w.fill.new.into w.pad.new.self c.begin.ensures filled w.pad.ensures in
+          let padded = padded_is of c.args.into.now.shape false _ blocks begun w.fill.new.into w.pad.new.self c.begin.ensures filled w.pad.ensures in
           subst (IsStripeFor i (log_of v) f.o of) (sym (ap (λ f. f.stripe) w.into-is ∙ padded))
           (data_stripe_is i v core f.o of c.args.into.now.shape simple st f.now w.in-Data.is (c.requires.shape ∙ st.layout))
       | in-Pad w ↦ absurd (no_pad c i v f w.in-Pad.is)
@@ -289,6 +290,7 @@ the_rest c i v simple st f =
                 (w.from.ensures ∙ ap (λ (s : Shape). s.ws_opt) (w.shape.ensures.shape ∙ st.layout))
                 (ap takes w.in-Data.is ∙ ap (λ (s : Shape). s.ws_opt) st.layout) (left_room i v core f.o of simple st f.now w.in-Data.is);
             under_way = ap (λ (x : Core). x.under_way) w.self-is;
+            answers = ap (λ (x : Core). x.answers.items) w.self-is;
             users = ap (λ (x : Core). x.users) w.self-is;
           }
       | in-Pad w ↦ absurd (no_pad c i v f w.in-Pad.is)
@@ -326,6 +328,7 @@ returns-clause-stands c = λ i v knows mount st. let simple = simple_in i v moun
       placed = rest.placed;
       left = rest.left;
       under_way = ap (λ n. n + 1) rest.under_way;
+      answers = rest.answers;
       users = rest.users;
     })
 
@@ -401,3 +404,21 @@ returns-clause-rows c = λ other apart.
     the_stripe at sd.image sd.world (its_simple sd) sd.stands f in
     ap (λ (p : Placing). slice_get p.units other) rest.placer
     ∙ placed_beside c.args.self.now.placer (program_in at) c.match-of.into.stripe.unit other (sym for.unit) apart
+
+pub returns-clause-turn : goal.returns-clause-turn
+returns-clause-turn c = λ i w mount st.
+    let simple = simple_in i w mount st in
+    let all = goal.at.returns-clause-turn c in
+    let at = all.Joined-of in
+    let f = its_line all.After-find-index i w simple st in
+    let there : IsSlot c.args.self.now.open c.find-index.result f.has.slot = slot_there i w (core_in at) (program_in at) c.find-index.result f in
+    let for : IsStripeFor i (log_of w) f.o (program_in at) c.match-of.into.stripe = the_stripe at i w simple st f in
+    let begun : c.begin.new.self.turn ≡ c.index-turn.result.now = ap (λ f. f.turn) c.begin.ensures in
+    let told : c.match-of.into.turn ≡ c.index-turn.result.now = elim c.match-of.branch as (λ b. c.match-of.into.turn ≡ c.index-turn.result.now) [
+      | in-Start w ↦ ap (λ f. f.turn) (w.into-is ∙ w.start_stripe.ensures f.has.slot there) ∙ begun
+      | in-Data w ↦ ap (λ f. f.turn) (w.into-is ∙ w.pad.ensures) ∙ ap (λ f. f.turn) w.fill.ensures ∙ begun
+      | in-Pad w ↦ ap (λ f. f.turn) (w.into-is ∙ w.pad-in-Pad.ensures) ∙ begun
+      | in-End w ↦ ap (λ f. f.turn) (w.into-is ∙ w.end_stripe.ensures.filled f.has.slot there) ∙ begun
+    ] in
+    told ∙ count_told i (log_of w) c.args.self.now c.args.of.now.unit c.index-turn.result.now st f.now.unit c.index-turn.ensures
+    ∙ ap (answer_count (log_of w 0)) (sym for.unit)

@@ -77,6 +77,7 @@ returns-then-not-is_at-clause-stands c = λ i w event knows mount st to. let sim
       placed = refl;
       left = refl;
       under_way = refl;
+      answers = refl;
       users = refl;
     })
 
@@ -98,5 +99,6 @@ returns-else-not-is_at-clause-stands c = λ i w event knows mount st to. let sim
       placed = refl;
       left = refl;
       under_way = refl;
+      answers = refl;
       users = refl;
     })

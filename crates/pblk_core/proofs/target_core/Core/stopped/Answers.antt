@@ -59,6 +59,7 @@ returns-clause-stands c = λ i w event knows mount st may.
       placed = refl;
       left = refl;
       under_way = refl;
+      answers = refl;
       users = refl;
     })
 

@@ -31,6 +31,7 @@ returns c = record {
     placed = refl;
     left = refl;
     under_way = refl;
+    answers = refl;
     users = refl;
   }) c.requires.next c.requires.room c.requires.user.0 c.requires.user.1 (subst (λ s. c.args.entry.lba < s.capacity) st.layout c.requires.lba);
   pushed = c.push.ensures.pushed;

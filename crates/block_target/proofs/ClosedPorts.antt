@@ -1,0 +1,81 @@
+-- A port that was closed, by what its close answers.
+use Rattle.std.proofs.Common.{◌≡◌, ◌≤◌, ℕ, Ok, Err, Result, true, List, ◌++◌, length, max, refl, sym, subst, ◌∙◌, arith, append-nil}
+use Rattle.std.specs.List.{flat_map}
+use Rattle.pblk_model.specs.Contents.{end}
+use Rattle.pblk_model.specs.Sealed.{IsSealed}
+use Rattle.pblk_world.specs.World.{media}
+use Rattle.block_port.specs.Own.{lines_of}
+use Rattle.block_port.specs.declared.rows.WornAnswer.{WornAnswer}
+use Rattle.scan_recovery.specs.Lost.{IsLostAt, NoneLost}
+use Rattle.block_target.specs.Mount.{MountView, IsCollectionOver, IsSameMount, IsSound, IsStuckAt, front_synced, logs_in, synced_in, taken_in}
+use Rattle.block_target.specs.NothingLeft.{AreRefusals}
+use Rattle.block_target.specs.Serial.{SerialView, AreNamed, IsClosed, IsSerial, Settles, is_settled, settle_faults, settle_worns}
+use Rattle.block_target.specs.declared.opening.SettleErr.{SettleErr}
+use Rattle.block_target.specs.declared.opening.SettleErr.TheVariants as settle
+use Rattle.block_target.proofs.ClosedEnd.{end_left, end_whole}
+use Rattle.block_target.proofs.DeviceFronts.{all_synced, all_taken}
+use Rattle.block_target.proofs.GrantedTakes.{granted_same}
+use Rattle.block_target.proofs.NamedAnswers.{all_named_later, named_with}
+use Rattle.block_target.proofs.Refusals.{flush_refused, refusals_grown, refusals_more}
+use Rattle.block_target.proofs.Written.{taken_kept, takes_later}
+
+-- what a close leaves, whatever it answers
+pub record Closes (s : SerialView) (v : MountView) : Type 0 where
+  pub serial : IsSerial s
+  pub sound : IsSound v
+  pub same : IsSameMount s.mount v
+  pub pad : v.pad ≡ max s.mount.pad (taken_in s.mount)
+  pub between : IsSealed v.image → (synced_in v ≤ end (media v.image (logs_in v))) × (end (media v.image (logs_in v)) ≤ taken_in v)
+
+module _ (s : SerialView) (v : MountView) (is : Closes s v) where
+  taken : taken_in v ≡ taken_in s.mount
+  taken = taken_kept s.mount v is.serial.sound is.sound is.same
+
+  named : AreNamed v s.faults
+  named = all_named_later s.mount v s.faults is.serial.sound is.sound is.same is.serial.faults
+
+  refusals : AreRefusals v.image (logs_in v) 0 s.worns
+  refusals = refusals_grown s.mount v is.same.more 0 s.worns is.serial.sound is.same.image is.same.deeds is.serial.worns
+
+  closed : (settled : Result Unit SettleErr) → Settles s.mount settled v → AreNamed v (s.faults ++ settle_faults settled)
+      → AreRefusals v.image (logs_in v) 0 (s.worns ++ settle_worns (length (flat_map lines_of s.own)) settled)
+      → (IsSealed v.image → is_settled settled ≡ true → end (media v.image (logs_in v)) ≡ synced_in v) → IsClosed s settled v
+  closed settled settles faults worns ends = record {
+    same = is.same;
+    sound = is.sound;
+    taken = taken;
+    settles = settles;
+    faults = faults;
+    refusals = worns;
+    granted = granted_same s.mount v is.serial.sound is.same is.serial.granted;
+    pad = is.pad;
+    from_synced = λ sealed. (is.between sealed).0;
+    to_taken = λ sealed. (is.between sealed).1;
+    ends = ends;
+  }
+
+  pub closed_settled : (wanted : ℕ) → wanted ≡ taken_in s.mount → NoneLost s.mount.units v.units → wanted ≤ synced_in v → IsCollectionOver v
+      → IsClosed s (Ok tt) v
+  closed_settled wanted all done enough over =
+      let whole : synced_in v ≡ taken_in v = all_synced s.mount v (front_synced v) wanted is.serial.sound is.sound is.same all refl enough in
+      closed (Ok tt) (done, whole, over) (subst (AreNamed v) (sym (append-nil s.faults)) named)
+      (subst (λ (ws : List WornAnswer). AreRefusals v.image (logs_in v) 0 ws) (sym (append-nil s.worns)) refusals)
+      (λ sealed settled. end_whole v whole (is.between sealed).0 (is.between sealed).1)
+
+  pub closed_lost : (unit event : ℕ) → IsLostAt s.mount.units v.units unit event → IsClosed s (Err (settle.Drive unit event)) v
+  closed_lost unit event lost =
+      closed (Err (settle.Drive unit event)) lost
+      (named_with s.mount v s.faults unit event is.serial.sound is.sound is.serial.faults is.same lost)
+      (subst (λ (ws : List WornAnswer). AreRefusals v.image (logs_in v) 0 ws) (sym (append-nil s.worns)) refusals)
+      (λ sealed settled. absurd cc)
+
+  pub closed_worn : (wanted have : ℕ) → wanted ≡ taken_in s.mount → NoneLost s.mount.units v.units → have ≡ synced_in v → IsStuckAt v wanted have
+      → IsClosed s (Err (settle.Worn wanted have)) v
+  closed_worn wanted have all done at stuck =
+      let pad : v.pad ≡ max s.mount.pad (taken_in s.mount) = is.pad in
+      let asked : wanted ≤ v.pad = omega arith in
+      let cause = flush_refused v wanted have stuck at asked (all_taken s.mount v wanted is.serial.sound is.sound is.same all) in
+      closed (Err (settle.Worn wanted have)) (done, all ∙ sym taken, at, cause) (subst (AreNamed v) (sym (append-nil s.faults)) named)
+      (refusals_more v.image (logs_in v) 0 s.worns (record { written = length (flat_map lines_of s.own); count = 0; wanted = wanted; have = have })
+      (omega arith) refusals (record { written = takes_later s v is.serial.sound is.serial is.same; cause = cause }))
+      (λ sealed settled. end_left v wanted is.sound cause.nothing_left sealed)

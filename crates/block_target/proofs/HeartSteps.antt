@@ -1,0 +1,298 @@
+-- What a heart stands for once the engine did one thing more.
+use Rattle.std.proofs.Common.{◌≡◌, ◌⊎◌, inl, inr, ℕ, ◌+◌, ◌-◌, ◌*◌, ◌^◌, ◌≤◌, ◌<◌, zero, suc, max, Bool, true, false, None, Some, List, [], ◌∷◌, ◌++◌, length, take, refl, sym, subst, ap, ap₂, ◌∙◌, arith, le_refl, length-append}
+use Rattle.std.specs.Prelude.{slice_get}
+use Rattle.std.specs.List.{Contains}
+use Rattle.std.proofs.Math.Seq.{take-length}
+use Rattle.std.proofs.lemmas.Bool.{cases_order}
+use Rattle.std.proofs.lemmas.List.{take-take}
+use Rattle.std.proofs.lemmas.Option.{none-some, same_Some}
+use Rattle.pblk_model.specs.Frames.{count_out}
+use Rattle.pblk_model.specs.Image.{Image}
+use Rattle.pblk_model.specs.Shape.{units}
+use Rattle.pblk_world.specs.AtRest.{knows_last, logs_at}
+use Rattle.pblk_world.specs.EngineLog.{Begun, begun}
+use Rattle.pblk_world.specs.Events.{EngineEvent, Begin, Place, Stripe, Decides, Logged}
+use Rattle.pblk_world.specs.Fronts.{first_position}
+use Rattle.pblk_world.specs.Legal.{IsDecision, IsLegal, MayDecide}
+use Rattle.pblk_world.specs.Placing.{MayPlace}
+use Rattle.pblk_world.specs.Space.{freed, room}
+use Rattle.pblk_world.specs.World.{World, Logs, log_of, known, prefixes}
+use Rattle.pblk_world.proofs.WorldLemmas.{log_elsewhere, log_here}
+use Rattle.world_laws.specs.LegalMounts.{IsLegalMount}
+use Rattle.world_laws.specs.SameTold.{AreSameNamed}
+use Rattle.world_laws.proofs.ToldSince.{same_told}
+use Rattle.world_laws.proofs.ToldTables.{room_told}
+use Rattle.core_laws.specs.PlainEvents.{is_plain_decision}
+use Rattle.core_laws.specs.Stepping.{after}
+use Rattle.core_laws.proofs.FreedFront.{freed_rises}
+use Rattle.core_laws.proofs.TakenNumbers.{first_stays}
+use Rattle.step_laws.specs.Whole.{knows_all}
+use Rattle.step_laws.proofs.EngineSteps.{decided_legal}
+use Rattle.write_window.specs.Window as window
+use Rattle.pblk_core.specs.Landing.{WasStopped}
+use Rattle.pblk_core.specs.Mounts.{InItsMount, StandsAfter}
+use Rattle.pblk_core.specs.Stands.{Stands, IsStanding}
+use Rattle.pblk_core.specs.declared.target_core.Core.{Core}
+use Rattle.pblk_core.proofs.ChunkRows.{rows_of_chunks}
+use Rattle.pblk_core.proofs.SimpleLogs.{simple_in}
+use Rattle.block_target.specs.Granted.{WasRoom}
+use Rattle.block_target.specs.Heart.{IsBeating, IsHeart, OfItsMount, decided}
+use Rattle.block_target.specs.declared.heart.Heart.{Heart}
+use Rattle.block_target.proofs.HeartGrants.{all_granted, grant_kept}
+use Rattle.block_target.proofs.OnceRoom.{greater, room_later, room_less}
+use Rattle.lemmas.proofs.Lists.{IsAmong, among_contained}
+use Rattle.lemmas.proofs.Numbers.{fun_same}
+use Rattle.lemmas.proofs.Parts.{get_first, get_last, is_in}
+
+-- What a heart is once its frames and its grant are renewed: it was this one, with this core.
+pub record IsRenewed (old : Heart) (core : Core) (new : Heart) : Type 0 where
+  pub stands : InItsMount core (λ i w. Stands i (log_of w) new.core)
+  pub drained : InItsMount core (λ i w. new.core.window.freed ≡ freed i.shape (log_of w 0))
+  pub granted : InItsMount core (λ i w. new.granted ≡ max old.granted (room i (log_of w)))
+  pub own : window.AreOf new.pool.region new.core.window.entries
+  pub out : count_out old.pool.left + length new.core.window.entries ≡ count_out new.pool.left + length core.window.entries
+  pub region : new.pool.region ≡ old.pool.region
+
+out_renewed : (a b x y z : ℕ) → a + x ≡ b + y → a ≡ z → y ≡ z → b ≡ x
+out_renewed a b x y z sum was same = omega arith
+
+-- no grant is taken back
+pub grant_rises : (old : Heart) (core : Core) (new : Heart) → IsStanding core → IsRenewed old core new → old.granted ≤ new.granted
+grant_rises old core new standing is =
+    let now : new.granted ≡ max old.granted (room standing.image (log_of standing.world)) =
+    is.granted standing.image standing.world standing.legal standing.stands in
+    omega arith
+
+module _ (i : Image) (w : World) (e : EngineEvent) (knows : List ℕ) where
+  abbrev pub last : Logged
+  last = record { event = Decides e; knows = knows }
+
+  abbrev pub later : World
+  later = decided e knows w
+
+  pub log_is : log_of later 0 ≡ log_of w 0 ++ last ∷ []
+  log_is = log_here (record { author = 0; logged = last }) w 0 refl
+
+  pub logs_are : log_of later ≡ after (log_of w) e knows
+  logs_are = fun_same (log_of later) (after (log_of w) e knows) go
+    where
+      go : (author : ℕ) → log_of later author ≡ after (log_of w) e knows author
+      go zero = log_is
+      go (suc unit) = log_elsewhere (record { author = 0; logged = last }) w (suc unit) (λ same. let no : 0 ≡ suc unit = same in absurd (omega arith))
+
+  long : length (log_of later 0) ≡ length (log_of w 0) + 1
+  long = ap (λ (log : List Logged). length log) log_is ∙ length-append (log_of w 0) (last ∷ [])
+
+  -- an event of the longer log is the last one, or one of those before it
+  earlier_or_last : (m : Logged) → Contains (log_of later 0) m → Contains (log_of w 0) m ⊎ (m ≡ last)
+  earlier_or_last m there = go (cases_order among.0 (length (log_of w 0)))
+    where
+      among : IsAmong (log_of w 0 ++ last ∷ []) m
+      among = among_contained (log_of w 0 ++ last ∷ []) m (subst (λ (log : List Logged). Contains log m) log_is there)
+
+      go : (among.0 ≡ length (log_of w 0)) ⊎ ((among.0 < length (log_of w 0)) ⊎ (length (log_of w 0) < among.0))
+          → Contains (log_of w 0) m ⊎ (m ≡ last)
+      go (inl same) =
+          inr (same_Some m last (sym among.1 ∙ ap (slice_get (log_of w 0 ++ last ∷ [])) same ∙ get_last (log_of w 0) last))
+      go (inr (inl below)) = inl (is_in (log_of w 0) among.0 m (sym (get_first (log_of w 0) (last ∷ []) among.0 below) ∙ among.1))
+      go (inr (inr above)) =
+          let short : length (log_of w 0 ++ last ∷ []) ≡ length (log_of w 0) + 1 = length-append (log_of w 0) (last ∷ []) in
+          absurd (none-some m (sym (past_end (log_of w 0 ++ last ∷ []) among.0 (omega arith)) ∙ among.1))
+        where
+          past_end : (xs : List Logged) (k : ℕ) → length xs ≤ k → slice_get xs k ≡ None
+          past_end [] k h = refl
+          past_end (x ∷ xs) zero h = absurd (omega arith)
+          past_end (x ∷ xs) (suc k) h = past_end xs k (omega arith)
+
+  -- the logs at the whole length are those that its last event named
+  module _ (legal : IsLegal i later) where
+    abbrev ends_at : Logs
+    ends_at = logs_at (length (log_of later 0)) (log_of later)
+
+    its_last : slice_get (log_of later 0) (length (log_of later 0) - 1) ≡ Some last
+    its_last =
+        ap₂ (λ (log : List Logged) n. slice_get log n) log_is (let is : length (log_of later 0) ≡ length (log_of w 0) + 1 = long in omega arith)
+        ∙ get_last (log_of w 0) last
+
+    knew : (m : Logged) (unit : ℕ) → Contains (log_of later 0) m → known m (suc unit) ≤ known last (suc unit)
+    unfolding IsLegal
+    knew m unit there = go (earlier_or_last m there)
+      where
+        go : Contains (log_of w 0) m ⊎ (m ≡ last) → known m (suc unit) ≤ known last (suc unit)
+        go (inl earlier) = legal.0.knowledge.rising m (suc unit) earlier
+        go (inr same) = subst (λ (x : Logged). known x (suc unit) ≤ known last (suc unit)) (sym same) (le_refl (known last (suc unit)))
+
+    same_named : AreSameNamed (log_of later) ends_at
+    same_named = record {
+      own = take-length (log_of later 0);
+      named = λ unit m there.
+          ap (λ o. take (known m (suc unit)) (take (knows_last o (suc unit)) (log_of later (suc unit)))) its_last
+          ∙ take-take (known m (suc unit)) (known last (suc unit)) (log_of later (suc unit)) (knew m unit there);
+    }
+
+    pub room_at_end : room i ends_at ≡ room i (log_of later)
+    room_at_end = room_told i (log_of later) ends_at (same_told i later ends_at legal same_named)
+
+    pub was_room : WasRoom i (log_of later) (length (log_of later 0)) (room i (log_of later))
+    was_room = record {
+      at = length (log_of later 0);
+      has_begun = let is : length (log_of later 0) ≡ length (log_of w 0) + 1 = long in omega arith;
+      within = le_refl (length (log_of later 0));
+      room = let is : room i ends_at ≡ room i (log_of later) = room_at_end in omega arith;
+    }
+
+  -- the front freed doesn't fall
+  decision : (o : EngineEvent) (b : Begun) → prefixes last (log_of w) 0 ≡ log_of w 0 → begun (log_of w 0) ≡ Some b
+      → MayDecide i (prefixes last (log_of w)) o
+      → (beginning : Begun) × IsDecision i (prefixes last (log_of w)) beginning o
+  decision (Begin x) b own has may = absurd (none-some b (ap (λ (log : List Logged). begun log) (sym may.is_first ∙ own) ∙ has))
+  decision o b own has may = (may.0, may.2)
+
+  pub freed_later : (b : Begun) → begun (log_of w 0) ≡ Some b → is_plain_decision e ≡ true → (c : Core) → IsLegalMount i w
+      → Stands i (log_of w) c → IsLegal i later → freed i.shape (log_of w 0) ≤ freed i.shape (log_of later 0)
+  unfolding IsLegal
+  freed_later b has plain c mount st legal =
+      let step = legal.0 in
+      let own : prefixes last (log_of w) 0 ≡ log_of w 0 =
+      ap (λ n. take n (log_of w 0)) step.knowledge.own ∙ take-length (log_of w 0) in
+      let d = decision e b own has step.allowed in
+      subst (λ (logs : Logs). freed i.shape (log_of w 0) ≤ freed i.shape (logs 0)) (sym logs_are)
+      (freed_rises i (prefixes last (log_of w)) w d.0 e knows (simple_in i w mount st)
+      (λ o u. rows_of_chunks i w o u (simple_in i w mount st)) own plain d.1)
+
+  -- the heart
+  pub heart_later : (old new : Heart) → IsLegalMount i w → IsHeart i (log_of w) old → IsLegalMount i later
+      → Stands i (log_of later) new.core
+      → new.core.window.freed ≡ freed i.shape (log_of later 0)
+      → freed i.shape (log_of w 0) ≤ freed i.shape (log_of later 0)
+      → window.AreOf new.pool.region new.core.window.entries
+      → count_out new.pool.left ≡ length new.core.window.entries
+      → new.pool.region ≡ old.pool.region
+      → new.granted ≡ max old.granted (room i (log_of later))
+      → IsHeart i (log_of later) new
+  heart_later old new mount was legal stands drained rises own out region is =
+      let first : first_position (log_of later 0) ≡ first_position (log_of w 0) =
+      ap first_position log_is ∙ first_stays (log_of w 0) last was.stands.beginning was.stands.has_begun in
+      let low : old.granted + units i.shape * i.shape.ws_opt ≤ new.core.window.freed + i.shape.ring =
+      further (old.granted + units i.shape * i.shape.ws_opt) old.core.window.freed new.core.window.freed i.shape.ring
+      (freed i.shape (log_of w 0)) (freed i.shape (log_of later 0)) was.granted was.drained drained rises in
+      let kept = grant_kept i later old.granted new.core.window.freed (first_position (log_of w 0)) mount.accepted drained first low was.last in
+      record {
+        stands = stands;
+        drained = drained;
+        own = own;
+        out = out;
+        count = ap (λ r. r.count) region ∙ was.count;
+        size = ap (λ r. r.size) region ∙ was.size;
+        granted = subst (λ n. n + units i.shape * i.shape.ws_opt ≤ new.core.window.freed + i.shape.ring) (sym is) kept.0;
+        last = subst (λ n. n ≤ max (2 ^ 61 - 2) (first_position (log_of later 0))) (sym is) kept.1;
+        room = all_granted new.granted old.granted (room i (log_of later)) is;
+        once = subst (λ g. WasRoom i (log_of later) (length (log_of later 0)) g) (sym is)
+            (greater i (log_of later) (length (log_of later 0)) old.granted (room i (log_of later)) before_room (was_room legal.legal));
+      }
+    where
+      further : (a x y r g h : ℕ) → a ≤ x + r → x ≡ g → y ≡ h → g ≤ h → a ≤ y + r
+      further a x y r g h low e f grows = omega arith
+
+      before_room : WasRoom i (log_of later) (length (log_of later 0)) old.granted
+      before_room =
+          room_less i (log_of later) (length (log_of w 0)) (length (log_of later 0)) old.granted old.granted
+          (room_later i (record { author = 0; logged = last } ∷ []) w (length (log_of w 0)) old.granted mount.legal (le_refl (length (log_of w 0))) was.once)
+          (let is : length (log_of later 0) ≡ length (log_of w 0) + 1 = long in omega arith) (le_refl old.granted)
+
+  -- by a core that stands for the logs with the event, once its frames and its grant are renewed
+  pub beats_later : (old : Heart) (core : Core) (new : Heart) → IsLegalMount i w → IsHeart i (log_of w) old → IsLegalMount i later
+      → Stands i (after (log_of w) e knows) core → is_plain_decision e ≡ true → length core.window.entries ≡ length old.core.window.entries
+      → IsRenewed old core new
+      → IsHeart i (log_of later) new
+  beats_later old core new mount was legal stands plain count is =
+      heart_later old new mount was legal (is.stands i later legal now) (is.drained i later legal now)
+      (freed_later was.stands.beginning was.stands.has_begun plain old.core mount was.stands legal.legal)
+      is.own (out_renewed _ _ _ _ _ is.out was.out count) is.region (is.granted i later legal now)
+    where
+      now : Stands i (log_of later) core
+      now = subst (λ (logs : Logs). Stands i logs core) (sym logs_are) stands
+
+  -- by a core whose window holds as much, where the front freed and the room stay
+  pub beats_kept : (old new : Heart) → IsLegalMount i w → IsHeart i (log_of w) old → IsLegalMount i later
+      → Stands i (after (log_of w) e knows) new.core
+      → freed i.shape (after (log_of w) e knows 0) ≡ freed i.shape (log_of w 0) → room i (after (log_of w) e knows) ≡ room i (log_of w)
+      → new.core.window.freed ≡ old.core.window.freed → window.AreOf new.pool.region new.core.window.entries
+      → count_out new.pool.left ≡ length new.core.window.entries → new.pool.region ≡ old.pool.region → new.granted ≡ old.granted
+      → IsHeart i (log_of later) new
+  beats_kept old new mount was legal stands front same window own out region granted =
+      heart_later old new mount was legal (subst (λ (logs : Logs). Stands i logs new.core) (sym logs_are) stands)
+      (window ∙ was.drained ∙ sym front_is) (subst (λ n. freed i.shape (log_of w 0) ≤ n) (sym front_is) (le_refl (freed i.shape (log_of w 0)))) own out region
+      (no_more new.granted old.granted (room i (log_of later)) granted (subst (λ n. n ≤ old.granted) (sym room_is) was.room))
+    where
+      front_is : freed i.shape (log_of later 0) ≡ freed i.shape (log_of w 0)
+      front_is = ap (λ (logs : Logs). freed i.shape (logs 0)) logs_are ∙ front
+
+      room_is : room i (log_of later) ≡ room i (log_of w)
+      room_is = ap (room i) logs_are ∙ same
+
+      no_more : (a b c : ℕ) → a ≡ b → c ≤ b → a ≡ max b c
+      no_more a b c is less = omega arith
+
+-- A core that stands for the logs with an event that the engine may decide stands for those of a
+-- legal mount.
+pub standing_next : (i : Image) (w : World) (e : EngineEvent) (core : Core) → IsLegalMount i w → MayDecide i (log_of w) e
+    → Stands i (after (log_of w) e (knows_all i.shape w)) core → IsStanding core
+standing_next i w e core mount may stands = record {
+  image = i;
+  world = decided e (knows_all i.shape w) w;
+  legal = decided_legal i w e mount may;
+  stands = subst (λ (logs : Logs). Stands i logs core) (sym (logs_are i w e (knows_all i.shape w))) stands;
+}
+
+-- by a heart that stood for logs before
+pub standing_after : (h : Heart) (e : EngineEvent) (core : Core) → IsBeating h
+    → OfItsMount h (λ i w. (b : Begun) → begun (log_of w 0) ≡ Some b → MayDecide i (log_of w) e)
+    → StandsAfter h.core e core → IsStanding core
+standing_after h e core b may stands =
+    let st = b.stands.stands in
+    standing_next b.image b.world e core b.legal (may b.image b.world b.legal b.stands st.beginning st.has_begun)
+    (stands b.image b.world (knows_all b.image.shape b.world) b.legal st)
+
+-- Where the engine did nothing, a heart stands for the same logs once its frames and its grant are
+-- renewed.
+pub beats_still : (i : Image) (w : World) (old : Heart) (core : Core) (new : Heart) → IsLegalMount i w → IsHeart i (log_of w) old
+    → Stands i (log_of w) core → length core.window.entries ≡ length old.core.window.entries → IsRenewed old core new
+    → IsHeart i (log_of w) new
+beats_still i w old core new mount was stands count is = record {
+  stands = is.stands i w mount stands;
+  drained = is.drained i w mount stands;
+  own = is.own;
+  out = out_renewed _ _ _ _ _ is.out was.out count;
+  count = ap (λ r. r.count) is.region ∙ was.count;
+  size = ap (λ r. r.size) is.region ∙ was.size;
+  granted = low _ _ _ _ was.granted granted (is.drained i w mount stands ∙ sym was.drained);
+  last = subst (λ n. n ≤ max (2 ^ 61 - 2) (first_position (log_of w 0))) (sym granted) was.last;
+  room = subst (λ n. room i (log_of w) ≤ n) (sym granted) was.room;
+  once = subst (λ g. WasRoom i (log_of w) (length (log_of w 0)) g) (sym granted) was.once;
+}
+  where
+    no_more : (a b c : ℕ) → a ≡ max b c → c ≤ b → a ≡ b
+    no_more a b c is less = omega arith
+
+    granted : new.granted ≡ old.granted
+    granted = no_more new.granted old.granted (room i (log_of w)) (is.granted i w mount stands) was.room
+
+    low : (a x : ℕ) (y z : ℕ) → a + units i.shape * i.shape.ws_opt ≤ x + i.shape.ring → y ≡ a → z ≡ x
+        → y + units i.shape * i.shape.ws_opt ≤ z + i.shape.ring
+    low a x y z was same front = omega arith
+
+-- A core that placed a stripe, now or before, stands for the logs of a legal mount.
+pub standing_placed : (h : Heart) (stripe : Stripe) (again : Bool) (core : Core) → IsBeating h
+    → (again ≡ false → InItsMount h.core (λ i w. MayPlace i (log_of w) stripe))
+    → (again ≡ false → StandsAfter h.core (Place stripe) core)
+    → (again ≡ true → InItsMount h.core (λ i w. WasStopped (log_of w 0) stripe × Stands i (log_of w) core))
+    → IsStanding core
+standing_placed h stripe false core b may stands kept =
+    standing_after h (Place stripe) core b (λ i w mount is beginning has. (beginning, has, may refl i w mount is.stands)) (stands refl)
+standing_placed h stripe true core b may stands kept = record {
+  image = b.image;
+  world = b.world;
+  legal = b.legal;
+  stands = (kept refl b.image b.world b.legal b.stands.stands).1;
+}

@@ -1,0 +1,48 @@
+use Rattle.std.proofs.Common.{List, ap, ◌∙◌, refl}
+use Rattle.std.specs.Prelude.{slice_get}
+use Rattle.pblk_world.specs.Events.{Landed}
+use Rattle.stripe_placer.specs.Placing.{UnitRow}
+use Rattle.block_target.proofs.HeartSteps.{IsRenewed, beats_later, grant_rises, standing_next}
+use Rattle.block_target.proofs.heart.Heart.landed.Goals as goal
+
+renewed : (c : goal.After-renew) → IsRenewed c.args.self.now c.landed.new.self c.renew.new.self
+renewed c = record {
+  stands = c.renew.ensures.stands;
+  drained = c.renew.ensures.drained;
+  granted = c.renew.ensures.granted;
+  own = c.renew.ensures.own;
+  out = c.renew.ensures.out;
+  region = c.renew.ensures.region;
+}
+
+pub landed-requires-clause-standing : goal.landed-requires-clause-standing
+landed-requires-clause-standing c =
+    let may = c.requires.may in
+    record { image = may.0; world = may.1; legal = may.2; stands = may.3.stands }
+
+pub renew-requires-clause-standing : goal.renew-requires-clause-standing
+renew-requires-clause-standing c =
+    let may = c.requires.may in
+    let st = may.3.stands in
+    standing_next may.0 may.1 (Landed c.args.stripe.now.stripe.unit may.4) c.landed.new.self may.2 (st.beginning, st.has_begun, may.5)
+    (c.landed.ensures.stands may.0 may.1 may.4 _ may.2 st may.5)
+
+pub renew-requires-clause-own : goal.renew-requires-clause-own
+renew-requires-clause-own c = c.landed.ensures.own c.args.self.now.pool.region c.requires.may.3.own
+
+pub returns-clause-beats : goal.returns-clause-beats
+returns-clause-beats c = λ i w event knows mount is may legal.
+    beats_later i w (Landed c.args.stripe.now.stripe.unit event) knows c.args.self.now c.landed.new.self c.renew.new.self mount is legal
+    (c.landed.ensures.stands i w event knows mount is.stands may) refl c.landed.ensures.count (renewed c)
+
+pub returns-clause-rows : goal.returns-clause-rows
+returns-clause-rows c = λ other apart.
+    ap (λ (rows : List UnitRow). slice_get rows other) c.renew.ensures.rows ∙ c.landed.ensures.rows other apart
+
+pub returns-clause-granted : goal.returns-clause-granted
+returns-clause-granted c =
+    let may = c.requires.may in
+    let st = may.3.stands in
+    grant_rises c.args.self.now c.landed.new.self c.renew.new.self
+    (standing_next may.0 may.1 (Landed c.args.stripe.now.stripe.unit may.4) c.landed.new.self may.2 (st.beginning, st.has_begun, may.5)
+    (c.landed.ensures.stands may.0 may.1 may.4 _ may.2 st may.5)) (renewed c)

@@ -1,0 +1,40 @@
+use Rattle.std.proofs.Common.{ap, length, refl}
+use Rattle.pblk_world.specs.Events.{Open}
+use Rattle.pblk_core.specs.Named.{next_start}
+use Rattle.write_window.specs.Window as window
+use Rattle.block_target.proofs.HeartSteps.{IsRenewed, beats_later, grant_rises, standing_after}
+use Rattle.block_target.proofs.heart.Heart.open_line.Goals as goal
+
+renewed : (c : goal.After-renew) → IsRenewed c.args.self.now c.open_line.new.self c.renew.new.self
+renewed c = record {
+  stands = c.renew.ensures.stands;
+  drained = c.renew.ensures.drained;
+  granted = c.renew.ensures.granted;
+  own = c.renew.ensures.own;
+  out = c.renew.ensures.out;
+  region = c.renew.ensures.region;
+}
+
+pub renew-requires-clause-standing : goal.renew-requires-clause-standing
+renew-requires-clause-standing c =
+    let start = next_start c.args.self.now.core in
+    standing_after c.args.self.now (Open start.line start) c.open_line.new.self c.requires.beating
+    (λ i w mount is b has. (b, has, c.open_line.ensures.legal i w b mount is.stands has)) c.open_line.ensures.stands
+
+pub returns-clause-legal : goal.returns-clause-legal
+returns-clause-legal c = λ i w b mount is has. c.open_line.ensures.legal i w b mount is.stands has
+
+pub returns-clause-beats : goal.returns-clause-beats
+returns-clause-beats c = λ i w knows mount is legal.
+    let start = next_start c.args.self.now.core in
+    beats_later i w (Open start.line start) knows c.args.self.now c.open_line.new.self c.renew.new.self mount is legal
+    (c.open_line.ensures.stands i w knows mount is.stands) refl
+    (ap (λ (x : window.WindowView). length x.entries) c.open_line.ensures.window) (renewed c)
+
+pub returns-clause-granted : goal.returns-clause-granted
+returns-clause-granted c =
+    let start = next_start c.args.self.now.core in
+    grant_rises c.args.self.now c.open_line.new.self c.renew.new.self
+    (standing_after c.args.self.now (Open start.line start) c.open_line.new.self c.requires.beating
+    (λ i w mount is b has. (b, has, c.open_line.ensures.legal i w b mount is.stands has)) c.open_line.ensures.stands)
+    (renewed c)

@@ -1,0 +1,49 @@
+use Rattle.std.proofs.Common.{◌≡◌, List, ap, ◌∙◌, length, refl}
+use Rattle.std.specs.Prelude.{slice_get}
+use Rattle.pblk_world.specs.Events.{Place}
+use Rattle.stripe_placer.specs.Placing.{UnitRow}
+use Rattle.write_window.specs.Window as window
+use Rattle.block_target.proofs.HeartSteps.{IsRenewed, beats_later, beats_still, grant_rises, standing_placed}
+use Rattle.block_target.proofs.heart.Heart.place.Goals as goal
+
+renewed : (c : goal.After-renew) → IsRenewed c.args.self.now c.place.new.self c.renew.new.self
+renewed c = record {
+  stands = c.renew.ensures.stands;
+  drained = c.renew.ensures.drained;
+  granted = c.renew.ensures.granted;
+  own = c.renew.ensures.own;
+  out = c.renew.ensures.out;
+  region = c.renew.ensures.region;
+}
+
+-- no entry came into the window
+as_many : (c : goal.After-renew) → length c.place.new.self.window.entries ≡ length c.args.self.now.core.window.entries
+as_many c = ap (λ (x : window.WindowView). length x.entries) c.place.ensures.window
+
+pub renew-requires-clause-standing : goal.renew-requires-clause-standing
+renew-requires-clause-standing c =
+    standing_placed c.args.self.now c.place.new.into.stripe c.place.new.into.again c.place.new.self c.requires.beating
+    c.place.ensures.legal c.place.ensures.stands c.place.ensures.again
+
+pub returns-clause-legal : goal.returns-clause-legal
+returns-clause-legal c = λ new i w mount is. c.place.ensures.legal new i w mount is.stands
+
+pub returns-clause-beats : goal.returns-clause-beats
+returns-clause-beats c = λ new i w knows mount is legal.
+    beats_later i w (Place c.place.new.into.stripe) knows c.args.self.now c.place.new.self c.renew.new.self mount is legal
+    (c.place.ensures.stands new i w knows mount is.stands) refl (as_many c) (renewed c)
+
+pub returns-clause-again : goal.returns-clause-again
+returns-clause-again c = λ again i w mount is.
+    let kept = c.place.ensures.again again i w mount is.stands in
+    (kept.0, beats_still i w c.args.self.now c.place.new.self c.renew.new.self mount is kept.1 (as_many c) (renewed c))
+
+pub returns-clause-rows : goal.returns-clause-rows
+returns-clause-rows c = λ other apart.
+    ap (λ (rows : List UnitRow). slice_get rows other) c.renew.ensures.rows ∙ c.place.ensures.rows other apart
+
+pub returns-clause-granted : goal.returns-clause-granted
+returns-clause-granted c =
+    grant_rises c.args.self.now c.place.new.self c.renew.new.self
+    (standing_placed c.args.self.now c.place.new.into.stripe c.place.new.into.again c.place.new.self c.requires.beating
+    c.place.ensures.legal c.place.ensures.stands c.place.ensures.again) (renewed c)

@@ -1,0 +1,148 @@
+//! The words of `run`.
+
+ghost use Rattle.std.specs.Prelude.{ℕ, ◌≡◌, ◌≢◌, ◌++◌, ◌∷◌, [], List, length, map, codes, IfSome, IfNone, IsSomeAnd, string_bytes};
+ghost use Rattle.command_words.specs.Grammar as model;
+ghost use Rattle.command_words.specs.Grammar.{AreItemsOf};
+ghost use Rattle.command_words.specs.Words.{AreWordsOf, HasReadRun, item_of, names_read, options_seen};
+
+use crate::command::RunOptions;
+use crate::fuse::read_fuse;
+use crate::item::{Item, read_item};
+
+/// The names of files that have been read: that of an image comes before that of a script.
+#[derive(Clone, Copy, Debug)]
+pub(crate) enum RunNames<'a> {
+    Nothing,
+    Image(&'a str),
+    Both(&'a str, &'a str),
+}
+
+/// What has been read of the words of `run`: names, and options that are named.
+#[derive(Clone, Copy, Debug)]
+pub(crate) struct RunWords<'a> {
+    pub(crate) names: RunNames<'a>,
+    pub(crate) options: RunOptions,
+}
+
+/// Reads the words after `run`.
+pub(crate) fn read_run(words: &[String]) -> Option<(&str, &str, RunOptions)>
+    ensures found { IfSome result (λ r. AreWordsOf (map string_bytes words.now)
+        (model.Run r.0.now r.1.now (options_seen r.2))) }
+    ensures only { (image script : List ℕ) (options : model.RunOptions)
+        → AreWordsOf (map string_bytes words.now) (model.Run image script options)
+        → IsSomeAnd result
+        (λ r. (r.0.now ≡ image) × (r.1.now ≡ script) × (options_seen r.2 ≡ options)) }
+{
+    let mut read = RunWords::new();
+    let mut rest = words;
+    while !rest.is_empty() {
+        let (item, others) = read_item(rest)?;
+        read = read.with(item)?;
+        rest = others;
+    }
+    let (image, script) = read.names.both()?;
+    Some((image, script, read.options))
+}
+
+impl<'a> RunNames<'a> {
+    // With one more name. None where there are two.
+    fn with(self, name: &'a str) -> Option<RunNames<'a>>
+        ensures taken { IfSome result
+            (λ next. names_read next ≡ names_read self.entry ++ name.now ∷ []) }
+        ensures refused { IfNone result (length (names_read self.entry) ≡ 2) }
+    {
+        match self {
+            RunNames::Nothing => Some(RunNames::Image(name)),
+            RunNames::Image(image) => Some(RunNames::Both(image, name)),
+            RunNames::Both(..) => None,
+        }
+    }
+
+    // Both names, where there are two.
+    fn both(self) -> Option<(&'a str, &'a str)>
+        ensures found { IfSome result (λ r. names_read self.entry ≡ r.0.now ∷ r.1.now ∷ []) }
+        ensures none { IfNone result (length (names_read self.entry) ≢ 2) }
+    {
+        match self {
+            RunNames::Nothing | RunNames::Image(_) => None,
+            RunNames::Both(image, script) => Some((image, script)),
+        }
+    }
+}
+
+impl<'a> RunWords<'a> {
+    // Nothing has been read.
+    fn new() -> RunWords<'a>
+        ensures { HasReadRun [] result }
+    {
+        RunWords {
+            names: RunNames::Nothing,
+            options: RunOptions { stop: None },
+        }
+    }
+
+    // What has been read with this item. None where it can't follow.
+    fn with(self, item: Item<'a>) -> Option<RunWords<'a>>
+        ensures taken { IfSome result (λ next. (items : List model.Item)
+            → HasReadRun items self.entry → HasReadRun (items ++ item_of item.entry ∷ []) next) }
+        ensures refused { IfNone result ((items more : List model.Item) (image script : List ℕ)
+            (options : model.RunOptions) → HasReadRun items self.entry
+            → ¬ AreItemsOf (items ++ item_of item.entry ∷ more)
+            (model.Run image script options)) }
+    {
+        match item {
+            Item::Name(name) => self.with_name(name),
+            Item::Named(name, value) => self.with_option(name, value),
+        }
+    }
+
+    // With the next name. None where there are two.
+    fn with_name(self, name: &'a str) -> Option<RunWords<'a>>
+        ensures taken { IfSome result (λ next. (items : List model.Item)
+            → HasReadRun items self.entry → HasReadRun (items ++ model.Name name.now ∷ []) next) }
+        ensures refused { IfNone result ((items more : List model.Item) (image script : List ℕ)
+            (options : model.RunOptions) → HasReadRun items self.entry
+            → ¬ AreItemsOf (items ++ model.Name name.now ∷ more)
+            (model.Run image script options)) }
+    {
+        let names = self.names.with(name)?;
+        Some(RunWords { names, ..self })
+    }
+
+    // With an option. None where there is no option of this name, it was named before, or it can't
+    // have this value.
+    fn with_option(self, name: &'a str, value: &'a str) -> Option<RunWords<'a>>
+        ensures taken { IfSome result (λ next. (items : List model.Item)
+            → HasReadRun items self.entry
+            → HasReadRun (items ++ model.Named name.now value.now ∷ []) next) }
+        ensures refused { IfNone result ((items more : List model.Item) (image script : List ℕ)
+            (options : model.RunOptions) → HasReadRun items self.entry
+            → ¬ AreItemsOf (items ++ model.Named name.now value.now ∷ more)
+            (model.Run image script options)) }
+    {
+        match name {
+            "stop" => self.with_stop(value),
+            _ => None,
+        }
+    }
+
+    // With the option `--stop`. None where it was named before, or this is no stop.
+    fn with_stop(self, value: &'a str) -> Option<RunWords<'a>>
+        ensures taken { IfSome result (λ next. (items : List model.Item)
+            → HasReadRun items self.entry
+            → HasReadRun (items ++ model.Named (codes "stop") value.now ∷ []) next) }
+        ensures refused { IfNone result ((items more : List model.Item) (image script : List ℕ)
+            (options : model.RunOptions) → HasReadRun items self.entry
+            → ¬ AreItemsOf (items ++ model.Named (codes "stop") value.now ∷ more)
+            (model.Run image script options)) }
+    {
+        if self.options.stop.is_some() {
+            return None;
+        }
+        let stop = Some(read_fuse(value)?);
+        Some(RunWords {
+            options: RunOptions { stop },
+            ..self
+        })
+    }
+}

@@ -1,0 +1,61 @@
+-- What comes of a stop that a run is told, and which events its lines name.
+use Rattle.std.specs.Prelude.{ℕ, ◌+◌, ◌-◌, ◌^◌, ◌<◌, ◌≤◌, ◌≡◌, ⊤, true, List, [], map, min, length, slice_get, Option, Some, None}
+use Rattle.std.specs.List.{AllByRecursion}
+use Rattle.pblk_model.specs.Image.{Image}
+use Rattle.pblk_model.specs.Transcript.{IsDistinct}
+use Rattle.pblk_model.specs.UnitLog.{UnitEvent}
+use Rattle.pblk_world.specs.EngineLog.{Begun}
+use Rattle.pblk_world.specs.World.{Logs, unit_events}
+use Rattle.unit_port.specs.declared.armed.Fuse.{Fuse}
+use Rattle.unit_port.specs.Armed.{Armed}
+use Rattle.ocssd_drive.specs.Drive.{fitting_fuse}
+use Rattle.ocssd_drive.specs.Faults.{changes_of}
+use Rattle.ocssd_drive.specs.Outcomes.{AreEventsBy, any_stop}
+use Rattle.scan_recovery.specs.Lost.{was_lost}
+
+-- a fuse for a unit that the drive doesn't have is none
+abbrev pub fuse_on : Image → Option Fuse → Option Fuse
+fuse_on i stop = fitting_fuse (length i.units) stop
+
+-- what the unit of this number is armed with: no plan, and this fuse
+abbrev pub arms_of : Option Fuse → ℕ → Armed
+arms_of fuse unit = record { unit = unit; plans = []; fuse = fuse; word = None; since = 0 }
+
+-- The fuse fell: its unit had as many programs and resets as it names.
+pub record HasFallen (fuse : Option Fuse) (logs : Logs) : Type 0 where
+  pub of : Fuse
+  pub is : fuse ≡ Some of
+  pub counted : 0 < of.nth
+  pub fell : of.nth ≤ changes_of (unit_events logs of.unit)
+
+-- The outcomes in these logs are those that the fuse gives, and no others. A unit was stopped only
+-- where the fuse fell.
+pub record AreStopsBy (i : Image) (fuse : Option Fuse) (logs : Logs) : Type 0 where
+  pub outcomes : (unit : ℕ) → unit < length i.units → AreEventsBy i.shape (arms_of fuse unit) (unit_events logs unit)
+  pub fallen : (unit : ℕ) → unit < length i.units → any_stop (unit_events logs unit) ≡ true → HasFallen fuse logs
+
+-- the mount has begun exactly where opening answered no event
+abbrev pub HasBegun : Option (ℕ × ℕ) → Option Begun → Type 0
+HasBegun None None = ⊥
+HasBegun None (Some beginning) = ⊤
+HasBegun (Some event) None = ⊤
+HasBegun (Some event) (Some beginning) = ⊥
+
+-- at this place, a unit of the drive and the number of an event from 0, stands a command that was
+-- stopped, or a fetch that failed
+pub record IsLossIn (i : Image) (logs : Logs) (place : ℕ × ℕ) : Type 0 where
+  pub unit : place.0 < length i.units
+  pub event : UnitEvent
+  pub there : slice_get (unit_events logs place.0) place.1 ≡ Some event
+  pub lost : was_lost event ≡ true
+
+-- as lines name it: events are numbered from 1, and the numbers stand still at 2^64 - 1
+abbrev pub name_at : ℕ × ℕ → ℕ × ℕ
+name_at place = (place.0, min (place.1 + 1) (2 ^ 64 - 1))
+
+-- Each of these names is of such an event, and no two are of the same.
+pub record AreNames (i : Image) (logs : Logs) (names : List (ℕ × ℕ)) : Type 0 where
+  pub places : List (ℕ × ℕ)
+  pub names_are : names ≡ map name_at places
+  pub each : AllByRecursion (IsLossIn i logs) places
+  pub distinct : IsDistinct places
