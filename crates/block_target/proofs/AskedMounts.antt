@@ -13,4 +13,4 @@ pub mount_asked : {v : MountView} {h : Heart} {f : Filling} (m : IsMount v h f) 
     → new.core.placer.units ≡ h.core.placer.units → IsMount (moved_on v v.deeds v.units v.wear new.granted (pad_of new.core)) new f
 mount_asked {v} {h} {f} m new beats rows = mount_on m.sound (goes_none v m.sound) v.deeds v.wear new f refl
     (beats v.image (world_in v) m.sound.legal.mount m.heart) m.level m.known
-    (λ unit of is. m.resting unit of (ap (λ us. slice_get us unit) (sym rows) ∙ is)) m.stripe
+    (λ unit of is. m.resting unit of (ap (λ us. slice_get us unit) (sym rows) ∙ is)) m.settled m.stripe

@@ -31,10 +31,12 @@ use Rattle.world_laws.specs.MountBeginnings.{beginning_of}
 use Rattle.world_laws.specs.Finding.{IsFoundOf, NoneOpen}
 use Rattle.world_laws.proofs.MayBegin.{may_begin}
 use Rattle.world_laws.proofs.FoundFits.{found_fits}
+use Rattle.step_laws.specs.FreedWorlds.{NoneToFree}
 use Rattle.step_laws.specs.Opened.{new_events, after_units}
 use Rattle.step_laws.specs.Whole.{knows_all, after_begin}
 use Rattle.step_laws.proofs.Beginning.{mount_begins, begun_is, found_is, known_is, begins_level}
 use Rattle.step_laws.proofs.EngineSteps.{engine_logs, media_still}
+use Rattle.step_laws.proofs.FreedWorlds.{room_then}
 use Rattle.step_laws.proofs.Worlds.{logs_are, media_are, simple_mount, stops_there, units_quiet}
 use Rattle.pblk_core.specs.Filling.{Filling}
 use Rattle.pblk_core.specs.Landing.{IsResting}
@@ -44,12 +46,15 @@ use Rattle.block_port.specs.declared.rows.DriveAnswer.{DriveAnswer}
 use Rattle.block_port.specs.declared.rows.WornAnswer.{WornAnswer}
 use Rattle.block_target.specs.Arm.{IsArm}
 use Rattle.block_target.specs.Deeds.{Deed, drive_before, drive_found, world_of}
-use Rattle.block_target.specs.Heart.{Begins, CanBegin, HasBegun}
+use Rattle.block_target.specs.Freed.{HaveFreed, freed_deeds}
+use Rattle.block_target.specs.Heart.{Begins, CanBegin, HasBegun, IsBeating}
 use Rattle.block_target.specs.Mount.{MountView, IsMount, IsSound, IsUnitIn, engine_log, logs_in, mount_view}
 use Rattle.block_target.specs.NothingLeft.{AreRefusals}
 use Rattle.block_target.specs.Opened.{AreReadied, IsOpened, first_deeds, readied_world}
 use Rattle.block_target.specs.Serial.{AreNamed, IsSerial}
 use Rattle.block_target.specs.declared.heart.Heart.{Heart}
+use Rattle.block_target.proofs.FreedMounts.{mount_freed, takes_then, world_freed}
+use Rattle.block_target.proofs.GoingOn.{goes_none}
 use Rattle.block_target.proofs.GrantedTakes.{none_taken}
 
 -- ---- the world
@@ -156,7 +161,7 @@ module _ (s : Shape) (us new : List ModelUnit) (f : Found) (accepted : IsAccepte
   pub can_begin : CanBegin s f
   can_begin = record { image = i; world = before; knows = knows_all s before; begins = begins_there }
 
-  pub first_grant : (h : Heart) → HasBegun s f h → h.granted ≡ room i (log_of first_world)
+  first_grant : (h : Heart) → HasBegun s f h → h.granted ≡ room i (log_of first_world)
   first_grant h has = (has i before (knows_all s before) begins_there).1
 
   -- ---- the mount
@@ -193,43 +198,56 @@ module _ (s : Shape) (us new : List ModelUnit) (f : Found) (accepted : IsAccepte
     each = λ number u there. unit_begins wear granted pad number u there;
   }
 
-  begun_mount : (wear : List (List ℕ)) (h : Heart) (filling : Filling) → HasBegun s f h → IsResting h.core → filling.shape ≡ s
-      → IsMount (first_view wear h.granted (pad_of h.core)) h filling
-  begun_mount wear h filling has resting stripe = record {
-    sound = first_sound wear h.granted (pad_of h.core);
-    heart = (has i before (knows_all s before) begins_there).0;
-    pad = refl;
-    granted = refl;
-    level = begins_level i before b legal_before.mount.legal none_before;
-    known = known_is i before b legal_before.mount.legal none_before;
-    resting = resting;
-    stripe = stripe;
+  pub first_beating : (h : Heart) → HasBegun s f h → IsBeating h
+  first_beating h has = record {
+    image = i;
+    world = first_world;
+    legal = first_legal.mount;
+    stands = (has i before (knows_all s before) begins_there).0;
   }
 
-  -- by the lists that are kept of it
-  pub mount_opens : (drives : List (List ModelUnit)) (deeds : List Deed) (wear : List (List ℕ)) (h : Heart) (filling : Filling) → drives ≡ us ∷ new ∷ []
-      → deeds ≡ first_deeds us new f → HasBegun s f h → IsResting h.core → filling.shape ≡ s
-      → IsMount (mount_view s drives deeds new wear h.granted (pad_of h.core)) h filling
-  mount_opens drives deeds wear h filling rows done has resting stripe =
-      subst (λ (ds : List Deed). IsMount (mount_view s drives ds new wear h.granted (pad_of h.core)) h filling) (sym done)
-      (subst (λ (rs : List (List ModelUnit)). IsMount (mount_view s rs (first_deeds us new f) new wear h.granted (pad_of h.core)) h filling) (sym rows)
-      (begun_mount wear h filling has resting stripe))
+  module _ (wear : List (List ℕ)) (h end : Heart) (filling : Filling) (drives : List (List ModelUnit)) (deeds all : List Deed) (has : HasBegun s f h)
+      (rows : drives ≡ us ∷ new ∷ []) (done : deeds ≡ first_deeds us new f) (freed : HaveFreed h deeds end all) where
+    frees : HaveFreed h (first_deeds us new f) end all
+    frees = subst (λ (ds : List Deed). HaveFreed h ds end all) done freed
 
--- and nothing else was done
-pub opened_view : (s : Shape) (us new : List ModelUnit) (f : Found) (drives : List (List ModelUnit)) (deeds : List Deed) (wear : List (List ℕ))
-    (granted pad : ℕ) → IsFoundAfter s us new f → drives ≡ us ∷ new ∷ [] → deeds ≡ first_deeds us new f
-    → granted ≡ room (image_of s us) (log_of (world_of s (first_deeds us new f))) → pad ≡ 0
-    → IsOpened s us (mount_view s drives deeds new wear granted pad)
-opened_view s us new f drives deeds wear granted pad is rows done grants none = record {
-  image = ap (λ (rs : List (List ModelUnit)). image_of s (drive_before rs)) rows;
-  handed = ap drive_before rows;
-  found_is = ap (λ (rs : List (List ModelUnit)). image_of s (drive_found rs)) rows;
-  found = f;
-  is = is;
-  deeds = done;
-  granted = grants ∙ ap₂ (λ (rs : List (List ModelUnit)) (ds : List Deed). room (image_of s (drive_before rs)) (log_of (world_of s ds))) (sym rows) (sym done);
-  pad = none;
-}
+    begun_mount : IsResting h.core → filling.shape ≡ s → IsMount (mount_view s (us ∷ new ∷ []) all new wear end.granted (pad_of end.core)) end filling
+    begun_mount resting stripe =
+        let sound : IsSound (first_view wear h.granted (pad_of h.core)) = first_sound wear h.granted (pad_of h.core) in
+        mount_freed sound (goes_none (first_view wear h.granted (pad_of h.core)) sound) (first_deeds us new f) wear h end filling all refl
+        (has i before (knows_all s before) begins_there).0 frees (begins_level i before b legal_before.mount.legal none_before)
+        (known_is i before b legal_before.mount.legal none_before) resting stripe
+
+    -- by the lists that are kept of it
+    pub mount_opens : IsResting h.core → filling.shape ≡ s → IsMount (mount_view s drives all new wear end.granted (pad_of end.core)) end filling
+    mount_opens resting stripe =
+        subst (λ (rs : List (List ModelUnit)). IsMount (mount_view s rs all new wear end.granted (pad_of end.core)) end filling) (sym rows)
+        (begun_mount resting stripe)
+
+    room_now : end.granted ≡ room i (log_of (world_of s (freed_deeds (first_deeds us new f) frees.lines)))
+    room_now =
+        frees.granted ∙ first_grant h has
+        ∙ sym (ap (λ (x : World). room i (log_of x)) (world_freed s (first_deeds us new f) frees.lines)
+        ∙ room_then i first_world (record { beginning = b; knows = knows_all s before }) (begun_is s before b none_before) first_legal.mount frees.lines
+        (frees.freed i first_world first_legal.mount (has i before (knows_all s before) begins_there).0).might)
+
+    -- and nothing else was done
+    pub opened_view : pad_of h.core ≡ 0 → IsOpened s us (mount_view s drives all new wear end.granted (pad_of end.core))
+    opened_view none = record {
+      image = ap (λ (rs : List (List ModelUnit)). image_of s (drive_before rs)) rows;
+      handed = ap drive_before rows;
+      found_is = ap (λ (rs : List (List ModelUnit)). image_of s (drive_found rs)) rows;
+      found = f;
+      is = is;
+      freed = frees.lines;
+      deeds = frees.deeds;
+      none_to_free = subst (λ (rs : List (List ModelUnit)). NoneToFree (image_of s (drive_before rs)) (log_of (world_of s all))) (sym rows)
+          (subst (λ (x : World). NoneToFree i (log_of x)) (sym (ap (world_of s) frees.deeds ∙ world_freed s (first_deeds us new f) frees.lines))
+          (frees.none i first_world first_legal.mount (has i before (knows_all s before) begins_there).0));
+      granted = room_now
+          ∙ ap₂ (λ (rs : List (List ModelUnit)) (ds : List Deed). room (image_of s (drive_before rs)) (log_of (world_of s ds))) (sym rows) (sym frees.deeds);
+      pad = frees.pad ∙ none;
+    }
 
 -- a list whose elements were all written over
 pub all_written : {X : Type 0} (n : ℕ) (new old was : List X) → length new ≡ length was → was ≡ old → n ≡ length old
@@ -240,7 +258,11 @@ all_written n new old was many same long =
 
 -- so nothing was taken
 pub nothing_taken : (s : Shape) (us : List ModelUnit) (v : MountView) → IsOpened s us v → takes (engine_log v) ≡ []
-nothing_taken s us v is = ap (λ (ds : List Deed). takes (log_of (world_of v.image.shape ds) 0)) is.deeds ∙ none v.image.shape
+nothing_taken s us v is =
+    ap (λ (ds : List Deed). takes (log_of (world_of v.image.shape ds) 0)) is.deeds
+    ∙ ap (λ (x : World). takes (log_of x 0)) (world_freed v.image.shape (first_deeds us v.units is.found) is.freed)
+    ∙ takes_then v.image.shape (world_of v.image.shape (first_deeds us v.units is.found)) is.freed
+    ∙ none v.image.shape
   where
     none : (t : Shape) → takes (log_of (world_of t (first_deeds us v.units is.found)) 0) ≡ []
     none t =

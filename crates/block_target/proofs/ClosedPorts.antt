@@ -7,6 +7,7 @@ use Rattle.pblk_world.specs.World.{media}
 use Rattle.block_port.specs.Own.{lines_of}
 use Rattle.block_port.specs.declared.rows.WornAnswer.{WornAnswer}
 use Rattle.scan_recovery.specs.Lost.{IsLostAt, NoneLost}
+use Rattle.step_laws.specs.FreedWorlds.{NoneToFree}
 use Rattle.block_target.specs.Mount.{MountView, IsCollectionOver, IsSameMount, IsSound, IsStuckAt, front_synced, logs_in, synced_in, taken_in}
 use Rattle.block_target.specs.NothingLeft.{AreRefusals}
 use Rattle.block_target.specs.Serial.{SerialView, AreNamed, IsClosed, IsSerial, Settles, is_settled, settle_faults, settle_worns}
@@ -25,6 +26,7 @@ pub record Closes (s : SerialView) (v : MountView) : Type 0 where
   pub sound : IsSound v
   pub same : IsSameMount s.mount v
   pub pad : v.pad ≡ max s.mount.pad (taken_in s.mount)
+  pub none_to_free : NoneToFree v.image (logs_in v)
   pub between : IsSealed v.image → (synced_in v ≤ end (media v.image (logs_in v))) × (end (media v.image (logs_in v)) ≤ taken_in v)
 
 module _ (s : SerialView) (v : MountView) (is : Closes s v) where
@@ -45,6 +47,7 @@ module _ (s : SerialView) (v : MountView) (is : Closes s v) where
     sound = is.sound;
     taken = taken;
     settles = settles;
+    none_to_free = is.none_to_free;
     faults = faults;
     refusals = worns;
     granted = granted_same s.mount v is.serial.sound is.same is.serial.granted;

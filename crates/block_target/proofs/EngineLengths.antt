@@ -14,8 +14,10 @@ use Rattle.pblk_world.specs.AtRest.{knows_last, logs_at}
 use Rattle.pblk_world.specs.Space.{room}
 use Rattle.pblk_world.proofs.Growing.{grows}
 use Rattle.core_laws.specs.SimpleMounts.{IsSimpleMount}
+use Rattle.core_laws.specs.Spent.{IsSpent}
 use Rattle.step_laws.specs.Whole.{engine_step, unit_step, next_maker, opening_maker}
 use Rattle.step_laws.proofs.Knowing.{known_whole}
+use Rattle.step_laws.proofs.SpentStays.{spent_stays}
 use Rattle.step_laws.proofs.UnitSteps.{engine_log}
 use Rattle.step_laws.proofs.UnitStays.{room_stays}
 use Rattle.step_laws.specs.Opened.{after_events, after_units}
@@ -93,6 +95,7 @@ pub record IsLeft (i : Image) (w : World) : Type 0 where
   pub logs : logs_at (length (log_of w 0)) (log_of w) ≡ log_of left
   pub work : (pad : ℕ) → work_of i (log_of left) pad [] ≡ work_of i (log_of w) pad []
   pub room : room i (log_of left) ≡ room i (log_of w)
+  pub spent : (line : ℕ) → IsSpent i (log_of left) line → IsSpent i (log_of w) line
 
 none_left : (i : Image) → IsSimpleMount i [] → IsLeft i []
 none_left i simple = record {
@@ -102,6 +105,7 @@ none_left i simple = record {
   logs = fun_same (logs_at 0 (log_of [])) (log_of []) each;
   work = λ pad. refl;
   room = refl;
+  spent = λ line is. is;
 }
   where
     each : (author : ℕ) → logs_at 0 (log_of []) author ≡ log_of [] author
@@ -116,6 +120,7 @@ engine_left i w e simple = record {
   logs = fun_same (logs_at (length (log_of next 0)) (log_of next)) (log_of next) each;
   work = λ pad. refl;
   room = refl;
+  spent = λ line is. is;
 }
   where
     next : World
@@ -154,6 +159,7 @@ unit_left i w unit e maker simple was = record {
       ∙ fun_same (logs_at (length (log_of w 0)) (log_of next)) (logs_at (length (log_of w 0)) (log_of w)) each ∙ was.logs;
   work = λ pad. was.work pad ∙ sym (work_beside i w unit e maker pad simple);
   room = was.room ∙ sym (room_stays i w unit e maker simple.mount.legal);
+  spent = λ line is. spent_stays i w unit e maker line simple.mount (was.spent line is);
 }
   where
     next : World

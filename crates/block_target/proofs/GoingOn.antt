@@ -26,6 +26,7 @@ use Rattle.pblk_world.specs.World.{World, log_of, unit_event_of, unit_events}
 use Rattle.step_laws.proofs.EngineSteps.{engine_logs, events_still, media_still, stops_still}
 use Rattle.step_laws.proofs.UnitStays.{found_stays}
 use Rattle.step_laws.proofs.UnitSteps.{engine_log as engine_beside, events_elsewhere, events_now, media_elsewhere, stops_elsewhere}
+use Rattle.step_laws.specs.FreedWorlds.{NoneToFree}
 use Rattle.step_laws.specs.Whole.{IsKnown, IsLevel, engine_step, knows_all, unit_step}
 use Rattle.unit_port.specs.Unit.{ModelUnit}
 use Rattle.world_laws.proofs.Fronts.{begun_later, synced_later}
@@ -241,9 +242,9 @@ module _ {v : MountView} {w : World} {us : List ModelUnit} (sound : IsSound v) (
 
   -- with a heart that stands for it
   pub mount_on : (deeds : List Deed) (wear : List (List ℕ)) (h : Heart) (f : Filling) → world_of v.image.shape deeds ≡ w → IsHeart v.image (log_of w) h
-      → IsLevel w → IsKnown v.image w → IsResting h.core → f.shape ≡ v.image.shape
+      → IsLevel w → IsKnown v.image w → IsResting h.core → NoneToFree v.image (log_of w) → f.shape ≡ v.image.shape
       → IsMount (moved_on v deeds us wear h.granted (pad_of h.core)) h f
-  mount_on deeds wear h f is stands level known rests shape = record {
+  mount_on deeds wear h f is stands level known rests settled shape = record {
     sound = sound_on deeds wear h.granted (pad_of h.core) is;
     heart = subst (λ (x : World). IsHeart v.image (log_of x) h) (sym is) stands;
     pad = refl;
@@ -251,15 +252,16 @@ module _ {v : MountView} {w : World} {us : List ModelUnit} (sound : IsSound v) (
     level = subst IsLevel (sym is) level;
     known = subst (IsKnown v.image) (sym is) known;
     resting = rests;
+    settled = subst (λ (x : World). NoneToFree v.image (log_of x)) (sym is) settled;
     stripe = shape;
   }
 
   pub leaves_on : (deeds more : List Deed) (wear : List (List ℕ)) (h : Heart) (f : Filling) → deeds ≡ v.deeds ++ more → world_of v.image.shape deeds ≡ w
-      → IsHeart v.image (log_of w) h → IsLevel w → IsKnown v.image w → IsResting h.core → f.shape ≡ v.image.shape
+      → IsHeart v.image (log_of w) h → IsLevel w → IsKnown v.image w → IsResting h.core → NoneToFree v.image (log_of w) → f.shape ≡ v.image.shape
       → takes (log_of w 0) ≡ takes (engine_log v) → wear ≡ v.wear → v.granted ≤ h.granted → pad_of h.core ≡ v.pad
       → Leaves v (moved_on v deeds us wear h.granted (pad_of h.core)) h f
-  leaves_on deeds more wear h f grown is stands level known rests shape untaken same_wear grants pads = record {
-    mount = mount_on deeds wear h f is stands level known rests shape;
+  leaves_on deeds more wear h f grown is stands level known rests settled shape untaken same_wear grants pads = record {
+    mount = mount_on deeds wear h f is stands level known rests settled shape;
     same = subst (λ (ds : List Deed). IsSameMount v (moved_on v ds us wear h.granted (pad_of h.core))) (sym grown)
         (same_on more wear h.granted (pad_of h.core) (sym (ap (world_of v.image.shape) grown) ∙ is) untaken same_wear grants (omega arith));
     pad = pads;

@@ -8,13 +8,13 @@ use Rattle.pblk_model.specs.Contents.{least_missing}
 use Rattle.pblk_model.specs.Frames.{PoolView, count_out}
 use Rattle.pblk_model.specs.Image.{Image}
 use Rattle.pblk_model.specs.Shape.{units}
-use Rattle.pblk_world.specs.EngineLog.{takes}
+use Rattle.pblk_world.specs.EngineLog.{begun, takes}
 use Rattle.pblk_world.specs.Events.{Begin, Beginning, Decides, EngineEvent, Logged}
 use Rattle.pblk_world.specs.Fronts.{first_position}
 use Rattle.pblk_world.specs.Lines.{found_image}
 use Rattle.pblk_world.specs.Space.{freed, room}
 use Rattle.pblk_world.specs.World.{World, Logs, log_of}
-use Rattle.world_laws.specs.Finding.{IsFoundOf}
+use Rattle.world_laws.specs.Finding.{IsFoundOf, NoneOpen}
 use Rattle.world_laws.specs.LegalMounts.{IsLegalMount}
 use Rattle.world_laws.specs.MountBeginnings.{beginning_of}
 use Rattle.core_laws.specs.Stepping.{after}
@@ -24,6 +24,7 @@ use Rattle.write_window.specs.Window as window
 use Rattle.pblk_core.specs.Mounts.{InItsMount}
 use Rattle.pblk_core.specs.Stands.{Stands, IsStanding}
 use Rattle.pblk_core.specs.declared.target_core.Core.{Core}
+use Rattle.pblk_core.proofs.FoundNotes.{none_found_open}
 use Rattle.pblk_core.proofs.FreedWindow.{unread_at_front}
 use Rattle.pblk_core.proofs.SimpleLogs.{simple_in}
 use Rattle.pblk_core.proofs.SmallGrant.{ring_kept}
@@ -36,6 +37,7 @@ use Rattle.block_target.proofs.HeartSteps.{log_is, logs_are, was_room}
 abbrev pub HasBegunWith : Shape → Found → Core → Type 0
 HasBegunWith s f c = (i : Image) (w : World) (knows : List ℕ) → i.shape ≡ s → IsLegalMount i w → log_of w 0 ≡ []
     → IsFoundOf (found_image i (after (log_of w) (Begin (beginning_of f)) knows)) f
+    → NoneOpen (found_image i (after (log_of w) (Begin (beginning_of f)) knows))
     → Stands i (after (log_of w) (Begin (beginning_of f)) knows) c
 
 -- the log of an engine that began
@@ -73,14 +75,16 @@ module _ (s : Shape) (f : Found) (core : Core) (has : HasBegunWith s f core) whe
     abbrev later : World
     later = decided (Begin (beginning_of f)) knows w
 
+    its_log : log_of later 0 ≡ first_log (beginning_of f) knows
+    its_log = log_is i w event knows ∙ ap (λ (log : List Logged). log ++ first_log (beginning_of f) knows) is.nothing
+
     stands_first : Stands i (log_of later) core
     stands_first =
         let same : log_of later ≡ after (log_of w) event knows = logs_are i w event knows in
         subst (λ (logs : Logs). Stands i logs core) (sym same)
-        (has i w knows is.shape is.before is.nothing (subst (λ (logs : Logs). IsFoundOf (found_image i logs) f) same is.found))
-
-    its_log : log_of later 0 ≡ first_log (beginning_of f) knows
-    its_log = log_is i w event knows ∙ ap (λ (log : List Logged). log ++ first_log (beginning_of f) knows) is.nothing
+        (has i w knows is.shape is.before is.nothing (subst (λ (logs : Logs). IsFoundOf (found_image i logs) f) same is.found)
+        (subst (λ (logs : Logs). NoneOpen (found_image i logs)) same
+        (none_found_open i later (record { beginning = beginning_of f; knows = knows }) is.legal.legal (ap begun its_log))))
 
     first_freed : core.window.freed ≡ freed i.shape (log_of later 0)
     first_freed =

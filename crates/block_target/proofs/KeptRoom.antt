@@ -30,9 +30,8 @@ use Rattle.core_laws.proofs.KeptStripes.{lives_kept, with_event}
 use Rattle.core_laws.proofs.KeptRows.{known_kept}
 use Rattle.core_laws.proofs.OpenAddresses.{addresses_kept}
 use Rattle.core_laws.proofs.PlacedFront.{front_kept, front_taken}
-use Rattle.core_laws.proofs.QuietEvents.{IsQuiet, quiet_alike, stop_is_quiet}
+use Rattle.core_laws.proofs.QuietEvents.{IsQuiet, quiet_alike, stop_is_quiet, quiet_takes}
 use Rattle.core_laws.proofs.RangeSums.{sum_same}
-use Rattle.pblk_core.proofs.StandsOpened.{takes_same}
 use Rattle.pblk_core.proofs.StandsTaken.{freed_taken, given_same}
 use Rattle.core_laws.proofs.SteppingLemmas.{found_kept}
 use Rattle.lemmas.proofs.Numbers.{fun_same}
@@ -123,7 +122,7 @@ pub freed_quiet : (s : Shape) (log : List Logged) (e : EngineEvent) (knows : Lis
 freed_quiet s log e knows quiet =
     ap (λ f. least_missing f (length (takes (with_event log e knows))) (first_position (with_event log e knows)))
     (fun_same (is_given_back s (with_event log e knows)) (is_given_back s log) (given_alike s log (with_event log e knows) (quiet_alike log e knows quiet)))
-    ∙ ap₂ (λ (ts : List Taken) p. least_missing (is_given_back s log) (length ts) p) (takes_same log e knows quiet) (first_kept log e knows quiet.begins)
+    ∙ ap₂ (λ (ts : List Taken) p. least_missing (is_given_back s log) (length ts) p) (quiet_takes log e knows quiet) (first_kept log e knows quiet.begins)
 
 pub room_stopped : (i : Image) (logs : Logs) (unit event : ℕ) (knows : List ℕ) → room i (after logs (Again unit event) knows) ≡ room i logs
 room_stopped i logs unit event knows =

@@ -19,7 +19,6 @@ pub mod ReadFetch
 pub mod Readied
 pub mod ReadLook
 pub mod ReadSectors
-pub mod RefusedOpenings
 pub mod Refusals
 pub mod SameMounts
 pub mod Spent
@@ -34,6 +33,8 @@ pub mod HeartGrants
 pub mod HeartSteps
 pub mod RestingCores
 pub mod GoingOn
+pub mod HeartFrees
+pub mod FreedMounts
 pub mod LostCommands
 pub mod OnceRoom
 pub mod GivenCommands

@@ -29,15 +29,15 @@ use Rattle.core_laws.proofs.UnitTurns.{filtered_is}
 use Rattle.core_laws.proofs.NextLine.{none_free}
 use Rattle.core_laws.specs.LeftOpenings.{left_openings}
 use Rattle.core_laws.proofs.LeftLines.{lines_of_left, left_opened, left_apart}
-use Rattle.core_laws.proofs.TwoLines.{chunks_left}
+use Rattle.core_laws.proofs.OpenedTurns.{chunks_left}
 use Rattle.core_laws.proofs.NoneDue.{none_at, none_due, idle_answered}
 use Rattle.core_laws.proofs.Followed.{follow}
 use Rattle.core_laws.proofs.IdleRows.{its_row, row_there}
 use Rattle.core_laws.proofs.PlainOpenings.{opened_lines}
+use Rattle.step_laws.specs.FreedWorlds.{NoneToFree}
 use Rattle.pblk_core.specs.Named.{choice, reset_or, work_of, first_seq_of}
 use Rattle.pblk_core.specs.Resets.{resets_of}
 use Rattle.pblk_core.specs.Stands.{under_way}
-use Rattle.pblk_core.specs.declared.resets.LineChunk.{LineChunk}
 use Rattle.pblk_core.specs.declared.work.Work.{Work}
 use Rattle.pblk_core.proofs.Laws.{reset_empty}
 use Rattle.pblk_core.specs.declared.work.Work.TheVariants as works
@@ -61,7 +61,7 @@ not_chosen false true false m f reason e = (refl, λ asks. inl refl)
 not_chosen false true true false f reason e = (refl, λ asks. inr refl)
 not_chosen false true true true f reason e = absurd cc
 
-no_reset_named : (o : Option LineChunk) (otherwise : Work) (reason : Why) → reset_or o otherwise ≡ works.Nothing reason
+no_reset_named : (o : Option _) (otherwise : Work) (reason : Why) → reset_or o otherwise ≡ works.Nothing reason
     → (o ≡ None) × (otherwise ≡ works.Nothing reason)
 no_reset_named None otherwise reason e = (refl, e)
 no_reset_named (Some chunk) otherwise reason e = absurd cc
@@ -154,7 +154,7 @@ module _ (i : Image) (w : World) (pad : ℕ) (reason : Why) (simple : IsSimpleMo
       left_at k o e = filtered_is (λ o. has_left (open_line i (log_of w) o)) (standing (log_of w 0)) k o e
 
       has_at : (k : ℕ) (o : Opening) → slice_get (left_openings i (log_of w)) k ≡ Some o → has_stripe_left i (log_of w) o.line ≡ true
-      has_at k o e = chunks_left i w o.line o simple (opened_at k o e) (left_at k o e)
+      has_at k o e = chunks_left i w o simple.mount (opened_at k o e) (left_at k o e)
 
       range_of : (line : ℕ) (o : Opening) → life_of (log_of w 0) line ≡ Opened o → line < i.shape.chunks
       range_of line o life = (opened_lines i (line_units (known_image i (log_of w))) w (follow i w simple) line o life).in_range
@@ -205,10 +205,11 @@ module _ (i : Image) (w : World) (pad : ℕ) (reason : Why) (simple : IsSimpleMo
           (none_free i (log_of w) line (none_there (position is_free (rows_of i (log_of w)).rows) no_free) may.in_range)
       go (inr not_open) = not_both _ opens not_open
 
-  pub nothing_left : (asked : ℕ) → asked ≤ pad → HasNothingLeft i (log_of w) asked
-  nothing_left asked within = record {
+  pub nothing_left : (asked : ℕ) → asked ≤ pad → NoneToFree i (log_of w) → HasNothingLeft i (log_of w) asked
+  nothing_left asked within settled = record {
     stripes = answered;
     no_reset = none_reset;
     no_program = λ stripe. none_due_now asked stripe within;
     no_opening = none_opened;
+    none_to_free = settled;
   }

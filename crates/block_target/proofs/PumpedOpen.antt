@@ -15,11 +15,13 @@ use Rattle.step_laws.proofs.Levels.{level_by}
 use Rattle.step_laws.specs.Whole.{engine_step, knows_all}
 use Rattle.stripe_placer.specs.Placing.{UnitRow}
 use Rattle.block_target.specs.Deeds.{Decides, Deed, world_of}
-use Rattle.block_target.specs.Heart.{BeatsAfter}
-use Rattle.block_target.specs.Mount.{IsMount, IsSameMount, MountView, engine_log, logs_in, world_in}
+use Rattle.block_target.specs.Freed.{HaveFreed}
+use Rattle.block_target.specs.Heart.{BeatsAfter, IsBeating, IsHeart}
+use Rattle.block_target.specs.Mount.{IsMount, MountView, engine_log, logs_in, world_in}
 use Rattle.block_target.specs.declared.heart.Heart.{Heart}
 use Rattle.block_target.proofs.DeedsLemmas.{world_more}
-use Rattle.block_target.proofs.GoingOn.{GoesOn, goes_decided, goes_none, longer_decided, mount_on, moved_on, same_on, takes_still}
+use Rattle.block_target.proofs.FreedMounts.{leaves_freed}
+use Rattle.block_target.proofs.GoingOn.{GoesOn, Leaves, goes_decided, goes_none, longer_decided, moved_on, takes_still}
 
 module _ {v : MountView} {h : Heart} {f : Filling} (m : IsMount v h f) (line : ℕ) (start : StartRecord)
     (may : (b : Begun) → begun (engine_log v) ≡ Some b → MayOpen v.image (logs_in v) b line start) where
@@ -39,16 +41,21 @@ module _ {v : MountView} {h : Heart} {f : Filling} (m : IsMount v h f) (line : �
   its_world : world_of v.image.shape done ≡ next
   its_world = world_more v.image.shape v.deeds (Decides (Open line start))
 
-  pub mount_opened : (new : Heart) → BeatsAfter h (Open line start) new → new.core.placer.units ≡ h.core.placer.units
-      → IsMount (moved_on v done v.units v.wear new.granted (pad_of new.core)) new f
-  mount_opened new beats rows = mount_on m.sound goes done v.wear new f its_world
-      (beats v.image (world_in v) (knows_all v.image.shape (world_in v)) m.sound.legal.mount m.heart legal.mount)
+  stands : (mid : Heart) → BeatsAfter h (Open line start) mid → IsHeart v.image (log_of next) mid
+  stands mid beats = beats v.image (world_in v) (knows_all v.image.shape (world_in v)) m.sound.legal.mount m.heart legal.mount
+
+  pub beating_opened : (mid : Heart) → BeatsAfter h (Open line start) mid → IsBeating mid
+  beating_opened mid beats = record { image = v.image; world = next; legal = legal.mount; stands = stands mid beats }
+
+  -- once lines were freed after that
+  pub leaves_opened : (mid new : Heart) (last : List Deed) → BeatsAfter h (Open line start) mid → mid.core.placer.units ≡ h.core.placer.units
+      → v.granted ≤ mid.granted → pad_of mid.core ≡ v.pad → HaveFreed mid (v.deeds ++ Decides (Open line start) ∷ []) new last
+      → Leaves v (moved_on v last v.units v.wear new.granted (pad_of new.core)) new f
+  leaves_opened mid new last beats rows grants pads frees =
+      leaves_freed m.sound goes done v.wear mid new f last its_world (stands mid beats) frees (Decides (Open line start) ∷ []) refl
       (level_by v.image.shape (Open line start) (world_in v) (λ unit. refl) m.level)
       (known_still v.image (world_in v) (Open line start) refl (λ unit. refl) m.known)
       (λ unit of is. m.resting unit of (ap (λ (us : List UnitRow). slice_get us unit) (sym rows) ∙ is)) m.stripe
-
-  pub same_opened : (granted pad : ℕ) → v.granted ≤ granted → v.pad ≤ pad → IsSameMount v (moved_on v done v.units v.wear granted pad)
-  same_opened granted pad grants pads = same_on m.sound goes (Decides (Open line start) ∷ []) v.wear granted pad its_world
       (takes_still v.image.shape (Open line start) (world_in v) refl) refl grants pads
 
   pub more_opened : length (engine_log v) < length (log_of (world_of v.image.shape done) 0)

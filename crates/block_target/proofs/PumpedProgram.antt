@@ -35,13 +35,15 @@ use Rattle.pblk_core.specs.Named.{pad_of}
 use Rattle.pblk_core.specs.declared.target_core.Core.{Core}
 use Rattle.block_target.specs.Arm.{IsStripeThere, WasGiven, last_of}
 use Rattle.block_target.specs.Deeds.{Decides, Deed, Does, Lands, Offers, world_of}
+use Rattle.block_target.specs.Freed.{HaveFreed}
 use Rattle.block_target.specs.Heart.{BeatsAfter, IsBeating, IsHeart, OfItsMount, decided}
 use Rattle.scan_recovery.specs.Lost.{IsLostAt, NoneLost, is_fetch}
 use Rattle.block_target.specs.Mount.{IsMount, MountView, engine_log, world_in}
 use Rattle.block_target.specs.declared.heart.Heart.{Heart}
 use Rattle.block_target.proofs.DeedsLemmas.{landed_world, stopped_world, world_more}
+use Rattle.block_target.proofs.FreedMounts.{leaves_freed}
 use Rattle.block_target.proofs.GivenCommands.{can_program}
-use Rattle.block_target.proofs.GoingOn.{GoesOn, Leaves, goes_decided, goes_given, goes_none, leaves_on, longer_decided, moved_on, no_less, one_more, takes_beside, takes_still}
+use Rattle.block_target.proofs.GoingOn.{GoesOn, Leaves, goes_decided, goes_given, goes_none, longer_decided, moved_on, no_less, one_more, takes_beside, takes_still}
 use Rattle.block_target.proofs.HeartBeside.{heart_beside}
 use Rattle.block_target.proofs.LostCommands.{is_lost_one, none_lost_one}
 use Rattle.lemmas.proofs.Tests.{same_number}
@@ -247,6 +249,17 @@ module _ {v : MountView} {h : Heart} {f : Filling} (m : IsMount v h f) {mid : He
       landing : MayLand (log_of programmed) stripe.unit its_number
       landing = may_land v.image w stripe.unit ready.placed e (next_maker w) can ready.goes.legal.mount.legal done
 
+      pub beating_landed : (after : Heart)
+          → ((i : Image) (w : World) (event : ℕ) (knows : List ℕ) → IsLegalMount i w → IsHeart i (log_of w) mid → MayLand (log_of w) stripe.unit event
+          → IsLegalMount i (decided (Landed stripe.unit event) knows w) → IsHeart i (log_of (decided (Landed stripe.unit event) knows w)) after)
+          → IsBeating after
+      beating_landed after beats = record {
+        image = v.image;
+        world = noted v.image.shape note programmed;
+        legal = landed_legal.mount;
+        stands = beats v.image programmed its_number (knows_all v.image.shape programmed) given.legal.mount heart_programmed landing landed_legal.mount;
+      }
+
       pub may_be_landed : (i : Image) × (w : World) × IsLegalMount i w × IsHeart i (log_of w) mid × (event : ℕ) × MayLand (log_of w) stripe.unit event
       may_be_landed = (v.image, programmed, given.legal.mount, heart_programmed, its_number, landing)
 
@@ -262,13 +275,15 @@ module _ {v : MountView} {h : Heart} {f : Filling} (m : IsMount v h f) {mid : He
           → ((i : Image) (w : World) (event : ℕ) (knows : List ℕ) → IsLegalMount i w → IsHeart i (log_of w) mid → MayLand (log_of w) stripe.unit event
           → IsLegalMount i (decided (Landed stripe.unit event) knows w) → IsHeart i (log_of (decided (Landed stripe.unit event) knows w)) after)
           → IsResting after.core → into.shape ≡ v.image.shape → wear ≡ v.wear → v.granted ≤ after.granted → pad_of after.core ≡ v.pad
-          → Leaves v (moved_on v last us wear after.granted (pad_of after.core)) after into
-      leaves_landed last us wear after into grown is units_are beats rests shape same_wear grants pads =
+          → (end : Heart) (all : List Deed) → HaveFreed after last end all
+          → Leaves v (moved_on v all us wear end.granted (pad_of end.core)) end into
+      leaves_landed last us wear after into grown is units_are beats rests shape same_wear grants pads end all frees =
           let more = answer_more v deeds stripe.unit (last_of new) (Lands stripe.unit) grown in
-          subst (λ (xs : List ModelUnit). Leaves v (moved_on v last xs wear after.granted (pad_of after.core)) after into) (sym units_are)
-          (leaves_on m.sound goes_landed last more.0 wear after into (is ∙ more.1)
+          subst (λ (xs : List ModelUnit). Leaves v (moved_on v all xs wear end.granted (pad_of end.core)) end into) (sym units_are)
+          (leaves_freed m.sound goes_landed last wear after end into all
           (ap (world_of v.image.shape) is ∙ landed_world v.image.shape deeds stripe.unit (last_of new) e given.last)
           (beats v.image programmed its_number (knows_all v.image.shape programmed) given.legal.mount heart_programmed landing landed_legal.mount)
+          frees more.0 (is ∙ more.1)
           (landing_level v.image w stripe.unit ready.placed e (next_maker w) ready.goes.legal can done ready.level)
           (landing_known v.image w stripe.unit ready.placed e (next_maker w) ready.goes.legal can done ready.known)
           rests shape takes_landed same_wear grants pads)
@@ -297,6 +312,18 @@ module _ {v : MountView} {h : Heart} {f : Filling} (m : IsMount v h f) {mid : He
       offer : MayOfferAgain (log_of programmed) stripe.unit its_number
       offer = may_offer_again v.image w stripe.unit ready.placed e (next_maker w) can k ready.goes.legal.mount.legal stops
 
+      pub beating_stopped : (after : Heart)
+          → ((i : Image) (w : World) (event : ℕ) (knows : List ℕ) → IsLegalMount i w → IsHeart i (log_of w) mid
+          → MayOfferAgain (log_of w) stripe.unit event
+          → IsLegalMount i (decided (Again stripe.unit event) knows w) → IsHeart i (log_of (decided (Again stripe.unit event) knows w)) after)
+          → IsBeating after
+      beating_stopped after beats = record {
+        image = v.image;
+        world = noted v.image.shape again programmed;
+        legal = stopped_legal.mount;
+        stands = beats v.image programmed its_number (knows_all v.image.shape programmed) given.legal.mount heart_programmed offer stopped_legal.mount;
+      }
+
       goes_stopped : GoesOn v (noted v.image.shape again programmed) (slice_set v.units stripe.unit new)
       goes_stopped = goes_decided goes again stopped_legal (λ knows. refl)
 
@@ -310,13 +337,15 @@ module _ {v : MountView} {h : Heart} {f : Filling} (m : IsMount v h f) {mid : He
           → MayOfferAgain (log_of w) stripe.unit event
           → IsLegalMount i (decided (Again stripe.unit event) knows w) → IsHeart i (log_of (decided (Again stripe.unit event) knows w)) after)
           → IsResting after.core → into.shape ≡ v.image.shape → wear ≡ v.wear → v.granted ≤ after.granted → pad_of after.core ≡ v.pad
-          → Leaves v (moved_on v last us wear after.granted (pad_of after.core)) after into
-      leaves_stopped last us wear after into grown is units_are beats rests shape same_wear grants pads =
+          → (end : Heart) (all : List Deed) → HaveFreed after last end all
+          → Leaves v (moved_on v all us wear end.granted (pad_of end.core)) end into
+      leaves_stopped last us wear after into grown is units_are beats rests shape same_wear grants pads end all frees =
           let more = answer_more v deeds stripe.unit (last_of new) (Offers stripe.unit) grown in
-          subst (λ (xs : List ModelUnit). Leaves v (moved_on v last xs wear after.granted (pad_of after.core)) after into) (sym units_are)
-          (leaves_on m.sound goes_stopped last more.0 wear after into (is ∙ more.1)
+          subst (λ (xs : List ModelUnit). Leaves v (moved_on v all xs wear end.granted (pad_of end.core)) end into) (sym units_are)
+          (leaves_freed m.sound goes_stopped last wear after end into all
           (ap (world_of v.image.shape) is ∙ stopped_world v.image.shape deeds stripe.unit (last_of new) e given.last)
           (beats v.image programmed its_number (knows_all v.image.shape programmed) given.legal.mount heart_programmed offer stopped_legal.mount)
+          frees more.0 (is ∙ more.1)
           (stopping_level v.image w stripe.unit ready.placed e (next_maker w) ready.goes.legal can k stops ready.level)
           (stopping_known v.image w stripe.unit ready.placed e (next_maker w) ready.goes.legal can k stops ready.known)
           rests shape takes_stopped same_wear grants pads)

@@ -21,6 +21,7 @@ use Rattle.core_laws.specs.SimpleMounts.{IsSimpleMount}
 use Rattle.world_laws.specs.LegalMounts.{IsLegalMount}
 use Rattle.step_laws.proofs.GivenUp.{may_note, noted_known, noted_legal, noted_level, reset_level, reset_stopped}
 use Rattle.step_laws.proofs.Known.{known_as_is, used_or_stopped}
+use Rattle.step_laws.proofs.SpentStays.{none_beside}
 use Rattle.step_laws.proofs.UnitStays.{known_stays}
 use Rattle.step_laws.proofs.UnitSteps.{chunk_now, running}
 use Rattle.step_laws.specs.NextEvents.{CanReset}
@@ -33,11 +34,13 @@ use Rattle.pblk_core.specs.Named.{pad_of}
 use Rattle.pblk_core.specs.Resets.{IsResetTo, IsToReset, is_used_state}
 use Rattle.block_target.specs.Arm.{IsGivenUpThere, WasGiven, last_of}
 use Rattle.block_target.specs.Deeds.{Deed, Does, NotesReset, world_of}
-use Rattle.block_target.specs.Heart.{IsHeart, decided}
+use Rattle.block_target.specs.Freed.{HaveFreed}
+use Rattle.block_target.specs.Heart.{IsBeating, IsHeart, decided}
 use Rattle.scan_recovery.specs.Lost.{IsLostAt, NoneLost, is_fetch}
 use Rattle.block_target.specs.Mount.{IsMount, MountView, engine_log, logs_in, world_in}
 use Rattle.block_target.specs.declared.heart.Heart.{Heart}
 use Rattle.block_target.proofs.DeedsLemmas.{given_world, reset_world}
+use Rattle.block_target.proofs.FreedMounts.{leaves_freed}
 use Rattle.block_target.proofs.GivenCommands.{can_reset}
 use Rattle.block_target.proofs.GoingOn.{GoesOn, Leaves, goes_decided, goes_given, goes_none, leaves_on, longer_decided, moved_on, no_less, one_more, takes_beside, takes_still}
 use Rattle.block_target.proofs.HeartBeside.{heart_beside}
@@ -134,7 +137,8 @@ module _ {v : MountView} {h : Heart} {f : Filling} (m : IsMount v h f) (line uni
           (ap (world_of i.shape) done ∙ given_world i.shape v.deeds unit (last_of new) e given.last) heart_left
           (reset_level i w unit e (next_maker w) can m.level)
           (reset_stopped i w unit e (next_maker w) can (ap was_stopped stops) m.sound.legal.mount.legal m.known)
-          m.resting m.stripe takes_left same_wear low (sym m.pad))
+          m.resting (none_beside i w m.sound.beginning unit e (next_maker w) m.sound.legal.mount given.legal.mount m.sound.has_begun m.heart.stands.full
+          m.settled) m.stripe takes_left same_wear low (sym m.pad))
 
       pub stopped_lost : (us : List ModelUnit) (n : ℕ) → us ≡ slice_set v.units unit new → n ≡ min (length new.log) (2 ^ 64 - 1)
           → IsLostAt v.units us unit n
@@ -175,6 +179,17 @@ module _ {v : MountView} {h : Heart} {f : Filling} (m : IsMount v h f) (line uni
           → (i : Image) × (w : World) × IsLegalMount i w × IsHeart i (log_of w) h × (event : ℕ) × IsResetTo i (log_of w) unit event line state
       may_be_noted state c at is_state = (i, left, given.legal.mount, heart_left, number, is_reset state c at is_state)
 
+      pub beating_noted : (state : ChunkState) (c : Chunk) (after : Heart) → slice_get new.media line ≡ Some c → state ≡ c.state
+          → ((i : Image) (w : World) (event : ℕ) (knows : List ℕ) → IsLegalMount i w → IsHeart i (log_of w) h → IsResetTo i (log_of w) unit event line state
+          → IsLegalMount i (decided (ResetDone unit event) knows w) → IsHeart i (log_of (decided (ResetDone unit event) knows w)) after)
+          → IsBeating after
+      beating_noted state c after at is_state beats = record {
+        image = i;
+        world = noted i.shape note left;
+        legal = noted_mount.mount;
+        stands = beats i left number (knows_all i.shape left) given.legal.mount heart_left (is_reset state c at is_state) noted_mount.mount;
+      }
+
       goes_noted : GoesOn v (noted i.shape note left) (slice_set v.units unit new)
       goes_noted = goes_decided goes note noted_mount (λ knows. refl)
 
@@ -189,13 +204,15 @@ module _ {v : MountView} {h : Heart} {f : Filling} (m : IsMount v h f) (line uni
           → ((i : Image) (w : World) (event : ℕ) (knows : List ℕ) → IsLegalMount i w → IsHeart i (log_of w) h → IsResetTo i (log_of w) unit event line state
           → IsLegalMount i (decided (ResetDone unit event) knows w) → IsHeart i (log_of (decided (ResetDone unit event) knows w)) after)
           → after.core.placer.units ≡ h.core.placer.units → wear ≡ v.wear → v.granted ≤ after.granted → pad_of after.core ≡ v.pad
-          → Leaves v (moved_on v last us wear after.granted (pad_of after.core)) after f
-      leaves_reset last us wear after state c at is_state lasts units_are beats rows same_wear grants pads =
-          subst (λ (xs : List ModelUnit). Leaves v (moved_on v last xs wear after.granted (pad_of after.core)) after f) (sym units_are)
-          (leaves_on m.sound goes_noted last (Does unit (last_of new) ∷ NotesReset unit ∷ []) wear after f
-          (lasts ∙ append_assoc v.deeds (Does unit (last_of new) ∷ []) (NotesReset unit ∷ []))
+          → (end : Heart) (all : List Deed) → HaveFreed after last end all
+          → Leaves v (moved_on v all us wear end.granted (pad_of end.core)) end f
+      leaves_reset last us wear after state c at is_state lasts units_are beats rows same_wear grants pads end all frees =
+          subst (λ (xs : List ModelUnit). Leaves v (moved_on v all xs wear end.granted (pad_of end.core)) end f) (sym units_are)
+          (leaves_freed m.sound goes_noted last wear after end f all
           (ap (world_of i.shape) lasts ∙ reset_world i.shape v.deeds unit (last_of new) e given.last)
-          (beats i left number (knows_all i.shape left) given.legal.mount heart_left (is_reset state c at is_state) noted_mount.mount)
+          (beats i left number (knows_all i.shape left) given.legal.mount heart_left (is_reset state c at is_state) noted_mount.mount) frees
+          (Does unit (last_of new) ∷ NotesReset unit ∷ [])
+          (lasts ∙ append_assoc v.deeds (Does unit (last_of new) ∷ []) (NotesReset unit ∷ []))
           (noted_level i w unit e (next_maker w) can m.level)
           (noted_known i w unit e (next_maker w) can ends m.sound.legal m.known)
           (λ other of there. m.resting other of (ap (λ (us : List UnitRow). slice_get us other) (sym rows) ∙ there)) m.stripe takes_noted

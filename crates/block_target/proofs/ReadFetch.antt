@@ -21,6 +21,7 @@ use Rattle.pblk_world.specs.Commanding.{is_program}
 use Rattle.pblk_world.specs.EngineLog.{takes}
 use Rattle.pblk_world.specs.World.{World, log_of, media}
 use Rattle.step_laws.proofs.Known.{known_at_fetch}
+use Rattle.step_laws.proofs.SpentStays.{none_beside}
 use Rattle.step_laws.proofs.Levels.{ends_by_command, level_unit}
 use Rattle.step_laws.proofs.UnitSteps.{found_there}
 use Rattle.step_laws.specs.Whole.{after_unit, next_maker}
@@ -141,7 +142,8 @@ module _ {v : MountView} {h : Heart} {f : Filling} (m : IsMount v h f) (unit chu
         (heart_beside v.image w unit e (next_maker w) h m.sound.legal.mount m.heart)
         (level_unit v.image.shape unit e (next_maker w) w (ends_by_command e (ap is_program given.command_is)) m.level)
         (known_at_fetch v.image w unit e (next_maker w) m.sound.legal.mount.legal number given.command_is m.known)
-        m.resting m.stripe takes_left same_wear low (sym m.pad))
+        m.resting (none_beside v.image w m.sound.beginning unit e (next_maker w) m.sound.legal.mount given.legal.mount m.sound.has_begun m.heart.stands.full
+        m.settled) m.stripe takes_left same_wear low (sym m.pad))
 
     pub fetched_kept : (us : List ModelUnit) (answer : ChunkAnswer) → us ≡ slice_set v.units unit new → given.event.outcome ≡ Answered answer
         → NoneLost v.units us

@@ -1,9 +1,11 @@
 -- A mount whose core names no work has nothing left to do, and no room that isn't granted.
 use Rattle.std.proofs.Common.{◌≡◌, ◌≤◌, List, length, sym, subst, ap, ◌∙◌, arith, le_refl}
 use Rattle.pblk_world.specs.Events.{Logged}
-use Rattle.pblk_world.specs.World.{Logs}
+use Rattle.pblk_world.specs.World.{Logs, log_of}
 use Rattle.pblk_world.specs.Space.{room}
 use Rattle.pblk_world.specs.AtRest.{logs_at}
+use Rattle.step_laws.specs.FreedWorlds.{NoneToFree}
+use Rattle.step_laws.proofs.SpentStays.{none_by_spent}
 use Rattle.step_laws.proofs.UnitSteps.{engine_longer}
 use Rattle.pblk_core.specs.Filling.{Filling}
 use Rattle.pblk_core.specs.declared.work.Work.TheVariants as works
@@ -23,7 +25,7 @@ spent {v} {h} {f} m reason none = record {
     nothing_left = subst (λ (logs : Logs). HasNothingLeft v.image logs asked) (sym is.logs)
         (nothing_left v.image is.left v.pad reason is.simple
         (λ unit inside. ap (λ (log : List Logged). is_way_on log unit) is.own ∙ none_on_way v.image (logs_in v) h.core m.heart.stands m.resting unit inside)
-        (is.work v.pad ∙ none) asked within);
+        (is.work v.pad ∙ none) asked within none_left);
   };
   no_room =
       let same : room v.image (logs_at (length (engine_log v)) (logs_in v)) ≡ room v.image (logs_in v) = ap (room v.image) is.logs ∙ is.room in
@@ -34,3 +36,7 @@ spent {v} {h} {f} m reason none = record {
   where
     is : IsLeft v.image (world_in v)
     is = deeds_left v.image v.deeds m.sound.legal
+
+    none_left : NoneToFree v.image (log_of is.left)
+    none_left = none_by_spent v.image (world_in v) is.left m.sound.beginning m.sound.legal.mount is.simple.mount m.sound.has_begun m.heart.stands.full
+        is.spent m.settled

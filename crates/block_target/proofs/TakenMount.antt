@@ -8,11 +8,14 @@ use Rattle.pblk_model.specs.Marks.{sector_mark}
 use Rattle.pblk_model.specs.declared.shape.Shape.{Shape}
 use Rattle.pblk_world.specs.Events.{EngineEvent, Take}
 use Rattle.pblk_world.specs.Taking.{MayTake}
-use Rattle.pblk_world.specs.World.{World}
+use Rattle.pblk_world.specs.World.{World, log_of}
 use Rattle.core_laws.specs.SimpleMounts.{IsSimpleMount}
+use Rattle.core_laws.proofs.SpentBy.{taking_spends_none}
 use Rattle.step_laws.proofs.EngineSteps.{engine_next}
 use Rattle.step_laws.proofs.Known.{known_still}
 use Rattle.step_laws.proofs.Levels.{level_by}
+use Rattle.step_laws.proofs.SpentStays.{none_by_spent}
+use Rattle.step_laws.specs.FreedWorlds.{NoneToFree}
 use Rattle.step_laws.specs.Whole.{engine_step, knows_all}
 use Rattle.stripe_placer.specs.Placing.{UnitRow}
 use Rattle.write_window.specs.Window as window
@@ -48,6 +51,12 @@ module _ {v : MountView} {h : Heart} {f : Filling} (m : IsMount v h f) where
     legal : IsSimpleMount v.image next
     legal = engine_next v.image (world_in v) m.sound.beginning event m.sound.legal m.sound.has_begun may refl
 
+    -- it leaves none to be freed
+    none_to_free : NoneToFree v.image (log_of next)
+    none_to_free = none_by_spent v.image (world_in v) next m.sound.beginning m.sound.legal.mount legal.mount m.sound.has_begun m.heart.stands.full
+        (λ line is. taking_spends_none v.image (world_in v) m.sound.beginning (engine_step v.image.shape event (world_in v)) (user_entry position lba sector)
+        (sector_mark lba position) line m.sound.legal.mount legal.mount m.sound.has_begun refl refl is) m.settled
+
     pub mount_taken : (new : Heart) (deeds : List Deed) → deeds ≡ v.deeds ++ Decides event ∷ [] → BeatsAfter h event new
         → new.core.placer.units ≡ h.core.placer.units → IsMount (moved_on v deeds v.units v.wear new.granted (pad_of new.core)) new f
     mount_taken new deeds done beats rows =
@@ -56,7 +65,7 @@ module _ {v : MountView} {h : Heart} {f : Filling} (m : IsMount v h f) where
         (beats v.image (world_in v) (knows_all v.image.shape (world_in v)) m.sound.legal.mount m.heart legal.mount)
         (level_by v.image.shape event (world_in v) (λ unit. refl) m.level)
         (known_still v.image (world_in v) event refl (λ unit. refl) m.known)
-        (λ unit of is. m.resting unit of (ap (λ (us : List UnitRow). slice_get us unit) (sym rows) ∙ is)) m.stripe
+        (λ unit of is. m.resting unit of (ap (λ (us : List UnitRow). slice_get us unit) (sym rows) ∙ is)) none_to_free m.stripe
 
 -- and its view
 pub view_taken : (v : MountView) (position lba granted pad : ℕ) (sector : List ℕ) (deeds : List Deed)

@@ -2,28 +2,32 @@
 use Rattle.std.proofs.Common.{◌≡◌, ℕ, ◌+◌, ◌≤◌, ◌^◌, ◌==◌, ◌&&◌, nat_lt, Some, List, [], ◌∷◌, if◌then◌else◌, length, sym, subst, ap, ap₂, ◌∙◌}
 use Rattle.std.specs.Prelude.{slice_get, position}
 use Rattle.std.specs.List.{flat_map, range_with_len, Contains}
-use Rattle.std.specs.Option.{is_some, option_map_or}
+use Rattle.std.specs.Option.{is_some, option_map, option_map_or}
 use Rattle.pblk_model.specs.Image.{Image}
 use Rattle.pblk_model.specs.UnitLog.{UnitEvent}
 use Rattle.pblk_world.specs.Events.{Logged, Maker}
 use Rattle.pblk_world.specs.World.{World, Logs, log_of}
-use Rattle.pblk_world.specs.EngineLog.{Begun, begun, Opening, openings}
+use Rattle.pblk_world.specs.EngineLog.{Begun, begun, life_of, Opening, openings}
 use Rattle.pblk_world.specs.Lines.{is_given_up}
 use Rattle.pblk_world.specs.Fronts.{first_position, synced, waiting, user_takes}
 use Rattle.pblk_world.specs.Legal.{IsLegal}
 use Rattle.pblk_world.specs.Space.{freed, placed_front, open_addresses}
 use Rattle.line_table.specs.Rows.{is_free}
 use Rattle.stripe_placer.specs.Placing.{next_stripe}
+use Rattle.core_laws.specs.ClosedLines.{placed_top, starts_left}
+use Rattle.core_laws.specs.KnownLogs.{AreKnown}
 use Rattle.core_laws.specs.OpenedLines.{live_now, open_line}
+use Rattle.core_laws.proofs.NextVictims.{closed_known, newest_known}
 use Rattle.world_laws.specs.LegalMounts.{IsLegalMount}
 use Rattle.core_laws.specs.SimpleMounts.{IsSimpleLog, IsSimpleMount}
 use Rattle.step_laws.specs.Whole.{unit_step}
 use Rattle.step_laws.proofs.UnitSteps.{engine_log}
-use Rattle.step_laws.proofs.UnitStays.{known_stays, rows_stay, lines_stay, older_stay, live_stays, line_stays, left_stay, slot_stays, window_stays, placing_stays, addresses_stay}
+use Rattle.step_laws.proofs.UnitStays.{found_stays, known_stays, rows_stay, lines_stay, older_stay, live_stays, line_stays, left_stay, slot_stays, window_stays, placing_stays, addresses_stay}
 use Rattle.pblk_core.specs.Named.{choice, reset_or, work_of}
 use Rattle.pblk_core.specs.Resets.{in_line, resets_of, used_units}
 use Rattle.pblk_core.specs.Stands.{Stands, AreHolds, AreOpenLines, IsOpenLine, left_openings, under_way, unlanded, answer_counts}
 use Rattle.pblk_core.specs.LineRecords.{AreOf}
+use Rattle.pblk_core.proofs.NotesKept.{notes_kept, used_kept}
 use Rattle.pblk_core.specs.declared.open_lines.OpenLine.{OpenLine}
 use Rattle.pblk_core.specs.declared.open_lines.OpenLines.{OpenLines}
 use Rattle.pblk_core.specs.declared.target_core.Core.{Core}
@@ -63,6 +67,9 @@ module _ (i : Image) (w : World) (unit : ℕ) (e : UnitEvent) (maker : Maker) wh
   resets_stay legal = ap₂ (λ (log : List Logged) (j : Image). flat_map (λ line. in_line line (if is_given_up log line then used_units j line else []))
       (range_with_len 0 i.shape.chunks)) engine (known_stays i w unit e maker legal)
 
+  its_known : IsLegal i w → AreKnown i (log_of w) after_
+  its_known legal = record { own = engine; found = found_stays i w unit e maker legal; image = known_stays i w unit e maker legal }
+
   pub stands_beside : (c : Core) → IsLegalMount i w → Stands i (log_of w) c → Stands i after_ c
   stands_beside c mount st = record {
     simple = subst IsSimpleLog (sym engine) st.simple;
@@ -75,6 +82,13 @@ module _ (i : Image) (w : World) (unit : ℕ) (e : UnitEvent) (maker : Maker) wh
     units = st.units ∙ map_same (live_now i (log_of w)) (live_now i after_) (λ line. sym (live_stays i w unit e maker line mount.legal))
         (range_with_len 0 i.shape.chunks);
     resets = st.resets ∙ sym (resets_stay mount.legal);
+    used_lines = st.used_lines;
+    used = used_kept i (log_of w) after_ c.resets (λ line. closed_known i (log_of w) after_ (its_known mount.legal) line)
+        (λ line closed is. ap (λ (j : Image). used_units j line) (known_stays i w unit e maker mount.legal)) st.used;
+    notes = notes_kept i (log_of w) after_ c.notes (λ line. ap (λ log. life_of log line) engine)
+        (λ line. closed_known i (log_of w) after_ (its_known mount.legal) line)
+        (ap (option_map (λ start. record { seq = start.seq; front = start.front })) (newest_known i (log_of w) after_ (its_known mount.legal)))
+        (λ o. ap (λ log. starts_left i.shape log o) engine) (λ o. ap (λ log. placed_top i.shape log o) engine) st.notes;
     size = st.size;
     window = st.window ∙ sym (window_stays i w unit e maker c.window.freed);
     from_first = subst (λ log. first_position log ≤ c.window.freed) (sym engine) st.from_first;

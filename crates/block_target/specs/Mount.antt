@@ -18,6 +18,7 @@ use Rattle.pblk_world.specs.Space.{is_due, room}
 use Rattle.pblk_world.specs.AtRest.{logs_at}
 use Rattle.core_laws.specs.SimpleMounts.{IsSimpleMount}
 use Rattle.core_laws.specs.WindowOf.{users_below}
+use Rattle.step_laws.specs.FreedWorlds.{NoneToFree}
 use Rattle.step_laws.specs.Whole.{IsLevel, IsKnown}
 use Rattle.scan_recovery.specs.Units.{image_of}
 use Rattle.pblk_core.specs.Filling.{Filling}
@@ -105,7 +106,7 @@ pub record IsSound (v : MountView) : Type 0 where
   pub each : (number : ℕ) (u : ModelUnit) → slice_get v.units number ≡ Some u → IsUnitIn v number u
 
 -- Besides, the heart stands for what was done. No program is in flight, and the engine has noted
--- all that the units did but resets that were stopped.
+-- all that the units did but resets that were stopped. No line is left that may be freed.
 pub record IsMount (v : MountView) (h : Heart) (filling : Filling) : Type 0 where
   pub sound : IsSound v
   pub heart : IsHeart v.image (logs_in v) h
@@ -114,6 +115,7 @@ pub record IsMount (v : MountView) (h : Heart) (filling : Filling) : Type 0 wher
   pub level : IsLevel (world_in v)
   pub known : IsKnown v.image (world_in v)
   pub resting : IsResting h.core
+  pub settled : NoneToFree v.image (logs_in v)
   pub stripe : filling.shape ≡ v.image.shape
 
 -- What calls leave.

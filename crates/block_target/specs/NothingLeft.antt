@@ -1,6 +1,5 @@
--- When a target that neither collects nor frees has nothing left to do, and which calls may then answer Worn.
--- Such a target copies no sector and frees no line, however few lines are Free. So nothing is said here of a
--- copy that is due or of a line that may be freed.
+-- When a target that frees lines and copies no sector has nothing left to do, and which calls may then answer
+-- Worn. Such a target copies nothing, however few lines are Free. So nothing is said here of a copy that is due.
 use Rattle.std.specs.Prelude.{ℕ, zero, suc, ◌+◌, ◌<◌, ◌≤◌, ◌≡◌, true, ⊤, List, [], ◌∷◌, take, length, Some}
 use Rattle.std.specs.List.{Contains}
 use Rattle.pblk_model.specs.Image.{Image}
@@ -13,6 +12,7 @@ use Rattle.pblk_world.specs.Lines.{known_image, are_empty, is_given_up}
 use Rattle.pblk_world.specs.Opening.{MayOpen}
 use Rattle.pblk_world.specs.Space.{open_addresses, room}
 use Rattle.pblk_world.specs.AtRest.{logs_at, IsDue}
+use Rattle.step_laws.specs.FreedWorlds.{NoneToFree}
 use Rattle.block_port.specs.declared.rows.WornAnswer.{WornAnswer}
 use Rattle.block_target.specs.Granted.{WasRoom}
 
@@ -28,6 +28,7 @@ pub record HasNothingLeft (i : Image) (logs : Logs) (asked : ℕ) : Type 0 where
   -- an entry waits and no open line has an address left, but none may be opened
   pub no_opening : (beginning : Begun) (line : ℕ) (start : StartRecord) → begun (logs 0) ≡ Some beginning
       → 0 < length (waiting i.shape (logs 0)) → open_addresses i logs ≡ 0 → ¬ MayOpen i logs beginning line start
+  pub none_to_free : NoneToFree i logs
 
 -- The same at a length of the engine's log, once the mount has begun.
 pub record HasNothingLeftAt (i : Image) (logs : Logs) (asked n : ℕ) : Type 0 where

@@ -13,10 +13,12 @@ use Rattle.world_laws.specs.MountBeginnings.{beginning_of}
 use Rattle.scan_recovery.specs.Readying.{IsFoundAfter}
 use Rattle.scan_recovery.specs.declared.error.ScanErr.{ScanErr}
 use Rattle.scan_recovery.specs.declared.error.ScanErr.TheVariants as scan
+use Rattle.step_laws.specs.FreedWorlds.{NoneToFree}
 use Rattle.step_laws.specs.Opened.{new_events}
 use Rattle.block_target.specs.Arm.{IsArm}
 use Rattle.block_target.specs.Deeds.{Deed, Readies, Decides, world_of}
 use Rattle.scan_recovery.specs.Lost.{IsLostAt, NoneLost}
+use Rattle.block_target.specs.Freed.{freed_deeds}
 use Rattle.block_target.specs.Mount.{MountView, logs_in}
 use Rattle.block_target.specs.declared.opening.OpenErr.{OpenErr}
 use Rattle.block_target.specs.declared.opening.OpenErr.TheVariants.{Drive, Memory}
@@ -31,15 +33,17 @@ pub record IsReady (s : Shape) (old new : List ModelUnit) (ready : Ready) : Type
   pub drives : ready.drives ≡ old ∷ new ∷ []
   pub deeds : ready.deeds ≡ first_deeds old new ready.found
 
--- A mount of these units has begun, and that is all. It found the drive as that now is. It is
--- granted what there is room for, and asks for no pads.
+-- A mount of these units has begun, each line that might be freed was freed, and that is all. It
+-- found the drive as that now is. It is granted what there is room for, and asks for no pads.
 pub record IsOpened (s : Shape) (us : List ModelUnit) (v : MountView) : Type 0 where
   pub image : v.image ≡ image_of s us
   pub handed : v.handed ≡ us
   pub found_is : v.found ≡ image_of s v.units
   pub found : Found
   pub is : IsFoundAfter s us v.units found
-  pub deeds : v.deeds ≡ first_deeds us v.units found
+  pub freed : List ℕ
+  pub deeds : v.deeds ≡ freed_deeds (first_deeds us v.units found) freed
+  pub none_to_free : NoneToFree v.image (logs_in v)
   pub granted : v.granted ≡ room v.image (logs_in v)
   pub pad : v.pad ≡ 0
 

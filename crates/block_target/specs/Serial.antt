@@ -18,6 +18,7 @@ use Rattle.block_port.specs.declared.port.FlushErr.TheVariants as flush
 use Rattle.block_port.specs.declared.rows.DriveAnswer.{DriveAnswer}
 use Rattle.block_port.specs.declared.rows.WornAnswer.{WornAnswer}
 use Rattle.pblk_model.specs.UnitLog.{UnitEvent}
+use Rattle.step_laws.specs.FreedWorlds.{NoneToFree}
 use Rattle.unit_port.specs.Unit.{ModelUnit}
 use Rattle.block_target.specs.Mount.{MountView, IsSound, IsSameMount, IsCollectionOver, logs_in, engine_log, taken_in, synced_in}
 use Rattle.block_target.specs.Granted.{WasRoom, AreGranted}
@@ -34,6 +35,9 @@ pub record SerialView : Type 0 where
   pub own : List OwnWrite
   pub faults : List DriveAnswer
   pub worns : List WornAnswer
+
+abbrev pub serial_view : MountView → ℕ → List OwnWrite → List DriveAnswer → List WornAnswer → SerialView
+serial_view mount seen own faults worns = record { mount = mount; seen = seen; own = own; faults = faults; worns = worns }
 
 -- the history with its positions: all entries are users'
 abbrev pub lines_in : MountView → List PlacedSector
@@ -157,6 +161,8 @@ pub record IsClosed (target : SerialView) (settled : Result Unit SettleErr) (v :
   pub sound : IsSound v
   pub taken : taken_in v ≡ taken_in target.mount
   pub settles : Settles target.mount settled v
+  -- no line is left that may be freed
+  pub none_to_free : NoneToFree v.image (logs_in v)
   -- each Drive names an event of its own, this call's the last of them
   pub faults : AreNamed v (target.faults ++ settle_faults settled)
   -- each Worn had its cause, this call's the last of them

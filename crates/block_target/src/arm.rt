@@ -21,7 +21,8 @@ pub(crate) fn program<U: Unit>(unit: &mut U, stripe: &Stripe) -> Result<(), Unit
     ensures given { (i : Image) (w : World) (handed : ModelUnit) (maker : Maker)
         → IsStripeThere i w stripe.now.stripe handed (U.model unit.old)
         → WasGiven i w stripe.now.stripe.unit handed maker stripe.now.stripe.chunk
-        (Write stripe.now.stripe.at stripe.now.stripe.blocks) (TellsDone result) (U.model unit.new) }
+        (Write stripe.now.stripe.at stripe.now.stripe.blocks) (TellsDone result)
+        (U.model unit.new) }
     ensures unfailing { result ≢ Err UnitErr.Failed }
     ensures wear { U.wear unit.new ≡ U.wear unit.old }
 {

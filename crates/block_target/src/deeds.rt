@@ -1,7 +1,7 @@
 //! What a target for one session does, as rows of lists that only contracts see.
 ghost use Rattle.std.specs.Prelude.{map, true, false, [], ◌∷◌, ◌++◌, ◌≡◌};
 ghost use Rattle.pblk_model.specs.Marks.{sector_mark};
-ghost use Rattle.pblk_world.specs.Events.{Begin, Take, Open, Place};
+ghost use Rattle.pblk_world.specs.Events.{Begin, Free, Take, Open, Place};
 ghost use Rattle.world_laws.specs.MountBeginnings.{beginning_of};
 ghost use Rattle.step_laws.specs.Opened.{new_events};
 ghost use Rattle.pblk_core.specs.Named.{next_start};
@@ -69,7 +69,8 @@ pub(crate) struct Readies<'a, U: Unit> {
 impl<U: Unit> Shows for Readies<'_, U> {
     type Event = Deed;
 
-    ghost shown = { λ r. deeds.Readies (new_events (drive_before r.drives.now) (map U.model r.units.now)) };
+    ghost shown = { λ r. deeds.Readies
+        (new_events (drive_before r.drives.now) (map U.model r.units.now)) };
 }
 
 /// Shows that the mount begins, with what was found.
@@ -95,7 +96,8 @@ pub(crate) struct Takes<'a> {
 impl Shows for Takes<'_> {
     type Event = Deed;
 
-    ghost shown = { λ t. Decides (Take (user_entry t.position t.lba t.sector.now) (sector_mark t.lba t.position)) };
+    ghost shown = { λ t. Decides (Take (user_entry t.position t.lba t.sector.now)
+        (sector_mark t.lba t.position)) };
 }
 
 /// Shows that the engine opens the line that the core names.
@@ -108,6 +110,18 @@ impl Shows for Opens<'_> {
     type Event = Deed;
 
     ghost shown = { λ o. Decides (Open (next_start o.core.now).line (next_start o.core.now)) };
+}
+
+/// Shows that the engine frees this line.
+#[derive(Drop)]
+pub(crate) struct Frees {
+    pub(crate) line: u32,
+}
+
+impl Shows for Frees {
+    type Event = Deed;
+
+    ghost shown = { λ f. Decides (Free f.line) };
 }
 
 /// Shows that the engine places this stripe.

@@ -1,6 +1,6 @@
 //! What decides for a target: its core, its frames and what is granted.
 
-ghost use Rattle.std.specs.Prelude.{ℕ, List, ◌≡◌, ◌≤◌, ◌<◌, ◌+◌, true, false, length, max, IfOk};
+ghost use Rattle.std.specs.Prelude.{ℕ, List, ◌≡◌, ◌≤◌, ◌<◌, ◌+◌, true, false, length, max, slice_index, IfOk, IfSome, IfNone, OnSome};
 ghost use Rattle.pblk_model.specs.Frames.{count_out};
 ghost use Rattle.pblk_model.specs.Accepted.{IsAccepted};
 ghost use Rattle.pblk_model.specs.Found.{IsFitFound};
@@ -8,13 +8,16 @@ ghost use Rattle.pblk_model.specs.Image.{Image};
 ghost use Rattle.pblk_model.specs.Marks.{sector_mark};
 ghost use Rattle.pblk_world.specs.Answering.{MayLand, MayOfferAgain};
 ghost use Rattle.pblk_world.specs.EngineLog.{Begun, begun};
-ghost use Rattle.pblk_world.specs.Events.{Again, Landed, Open, Place, ResetDone, Take};
+ghost use Rattle.pblk_world.specs.Events.{Again, Free, Landed, Open, Place, ResetDone, Take};
+ghost use Rattle.pblk_world.specs.Freeing.{MayFree};
 ghost use Rattle.pblk_world.specs.Opening.{MayOpen};
 ghost use Rattle.pblk_world.specs.Placing.{MayPlace};
 ghost use Rattle.pblk_world.specs.Space.{freed, room};
 ghost use Rattle.pblk_world.specs.Taking.{MayTake};
 ghost use Rattle.pblk_world.specs.World.{World, log_of};
 ghost use Rattle.world_laws.specs.LegalMounts.{IsLegalMount};
+ghost use Rattle.core_laws.specs.Stepping.{after};
+ghost use Rattle.step_laws.specs.FreedWorlds.{NoneToFree};
 ghost use Rattle.write_window.specs.Window as window;
 ghost use Rattle.pblk_core.specs.Landing.{AreKeptBeside, IsResting, IsIdleOn, IsOfferedOn, IsUnderWayOn, WasStopped};
 ghost use Rattle.pblk_core.specs.Mounts.{InItsMount};
@@ -22,6 +25,7 @@ ghost use Rattle.pblk_core.specs.Named.{named, next_start, pad_of};
 ghost use Rattle.pblk_core.specs.Resets.{IsResetTo};
 ghost use Rattle.pblk_core.specs.Stands.{Stands, IsStanding};
 ghost use Rattle.pblk_core.specs.declared.work.Work.TheVariants as works;
+ghost use Rattle.pblk_core.specs.Freeing.{closed_count};
 ghost use Rattle.block_target.specs.Heart.{IsHeart, IsBeating, OfItsMount, BeatsAfter, CanBegin, HasBegun, decided, user_entry};
 
 use pblk_core::{Core, Stripe};
@@ -127,6 +131,27 @@ impl Heart {
         self.renew();
     }
 
+    /// Frees the least line that may be freed. None exactly where none may be; then nothing has
+    /// changed.
+    pub(crate) fn free_line(&mut self) -> Option<u32>
+        requires beating { IsBeating self.old }
+        ensures may { IfSome result (λ line.
+            OfItsMount self.old (λ i w. MayFree i (log_of w) line)) }
+        ensures none { IfNone result (OfItsMount self.old (λ i w. NoneToFree i (log_of w))) }
+        ensures beats { IfSome result (λ line. (i : Image) (w : World) (knows : List ℕ)
+            → IsLegalMount i w → IsHeart i (log_of w) self.old
+            → slice_index knows 0 ≡ length (log_of w 0)
+            → IsLegalMount i (decided (Free line) knows w)
+            → IsHeart i (log_of (decided (Free line) knows w)) self.new) }
+        ensures unchanged { IfNone result (self.new ≡ self.old) }
+        ensures fewer { OnSome result (closed_count self.new.core < closed_count self.old.core) }
+        ensures rows { self.new.core.placer.units ≡ self.old.core.placer.units }
+        ensures pad { pad_of self.new.core ≡ pad_of self.old.core }
+        ensures granted { self.new.granted ≡ self.old.granted }
+    {
+        self.core.free_line()
+    }
+
     /// Places the stripe that the core names, and fills `into` with it. A stripe that was placed
     /// before is under way again: then no event comes into the engine's log.
     pub(crate) fn place(&mut self, into: &mut Stripe)
@@ -135,7 +160,8 @@ impl Heart {
         requires shape { into.old.shape ≡ self.old.core.layout }
         ensures legal { into.new.again ≡ false
             → OfItsMount self.old (λ i w. MayPlace i (log_of w) into.new.stripe) }
-        ensures beats { into.new.again ≡ false → BeatsAfter self.old (Place into.new.stripe) self.new }
+        ensures beats { into.new.again ≡ false
+            → BeatsAfter self.old (Place into.new.stripe) self.new }
         ensures again { into.new.again ≡ true → OfItsMount self.old (λ i w.
             WasStopped (log_of w 0) into.new.stripe × IsHeart i (log_of w) self.new) }
         ensures under_way { IsUnderWayOn self.new.core into.new.stripe.unit }
@@ -212,8 +238,8 @@ impl Heart {
             OfItsMount self.old (λ i w. MayTake i (log_of w) (user_entry position lba sector.now)
             (sector_mark lba position)) }
         ensures beats { let position = window.taken self.old.core.window in
-            BeatsAfter self.old (Take (user_entry position lba sector.now) (sector_mark lba position))
-            self.new }
+            BeatsAfter self.old
+            (Take (user_entry position lba sector.now) (sector_mark lba position)) self.new }
         ensures rows { self.new.core.placer.units ≡ self.old.core.placer.units }
         ensures pad { pad_of self.new.core ≡ pad_of self.old.core }
         ensures granted { self.new.granted ≡ self.old.granted }

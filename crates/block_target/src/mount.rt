@@ -6,16 +6,19 @@ ghost use Rattle.pblk_model.specs.Sealed.{IsSealed};
 ghost use Rattle.pblk_world.specs.World.{media};
 ghost use Rattle.pblk_core.specs.Resets.{IsToReset};
 ghost use Rattle.pblk_core.specs.declared.work.Work.TheVariants as works;
+ghost use Rattle.step_laws.specs.FreedWorlds.{NoneToFree};
 ghost use Rattle.scan_recovery.specs.Units.{AreFit};
 ghost use Rattle.scan_recovery.specs.Readying.{AreHandedBack};
 ghost use Rattle.scan_recovery.specs.MayStop.{AllMayStop};
 ghost use Rattle.scan_recovery.specs.Lost.{IsLostAt, NoneLost};
+ghost use Rattle.block_target.specs.Freed.{HaveFreed};
+ghost use Rattle.block_target.specs.Heart.{IsBeating};
 ghost use Rattle.block_target.specs.Mount.{MountView, IsMount, IsSound, IsSameMount, IsSpent, IsFetchable, engine_log, logs_in, with_entry, work_in, taken_in, synced_in, front_taken, latest};
 ghost use Rattle.block_target.specs.Opened.{IsOpened, OpenCause};
 
 use crate::arm;
 use crate::deeds::{
-    Commands, Deed, DriveRow, Landing, NotesReset, Opens, Stops, Takes, add_placed,
+    Commands, Deed, DriveRow, Frees, Landing, NotesReset, Opens, Stops, Takes, add_placed,
 };
 use crate::heart::Heart;
 use crate::opening::{DriveErr, OpenErr, Refused};
@@ -29,6 +32,7 @@ use unit_port::{Log, Unit};
 
 /// A mount for one session. It does all work in its own calls: an entry is taken as it is claimed,
 /// and a stripe is programmed as it is placed. A stripe whose program was stopped is offered again.
+/// Each call leaves no line that may be freed.
 pub(crate) struct Mount<U: Unit> {
     shape: Shape,
     pub(crate) heart: Heart,
@@ -49,14 +53,25 @@ impl<U: Unit> Model for Mount<U> {
     ghost view = { λ m. mount_view m.shape m.drives m.deeds (map U.model m.units.items)
         (map U.wear m.units.items) m.heart.granted (pad_of m.heart.core) };
 
-    ghost invariant = { λ m. IsMount (mount_view m.shape m.drives m.deeds (map U.model m.units.items)
-        (map U.wear m.units.items) m.heart.granted (pad_of m.heart.core)) m.heart m.stripe };
+    ghost invariant = { λ m. IsMount (mount_view m.shape m.drives m.deeds
+        (map U.model m.units.items) (map U.wear m.units.items) m.heart.granted
+        (pad_of m.heart.core)) m.heart m.stripe };
+}
+
+// Frees all lines that may be freed, one after another, and notes that.
+fn free_lines(heart: &mut Heart, deeds: &mut Log<Deed>)
+    requires beating { IsBeating heart.old }
+    ensures { HaveFreed heart.old deeds.old heart.new deeds.new }
+{
+    while let Some(line) = heart.free_line() {
+        deeds.add(&Frees { line });
+    }
 }
 
 impl<U: Unit> Mount<U> {
     /// Opens a mount on the units of a drive. No plan has a command of them fail, and a fuse may
-    /// stop them. The drive is made ready, and the mount begins with what is found on it. It is
-    /// granted what there is room for, and its pad target is 0.
+    /// stop them. The drive is made ready, and the mount begins with what is found on it. Each line
+    /// that may be freed is freed. It is granted what there is room for, and its pad target is 0.
     pub(crate) fn open(
         alloc: Global,
         mut units: Vec<U>,
@@ -79,7 +94,7 @@ impl<U: Unit> Mount<U> {
         let Ready {
             drives,
             found,
-            deeds,
+            mut deeds,
         } = match ready_drive(alloc, units.as_mut_slice(), shape) {
             Ok(ready) => ready,
             Err(e) => {
@@ -100,14 +115,17 @@ impl<U: Unit> Mount<U> {
                 units,
                 cause: OpenErr::Memory,
             }),
-            Ok(heart) => Ok(Mount {
-                shape: *shape,
-                heart,
-                units,
-                stripe,
-                drives,
-                deeds,
-            }),
+            Ok(mut heart) => {
+                free_lines(&mut heart, &mut deeds);
+                Ok(Mount {
+                    shape: *shape,
+                    heart,
+                    units,
+                    stripe,
+                    drives,
+                    deeds,
+                })
+            }
         }
     }
 
@@ -117,6 +135,13 @@ impl<U: Unit> Mount<U> {
         ensures { IsSealed self.now.image
             → (synced_in self.now ≤ end (media self.now.image (logs_in self.now)))
             × (end (media self.now.image (logs_in self.now)) ≤ taken_in self.now) }
+    {
+        let _ = &self.shape;
+    }
+
+    /// No line may be freed.
+    pub(crate) fn is_settled(&self)
+        ensures { NoneToFree self.now.image (logs_in self.now) }
     {
         let _ = &self.shape;
     }
@@ -135,9 +160,9 @@ impl<U: Unit> Mount<U> {
         self.heart.core.front()
     }
 
-    /// Does what comes next, so that the engine's log grows. It answers false where there is
-    /// nothing to do. `Err` names the command that it gave a unit and that was stopped: then the
-    /// engine's log may be as it was.
+    /// Does what comes next, so that the engine's log grows, and frees each line that may then be
+    /// freed. It answers false where there is nothing to do. `Err` names the command that it gave a
+    /// unit and that was stopped: then the engine's log may be as it was.
     pub(crate) fn pump(&mut self) -> Result<bool, DriveErr>
         ensures same { IsSameMount self.old self.new }
         ensures pad { self.new.pad ≡ self.old.pad }
@@ -187,6 +212,7 @@ impl<U: Unit> Mount<U> {
         let (state, _) = of.state(line);
         self.deeds.add(&NotesReset { unit });
         self.heart.reset_done(line, unit, state);
+        free_lines(&mut self.heart, &mut self.deeds);
         Ok(())
     }
 
@@ -202,6 +228,7 @@ impl<U: Unit> Mount<U> {
             core: &self.heart.core,
         });
         self.heart.open_line();
+        free_lines(&mut self.heart, &mut self.deeds);
     }
 
     // Places the stripe that the core names, has its unit program it, and notes whether it landed
@@ -227,6 +254,7 @@ impl<U: Unit> Mount<U> {
             Ok(()) => {
                 self.deeds.add(&Landing { unit: number });
                 self.heart.landed(&self.stripe);
+                free_lines(&mut self.heart, &mut self.deeds);
                 Ok(())
             }
             // it was stopped
@@ -234,6 +262,7 @@ impl<U: Unit> Mount<U> {
                 let event = unit.events();
                 self.deeds.add(&Stops { unit: number });
                 self.heart.stopped(&self.stripe);
+                free_lines(&mut self.heart, &mut self.deeds);
                 Err(DriveErr {
                     unit: number,
                     event,

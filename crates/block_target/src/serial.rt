@@ -29,6 +29,8 @@ use unit_port::{Log, Unit};
 /// A target for one session over real units. It does all work in its own calls (Bjørling, González,
 /// Bonnet, FAST 2017, write buffering).
 ///
+/// Each call leaves no line that may be freed.
+///
 /// A command that was stopped, or a fetch that failed, is told by the call that made it, and the
 /// session goes on. The stripe of a stopped program is programmed before all others.
 ///
@@ -43,13 +45,13 @@ pub struct Serial<U: Unit> {
 }
 
 impl<U: Unit> Model for Serial<U> {
-    ghost use Rattle.block_target.specs.Serial.{SerialView, IsSerial};
+    ghost use Rattle.block_target.specs.Serial.{SerialView, IsSerial, serial_view};
 
     ghost Value = { SerialView };
 
-    ghost view = { λ s. record { mount = s.mount; seen = s.seen; own = s.own; faults = s.faults; worns = s.worns } };
+    ghost view = { λ s. serial_view s.mount s.seen s.own s.faults s.worns };
 
-    ghost invariant = { λ s. IsSerial (record { mount = s.mount; seen = s.seen; own = s.own; faults = s.faults; worns = s.worns }) };
+    ghost invariant = { λ s. IsSerial (serial_view s.mount s.seen s.own s.faults s.worns) };
 }
 
 // The lists of a port that has answered nothing yet.
@@ -74,8 +76,9 @@ impl<U: Unit> Serial<U> {
     /// Opens a target over the units of a drive. The shape is accepted, there are as many units as
     /// it has, and no plan has a command of them fail; a fuse may stop them. Chunks that were left
     /// Open are padded to their ends. Then the drive is scanned, and the mount begins with what is
-    /// found (Bjørling, González, Bonnet, FAST 2017, recovery). It is granted what there is room
-    /// for, and its pad target is 0. The call takes all memory of the mount.
+    /// found (Bjørling, González, Bonnet, FAST 2017, recovery). Lines that may be freed are freed.
+    /// It is granted what there is room for, and its pad target is 0. The call takes all memory of
+    /// the mount.
     ///
     /// `Drive` comes where a program of the padding was stopped, or where a fetch of a written
     /// block failed or was stopped; it names that event. `Memory` comes where there isn't the
@@ -123,10 +126,10 @@ impl<U: Unit> Serial<U> {
     }
 
     /// Brings all that was taken to the drive, and then, while the Free lines are few, does what is
-    /// left to do. It hands the units back. What is then found on a drive that was sealed ends
-    /// between the front synced and the front taken; where the answer is `Ok` or `Worn` it ends at
-    /// the front synced. All that was taken are the session's own writes, and each was granted
-    /// before it was taken.
+    /// left to do. No line is left that may be freed. It hands the units back. What is then found
+    /// on a drive that was sealed ends between the front synced and the front taken; where the
+    /// answer is `Ok` or `Worn` it ends at the front synced. All that was taken are the session's
+    /// own writes, and each was granted before it was taken.
     ///
     /// `Drive` comes where a command of this call was stopped, and names it. `Worn` comes where not
     /// all of it is there and nothing is left to do: `wanted` is the front taken, and `have` is the
@@ -144,6 +147,7 @@ impl<U: Unit> Serial<U> {
             Err(WaitErr::Stuck { have }) => Err(SettleErr::Worn { wanted, have }),
         };
         self.mount.ends_between();
+        self.mount.is_settled();
         let Serial {
             mount,
             seen: _,

@@ -1,31 +1,28 @@
 -- The positions that a stripe's blocks bear: those of its entries, and none where it has no
 -- entries.
-use Rattle.std.proofs.Common.{◌≡◌, ℕ, ◌-◌, ◌<◌, ◌≤◌, ◌==◌, ◌&&◌, not, zero, suc, true, false, Some, None, Option, List, [], ◌∷◌, ◌++◌, map, length, take, drop, replicate, refl, sym, subst, ap, ◌∙◌, arith, if◌then◌else◌, append-nil}
+use Rattle.std.proofs.Common.{◌≡◌, ℕ, ◌-◌, ◌≤◌, ◌&&◌, not, zero, suc, true, false, Some, None, Option, List, [], ◌∷◌, ◌++◌, map, length, take, drop, replicate, refl, ap, ◌∙◌, arith, if◌then◌else◌}
 use Rattle.std.specs.Prelude.{slice_range, is_some}
 use Rattle.std.specs.List.{AllByRecursion, filter, filter_map, cons_option}
 use Rattle.pblk_model.specs.declared.shape.Shape.{Shape}
-use Rattle.pblk_model.specs.declared.chunk.Mark.{Mark}
 use Rattle.pblk_model.specs.Chunk.{Block}
 use Rattle.pblk_model.specs.Blocks.{blocks_of}
 use Rattle.pblk_model.specs.Image.{Image}
-use Rattle.pblk_model.specs.Marks.{meta_lba, void_lba, meta_mark, pad_block}
+use Rattle.pblk_model.specs.Marks.{meta_lba, meta_mark, pad_block}
 use Rattle.pblk_model.specs.Records.{named}
-use Rattle.pblk_world.specs.Events.{Source, Entry, Take, Event, Decides, Logged}
-use Rattle.pblk_world.specs.World.{World, Logs, log_of, prefixes}
+use Rattle.pblk_world.specs.Events.{Logged}
+use Rattle.pblk_world.specs.World.{World, log_of}
 use Rattle.pblk_world.specs.EngineLog.{Taken, takes, block_of_taken}
-use Rattle.pblk_world.specs.Fronts.{waits, was_placed, waiting, is_users}
-use Rattle.pblk_world.specs.Taking.{IsMarked}
+use Rattle.pblk_world.specs.Fronts.{waits, was_placed, waiting}
+use Rattle.pblk_world.specs.Legal.{IsLegal}
 use Rattle.pblk_world.specs.Placing.{data_blocks, record_blocks}
 use Rattle.pblk_world.specs.Victims.{position_in}
 use Rattle.core_laws.specs.PlacerOf.{positions_of}
 use Rattle.core_laws.proofs.PlacedPositions.{unnamed}
-use Rattle.core_laws.proofs.Followed.{IsFollowed, IsNextEvent, by_events}
+use Rattle.core_laws.proofs.UsersEntries.{AreInOrder, in_order}
 use Rattle.core_laws.proofs.PlacerOfLemmas.{positions_taken}
-use Rattle.lemmas.proofs.Lists.{all_append, with_last}
+use Rattle.lemmas.proofs.Lists.{all_append, zipped}
 use Rattle.lemmas.proofs.Maps.{all_filter}
 use Rattle.lemmas.proofs.Parts.{all_dropped, all_taken}
-use Rattle.lemmas.proofs.Tests.{lt_true}
-use Rattle.pblk_world.proofs.EngineLogLemmas.{takes_more}
 
 -- ---- blocks that bear none
 
@@ -64,29 +61,11 @@ pads_none s (suc n) small = (
 abbrev pub Bears : Shape → Taken → Type 0
 Bears s t = position_in s (block_of_taken t) ≡ Some t.entry.position
 
-bears_own : (i : Image) (ls : Logs) (entry : Entry) (mark : Mark) (source : Option Source) → is_users source ≡ true → entry.lba < i.shape.capacity
-    → IsMarked i ls entry mark source → Bears i.shape (record { entry = entry; mark = mark })
-bears_own i ls entry mark None users low is =
-    ap (λ (m : Mark). position_in i.shape (record { sector = entry.sector; mark = m })) is
-    ∙ ap (λ a. if is_some (if a then Some (Some entry.lba) else (if entry.lba == void_lba then Some None else None)) then Some entry.position else None)
-    (lt_true entry.lba i.shape.capacity low)
-bears_own i ls entry mark (Some source) users low is = absurd cc
-
-bears_step : (i : Image) (us : ℕ → List ℕ) (w : World) (knows : List ℕ) (x : Event) → IsNextEvent i us w (record { event = x; knows = knows })
-    → AllByRecursion (Bears i.shape) (takes (log_of w 0))
-    → AllByRecursion (Bears i.shape) (takes (log_of w 0 ++ record { event = x; knows = knows } ∷ []))
-bears_step i us w knows (Decides (Take entry mark)) next all =
-    let l : Logged = record { event = Decides (Take entry mark); knows = knows } in
-    let may = next.allowed.2 in
-    subst (AllByRecursion (Bears i.shape)) (sym (takes_more (log_of w 0) l))
-    (with_last (Bears i.shape) (takes (log_of w 0)) (record { entry = entry; mark = mark }) all
-    (bears_own i (prefixes l (log_of w)) entry mark entry.source next.plain may.lba may.marked))
-bears_step i us w knows x next all =
-    let l : Logged = record { event = x; knows = knows } in
-    subst (AllByRecursion (Bears i.shape)) (sym (takes_more (log_of w 0) l ∙ append-nil (takes (log_of w 0)))) all
-
-pub all_bear : (i : Image) (us : ℕ → List ℕ) (w : World) → IsFollowed i us w → AllByRecursion (Bears i.shape) (takes (log_of w 0))
-all_bear i us w is = by_events i us (λ log. AllByRecursion (Bears i.shape) (takes log)) tt (λ v l next all. bears_step i us v l.knows l.event next all) w is
+pub all_bear : (i : Image) (w : World) → i.shape.capacity ≤ meta_lba → IsLegal i w → AllByRecursion (Bears i.shape) (takes (log_of w 0))
+all_bear i w small legal =
+    let order : AreInOrder i.shape (log_of w 0) = in_order i w small legal in
+    zipped (λ (t : Taken). is_some (named i.shape t.mark) ≡ true) (λ (t : Taken). t.mark.position ≡ t.entry.position) (Bears i.shape)
+    (λ t names marked. ap (λ b. if b then Some t.mark.position else None) names ∙ ap (λ n. Some n) marked) (takes (log_of w 0)) order.named order.marked
 
 entries_made : (s : Shape) (ts : List Taken) (bs : List Block) → AllByRecursion (Bears s) ts → AllByRecursion (λ b. position_in s b ≡ None) bs
     → filter_map (position_in s) (map block_of_taken ts ++ bs) ≡ positions_of ts
@@ -107,9 +86,9 @@ positions_by s log all small =
     (pads_none s (s.ws_opt - length (map block_of_taken ts)) small)
     ∙ positions_taken s.ws_opt (waiting s log)
 
-pub data_positions : (i : Image) (us : ℕ → List ℕ) (w : World) → IsFollowed i us w → i.shape.capacity ≤ meta_lba
+pub data_positions : (i : Image) (w : World) → i.shape.capacity ≤ meta_lba → IsLegal i w
     → filter_map (position_in i.shape) (data_blocks i.shape (log_of w 0)) ≡ take i.shape.ws_opt (positions_of (waiting i.shape (log_of w 0)))
-data_positions i us w is small = positions_by i.shape (log_of w 0) (all_bear i us w is) small
+data_positions i w small legal = positions_by i.shape (log_of w 0) (all_bear i w small legal) small
 
 pub no_pad_positions : (s : Shape) (n : ℕ) → s.capacity ≤ meta_lba → filter_map (position_in s) (replicate n (pad_block s)) ≡ []
 no_pad_positions s n small = none_made (position_in s) (replicate n (pad_block s)) (pads_none s n small)

@@ -1,5 +1,5 @@
--- In a simple mount no stripe bears a position twice.
-use Rattle.std.proofs.Common.{◌≡◌, ◌⊎◌, inl, inr, ℕ, ◌+◌, ◌-◌, ◌≤◌, ◌==◌, ◌&&◌, zero, suc, not, nat_eq, Bool, true, false, cond, List, [], ◌∷◌, ◌++◌, length, take, drop, replicate, refl, sym, subst, ap, ◌∙◌, arith, append-nil, length-append}
+-- No stripe bears a position twice.
+use Rattle.std.proofs.Common.{◌≡◌, inl, inr, ℕ, ◌+◌, ◌-◌, ◌≤◌, ◌==◌, ◌&&◌, zero, suc, not, nat_eq, Bool, true, false, cond, List, [], ◌∷◌, ◌++◌, length, take, drop, replicate, refl, sym, subst, ap, ◌∙◌, arith, length-append}
 use Rattle.std.specs.Prelude.{map, slice_range, is_some}
 use Rattle.std.specs.List.{AllByRecursion, filter, range_with_len}
 use Rattle.std.proofs.lemmas.Bool.{eqb-true}
@@ -13,28 +13,25 @@ use Rattle.pblk_model.specs.LineOrder.{start_len, end_len}
 use Rattle.pblk_model.specs.StartRecord.{start_bytes}
 use Rattle.pblk_model.specs.EndRecord.{end_bytes}
 use Rattle.pblk_model.specs.Records.{named}
-use Rattle.pblk_world.specs.Events.{EngineEvent, Place, Decides, Stripe, Logged}
+use Rattle.pblk_world.specs.Events.{Stripe, Logged}
 use Rattle.pblk_world.specs.World.{World, Logs, log_of}
-use Rattle.pblk_world.specs.EngineLog.{Begun, Taken, takes, Opening, Placed, placements, block_of_taken, bears_position}
-use Rattle.pblk_world.specs.Fronts.{first_position, times_placed, times_lost, waits, was_placed, waiting}
-use Rattle.pblk_world.specs.Placing.{next_address, end_address, end_record, IsStart, IsData, IsEnd, IsPad, data_blocks, record_blocks}
-use Rattle.pblk_world.specs.Legal.{IsDecision}
-use Rattle.pblk_world.proofs.Appending.{placements_more}
+use Rattle.pblk_world.specs.EngineLog.{Taken, takes, Opening, Placed, placements, block_of_taken, bears_position}
+use Rattle.pblk_world.specs.Fronts.{first_position, waits, was_placed, waiting}
+use Rattle.pblk_world.specs.Placing.{next_address, end_address, end_record, MayPlace, data_blocks, record_blocks}
+use Rattle.pblk_world.specs.Victims.{engine_prefix}
+use Rattle.world_laws.specs.LegalMounts.{IsLegalMount}
+use Rattle.world_laws.proofs.LineStripes.{IsKind}
+use Rattle.world_laws.proofs.Made.{IsMade, made, own_then}
+use Rattle.world_laws.proofs.Openings.{placed_at}
+use Rattle.world_laws.proofs.Stripes.{IsPlaced, placed_is}
 use Rattle.core_laws.specs.PlacerOf.{positions_of}
 use Rattle.core_laws.specs.Positions.{AreNumbered, AreMarked}
-use Rattle.core_laws.specs.PlainEvents.{is_plain_event, ArePlain}
-use Rattle.core_laws.specs.SimpleMounts.{IsSimpleMount}
-use Rattle.core_laws.proofs.SimpleMounts.{engine_plain}
-use Rattle.core_laws.proofs.Placing.{not_below}
-use Rattle.core_laws.proofs.TakenNumbers.{numbered_after}
-use Rattle.core_laws.proofs.KeptPositions.{marked_after}
 use Rattle.core_laws.proofs.PlacedPositions.{unnamed}
-use Rattle.core_laws.proofs.KeptByEvents.{IsKept, kept}
-use Rattle.core_laws.proofs.HeldOnce.{none_times_lost}
 use Rattle.core_laws.proofs.SyncedWindow.{numbered_above}
-use Rattle.lemmas.proofs.Lists.{all_append, all_imply, all_replicated}
+use Rattle.core_laws.proofs.UsersEntries.{AreInOrder, in_order}
+use Rattle.lemmas.proofs.Lists.{IsAmong, all_imply, all_replicated, among_all}
 use Rattle.lemmas.proofs.Maps.{fewer_taken, filter_none}
-use Rattle.lemmas.proofs.Parts.{all_dropped, all_taken}
+use Rattle.lemmas.proofs.Parts.{all_dropped, all_taken, contained_among}
 use Rattle.lemmas.proofs.Tests.{other_number}
 use Rattle.pblk_model.proofs.MarksLemmas.{accepted_small}
 
@@ -124,29 +121,48 @@ fewer_filtered {X} f g (x ∷ xs) = go (g x) (f x) refl (fewer_filtered f g xs)
     go false true e rest = omega arith
     go false false e rest = rest
 
--- none waits that was placed
-none_waits : (s : Shape) (log : List Logged) (t : Taken) → ArePlain log → (waits s log t && was_placed s log t) ≡ false
-none_waits s log t plain = go (nat_eq (times_placed s log t) (times_lost s log t)) refl
+-- what passes either of two tests that no element passes both of, one after another
+either_or : {X : Type 0} (f g h : X → Bool) (xs : List X)
+    → length (filter f (filter (λ x. g x && h x) xs)) + length (filter f (filter (λ x. not (h x)) xs)) ≤ length (filter f xs)
+either_or f g h [] = omega arith
+either_or {X} f g h (x ∷ xs) = go (filter (λ y. g y && h y) xs) (filter (λ y. not (h y)) xs) (f x) (g x) (h x) refl (either_or f g h xs)
   where
-    go : (b : Bool) → nat_eq (times_placed s log t) (times_lost s log t) ≡ b → (b && was_placed s log t) ≡ false
-    go true e =
-        let none : times_placed s log t ≡ 0 = eqb-true (times_placed s log t) (times_lost s log t) e ∙ none_times_lost s log t plain in
-        not_below (times_placed s log t) 0 (omega arith)
-    go false e = refl
+    first : (bs cs ks : List X) (a : Bool) → length bs + length cs ≤ length ks → length (cond a (x ∷ bs) bs) + length cs ≤ length (cond a (x ∷ ks) ks)
+    first bs cs ks true rest = omega arith
+    first bs cs ks false rest = rest
 
-one_waits : (s : Shape) (log : List Logged) (q : ℕ) → ArePlain log → AreNumbered log → AreMarked log → length (filter (at_position q) (waiting s log)) ≤ 1
-one_waits s log q plain numbered marked =
-    let lost : filter (λ t. waits s log t && was_placed s log t) (takes log) ≡ [] =
-    filter_none (λ t. waits s log t && was_placed s log t) (takes log) (each (takes log)) in
-    let same : waiting s log ≡ filter (λ t. not (was_placed s log t)) (takes log) = ap (λ ts. ts ++ filter (λ t. not (was_placed s log t)) (takes log)) lost in
-    let few : length (filter (at_position q) (filter (λ t. not (was_placed s log t)) (takes log))) ≤ length (filter (at_position q) (takes log)) =
-    fewer_filtered (at_position q) (λ t. not (was_placed s log t)) (takes log) in
+    second : (bs cs ks : List X) (a : Bool) → length bs + length cs ≤ length ks → length bs + length (cond a (x ∷ cs) cs) ≤ length (cond a (x ∷ ks) ks)
+    second bs cs ks true rest = omega arith
+    second bs cs ks false rest = rest
+
+    none : (bs cs ks : List X) (a : Bool) → length bs + length cs ≤ length ks → length bs + length cs ≤ length (cond a (x ∷ ks) ks)
+    none bs cs ks true rest = omega arith
+    none bs cs ks false rest = rest
+
+    go : (bs cs : List X) (a b c : Bool) → f x ≡ a → length (filter f bs) + length (filter f cs) ≤ length (filter f xs)
+        → length (filter f (cond (b && c) (x ∷ bs) bs)) + length (filter f (cond (not c) (x ∷ cs) cs)) ≤ length (cond a (x ∷ filter f xs) (filter f xs))
+    go bs cs a true true e rest =
+        subst (λ t. length (cond t (x ∷ filter f bs) (filter f bs)) + length (filter f cs) ≤ length (cond a (x ∷ filter f xs) (filter f xs))) (sym e)
+        (first (filter f bs) (filter f cs) (filter f xs) a rest)
+    go bs cs a false true e rest = none (filter f bs) (filter f cs) (filter f xs) a rest
+    go bs cs a true false e rest =
+        subst (λ t. length (filter f bs) + length (cond t (x ∷ filter f cs) (filter f cs)) ≤ length (cond a (x ∷ filter f xs) (filter f xs))) (sym e)
+        (second (filter f bs) (filter f cs) (filter f xs) a rest)
+    go bs cs a false false e rest =
+        subst (λ t. length (filter f bs) + length (cond t (x ∷ filter f cs) (filter f cs)) ≤ length (cond a (x ∷ filter f xs) (filter f xs))) (sym e)
+        (second (filter f bs) (filter f cs) (filter f xs) a rest)
+
+-- an entry waits once, placed before or not
+one_waits : (s : Shape) (log : List Logged) (q : ℕ) → AreNumbered log → AreMarked log → length (filter (at_position q) (waiting s log)) ≤ 1
+one_waits s log q numbered marked =
+    let again : List Taken = filter (λ t. waits s log t && was_placed s log t) (takes log) in
+    let new : List Taken = filter (λ t. not (was_placed s log t)) (takes log) in
+    let sum : length (filter (at_position q) (waiting s log)) ≡ length (filter (at_position q) again) + length (filter (at_position q) new) =
+    ap length (filter-append (at_position q) again new) ∙ length-append (filter (at_position q) again) (filter (at_position q) new) in
+    let few : length (filter (at_position q) again) + length (filter (at_position q) new) ≤ length (filter (at_position q) (takes log)) =
+    either_or (at_position q) (waits s log) (was_placed s log) (takes log) in
     let one : length (filter (at_position q) (takes log)) ≤ 1 = one_numbered q (first_position log) (takes log) numbered marked in
-    subst (λ (ts : List Taken). length (filter (at_position q) ts) ≤ 1) (sym same) (omega arith)
-  where
-    each : (ts : List Taken) → AllByRecursion (λ (t : Taken). (waits s log t && was_placed s log t) ≡ false) ts
-    each [] = tt
-    each (t ∷ ts) = (none_waits s log t plain, each ts)
+    omega arith
 
 -- a block bears no position but its mark's
 fewer_bear : (s : Shape) (q : ℕ) (ts : List Taken) → times s q (map block_of_taken ts) ≤ length (filter (at_position q) ts)
@@ -166,8 +182,8 @@ pub times_append : (s : Shape) (q : ℕ) (a b : List Block) → times s q (a ++ 
 unfolding times
 times_append s q a b = ap length (filter-append (bears_position s q) a b) ∙ length-append (filter (bears_position s q) a) (filter (bears_position s q) b)
 
-data_once : (s : Shape) (log : List Logged) → s.capacity ≤ meta_lba → ArePlain log → AreNumbered log → AreMarked log → BearsOnce s (data_blocks s log)
-data_once s log small plain numbered marked = λ q.
+data_once : (s : Shape) (log : List Logged) → s.capacity ≤ meta_lba → AreNumbered log → AreMarked log → BearsOnce s (data_blocks s log)
+data_once s log small numbered marked = λ q.
     let bs : List Block = map block_of_taken (take s.ws_opt (waiting s log)) in
     let pads : List Block = replicate (s.ws_opt - length bs) (pad_block s) in
     let sum : times s q (bs ++ pads) ≡ times s q bs + times s q pads = times_append s q bs pads in
@@ -175,23 +191,22 @@ data_once s log small plain numbered marked = λ q.
     let some : times s q bs ≤ length (filter (at_position q) (take s.ws_opt (waiting s log))) = fewer_bear s q (take s.ws_opt (waiting s log)) in
     let less : length (filter (at_position q) (take s.ws_opt (waiting s log))) ≤ length (filter (at_position q) (waiting s log)) =
     fewer_taken (at_position q) s.ws_opt (waiting s log) in
-    let one : length (filter (at_position q) (waiting s log)) ≤ 1 = one_waits s log q plain numbered marked in
+    let one : length (filter (at_position q) (waiting s log)) ≤ 1 = one_waits s log q numbered marked in
     omega arith
 
-by_kind : (i : Image) (logs : Logs) (stripe : Stripe) (o : Opening) → i.shape.capacity ≤ meta_lba → ArePlain (logs 0) → AreNumbered (logs 0)
-    → AreMarked (logs 0)
-    → IsStart i logs o stripe ⊎ (IsData i logs o stripe ⊎ (IsEnd i logs o stripe ⊎ IsPad i logs o stripe)) → BearsOnce i.shape stripe.blocks
-by_kind i logs stripe o small plain numbered marked (inl is) =
+by_kind : (i : Image) (logs : Logs) (stripe : Stripe) (o : Opening) → i.shape.capacity ≤ meta_lba → AreNumbered (logs 0) → AreMarked (logs 0)
+    → IsKind i logs o stripe → BearsOnce i.shape stripe.blocks
+by_kind i logs stripe o small numbered marked (inl is) =
     subst (BearsOnce i.shape) (sym is.blocks)
     (part_once i.shape o.start.seq (start_len i.shape) (start_bytes i.shape o.start) (next_address i.shape (logs 0) o - 0)
     (next_address i.shape (logs 0) o - 0 + i.shape.ws_opt) small)
-by_kind i logs stripe o small plain numbered marked (inr (inl is)) =
-    subst (BearsOnce i.shape) (sym is.blocks) (data_once i.shape (logs 0) small plain numbered marked)
-by_kind i logs stripe o small plain numbered marked (inr (inr (inl is))) =
+by_kind i logs stripe o small numbered marked (inr (inl is)) =
+    subst (BearsOnce i.shape) (sym is.blocks) (data_once i.shape (logs 0) small numbered marked)
+by_kind i logs stripe o small numbered marked (inr (inr (inl is))) =
     subst (BearsOnce i.shape) (sym is.blocks)
     (part_once i.shape o.start.seq (end_len i.shape o.start.width) (end_bytes i.shape (end_record i.shape (logs 0) o))
     (next_address i.shape (logs 0) o - end_address i.shape o) (next_address i.shape (logs 0) o - end_address i.shape o + i.shape.ws_opt) small)
-by_kind i logs stripe o small plain numbered marked (inr (inr (inr is))) = subst (BearsOnce i.shape) (sym is.blocks) (λ q.
+by_kind i logs stripe o small numbered marked (inr (inr (inr is))) = subst (BearsOnce i.shape) (sym is.blocks) (λ q.
     let none : times i.shape q (replicate i.shape.ws_opt (pad_block i.shape)) ≡ 0 =
     no_times i.shape q (replicate i.shape.ws_opt (pad_block i.shape))
     (all_replicated (BearsNone i.shape) i.shape.ws_opt (pad_block i.shape) (pads_none i.shape small)) in
@@ -199,39 +214,17 @@ by_kind i logs stripe o small plain numbered marked (inr (inr (inr is))) = subst
 
 -- ---- in a world
 
-pub record IsBorne (s : Shape) (log : List Logged) : Type 0 where
-  pub plain : ArePlain log
-  pub numbered : AreNumbered log
-  pub marked : AreMarked log
-  pub once : AllByRecursion (λ (p : Placed). BearsOnce s p.stripe.blocks) (placements log)
-
-once_next : (i : Image) (known : Logs) (log : List Logged) (beginning : Begun) (e : EngineEvent) (knows : List ℕ) → i.shape.capacity ≤ meta_lba → known 0 ≡ log
-    → IsDecision i known beginning e → IsBorne i.shape log
-    → AllByRecursion (λ (p : Placed). BearsOnce i.shape p.stripe.blocks) (placements (log ++ record { event = Decides e; knows = knows } ∷ []))
-once_next i known log beginning (Place stripe) knows small own may was =
-    let l : Logged = record { event = Decides (Place stripe); knows = knows } in
-    subst (AllByRecursion (λ (p : Placed). BearsOnce i.shape p.stripe.blocks)) (sym (placements_more log l))
-    (all_append (λ (p : Placed). BearsOnce i.shape p.stripe.blocks) (placements log) (_ ∷ []) was.once (
-      by_kind i known stripe may.opening small (subst ArePlain (sym own) was.plain) (subst AreNumbered (sym own) was.numbered)
-          (subst AreMarked (sym own) was.marked) may.kind,
-      tt,
-    ))
-once_next i known log beginning e knows small own may was =
-    let l : Logged = record { event = Decides e; knows = knows } in
-    subst (AllByRecursion (λ (p : Placed). BearsOnce i.shape p.stripe.blocks)) (sym (placements_more log l ∙ append-nil (placements log))) was.once
-
-once_kept : (i : Image) → i.shape.capacity ≤ meta_lba → IsKept i is_plain_event (IsBorne i.shape)
-once_kept i small = record {
-  empty = record { plain = tt; numbered = refl; marked = tt; once = tt };
-  first = λ known b knows may. record { plain = (refl, tt); numbered = refl; marked = tt; once = tt };
-  next = λ known log beginning e knows begins own passes may was. record {
-    plain = all_append (λ (l : Logged). is_plain_event l.event ≡ true) log (record { event = Decides e; knows = knows } ∷ []) was.plain (passes, tt);
-    numbered = numbered_after i known log beginning e knows begins own may was.numbered;
-    marked = marked_after i known log beginning e knows may was.marked;
-    once = once_next i known log beginning e knows small own may was;
-  };
-}
-
-pub borne_once : (i : Image) (w : World) → IsSimpleMount i w → AllByRecursion (λ (p : Placed). BearsOnce i.shape p.stripe.blocks) (placements (log_of w 0))
-borne_once i w simple =
-    (kept i is_plain_event (IsBorne i.shape) (once_kept i (accepted_small i.shape simple.mount.accepted)) w simple.mount.legal (engine_plain i w simple)).once
+pub borne_once : (i : Image) (w : World) → IsLegalMount i w → AllByRecursion (λ (p : Placed). BearsOnce i.shape p.stripe.blocks) (placements (log_of w 0))
+borne_once i w mount = all_imply (IsAmong (placements (log_of w 0))) (λ (p : Placed). BearsOnce i.shape p.stripe.blocks) (λ p at. one p at)
+    (placements (log_of w 0)) (among_all (placements (log_of w 0)))
+  where
+    one : (p : Placed) → IsAmong (placements (log_of w 0)) p → BearsOnce i.shape p.stripe.blocks
+    one p at =
+        let small : i.shape.capacity ≤ meta_lba = accepted_small i.shape mount.accepted in
+        let is : IsPlaced (log_of w 0) p = placed_is (log_of w 0) p (contained_among (placements (log_of w 0)) p at) in
+        let may : MayPlace i (engine_prefix p.number (log_of w)) p.stripe = placed_at i w p.number p.stripe is.logged mount.legal is.there is.event in
+        let h : IsMade i w 0 p.number is.logged = made i w 0 p.number is.logged mount.legal is.there in
+        let own : log_of h.before 0 ≡ take p.number (log_of w 0) = own_then i w 0 p.number is.logged h in
+        let then_ : AreInOrder i.shape (log_of h.before 0) = in_order i h.before small h.legal in
+        by_kind i (engine_prefix p.number (log_of w)) p.stripe may.opening small (subst AreNumbered own then_.numbered) (subst AreMarked own then_.marked)
+        may.kind

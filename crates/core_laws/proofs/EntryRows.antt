@@ -1,6 +1,6 @@
 -- What one entry that comes into a line makes of the line's row, by where the entries of sectors
 -- are.
-use Rattle.std.proofs.Common.{◌≡◌, ◌≢◌, ℕ, ◌+◌, ◌<◌, ◌==◌, ◌&&◌, nat_eq, nat_lt, Bool, true, false, cond, Some, None, Option, List, [], ◌∷◌, ◌++◌, length, refl, sym, subst, ap, ap₂, ◌∙◌, arith, append_assoc, if◌then◌else◌}
+use Rattle.std.proofs.Common.{◌≡◌, ◌≢◌, ℕ, ◌+◌, ◌<◌, ◌≤◌, ◌==◌, ◌&&◌, nat_eq, nat_lt, Bool, true, false, cond, Some, None, Option, List, [], ◌∷◌, ◌++◌, length, refl, sym, subst, ap, ap₂, ◌∙◌, arith, append_assoc, if◌then◌else◌}
 use Rattle.std.specs.List.{AllByRecursion, filter, find, last_or, range_with_len}
 use Rattle.std.specs.Option.{option_map}
 use Rattle.std.proofs.lemmas.Bool.{eqb-true, eqb-false}
@@ -12,7 +12,7 @@ use Rattle.core_laws.proofs.Placing.{not_below}
 use Rattle.core_laws.proofs.NextTakes.{IsRising, rising_before, rising_after, is_at, fails_at, passes_later, passes_last, is_same, none_found, IsFound, one_more}
 use Rattle.core_laws.proofs.TakenRows.{count_less}
 use Rattle.lemmas.proofs.Lists.{all_append, all_imply}
-use Rattle.lemmas.proofs.Maps.{all_filter, filter_agree, filter_none, filter_same}
+use Rattle.lemmas.proofs.Maps.{all_filter, all_in_range, filter_agree, filter_none, filter_same}
 use Rattle.lemmas.proofs.Tests.{and_false, lt_true, not_first, other_number, same_number}
 
 -- the line of each sector, by its latest entry or another one
@@ -104,6 +104,37 @@ of_others before t after xs rise none =
     all_imply (λ x. is_same t x ≡ false) (λ x. is_at t.entry.position (before_of (before ++ t ∷ after) x) ≡ false)
     (λ x h. none_before before t after x rise
     (not_first (t.mark.lba == x.mark.lba) (nat_lt t.entry.position x.entry.position) (turned_round x.mark.lba t.mark.lba h))) xs none
+
+-- ---- of no sector
+
+pub live_outside : (capacity : ℕ) (before : List Taken) (t : Taken) (after : List Taken) (places : Places) (line m : ℕ) → IsRising (before ++ t ∷ after)
+    → capacity ≤ t.mark.lba
+    → live_with capacity (before ++ t ∷ after) (with_entry t.entry.position line places) m ≡ live_with capacity (before ++ t ∷ after) places m
+live_outside capacity before t after places line m rise outside =
+    ap length (filter_agree (λ lba. lba < capacity) (λ lba. is_of m (with_entry t.entry.position line places lba (last_of (before ++ t ∷ after) lba)))
+    (λ lba. is_of m (places lba (last_of (before ++ t ∷ after) lba)))
+    (λ lba low. ap (λ b. is_of m (if b then Some line else places lba (last_of (before ++ t ∷ after) lba)))
+    (fails_at (λ u. u.mark.lba == lba) before t after rise (other_number t.mark.lba lba (λ e. absurd (omega arith)))))
+    (range_with_len 0 capacity) (all_in_range 0 capacity capacity (omega arith)))
+
+pub taker_outside : (capacity : ℕ) (before : List Taken) (t : Taken) (after : List Taken) (places : Places) (line m : ℕ) → IsRising (before ++ t ∷ after)
+    → capacity ≤ t.mark.lba
+    → taker_with capacity (before ++ t ∷ after) (with_entry t.entry.position line places) m ≡ taker_with capacity (before ++ t ∷ after) places m
+taker_outside capacity before t after places line m rise outside =
+    ap (λ us. option_map (λ (u : Taken). u.entry.position) (last_or None us))
+    (filter_same (took_with capacity (before ++ t ∷ after) (with_entry t.entry.position line places) m) (took_with capacity (before ++ t ∷ after) places m)
+    (λ x. go x (nat_eq t.mark.lba x.mark.lba) refl) (before ++ t ∷ after))
+  where
+    go : (x : Taken) (b : Bool) → nat_eq t.mark.lba x.mark.lba ≡ b
+        → took_with capacity (before ++ t ∷ after) (with_entry t.entry.position line places) m x ≡ took_with capacity (before ++ t ∷ after) places m x
+    go x true e =
+        let past : nat_lt x.mark.lba capacity ≡ false =
+        not_below capacity x.mark.lba (subst (λ n. capacity ≤ n) (eqb-true t.mark.lba x.mark.lba e) outside) in
+        ap (λ b. b && is_of m (with_entry t.entry.position line places x.mark.lba (before_of (before ++ t ∷ after) x))) past
+        ∙ sym (ap (λ b. b && is_of m (places x.mark.lba (before_of (before ++ t ∷ after) x))) past)
+    go x false e =
+        ap (λ b. nat_lt x.mark.lba capacity && is_of m (if b then Some line else places x.mark.lba (before_of (before ++ t ∷ after) x)))
+        (none_before before t after x rise (not_first (t.mark.lba == x.mark.lba) (nat_lt t.entry.position x.entry.position) e))
 
 -- ---- with no later entry of the sector
 

@@ -273,7 +273,8 @@ module _ (i : Image) (w : World) (mount : IsLegalMount i w) (g : Begun) (begins 
         below : e.t.entry.position < synced i.shape (log_of w 0)
         below =
             let under : r.position < spent.newest.front = position_below r written in
-            let within : spent.newest.front ≤ synced i.shape log = front_within i w mount line o spent.newest is_open spent.is_newest older in
+            let within : spent.newest.front ≤ synced i.shape log =
+            front_within i w mount o spent.newest (opened_now i w mount line o is_open).0 spent.is_newest older in
             let at : e.t.entry.position ≡ r.position = e.its in
             omega arith
 

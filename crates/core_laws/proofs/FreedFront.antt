@@ -25,6 +25,7 @@ use Rattle.core_laws.proofs.KeptByEvents.{IsKept, kept}
 use Rattle.core_laws.proofs.LeastPositions.{least_rises, least_below}
 use Rattle.core_laws.proofs.LandedWindow.{given_back_landed}
 use Rattle.core_laws.proofs.QuietEvents.{alike_kept, quiet_alike, open_is_quiet, reset_is_quiet, stop_is_quiet, place_kept}
+use Rattle.core_laws.proofs.FreedLives.{free_is_quiet}
 use Rattle.core_laws.proofs.KeptSlots.{first_kept}
 use Rattle.core_laws.proofs.Untouched.{AreKept, given_kept}
 use Rattle.lemmas.proofs.Lists.{IsAmong, all_append, all_true}
@@ -114,7 +115,8 @@ freed_rises i known w beginning (ResetDone unit event) knows simple rows own pas
     by_kept i.shape (log_of w 0) (ResetDone unit event) knows refl
     (alike_kept (log_of w 0) (after (log_of w) (ResetDone unit event) knows 0)
     (quiet_alike (log_of w 0) (ResetDone unit event) knows (reset_is_quiet (log_of w 0) unit event knows)))
-freed_rises i known w beginning (Free line) knows simple rows own passes may = absurd cc
+freed_rises i known w beginning (Free line) knows simple rows own passes may = by_kept i.shape (log_of w 0) (Free line) knows refl
+    (alike_kept (log_of w 0) (after (log_of w) (Free line) knows 0) (quiet_alike (log_of w 0) (Free line) knows (free_is_quiet (log_of w 0) line knows)))
 
 -- an entry at a front that is given back may leave the window
 pub freed_past : (s : Shape) (log : List Logged) (from : ℕ) → from ≤ freed s log → from < taken log → is_given_back s log from ≡ true → from + 1 ≤ freed s log

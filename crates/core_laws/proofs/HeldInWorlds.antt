@@ -49,7 +49,7 @@ pub newly_not_given : (i : Image) (w : World) (unit : ℕ) (p : Placed) (o : Ope
     → list_any (bears_position i.shape q) (newly_readable i.shape (log_of w 0) o unit) ≡ true → is_given_back i.shape (log_of w 0) q ≡ false
 newly_not_given i w unit p o q simple waits life rows e =
     newly_kept i.shape (log_of w 0) (with_landing (log_of w 0) unit 0 []) p o q (landed_now i w unit 0 [] p o simple waits life rows) (held_once i w simple)
-    (borne_once i w simple)
+    (borne_once i w simple.mount)
     (subst (λ u. list_any (bears_position i.shape q) (newly_readable i.shape (log_of w 0) o u) ≡ true)
     (sym (first_unanswered (log_of w 0) unit p waits).of_unit) e)
 

@@ -1,23 +1,30 @@
--- What a sector holds after the history.
-use Rattle.std.proofs.Common.{◌≡◌, ◌≢◌, ℕ, ◌<◌, ◌==◌, zero, suc, nat_eq, nat_lt, Bool, true, false, cond, Some, None, Option, List, [], ◌∷◌, length, refl, sym, subst, ap, ◌∙◌}
+-- What a sector holds after the history, and how long that is.
+use Rattle.std.proofs.Common.{◌≡◌, ◌≢◌, ℕ, ◌<◌, ◌==◌, zero, suc, nat_eq, nat_lt, Bool, true, false, cond, Some, None, Option, List, [], ◌∷◌, length, refl, sym, subst, ap, ◌∙◌, arith}
 use Rattle.std.specs.Prelude.{map, slice_get, slice_set}
 use Rattle.std.specs.List.{AllByRecursion, filter, fold, last_or}
 use Rattle.std.proofs.lemmas.Bool.{eqb-true, eqb-false}
 use Rattle.pblk_model.specs.declared.shape.Shape.{Shape}
 use Rattle.pblk_model.specs.History.{SectorWrite, after_write, users}
 use Rattle.pblk_model.specs.History as histories
+use Rattle.pblk_model.specs.Contents.{contents}
 use Rattle.pblk_model.specs.Image.{Image}
 use Rattle.pblk_world.specs.Events.{Logged}
 use Rattle.pblk_world.specs.World.{World, log_of}
-use Rattle.pblk_world.specs.EngineLog.{Taken, takes}
+use Rattle.pblk_world.specs.EngineLog.{begun, Taken, takes}
 use Rattle.pblk_world.specs.Fronts.{first_position, taken, is_users, user_takes, history, user_positions, last_take}
-use Rattle.world_laws.proofs.HeldSectors.{all_pass}
+use Rattle.pblk_world.specs.Lines.{found_image}
+use Rattle.world_laws.specs.LegalMounts.{IsLegalMount}
+use Rattle.world_laws.proofs.Copies.{entries_follow}
+use Rattle.world_laws.proofs.HeldSectors.{all_pass, fold_holds, held_by}
+use Rattle.world_laws.proofs.SectorValues.{found_capacity}
 use Rattle.core_laws.specs.SimpleMounts.{IsSimpleMount}
 use Rattle.core_laws.proofs.PlacedPositions.{numbered_below}
-use Rattle.core_laws.proofs.UsersEntries.{IsUsers, AreInOrder, in_order, users_entries}
+use Rattle.core_laws.proofs.UsersEntries.{AreInOrder, IsUsers, in_order, users_entries}
 use Rattle.lemmas.proofs.Lists.{all_imply}
 use Rattle.lemmas.proofs.Parts.{get_set_same, got_else}
 use Rattle.lemmas.proofs.Tests.{lt_true}
+use Rattle.lemmas.proofs.Maps.{all_filter}
+use Rattle.pblk_model.proofs.ContentsLemmas.{contents_count}
 use Rattle.pblk_model.proofs.MarksLemmas.{accepted_small}
 
 pub set_length : {X : Type 0} (xs : List X) (k : ℕ) (x : X) → length (slice_set xs k x) ≡ length xs
@@ -27,6 +34,33 @@ set_length (y ∷ ys) (suc k) x = ap suc (set_length ys k x)
 
 abbrev write_of : Taken → SectorWrite
 write_of t = record { lba = t.entry.lba; sector = t.entry.sector }
+
+-- ---- what a sector holds
+
+in_found : (i : Image) (w : World) (lba : ℕ) → lba < i.shape.capacity → lba < length (contents (found_image i (log_of w)))
+in_found i w lba inside =
+    let count : length (contents (found_image i (log_of w))) ≡ (found_image i (log_of w)).shape.capacity = contents_count (found_image i (log_of w)) in
+    let same : (found_image i (log_of w)).shape.capacity ≡ i.shape.capacity = found_capacity i (log_of w) (begun (log_of w 0)) in
+    omega arith
+
+history_holds : (i : Image) (w : World) (lba : ℕ) → IsLegalMount i w → lba < i.shape.capacity
+    → slice_get (histories.after (contents (found_image i (log_of w))) (history (log_of w 0))) lba
+    ≡ held_by (slice_get (contents (found_image i (log_of w))) lba) (last_take (log_of w 0) lba)
+history_holds i w lba mount inside =
+    fold_holds (contents (found_image i (log_of w))) (takes (log_of w 0)) lba (in_found i w lba inside) (entries_follow i w mount)
+
+pub latest_sector : (i : Image) (w : World) (lba : ℕ) (t : Taken) → IsLegalMount i w → lba < i.shape.capacity → last_take (log_of w 0) lba ≡ Some t
+    → slice_get (histories.after (contents (found_image i (log_of w))) (history (log_of w 0))) lba ≡ Some t.entry.sector
+latest_sector i w lba t mount inside last =
+    history_holds i w lba mount inside ∙ ap (held_by (slice_get (contents (found_image i (log_of w))) lba)) last
+
+pub first_sector : (i : Image) (w : World) (lba : ℕ) → IsLegalMount i w → lba < i.shape.capacity → last_take (log_of w 0) lba ≡ None
+    → slice_get (histories.after (contents (found_image i (log_of w))) (history (log_of w 0))) lba
+    ≡ slice_get (contents (found_image i (log_of w))) lba
+first_sector i w lba mount inside last =
+    history_holds i w lba mount inside ∙ ap (held_by (slice_get (contents (found_image i (log_of w))) lba)) last
+
+-- ---- what it holds over any contents, where all entries are users'
 
 -- the sector holds that of the entry, or what it held at first
 abbrev Holds : Option (List ℕ) → List (List ℕ) → ℕ → Option Taken → Type 0
@@ -63,25 +97,25 @@ all_users : (s : Shape) (log : List Logged) → AllByRecursion (IsUsers s) (take
 all_users s log all = all_pass (λ (t : Taken). is_users t.entry.source) (takes log)
     (all_imply (IsUsers s) (λ (t : Taken). is_users t.entry.source ≡ true) (λ t is. is.users) (takes log) all)
 
-history_holds : (i : Image) (w : World) (before : List (List ℕ)) (lba : ℕ) → IsSimpleMount i w → lba < length before
+users_hold : (i : Image) (w : World) (before : List (List ℕ)) (lba : ℕ) → IsSimpleMount i w → lba < length before
     → Holds (slice_get before lba) (histories.after before (history (log_of w 0))) lba (last_take (log_of w 0) lba)
-history_holds i w before lba simple inside =
+users_hold i w before lba simple inside =
     let log : List Logged = log_of w 0 in
     let all : AllByRecursion (IsUsers i.shape) (takes log) = users_entries i w simple in
     subst (λ (ts : List Taken). Holds (slice_get before lba) (fold after_write before (map write_of ts)) lba (last_take (log_of w 0) lba))
     (sym (all_users i.shape log all))
     (latest_holds i.shape (slice_get before lba) (takes log) before lba None all inside refl)
 
-pub latest_sector : (i : Image) (w : World) (before : List (List ℕ)) (lba : ℕ) (t : Taken) → IsSimpleMount i w → lba < length before
+pub written_sector : (i : Image) (w : World) (before : List (List ℕ)) (lba : ℕ) (t : Taken) → IsSimpleMount i w → lba < length before
     → last_take (log_of w 0) lba ≡ Some t
     → slice_get (histories.after before (history (log_of w 0))) lba ≡ Some t.entry.sector
-latest_sector i w before lba t simple inside last =
-    subst (Holds (slice_get before lba) (histories.after before (history (log_of w 0))) lba) last (history_holds i w before lba simple inside)
+written_sector i w before lba t simple inside last =
+    subst (Holds (slice_get before lba) (histories.after before (history (log_of w 0))) lba) last (users_hold i w before lba simple inside)
 
-pub first_sector : (i : Image) (w : World) (before : List (List ℕ)) (lba : ℕ) → IsSimpleMount i w → lba < length before → last_take (log_of w 0) lba ≡ None
+pub unwritten_sector : (i : Image) (w : World) (before : List (List ℕ)) (lba : ℕ) → IsSimpleMount i w → lba < length before → last_take (log_of w 0) lba ≡ None
     → slice_get (histories.after before (history (log_of w 0))) lba ≡ slice_get before lba
-first_sector i w before lba simple inside last =
-    subst (Holds (slice_get before lba) (histories.after before (history (log_of w 0))) lba) last (history_holds i w before lba simple inside)
+unwritten_sector i w before lba simple inside last =
+    subst (Holds (slice_get before lba) (histories.after before (history (log_of w 0))) lba) last (users_hold i w before lba simple inside)
 
 -- ---- how many there are
 
@@ -93,11 +127,10 @@ count_all n (t ∷ ts) all =
     (filter (λ q. nat_lt q n) (map (λ (t : Taken). t.entry.position) ts)))) (lt_true t.entry.position n all.0)
     ∙ ap suc (count_all n ts all.1)
 
-pub history_count : (i : Image) (w : World) → IsSimpleMount i w → users (user_positions (log_of w 0)) (taken (log_of w 0)) ≡ length (history (log_of w 0))
-history_count i w simple =
+pub history_count : (i : Image) (w : World) → IsLegalMount i w → users (user_positions (log_of w 0)) (taken (log_of w 0)) ≡ length (history (log_of w 0))
+history_count i w mount =
     let log : List Logged = log_of w 0 in
-    let same : user_takes log ≡ takes log = all_users i.shape log (users_entries i w simple) in
-    let order : AreInOrder i.shape log = in_order i w (accepted_small i.shape simple.mount.accepted) simple.mount.legal in
-    ap (λ (ts : List Taken). users (map (λ (t : Taken). t.entry.position) ts) (taken (log_of w 0))) same
-    ∙ count_all (taken log) (takes log) (numbered_below (first_position log) (length (takes log)) (takes log) order.numbered)
-    ∙ ap (λ (ts : List Taken). length (map write_of ts)) (sym same)
+    let order : AreInOrder i.shape log = in_order i w (accepted_small i.shape mount.accepted) mount.legal in
+    count_all (taken log) (user_takes log)
+    (all_filter (λ (t : Taken). t.entry.position < taken log) (λ (t : Taken). is_users t.entry.source) (takes log)
+    (numbered_below (first_position log) (length (takes log)) (takes log) order.numbered))

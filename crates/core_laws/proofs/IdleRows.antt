@@ -1,47 +1,27 @@
 -- The rows of a placer in a simple mount: a unit's row is idle exactly where its stripes are
 -- answered.
-use Rattle.std.proofs.Common.{◌≡◌, ℕ, ◌+◌, ◌<◌, ◌≤◌, ◌==◌, zero, suc, Bool, true, false, Some, None, Option, List, [], ◌∷◌, ◌++◌, map, length, refl, sym, subst, ap, ◌∙◌, arith, append-nil}
+use Rattle.std.proofs.Common.{◌≡◌, ℕ, ◌+◌, ◌<◌, ◌≤◌, ◌==◌, zero, suc, Bool, true, false, Some, None, Option, List, [], ◌∷◌, map, length, refl, sym, subst, ap, ◌∙◌, arith}
 use Rattle.std.specs.Prelude.{slice_get}
-use Rattle.std.specs.List.{AllByRecursion, filter_map, cons_option, range_with_len}
+use Rattle.std.specs.List.{filter_map, cons_option, range_with_len}
 use Rattle.std.specs.Option.{option_map_or}
 use Rattle.std.proofs.lemmas.Option.{none-some, same_Some, slice_get_within}
 use Rattle.pblk_model.specs.Image.{Image}
 use Rattle.pblk_model.specs.Shape.{units}
-use Rattle.pblk_world.specs.Events.{Place, Event, Decides, Logged}
+use Rattle.pblk_world.specs.Events.{Logged}
 use Rattle.pblk_world.specs.World.{World, Logs, log_of}
-use Rattle.pblk_world.specs.EngineLog.{LineLife, AsFound, Opened, Freed, is_opened, life_of, Placed, placements, placed_on, answers, is_answered, turn}
+use Rattle.pblk_world.specs.EngineLog.{LineLife, AsFound, Opened, Freed, is_opened, Placed, placements, placed_on, answers, is_answered, turn}
 use Rattle.pblk_world.proofs.Answered.{answers_fit}
-use Rattle.pblk_world.proofs.Appending.{placements_more}
 use Rattle.stripe_placer.specs.Placing.{Program, stopped_in, is_under_way}
 use Rattle.stripe_placer.specs.Placing.UnitRow.{Idle}
 use Rattle.stripe_placer.proofs.Numbered.{get_mapped}
 use Rattle.core_laws.specs.PlacerOf.{program_of_placed, waits_again, row_in, row_of, unanswered_on}
-use Rattle.core_laws.proofs.Placing.{placements_now}
+use Rattle.world_laws.proofs.Stripes.{life_of_stripe}
 use Rattle.world_laws.proofs.UnitTurns.{unit_is as its_unit}
 use Rattle.core_laws.proofs.UnitTurns.{stands_at_turn}
-use Rattle.core_laws.proofs.Followed.{IsFollowed, IsNextEvent, by_events}
-use Rattle.lemmas.proofs.Lists.{IsAmong, with_last}
-use Rattle.lemmas.proofs.Maps.{all_filter, from_filter}
-use Rattle.lemmas.proofs.Parts.{all_at, within_some}
-
--- ---- each stripe was placed in an opened line
-
-lives_step : (i : Image) (us : ℕ → List ℕ) (w : World) (knows : List ℕ) (x : Event) → IsNextEvent i us w (record { event = x; knows = knows })
-    → AllByRecursion (λ p. is_opened p.life ≡ true) (placements (log_of w 0))
-    → AllByRecursion (λ p. is_opened p.life ≡ true) (placements (log_of w 0 ++ record { event = x; knows = knows } ∷ []))
-lives_step i us w knows (Decides (Place stripe)) next all =
-    let log : List Logged = log_of w 0 in
-    let may = next.allowed.2 in
-    let opened : life_of log stripe.line ≡ Opened may.opening = ap (λ (log : List Logged). life_of log stripe.line) (sym next.own) ∙ may.is_open in
-    subst (AllByRecursion (λ (p : Placed). is_opened p.life ≡ true)) (sym (placements_now log stripe knows may.opening opened))
-    (with_last (λ (p : Placed). is_opened p.life ≡ true) (placements log) (record { number = length log; stripe = stripe; life = Opened may.opening }) all refl)
-lives_step i us w knows x next all =
-    let l : Logged = record { event = x; knows = knows } in
-    subst (AllByRecursion (λ (p : Placed). is_opened p.life ≡ true)) (sym (placements_more (log_of w 0) l ∙ append-nil (placements (log_of w 0)))) all
-
-pub placed_in_opened : (i : Image) (us : ℕ → List ℕ) (w : World) → IsFollowed i us w → AllByRecursion (λ p. is_opened p.life ≡ true) (placements (log_of w 0))
-placed_in_opened i us w is = by_events i us (λ log. AllByRecursion (λ (p : Placed). is_opened p.life ≡ true) (placements log)) tt
-    (λ v l next all. lives_step i us v l.knows l.event next all) w is
+use Rattle.core_laws.proofs.Followed.{IsFollowed}
+use Rattle.lemmas.proofs.Lists.{IsAmong}
+use Rattle.lemmas.proofs.Maps.{from_filter}
+use Rattle.lemmas.proofs.Parts.{contained_among, within_some}
 
 -- ---- rows
 
@@ -74,9 +54,10 @@ is_idle i us w again unit is idle none = go (unanswered_on (log_of w 0) unit) re
         none_past (x ∷ xs) zero h = absurd cc
         none_past (x ∷ xs) (suc k) h = let rest : length xs ≤ k = none_past xs k h in omega arith
     go (Some p) e f g =
-        let opened : is_opened p.life ≡ true =
-        all_at (λ (p : Placed). is_opened p.life ≡ true) (placed_on (log_of w 0) unit) (length (answers (log_of w 0) unit)) p e
-        (all_filter (λ (p : Placed). is_opened p.life ≡ true) (λ (p : Placed). p.stripe.unit == unit) (placements (log_of w 0)) (placed_in_opened i us w is)) in
+        let among : IsAmong (placements (log_of w 0)) p =
+        from_filter (λ (q : Placed). q.stripe.unit == unit) (placements (log_of w 0)) p (length (answers (log_of w 0) unit), e) in
+        let life = life_of_stripe i w p is.simple.mount.legal (contained_among (placements (log_of w 0)) p among) in
+        let opened : is_opened p.life ≡ true = ap is_opened life.1 in
         let under : is_under_way (row_in i (log_of w) (waits_again (log_of w 0) again unit) p.life p) ≡ true =
         row_busy i (log_of w) (waits_again (log_of w 0) again unit) p.life p opened g in
         absurd cc

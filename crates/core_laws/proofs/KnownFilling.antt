@@ -48,7 +48,7 @@ use Rattle.world_laws.proofs.Programs.{program_of_stripe}
 use Rattle.world_laws.proofs.Stripes.{life_of_stripe, opening_then, placed_before_freed}
 use Rattle.world_laws.proofs.UnitLogs.{chunk_fits}
 use Rattle.world_laws.proofs.UnitTurns.{turn_is, unit_is}
-use Rattle.core_laws.proofs.GoingLines.{landed_on, landed_grows}
+use Rattle.core_laws.proofs.LandedOn.{landed_on, landed_grows}
 use Rattle.world_laws.proofs.ChunkPointers.{no_blocks_yet}
 use Rattle.core_laws.proofs.LandedNow.{opened_now}
 use Rattle.core_laws.proofs.PlacedAnew.{earlier_stripe}

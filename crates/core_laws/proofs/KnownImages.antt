@@ -1,40 +1,27 @@
--- The image that the engine of a legal world knows, before and after a step.
-use Rattle.std.proofs.Common.{◌≡◌, ℕ, ◌+◌, ◌<◌, ◌==◌, suc, true, Some, None, Option, List, [], ◌∷◌, ◌++◌, length, take, refl, sym, subst, ap, ap₂, ◌∙◌, arith, if◌then◌else◌, le_refl, take_all}
+-- The image that the engine of a legal world knows, before and after an event of the engine.
+use Rattle.std.proofs.Common.{◌≡◌, ℕ, ◌+◌, ◌<◌, ◌==◌, suc, true, Some, None, Option, List, [], ◌∷◌, ◌++◌, length, take, refl, sym, ap, ap₂, ◌∙◌, arith, if◌then◌else◌, le_refl, take_all}
 use Rattle.std.specs.Prelude.{slice_get}
-use Rattle.std.specs.List.{Contains, filter_map}
+use Rattle.std.specs.List.{filter_map}
 use Rattle.std.specs.Option.{option_map, option_to_list}
 use Rattle.std.proofs.lemmas.List.Sums.{fold-append}
-use Rattle.std.proofs.lemmas.List.{take-take}
 use Rattle.pblk_model.specs.declared.shape.Shape.{Shape}
 use Rattle.pblk_model.specs.Chunk.{Chunk}
 use Rattle.pblk_model.specs.UnitLog.{UnitEvent, after_event, after_log}
 use Rattle.pblk_model.specs.Image.{Image}
 use Rattle.pblk_world.specs.Events.{Logged, Step}
-use Rattle.pblk_world.specs.World.{World, Logs, log_of, known, prefixes}
+use Rattle.pblk_world.specs.World.{World, Logs, log_of, known}
 use Rattle.pblk_world.specs.EngineLog.{Begun, begun}
-use Rattle.pblk_world.specs.Legal.{IsLegal, IsLegalStep}
+use Rattle.pblk_world.specs.Legal.{IsLegal}
 use Rattle.pblk_world.specs.Lines.{found_by, found_image, told_by, told_events, known_image}
 use Rattle.pblk_world.specs.Victims.{engine_prefix}
 use Rattle.lemmas.proofs.Maps.{more as last_made, numbered_at}
 use Rattle.pblk_world.proofs.EventsLemmas.{still_first}
-use Rattle.pblk_world.proofs.LegalLemmas.{whole_own}
 use Rattle.world_laws.proofs.Made.{known_within}
 use Rattle.world_laws.proofs.ToldImages.{image_same}
 use Rattle.world_laws.proofs.ToldSince.{same_told}
 
--- as it makes its next event
-pub known_then : (i : Image) (s : Step) (w : World) → IsLegal i w → IsLegalStep i (log_of w) s → s.author ≡ 0
-    → known_image i (prefixes s.logged (log_of w)) ≡ known_image i (log_of w)
-known_then i s w legal step engine =
-    let l : Logged = s.logged in
-    image_same i (log_of w) (prefixes l (log_of w)) (same_told i w (prefixes l (log_of w)) legal (record {
-      own = subst (λ a. prefixes l (log_of w) a ≡ log_of w a) engine (whole_own i s w step);
-      named = λ unit m there. take-take (known m (suc unit)) (known l (suc unit)) (log_of w (suc unit))
-          (step.knowledge.rising m (suc unit) (subst (λ a. Contains (log_of w a) m) (sym engine) there));
-    }))
-
 -- before the world's last event
-pub known_before : (i : Image) (s : Step) (w : World) → IsLegal i w
+known_before : (i : Image) (s : Step) (w : World) → IsLegal i w
     → known_image i (engine_prefix (length (log_of w 0)) (log_of (s ∷ w))) ≡ known_image i (log_of w)
 known_before i s w legal =
     let log : List Logged = log_of w 0 in

@@ -65,7 +65,7 @@ free_known i logs more is line =
 
 -- ---- space
 
-free_len_known : (i : Image) (logs more : Logs) → AreKnown i logs more → (line : ℕ)
+pub free_len_known : (i : Image) (logs more : Logs) → AreKnown i logs more → (line : ℕ)
     → (if is_free_line i more line then line_data (known_image i more) line else 0) ≡
     (if is_free_line i logs line then line_data (known_image i logs) line else 0)
 free_len_known i logs more is line = ap₂ (λ b (j : Image). if b then line_data j line else 0) (free_known i logs more is line) is.image

@@ -126,7 +126,7 @@ position_landed s log unit event knows p o q waits its opened nowhere =
 pub record AreItsEntries (i : Image) (logs : Logs) (p : Placed) (ts : List Taken) : Type 0 where
   pub bears : BearsThese i.shape p.stripe ts
   pub rising : IsRising ts
-  pub among : AllByRecursion (IsEntry i.shape.capacity (takes (logs 0))) ts
+  pub among : AllByRecursion (IsEntry (takes (logs 0))) ts
   pub nowhere : AllByRecursion (λ t. landed_line i.shape (logs 0) t.entry.position ≡ None) ts
 
 places_landed : (i : Image) (logs : Logs) (unit event : ℕ) (knows : List ℕ) (p : Placed) (o : Opening) (ts : List Taken) → unanswered_on (logs 0) unit ≡ Some p

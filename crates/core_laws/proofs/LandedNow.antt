@@ -176,9 +176,9 @@ module _ (i : Image) (w : World) (mount : IsLegalMount i w) where
   -- ---- the newest start record
 
   -- where it is newer than that of a line of this mount its front is at most the front synced
-  pub front_within : (line : ℕ) (o : Opening) (newest : StartRecord) → life_of (log_of w 0) line ≡ Opened o → newest_start i (log_of w) ≡ Some newest
+  pub front_within : (o : Opening) (newest : StartRecord) → Contains (openings (log_of w 0)) o → newest_start i (log_of w) ≡ Some newest
       → o.start.seq < newest.seq → newest.front ≤ synced i.shape (log_of w 0)
-  front_within line o newest is_open is_newest older =
+  front_within o newest opened is_newest older =
       last_in Fits (head (found_image i (log_of w))) (map (λ (p : Opening). p.start) (filter (has_landed_start i.shape log) (openings log))) newest
       found each is_newest older
     where
@@ -187,7 +187,7 @@ module _ (i : Image) (w : World) (mount : IsLegalMount i w) where
 
       found : (h : StartRecord) → head (found_image i (log_of w)) ≡ Some h → Fits h
       found h is_head newer =
-          let at = among_contained (openings log) o (opened_now line o is_open).0 in
+          let at = among_contained (openings log) o opened in
           let is : IsNthOpening i w at.0 o = nth_opening i w at.0 o mount.legal at.1 in
           let with_ : IsBegunWith i w is.g = begun_with i w is.g mount.legal is.is_begun in
           let seq : o.start.seq ≡ is.g.beginning.seq + at.0 = seq_of_nth i w at.0 o is.g mount.legal is.is_begun at.1 in

@@ -11,8 +11,6 @@ use Rattle.pblk_model.specs.LineOrder.{start_len}
 use Rattle.pblk_model.specs.Image.{Image}
 use Rattle.pblk_world.specs.Events.{Stripe, Logged}
 use Rattle.pblk_world.specs.World.{World, log_of}
-use Rattle.pblk_layout.specs.Live.{is_live}
-use Rattle.pblk_world.specs.Lines.{known_image}
 use Rattle.pblk_world.specs.EngineLog.{is_opened, Taken, Opening, Opened, life_of, Placed, placements, placed_on, answers, is_answered, turn, stripes_of, has_landed, has_failed}
 use Rattle.pblk_world.specs.Fronts as fronts
 use Rattle.pblk_world.specs.Placing.{end_address, line_end, IsStart, IsData, IsEnd, IsPad}
@@ -39,15 +37,14 @@ use Rattle.core_laws.proofs.LineForms.{IsLineOf, line_of, formed}
 use Rattle.core_laws.proofs.NextStripes.{next_is, unfailed, start_landed, data_landed, all_parts}
 use Rattle.core_laws.proofs.IdleRows.{all_answered, is_idle, row_there}
 use Rattle.stripe_placer.proofs.Rows.{find_first, find_second}
-use Rattle.core_laws.proofs.KeptLines.{all_online}
-use Rattle.core_laws.proofs.OfferedStripes.{live_inside, unit_within}
+use Rattle.core_laws.proofs.KeptLines.{on_drive}
+use Rattle.core_laws.proofs.OfferedStripes.{unit_within}
 use Rattle.core_laws.proofs.Placeable.{kind_in, kind_by, IsPart, HasParts, parts_of}
 use Rattle.core_laws.proofs.PlainEventsLemmas.{none_failed}
 use Rattle.lemmas.proofs.Lists.{IsAmong}
 use Rattle.lemmas.proofs.Maps.{from_filter, given_at, in_filter, in_map}
-use Rattle.lemmas.proofs.Parts.{all_at, contained_among, none_past, some_within}
+use Rattle.lemmas.proofs.Parts.{contained_among, none_past, some_within}
 use Rattle.lemmas.proofs.Tests.{and_both, both, le_true, lt_true, or_left, or_right, same_number, within_is as is_within}
-use Rattle.pblk_world.proofs.LinesLemmas.{length_known}
 
 -- ---- units of which each stripe is answered
 
@@ -276,15 +273,8 @@ pub idle_answered : (i : Image) (us : ℕ → List ℕ) (w : World) (pad : ℕ) 
     → Contains (placements (log_of w 0)) p → is_answered (log_of w 0) p ≡ true
 idle_answered i us w pad again p is idle there =
     let log : List Logged = log_of w 0 in
-    let unit : ℕ = p.stripe.unit in
     let among : IsAmong (placements log) p = (there.0, slice_get-get_or (placements log) there.0 p there.1 ∙ ap (λ (q : Placed). Some q) there.2) in
-    let live : is_live (known_image i (log_of w)) p.stripe.line p.stripe.unit ≡ true =
-    all_at (λ (q : Placed). is_live (known_image i (log_of w)) q.stripe.line q.stripe.unit ≡ true) (placements log) among.0 p among.1
-    (all_online i w is.simple) in
-    let few : length (known_image i (log_of w)).units ≡ length i.units = length_known i (log_of w) in
-    let count = is.simple.mount.fit.units in
-    let low : p.stripe.unit < length (known_image i (log_of w)).units = live_inside (known_image i (log_of w)) p.stripe.line p.stripe.unit live in
-    let inside : p.stripe.unit < units i.shape = omega arith in
+    let inside : p.stripe.unit < units i.shape = on_drive i w p is.simple.mount there in
     let row : row_of i (log_of w) again p.stripe.unit ≡ Idle =
     same_Some (row_of i (log_of w) again p.stripe.unit) Idle (sym (row_there i (log_of w) again p.stripe.unit inside) ∙ idle p.stripe.unit inside) in
     all_answered log p.stripe.unit p (is_idle i us w again p.stripe.unit is (ap is_under_way row) (ap stopped_in row))

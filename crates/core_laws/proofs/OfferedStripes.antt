@@ -1,19 +1,18 @@
 -- What the placer of a simple mount offers beside stopped stripes: the next stripe of an opened
 -- line, on an idle unit.
-use Rattle.std.proofs.Common.{◌≡◌, ℕ, ◌-◌, ◌*◌, ◌/◌, ◌%◌, ◌<◌, ◌≤◌, ◌&&◌, zero, suc, not, nat_lt, Bool, true, false, Some, None, Option, List, [], ◌∷◌, ◌++◌, map, length, refl, sym, ap, ap₂, ◌∙◌, arith, mod-lt}
+use Rattle.std.proofs.Common.{◌≡◌, ℕ, ◌-◌, ◌*◌, ◌/◌, ◌%◌, ◌<◌, ◌≤◌, ◌&&◌, not, nat_lt, Bool, true, false, Some, None, Option, List, ◌++◌, map, length, refl, sym, ap, ap₂, ◌∙◌, arith, mod-lt}
 use Rattle.std.specs.Prelude.{slice_get}
 use Rattle.std.specs.List.{filter_map, find, range_with_len, slice_index_or}
 use Rattle.std.specs.Option.{option_map_or}
 use Rattle.std.proofs.lemmas.Option.{same_Some, none-some, slice_get-get_or}
 use Rattle.pblk_model.specs.declared.shape.Shape.{Shape}
 use Rattle.pblk_model.specs.Shape.{units}
-use Rattle.pblk_model.specs.Chunk.{Chunk}
-use Rattle.pblk_model.specs.Image.{Image, is_online_in}
+use Rattle.pblk_model.specs.Image.{Image}
 use Rattle.pblk_layout.specs.Live.{is_in, is_live, units_in}
 use Rattle.pblk_world.specs.Events.{Logged}
 use Rattle.pblk_world.specs.World.{World, log_of}
 use Rattle.pblk_world.specs.Lines.{known_image}
-use Rattle.pblk_world.specs.EngineLog.{is_opened, Opening, openings, Opened, is_life, life_of, placed_on, answers, stripes_of}
+use Rattle.pblk_world.specs.EngineLog.{is_opened, Opening, Opened, life_of, placed_on, answers, stripes_of}
 use Rattle.stripe_placer.specs.Entries.{Entries}
 use Rattle.stripe_placer.specs.OpenLines.{OpenLine, width, has_left, next_of, kind_of}
 use Rattle.stripe_placer.specs.Placing.{Program, UnitRow, stopped_in, is_under_way, is_ready, allows, next_positions, program_of, next_in, next_stripe}
@@ -21,10 +20,9 @@ use Rattle.stripe_placer.proofs.Named.{IsProgramIn, its_program}
 use Rattle.stripe_placer.proofs.Chunks.{lt_of as is_below}
 use Rattle.core_laws.specs.OpenedLines.{open_line, standing, open_lines}
 use Rattle.core_laws.specs.PlacerOf.{entries_of, row_of, placing_of}
-use Rattle.core_laws.proofs.UnitTurns.{filtered_is}
 use Rattle.core_laws.proofs.Followed.{IsFollowed, plain_of}
-use Rattle.core_laws.proofs.PlainOpenings.{its_life}
-use Rattle.core_laws.proofs.KeptLines.{few_units, unit_live}
+use Rattle.core_laws.proofs.StandingOpenings.{standing_opened}
+use Rattle.core_laws.proofs.KeptLines.{few_units, live_inside, unit_live}
 use Rattle.core_laws.proofs.StripesInOrder.{wide, stripe_count, IsAtPlace}
 use Rattle.core_laws.proofs.LineForms.{IsLineOf, line_of, formed}
 use Rattle.core_laws.proofs.NextStripes.{next_is, none_next}
@@ -43,14 +41,6 @@ pub record IsOfferedBy (i : Image) (us : ℕ → List ℕ) (w : World) (pad : �
   pub life : life_of (log_of w 0) o.line ≡ Opened o
   pub next : next_in i.shape (entries_of i.shape (log_of w 0) pad) (open_line i (log_of w) o) ≡ Some of
 
-pub standing_life : (i : Image) (us : ℕ → List ℕ) (w : World) (o : Opening) → IsFollowed i us w → IsAmong (standing (log_of w 0)) o
-    → life_of (log_of w 0) o.line ≡ Opened o
-standing_life i us w o is among =
-    let log : List Logged = log_of w 0 in
-    let at : IsAmong (openings log) o = from_filter (λ (p : Opening). is_life p.number (life_of log p.line)) (openings log) o among in
-    all_at (λ (p : Opening). is_life p.number (life_of log p.line) ≡ true → life_of log p.line ≡ Opened p) (openings log) at.0 o at.1 (its_life i us w is)
-    (filtered_is (λ (p : Opening). is_life p.number (life_of log p.line)) (openings log) among.0 o among.1)
-
 offered_by : (i : Image) (us : ℕ → List ℕ) (w : World) (pad : ℕ) (of : Program) → IsFollowed i us w
     → IsAmong (filter_map (next_in i.shape (entries_of i.shape (log_of w 0) pad)) (open_lines i (log_of w))) of → (o : Opening) × IsOfferedBy i us w pad of o
 offered_by i us w pad of is among =
@@ -58,18 +48,11 @@ offered_by i us w pad of is among =
     let from = from_given (next_in i.shape e) (open_lines i (log_of w)) of among.0 among.1 in
     let line = from_map (open_line i (log_of w)) (standing (log_of w 0)) from.0
     (from_filter has_left (map (open_line i (log_of w)) (standing (log_of w 0))) from.0 from.1) in
-    (line.0, record { life = standing_life i us w line.0 is line.1; next = ap (next_in i.shape e) line.2 ∙ from.2 })
+    let life : life_of (log_of w 0) line.0.line ≡ Opened line.0 =
+    all_at (λ (o : Opening). life_of (log_of w 0) o.line ≡ Opened o) (standing (log_of w 0)) line.1.0 line.0 line.1.1 (standing_opened (log_of w 0)) in
+    (line.0, record { life = life; next = ap (next_in i.shape e) line.2 ∙ from.2 })
 
 -- ---- units
-
-there : {X : Type 0} (test : X → Bool) (xs : List X) (k : ℕ) → option_map_or test (slice_get xs k) false ≡ true → k < length xs
-there test [] k e = absurd cc
-there test (x ∷ xs) zero e = omega arith
-there test (x ∷ xs) (suc k) e = let rest : k < length xs = there test xs k e in omega arith
-
-pub live_inside : (j : Image) (line unit : ℕ) → is_live j line unit ≡ true → unit < length j.units
-live_inside j line unit live =
-    there (λ (chunks : List Chunk). option_map_or (λ (c : Chunk). is_online_in c.state) (slice_get chunks line) false) j.units unit live
 
 pub unit_within : (i : Image) (us : ℕ → List ℕ) (w : World) (line k unit : ℕ) → IsFollowed i us w → is_opened (life_of (log_of w 0) line) ≡ true
     → slice_get (us line) k ≡ Some unit → unit < units i.shape
@@ -79,8 +62,7 @@ unit_within i us w line k unit is opened e =
     let live : is_live (known_image i (log_of w)) line unit ≡ true =
     unit_live (known_image i (log_of w)) line k unit few (ap (λ (xs : List ℕ). slice_get xs k) (is.keeps line opened) ∙ e) in
     let inside : unit < length (known_image i (log_of w)).units =
-    there (λ (chunks : List Chunk). option_map_or (λ (c : Chunk). is_online_in c.state) (slice_get chunks line) false)
-    (known_image i (log_of w)).units unit live in
+    live_inside (known_image i (log_of w)) line unit live in
     let same : length (known_image i (log_of w)).units ≡ length i.units = length_known i (log_of w) in
     let count = is.simple.mount.fit.units in
     omega arith

@@ -2,7 +2,7 @@
 -- of the placer's.
 use Rattle.std.proofs.Common.{◌≡◌, ℕ, ◌+◌, ◌-◌, ◌*◌, ◌/◌, ◌%◌, ◌<◌, ◌≤◌, ◌&&◌, zero, suc, not, nat_lt, Bool, true, false, Some, None, Option, List, [], ◌∷◌, map, length, refl, sym, subst, ap, ap₂, ◌∙◌, arith, div-add-mod'}
 use Rattle.std.specs.Prelude.{slice_get}
-use Rattle.std.specs.List.{AllByRecursion, filter_map, cons_option, list_all, list_any, range_with_len}
+use Rattle.std.specs.List.{AllByRecursion, Contains, filter_map, cons_option, list_all, list_any, range_with_len}
 use Rattle.std.specs.Option.{option_map_or, is_some}
 use Rattle.std.proofs.lemmas.Option.{same_Some, slice_get_within}
 use Rattle.std.proofs.lemmas.Nat.{div-mul-add, mod-mul-add}
@@ -14,8 +14,9 @@ use Rattle.pblk_model.specs.Image.{Image, is_online_in, line_units}
 use Rattle.pblk_layout.specs.Live.{is_live}
 use Rattle.pblk_world.specs.Events.{Logged}
 use Rattle.pblk_world.specs.World.{World, log_of}
-use Rattle.pblk_world.specs.EngineLog.{LineLife, AsFound, Opened, Freed, is_opened, is_as_found, Opening, life_of, is_life, Placed, placements, stripes_of, Answer, answer_of, has_landed, is_answered}
+use Rattle.pblk_world.specs.EngineLog.{LineLife, AsFound, Opened, Freed, is_opened, is_as_found, Opening, life_of, Placed, stripes_of, Answer, answer_of, has_landed, is_answered}
 use Rattle.pblk_world.specs.Lines.{known_image, is_over_state, are_over, has_stripe_left}
+use Rattle.world_laws.proofs.LineStripes.{stripe_count}
 use Rattle.stripe_placer.specs.OpenLines.{OpenLine, numbers, is_unanswered, is_to_place, has_left}
 use Rattle.stripe_placer.proofs.Chunks.{lt_of as is_below}
 use Rattle.core_laws.specs.OpenedLines.{by_answer, open_line, standing, open_lines}
@@ -26,14 +27,14 @@ use Rattle.core_laws.specs.SimpleMounts.{IsSimpleMount}
 use Rattle.core_laws.proofs.PlainEventsLemmas.{not_lost}
 use Rattle.core_laws.proofs.PlacedLines.{found_any}
 use Rattle.core_laws.proofs.KeptLines.{few_units}
-use Rattle.core_laws.proofs.StripesInOrder.{wide, stripe_count}
+use Rattle.core_laws.proofs.LandedNow.{opened_now}
+use Rattle.core_laws.proofs.StripesInOrder.{wide, stripe_count as count_of}
 use Rattle.core_laws.proofs.LineForms.{answered_as, IsLineOf, line_of, formed}
 use Rattle.core_laws.proofs.NextStripes.{next_is, in_form}
 use Rattle.core_laws.proofs.LandedChunks.{landed_fills}
-use Rattle.core_laws.proofs.WholeBlocks.{IsWhole, all_whole}
 use Rattle.core_laws.proofs.PlainStripes.{answered_lands}
 use Rattle.lemmas.proofs.Lists.{IsAmong}
-use Rattle.lemmas.proofs.Maps.{from_filter, in_filter, in_map, range_get}
+use Rattle.lemmas.proofs.Maps.{in_filter, in_map, range_get}
 use Rattle.lemmas.proofs.Parts.{all_at, contained_among, got_within}
 use Rattle.lemmas.proofs.Tests.{either_false, le_of_lt_false}
 
@@ -59,7 +60,7 @@ all_answered log (p ∷ ps) m e = let two = either_false (is_unanswered (answere
 
 -- each stripe of the line was placed, and is answered
 record IsDone (i : Image) (us : ℕ → List ℕ) (w : World) (o : Opening) : Type 0 where
-  all : length (stripes_of (log_of w 0) o) ≡ stripe_count i us o.line
+  all : length (stripes_of (log_of w 0) o) ≡ count_of i us o.line
   answered : AllOfItAnswered (log_of w 0) o
 
 is_done : (i : Image) (us : ℕ → List ℕ) (w : World) (o : Opening) → IsFollowed i us w → IsLineOf i us w o → has_left (open_line i (log_of w) o) ≡ false
@@ -68,26 +69,26 @@ is_done i us w o is line none =
     let log : List Logged = log_of w 0 in
     let l : OpenLine = open_line i (log_of w) o in
     let ps : List Placed = stripes_of log o in
-    let m : ℕ = stripe_count i us o.line - length ps in
+    let m : ℕ = count_of i us o.line - length ps in
     let two = either_false (list_any (is_to_place l) (numbers l)) (list_any is_unanswered l.stripes) none in
     record {
-      all = go (nat_lt (length ps) (stripe_count i us o.line)) refl two.0;
+      all = go (nat_lt (length ps) (count_of i us o.line)) refl two.0;
       answered = all_answered log ps m (ap (list_any is_unanswered) (sym (formed i us w o line)) ∙ two.1);
     }
   where
-    go : (b : Bool) → nat_lt (length (stripes_of (log_of w 0) o)) (stripe_count i us o.line) ≡ b
+    go : (b : Bool) → nat_lt (length (stripes_of (log_of w 0) o)) (count_of i us o.line) ≡ b
         → list_any (is_to_place (open_line i (log_of w) o)) (numbers (open_line i (log_of w) o)) ≡ false
-        → length (stripes_of (log_of w 0) o) ≡ stripe_count i us o.line
+        → length (stripes_of (log_of w 0) o) ≡ count_of i us o.line
     go true e none_left =
         let l : OpenLine = open_line i (log_of w) o in
         let ps : List Placed = stripes_of (log_of w 0) o in
-        let room : length ps < stripe_count i us o.line = is_below (length ps) (stripe_count i us o.line) e in
+        let room : length ps < count_of i us o.line = is_below (length ps) (count_of i us o.line) e in
         let found : list_any (is_to_place l) (numbers l) ≡ true =
-        found_any (is_to_place l) (numbers l) (length ps) (next_is l (log_of w 0) ps (stripe_count i us o.line - length ps) (plain_of i us w is)
+        found_any (is_to_place l) (numbers l) (length ps) (next_is l (log_of w 0) ps (count_of i us o.line - length ps) (plain_of i us w is)
         (formed i us w o line) (omega arith)) in
         absurd cc
-    go false e none_left = same_when (length (stripes_of (log_of w 0) o)) (stripe_count i us o.line)
-        (le_of_lt_false (length (stripes_of (log_of w 0) o)) (stripe_count i us o.line) e) line.order.inside
+    go false e none_left = same_when (length (stripes_of (log_of w 0) o)) (count_of i us o.line)
+        (le_of_lt_false (length (stripes_of (log_of w 0) o)) (count_of i us o.line) e) line.order.inside
       where
         same_when : (a b : ℕ) → b ≤ a → a ≤ b → a ≡ b
         same_when a b p q = omega arith
@@ -170,15 +171,14 @@ chunk_over i us w o b unit chunks c is life line done at there = go (is_online_i
         let inside : unit < length (known_image i (log_of w)).units = slice_get_within (known_image i (log_of w)).units unit chunks at in
         let among : IsAmong (us o.line) unit = live_among i us w o.line unit is (ap is_opened life) (omega arith) (live ∙ e) in
         let last : IsLastStripe i log o unit = last_stripe i us w o unit is line done among in
-        let its : IsAmong (placements log) last.placed =
-        from_filter (λ (p : Placed). is_life o.number p.life) (placements log) last.placed (last.number, last.there) in
-        let whole : IsWhole i last.placed = all_at (IsWhole i) (placements log) its.0 last.placed its.1 (all_whole i us w is) in
+        let of_it : Contains (stripes_of log o) last.placed = contained_among (stripes_of log o) last.placed (last.number, last.there) in
+        let long : length last.placed.stripe.blocks ≡ i.shape.ws_opt =
+        stripe_count i w o last.placed is.simple.mount.accepted is.simple.mount.legal (opened_now i w is.simple.mount o.line o life).0 of_it in
         let answered : is_answered log last.placed ≡ true =
         all_at (λ (p : Placed). is_answered log p ≡ true) (stripes_of log o) last.number last.placed last.there done.answered in
         let landed : has_landed log last.placed ≡ true = answered_lands (answer_of log last.placed) answered (not_lost log last.placed (plain_of i us w is)) in
-        closed_over b c.state (landed_fills i w is.simple.mount o last.placed life
-        (contained_among (stripes_of log o) last.placed (last.number, last.there)) landed
-        chunks c (ap (slice_get (known_image i (log_of w)).units) last.on ∙ at) there whole.long last.fills)
+        closed_over b c.state (landed_fills i w is.simple.mount o last.placed life of_it landed
+        chunks c (ap (slice_get (known_image i (log_of w)).units) last.on ∙ at) there (omega arith) last.fills)
 
 all_over : (b : Bool) (line : ℕ) (units : List (List Chunk))
     → ((unit : ℕ) (chunks : List Chunk) (c : Chunk) → slice_get units unit ≡ Some chunks → slice_get chunks line ≡ Some c → is_over_state b c.state ≡ true)

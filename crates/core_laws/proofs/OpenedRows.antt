@@ -227,7 +227,7 @@ pub either : {X : Type 0} (b : Bool) (x : X) → (if b then x else x) ≡ x
 either true x = refl
 either false x = refl
 
-has_width : (s : Shape) (g : ℕ) → nat_lt 0 (data_len s g) ≡ true → 0 < g
+pub has_width : (s : Shape) (g : ℕ) → nat_lt 0 (data_len s g) ≡ true → 0 < g
 has_width s g some = go (nat_lt 0 g) refl
   where
     go : (b : Bool) → nat_lt 0 g ≡ b → 0 < g

@@ -1,56 +1,49 @@
 -- Where nothing more is written to an opened line, by what the engine was told, each of its stripes
 -- was answered.
-use Rattle.std.proofs.Common.{◌≡◌, ◌⊎◌, inl, inr, ℕ, ◌+◌, ◌-◌, ◌*◌, ◌<◌, ◌≤◌, ◌==◌, zero, suc, nat_lt, Bool, true, false, cond, Some, None, Option, List, [], ◌∷◌, ◌++◌, length, take, drop, refl, sym, subst, ap, ◌∙◌, arith, length-append}
+use Rattle.std.proofs.Common.{◌≡◌, ◌⊎◌, inl, inr, ℕ, ◌+◌, ◌*◌, ◌<◌, ◌≤◌, ◌==◌, nat_lt, Bool, true, false, cond, Some, None, Option, List, [], ◌∷◌, ◌++◌, length, take, drop, refl, sym, subst, ap, ◌∙◌, arith, length-append}
 use Rattle.std.specs.Prelude.{slice_get}
 use Rattle.std.specs.List.{AllByRecursion, Contains, filter, filter_map, find, list_any}
 use Rattle.std.specs.Option.{is_some, option_and_then}
-use Rattle.std.proofs.lemmas.Bool.{cases_lt, cases_order, eqb-true}
-use Rattle.std.proofs.lemmas.Option.{slice_get_within}
+use Rattle.std.proofs.lemmas.Bool.{cases_order}
 use Rattle.std.proofs.Math.Nat.{mul-le-mul_right}
 use Rattle.std.proofs.Math.Seq.{take-length}
 use Rattle.pblk_model.specs.declared.chunk.ChunkState.{ChunkState}
 use Rattle.pblk_model.specs.declared.chunk.ChunkState.TheVariants as states
-use Rattle.pblk_model.specs.Chunk.{Chunk, pointer}
-use Rattle.pblk_model.specs.LineOrder.{block_of, column_of, data_len, end_len, start_len}
+use Rattle.pblk_model.specs.Chunk.{Chunk}
+use Rattle.pblk_model.specs.LineOrder.{block_of, column_of}
 use Rattle.pblk_model.specs.Image.{Image, is_online_in, line_chunks, line_units, width}
-use Rattle.pblk_model.proofs.ChunkLemmas.{pointer_within}
-use Rattle.pblk_model.proofs.LineOrder.{block_below}
-use Rattle.pblk_model.proofs.LineOrderLemmas.{whole_line}
 use Rattle.pblk_laws.specs.LineBlocks.{chunk_in}
 use Rattle.pblk_laws.proofs.LineUnits.{line_units_chunks, line_units_count}
 use Rattle.pblk_world.specs.Events.{Logged}
 use Rattle.pblk_world.specs.World.{World, Logs, log_of, media}
-use Rattle.pblk_world.specs.EngineLog.{Answer, DidLand, WasLost, answer_of, answers, Begun, begun, has_landed, is_answered, is_land, is_life, is_loss, life_of, Opened, Opening, Placed, placed_on, placements, stripes_of, stripes_on, turn, was_lost}
-use Rattle.pblk_world.specs.Lines.{are_over, is_over_state, known_image, place_of}
-use Rattle.pblk_world.specs.Placing.{IsNext, MayPlace, end_address, next_address, next_block}
+use Rattle.pblk_world.specs.EngineLog.{Answer, answer_of, answers, Begun, begun, is_answered, is_life, is_loss, life_of, Opened, Opening, Placed, placed_on, placements, stripes_of, stripes_on, turn, was_lost}
+use Rattle.pblk_world.specs.Lines.{are_over, is_over_state, known_image}
+use Rattle.pblk_world.specs.Placing.{IsNext, MayPlace, next_block}
 use Rattle.pblk_world.specs.Victims.{engine_prefix}
 use Rattle.pblk_world.proofs.EngineLogLemmas.{begun_knows}
 use Rattle.pblk_world.proofs.LinesLemmas.{length_known}
 use Rattle.pblk_world.proofs.VictimsLemmas.{whole_prefix}
 use Rattle.lemmas.proofs.Lists.{IsAmong, among_contained}
 use Rattle.lemmas.proofs.Maps.{all_filter, all_passed, any_found, any_member, filter_both, filters_swap, found_passes, from_filter, in_filter}
-use Rattle.lemmas.proofs.Numbers.{some_units}
 use Rattle.lemmas.proofs.Options.{mapped_some, some_value, split_then}
 use Rattle.lemmas.proofs.Parts.{all_at, all_by_get, contained_among, get_below, get_whole_within, got_within, none_past, take_and_drop}
 use Rattle.lemmas.proofs.Tests.{either_false, lt_true, not_both, same_number}
 use Rattle.world_laws.specs.LegalMounts.{IsLegalMount}
-use Rattle.world_laws.specs.UnitChunks.{chunk_after}
 use Rattle.world_laws.proofs.Later.{answer_later, placed_within}
 use Rattle.world_laws.proofs.LifePlaces.{HasPlace, began, has_place, units_now}
 use Rattle.world_laws.proofs.LifeUnits.{chunk_known}
-use Rattle.world_laws.proofs.LineBlocks.{IsLineOf, landed_written, opened_line}
-use Rattle.world_laws.proofs.LineStripes.{IsKind, some_data, stripe_count, stripe_kind}
-use Rattle.world_laws.proofs.MediaChunks.{chunk_of_media}
+use Rattle.world_laws.proofs.LineBlocks.{IsLineOf, opened_line}
+use Rattle.world_laws.proofs.LineStripes.{IsKind, stripe_kind}
 use Rattle.world_laws.proofs.Openings.{placed_at}
 use Rattle.world_laws.proofs.StripePlaces.{kth_place}
 use Rattle.world_laws.proofs.Stripes.{IsPlaced, placed_is, stripe_is, stripe_of_prefix}
-use Rattle.world_laws.proofs.UnitLogs.{chunk_fits}
-use Rattle.world_laws.proofs.UnitTurns.{earlier_placed, lesser, rise_all, rise_between, some_rise, turn_is}
-use Rattle.core_laws.proofs.GoingLines.{landed_on}
+use Rattle.world_laws.proofs.UnitTurns.{earlier_placed, lesser, rise_all, some_rise, turn_is}
+use Rattle.core_laws.proofs.LandedOn.{landed_on}
 use Rattle.core_laws.proofs.KnownFilling.{HasLoss, IsFilled, filled_now}
 use Rattle.core_laws.proofs.OverChunks.{known_there}
 use Rattle.core_laws.proofs.OverLines.{over_chunk}
 use Rattle.core_laws.proofs.PlacedAnew.{one_number}
+use Rattle.core_laws.proofs.StripeEnds.{below_end, of_unit}
 
 -- ---- lists
 
@@ -94,14 +87,6 @@ module _ (i : Image) (w : World) (mount : IsLegalMount i w) (o : Opening) (is_op
     may_of q there = let placed : IsPlaced log q = placed_is log q there in
         placed_at i w q.number q.stripe placed.logged mount.legal placed.there placed.event
 
-    -- a stripe of the opening on the unit
-    of_unit : (q : Placed) → IsAmong (stripes_on (log_of w 0) o p.stripe.unit) q → Contains (stripes_of (log_of w 0) o) q × (q.stripe.unit ≡ p.stripe.unit)
-    of_unit q at = (
-      contained_among (stripes_of log o) q (from_filter (λ (x : Placed). x.stripe.unit == unit) (stripes_of log o) q at),
-      eqb-true q.stripe.unit unit (all_at (λ (x : Placed). (x.stripe.unit == unit) ≡ true) (stripes_on log o unit) at.0 q at.1
-          (all_passed (λ (x : Placed). x.stripe.unit == unit) (stripes_of log o))),
-    )
-
     -- one that was placed before another on its unit was answered when that was placed
     answered_then : (q r : Placed) → Contains (stripes_of (log_of w 0) o) q → Contains (placements (log_of w 0)) r → q.stripe.unit ≡ r.stripe.unit
         → q.number < r.number → is_answered (take r.number (log_of w 0)) q ≡ true
@@ -126,7 +111,7 @@ module _ (i : Image) (w : World) (mount : IsLegalMount i w) (o : Opening) (is_op
     -- no stripe is placed on the unit behind it
     none_behind : (q : Placed) → IsAmong (stripes_on (log_of w 0) o p.stripe.unit) q → p.number < q.number → ⊥
     none_behind q at after =
-        let mine = of_unit q at in
+        let mine = of_unit i w mount o is_open unit q at in
         let there : Contains (placements log) q = (stripe_is i w o q mount.legal line_is.opened mine.0).0 in
         let answered = some_value (answer_of (take q.number log) p) (answered_then p q of_opening there (sym mine.1) after) in
         not_both (is_answered log p) (ap is_some (answer_kept p q.number answered.0 of_opening after answered.1)) waits
@@ -136,7 +121,7 @@ module _ (i : Image) (w : World) (mount : IsLegalMount i w) (o : Opening) (is_op
     none_lost q at lost = order (cases_order q.number p.number)
       where
         mine : Contains (stripes_of (log_of w 0) o) q × (q.stripe.unit ≡ p.stripe.unit)
-        mine = of_unit q at
+        mine = of_unit i w mount o is_open unit q at
 
         order : (q.number ≡ p.number) ⊎ ((q.number < p.number) ⊎ (p.number < q.number)) → ⊥
         order (inl same) =
@@ -181,17 +166,6 @@ module _ (i : Image) (w : World) (mount : IsLegalMount i w) (o : Opening) (is_op
         let passes = found_passes (was_lost log) (stripes_on log o unit) found.0 found.1 in
         none_lost found.0 passes.1 passes.0
 
-    -- those before it have landed
-    landed_before : (q : Placed) → IsAmong (stripes_on (log_of w 0) o p.stripe.unit) q → q.number < p.number → has_landed (log_of w 0) q ≡ true
-    landed_before q at before =
-        let mine = of_unit q at in
-        let answered = some_value (answer_of (take p.number log) q) (answered_then q p mine.0 its mine.1 before) in
-        by answered.0 (answer_kept q p.number answered.0 mine.0 before answered.1)
-      where
-        by : (a : Answer) → answer_of (log_of w 0) q ≡ Some a → has_landed (log_of w 0) q ≡ true
-        by (DidLand n) is = ap is_land is
-        by (WasLost n) is = absurd (none_lost q at (ap is_loss is))
-
     -- ---- its place
 
     its_turn : IsAmong (stripes_on (log_of w 0) o p.stripe.unit) p
@@ -227,79 +201,8 @@ module _ (i : Image) (w : World) (mount : IsLegalMount i w) (o : Opening) (is_op
             go None e h = e
             go (Some a) e h = absurd cc
 
-    -- it stands within its chunk
-    in_line : (a : ℕ) → IsNext i (engine_prefix p.number (log_of w)) o p.stripe → a ≡ next_address i.shape (take p.number (log_of w 0)) o
-        → a < o.start.width * i.shape.clba → p.stripe.at < i.shape.clba
-    in_line a x is below =
-        let known : Image = known_image i (engine_prefix p.number (log_of w)) in
-        let its_line : p.stripe.line ≡ o.line = (stripe_is i w o p mount.legal line_is.opened of_opening).3 in
-        let g : width known p.stripe.line ≡ o.start.width =
-        ap (width known) its_line ∙ sym (line_units_count known o.line) ∙ ap length (line_is.units p of_opening)
-        ∙ line_units_count (media i (log_of w)) o.line ∙ sym line_is.width_is in
-        let parts = mapped_some (slice_get (line_units known p.stripe.line) (column_of i.shape (width known p.stripe.line) a))
-        (block_of i.shape (width known p.stripe.line) a) unit p.stripe.at (ap (place_of known p.stripe.line) is ∙ x.in_order) in
-        let wide : width known p.stripe.line * i.shape.clba ≡ o.start.width * i.shape.clba = ap (λ n. n * i.shape.clba) g in
-        let low : block_of i.shape (width known p.stripe.line) a < i.shape.clba =
-        block_below i.shape.ws_opt (width known p.stripe.line) i.shape.clba a mount.accepted.drive.ws_opt mount.accepted.drive.whole_stripes
-        (some_units (width known p.stripe.line) i.shape.clba a (omega arith)) (omega arith) in
-        let here : p.stripe.at ≡ block_of i.shape (width known p.stripe.line) a = parts.1 in
-        omega arith
-
-    -- what has landed before it fits the chunk
-    rows_fit : (k : ℕ) → its_turn.0 ≡ k → k * i.shape.ws_opt ≤ i.shape.clba
-    rows_fit zero e = omega arith
-    rows_fit (suc j) e =
-        let inside : its_turn.0 < length (stripes_on log o unit) = get_below (stripes_on log o unit) its_turn.0 p its_turn.1 in
-        let last = got_within (stripes_on log o unit) j (omega arith) in
-        let mine = of_unit last.0 (j, last.1) in
-        let before : last.0.number < p.number = rise_between (stripes_on log o unit) j its_turn.0 last.0 p
-        (some_rise (λ (q : Placed). q.stripe.unit == unit) (stripes_of log o)
-        (some_rise (λ (q : Placed). is_life o.number q.life) (placements log) (rise_all log)))
-        (omega arith) last.1 its_turn.1 in
-        let landed : has_landed log last.0 ≡ true = landed_before last.0 (j, last.1) before in
-        let count : length last.0.stripe.blocks ≡ i.shape.ws_opt = stripe_count i w o last.0 mount.accepted mount.legal line_is.opened mine.0 in
-        let some : 0 < i.shape.ws_opt = mount.accepted.drive.ws_opt in
-        let block = got_within last.0.stripe.blocks (i.shape.ws_opt - 1) (omega arith) in
-        let at : last.0.stripe.at ≡ j * i.shape.ws_opt = kth_place i w o unit j last.0 mount line_is.opened last.1 in
-        let written = landed_written i w mount o is_open last.0 (i.shape.ws_opt - 1) block.0 mine.0 landed block.1 in
-        let c = split_then (λ (x : Chunk). slice_get x.blocks (last.0.stripe.at + (i.shape.ws_opt - 1)))
-        (chunk_in (media i (log_of w)) o.line last.0.stripe.unit)
-        block.0 written in
-        let far : last.0.stripe.at + (i.shape.ws_opt - 1) < length c.0.blocks =
-        slice_get_within c.0.blocks (last.0.stripe.at + (i.shape.ws_opt - 1)) block.0 c.2 in
-        let most : pointer c.0 ≤ i.shape.clba = chunk_room last.0.stripe.unit c.0 c.1 in
-        omega arith
-      where
-        chunk_room : (u : ℕ) (c : Chunk) → chunk_in (media i (log_of w)) o.line u ≡ Some c → pointer c ≤ i.shape.clba
-        chunk_room u c is_here =
-            let now : chunk_after i (log_of w) o.line u (length (log_of w (suc u))) ≡ Some c = sym (chunk_of_media i (log_of w) o.line u) ∙ is_here in
-            pointer_within c.state i.shape.clba (pointer c)
-            (chunk_fits i w mount.legal u o.line (length (log_of w (suc u))) c mount.fit mount.accepted.drive.ws_min (omega arith) now).place
-
-    below_end : p.stripe.at < i.shape.clba
-    below_end = go (stripe_kind i w o p mount.legal line_is.opened of_opening)
-      where
-        all : start_len i.shape + data_len i.shape o.start.width + end_len i.shape o.start.width ≡ o.start.width * i.shape.clba
-        all = whole_line i.shape o.start.width (some_data i w o mount.legal line_is.opened)
-
-        first : ℕ
-        first = next_address i.shape (take p.number (log_of w 0)) o
-
-        go : IsKind i (engine_prefix p.number (log_of w)) o p.stripe → p.stripe.at < i.shape.clba
-        go (inl x) = let low : first < start_len i.shape = x.within in in_line first x.next refl (omega (arith, all))
-        go (inr (inl x)) = let low : first < end_address i.shape o = x.within in in_line first x.next refl (omega (arith, all))
-        go (inr (inr (inl x))) = in_line first x.next refl x.within
-        go (inr (inr (inr x))) =
-            let left = either_false (list_any (was_lost (take p.number log)) (stripes_on (take p.number log) o unit))
-            (next_block i.shape (take p.number log) o unit == i.shape.clba) x.chunk_left in
-            by (cases_lt p.stripe.at i.shape.clba) (ap (λ a. a == i.shape.clba) x.at ∙ left.1) (rows_fit its_turn.0 refl)
-          where
-            by : (p.stripe.at < i.shape.clba) ⊎ (i.shape.clba ≤ p.stripe.at) → (p.stripe.at == i.shape.clba) ≡ false
-                → its_turn.0 * i.shape.ws_opt ≤ i.shape.clba → p.stripe.at < i.shape.clba
-            by (inl below) apart fits = below
-            by (inr past) apart fits =
-                let same : p.stripe.at ≡ i.shape.clba = omega (arith, place) in
-                absurd (not_both (p.stripe.at == i.shape.clba) (ap (λ a. a == i.shape.clba) same ∙ same_number i.shape.clba) apart)
+    below : p.stripe.at < i.shape.clba
+    below = below_end i w mount o is_open unit its_turn.0 p its_turn.1
 
     -- ---- its chunk
 
@@ -323,7 +226,7 @@ module _ (i : Image) (w : World) (mount : IsLegalMount i w) (o : Opening) (is_op
         by (inr loss) few = no_loss loss
         by (inl full) few =
             let rows : length (landed_on log o unit) * i.shape.ws_opt ≤ its_turn.0 * i.shape.ws_opt = mul-le-mul_right i.shape.ws_opt few_answered in
-            let below : p.stripe.at < i.shape.clba = below_end in
+            let low : p.stripe.at < i.shape.clba = below in
             let at : p.stripe.at ≡ its_turn.0 * i.shape.ws_opt = place in
             absurd (omega arith)
 

@@ -18,6 +18,7 @@ use Rattle.pblk_world.specs.World.{World, Logs, log_of, known, media}
 use Rattle.pblk_world.specs.EngineLog.{Begun, begun, Opened, Opening, life_of}
 use Rattle.pblk_world.specs.Commanding.{is_program}
 use Rattle.pblk_world.specs.Lines.{is_empty_state, is_over_state, known_image}
+use Rattle.pblk_world.specs.Victims.{engine_prefix}
 use Rattle.pblk_world.proofs.EngineLogLemmas.{begun_knows}
 use Rattle.pblk_world.proofs.LinesLemmas.{length_known}
 use Rattle.pblk_world.proofs.VictimsLemmas.{whole_prefix}
@@ -116,62 +117,71 @@ module _ (i : Image) (w : World) (mount : IsLegalMount i w) (line : ℕ) (o : Op
             let before : y < n = at.within told.0 y x e told.1 told.2 (inl it) in
             absurd (omega arith)
 
-    -- how far the unit's log was told by now
-    record IsToldNow : Type 0 where
+    -- how far the unit's log was told at a length of the engine's log from the opening on
+    record IsToldAt (k : ℕ) : Type 0 where
       first : ℕ
       at_first : IsKnownTo i w mount.legal b.0 b.1 unit line start_chunks has o.number first
       number : ℕ
       later : first ≤ number
-      is : IsKnownTo i w mount.legal b.0 b.1 unit line start_chunks has (length (log_of w 0)) number
+      is : IsKnownTo i w mount.legal b.0 b.1 unit line start_chunks has k number
 
-    told_now : IsToldNow
-    told_now =
+    told_at : (k : ℕ) → o.number ≤ k → k ≤ length (log_of w 0) → IsToldAt k
+    told_at k from inside =
         let at = at_opening i w mount.legal b.0 b.1 unit line o is_open start_chunks has in
+        let far : o.number + (k - o.number) ≡ k = omega arith in
+        let then_ = known_later i w mount.legal b.0 b.1 unit line start_chunks has o.number (k - o.number) at.0 (omega arith) at.1 in
+        record { first = at.0; at_first = at.1; number = then_.0; later = then_.1; is = subst (λ n. Known n then_.0) far then_.2 }
+
+    told_now : IsToldAt (length (log_of w 0))
+    told_now =
         let h : IsOpenSince i w mount.legal line (length log) o = since i w mount.legal b.0 b.1 unit line o is_open in
         let inside : o.number < length log = get_below log o.number h.logged h.there in
-        let far : o.number + (length log - o.number) ≡ length log = omega arith in
-        let then_ = known_later i w mount.legal b.0 b.1 unit line start_chunks has o.number (length log - o.number) at.0 (omega arith) at.1 in
-        record { first = at.0; at_first = at.1; number = then_.0; later = then_.1; is = subst (λ k. Known k then_.0) far then_.2 }
+        told_at (length log) (omega arith) (omega arith)
 
     -- the chunk is known as it was after so many events
-    known_then : (t : IsToldNow) → chunk_in (known_image i (log_of w)) line unit ≡ chunk_after i (log_of w) line unit t.number
+    known_at : (k : ℕ) → 0 < k → (t : IsToldAt k)
+        → chunk_in (known_image i (engine_prefix k (log_of w))) line unit ≡ chunk_after i (log_of w) line unit t.number
+    known_at k some t = chunk_known i w mount.legal b.0 b.1 unit line start_chunks has k some ∙ t.is.same
+
+    known_then : (t : IsToldAt (length (log_of w 0))) → chunk_in (known_image i (log_of w)) line unit ≡ chunk_after i (log_of w) line unit t.number
     known_then t =
         let some : 0 < length log = begun_knows (length log) log b.0 (ap begun (take-length log) ∙ b.1) in
-        ap (λ (logs : Logs). chunk_in (known_image i logs) line unit) (sym (whole_prefix (log_of w)))
-        ∙ chunk_known i w mount.legal b.0 b.1 unit line start_chunks has (length log) some ∙ t.is.same
+        ap (λ (logs : Logs). chunk_in (known_image i logs) line unit) (sym (whole_prefix (log_of w))) ∙ known_at (length log) some t
+
+    -- these go back to the opening, or the chunk is empty
+    from_opening : (k : ℕ) (t : IsToldAt k) (c : Chunk) → chunk_after i (log_of w) line unit t.number ≡ Some c
+        → (slice_index o.knows (suc unit) ≤ t.number) ⊎ (is_empty_state c.state ≡ true)
+    from_opening k t c left = by (cases_lt t.number (slice_index o.knows (suc unit)))
+      where
+        by : (t.number < slice_index o.knows (suc unit)) ⊎ (slice_index o.knows (suc unit) ≤ t.number)
+            → (slice_index o.knows (suc unit) ≤ t.number) ⊎ (is_empty_state c.state ≡ true)
+        by (inr from) = inl from
+        by (inl before) =
+            let h : IsOpenSince i w mount.legal line (length log) o = since i w mount.legal b.0 b.1 unit line o is_open in
+            let was = still_there i (log_of w) line unit t.number t.first c left in
+            let empty : is_empty_state was.0.state ≡ true =
+            known_is_empty i w mount.legal b.0 b.1 unit line o.number o.start h.logged
+            (opening i w mount.legal b.0 b.1 unit line o is_open) start_chunks has
+            was.0 (t.at_first.same ∙ was.1) in
+            let later : t.first ≤ t.number = t.later in
+            let inside : t.number ≤ length own = t.is.inside in
+            let far : t.first + (t.number - t.first) ≡ t.number = omega arith in
+            let same : chunk_after i (log_of w) line unit (t.first + (t.number - t.first)) ≡ Some was.0 =
+            empty_until i w mount.legal unit line t.first (t.number - t.first) was.0 (omega arith) was.1 empty
+            (λ y x e low high. none_before t.first t.at_first y x e low (omega arith)) in
+            inr (ap (λ (x : Chunk). is_empty_state x.state)
+            (same_Some c was.0 (sym left ∙ ap (chunk_after i (log_of w) line unit) (sym far) ∙ same)) ∙ empty)
 
     told_of : (c : Chunk) → chunk_in (known_image i (log_of w)) line unit ≡ Some c → IsToldOf c
-    told_of c is_known = go told_now
-      where
-        go : IsToldNow → IsToldOf c
-        go t = record { number = t.number; inside = t.is.inside; left = left; from = by (cases_lt t.number (slice_index o.knows (suc unit))) }
-          where
-            left : chunk_after i (log_of w) line unit t.number ≡ Some c
-            left = sym (known_then t) ∙ is_known
-
-            by : (t.number < slice_index o.knows (suc unit)) ⊎ (slice_index o.knows (suc unit) ≤ t.number)
-                → (slice_index o.knows (suc unit) ≤ t.number) ⊎ (is_empty_state c.state ≡ true)
-            by (inr from) = inl from
-            by (inl before) =
-                let h : IsOpenSince i w mount.legal line (length log) o = since i w mount.legal b.0 b.1 unit line o is_open in
-                let was = still_there i (log_of w) line unit t.number t.first c left in
-                let empty : is_empty_state was.0.state ≡ true =
-                known_is_empty i w mount.legal b.0 b.1 unit line o.number o.start h.logged
-                (opening i w mount.legal b.0 b.1 unit line o is_open) start_chunks has
-                was.0 (t.at_first.same ∙ was.1) in
-                let later : t.first ≤ t.number = t.later in
-                let inside : t.number ≤ length own = t.is.inside in
-                let far : t.first + (t.number - t.first) ≡ t.number = omega arith in
-                let same : chunk_after i (log_of w) line unit (t.first + (t.number - t.first)) ≡ Some was.0 =
-                empty_until i w mount.legal unit line t.first (t.number - t.first) was.0 (omega arith) was.1 empty
-                (λ y x e low high. none_before t.first t.at_first y x e low (omega arith)) in
-                inr (ap (λ (x : Chunk). is_empty_state x.state)
-                (same_Some c was.0 (sym left ∙ ap (chunk_after i (log_of w) line unit) (sym far) ∙ same)) ∙ empty)
+    told_of c is_known =
+        let t : IsToldAt (length log) = told_now in
+        let left : chunk_after i (log_of w) line unit t.number ≡ Some c = sym (known_then t) ∙ is_known in
+        record { number = t.number; inside = t.is.inside; left = left; from = from_opening (length log) t c left }
 
     -- what is on the media is known
     known_of : (d : Chunk) → chunk_in (media i (log_of w)) line unit ≡ Some d → (c : Chunk) × (chunk_in (known_image i (log_of w)) line unit ≡ Some c)
     known_of d there =
-        let t : IsToldNow = told_now in
+        let t : IsToldAt (length log) = told_now in
         let was = still_there i (log_of w) line unit (length own) t.number d (sym (chunk_of_media i (log_of w) line unit) ∙ there) in
         (was.0, known_then t ∙ was.1)
 
@@ -216,6 +226,24 @@ module _ (i : Image) (w : World) (mount : IsLegalMount i w) (line : ℕ) (o : Op
                 chunk_of_media i (log_of w) line unit ∙ now.1,
                 ap (λ (bs : List Block). slice_get bs k) longer.left ∙ get_more c.blocks longer.more k block at,
               )
+
+  -- what is known now was known since the opening
+  pub known_before : (k : ℕ) → o.number < k → k ≤ length (log_of w 0) → (d : Chunk) → chunk_in (known_image i (log_of w)) line unit ≡ Some d
+      → (c : Chunk) × (chunk_in (known_image i (engine_prefix k (log_of w))) line unit ≡ Some c)
+  known_before k from inside d is_known =
+      let its = split_then (λ (cs : List Chunk). slice_get cs line) (slice_get (known_image i (log_of w)).units unit) d is_known in
+      let below : unit < length (known_image i (log_of w)).units = get_below (known_image i (log_of w)).units unit its.0 its.1 in
+      let count : length (known_image i (log_of w)).units ≡ length i.units = length_known i (log_of w) in
+      let has = got_within i.units unit (omega arith) in
+      by has.0 has.1
+    where
+      by : (start_chunks : List Chunk) → slice_get i.units unit ≡ Some start_chunks
+          → (c : Chunk) × (chunk_in (known_image i (engine_prefix k (log_of w))) line unit ≡ Some c)
+      by start_chunks has =
+          let now : IsToldAt start_chunks has (length log) = told_now start_chunks has in
+          let then_ : IsToldAt start_chunks has k = told_at start_chunks has k (omega arith) inside in
+          let was = still_there i (log_of w) line unit now.number then_.number d (sym (known_then start_chunks has now) ∙ is_known) in
+          (was.0, known_at start_chunks has k (omega arith) then_ ∙ was.1)
 
   -- ---- a chunk that is over
 
@@ -264,6 +292,35 @@ module _ (i : Image) (w : World) (mount : IsLegalMount i w) (line : ℕ) (o : Op
             → (slice_index o.knows (suc unit) ≤ n + m) ⊎ (is_empty_state c.state ≡ true)
         later (inl low) = inl (omega arith)
         later (inr empty) = inr empty
+
+    -- it is known so from then on
+    pub over_since : (k : ℕ) → o.number < k → k ≤ length (log_of w 0) → chunk_in (known_image i (engine_prefix k (log_of w))) line unit ≡ Some c
+        → chunk_in (known_image i (log_of w)) line unit ≡ Some c
+    over_since k from inside is_known =
+        let its = split_then (λ (cs : List Chunk). slice_get cs line) (slice_get (known_image i (engine_prefix k (log_of w))).units unit) c is_known in
+        let below : unit < length (known_image i (engine_prefix k (log_of w))).units =
+        get_below (known_image i (engine_prefix k (log_of w))).units unit its.0 its.1 in
+        let count : length (known_image i (engine_prefix k (log_of w))).units ≡ length i.units = length_known i (engine_prefix k (log_of w)) in
+        let has = got_within i.units unit (omega arith) in
+        by has.0 has.1
+      where
+        by : (start_chunks : List Chunk) → slice_get i.units unit ≡ Some start_chunks → chunk_in (known_image i (log_of w)) line unit ≡ Some c
+        by start_chunks has =
+            let then_ : IsToldAt start_chunks has k = told_at start_chunks has k (omega arith) inside in
+            let left : chunk_after i (log_of w) line unit then_.number ≡ Some c = sym (known_at start_chunks has k (omega arith) then_) ∙ is_known in
+            let more : k + (length log - k) ≡ length log = omega arith in
+            let now = known_later i w mount.legal b.0 b.1 unit line start_chunks has k (length log - k) then_.number (omega arith) then_.is in
+            let later : IsToldAt start_chunks has (length log) = record {
+              first = then_.first;
+              at_first = then_.at_first;
+              number = now.0;
+              later = (let one : then_.first ≤ then_.number = then_.later in omega (arith, now.1));
+              is = subst (λ n. Known start_chunks has n now.0) more now.2;
+            } in
+            let far : then_.number + (now.0 - then_.number) ≡ now.0 = omega (arith, now.1) in
+            let inside_now : now.0 ≤ length own = later.is.inside in
+            known_then start_chunks has later ∙ ap (chunk_after i (log_of w) line unit) (sym far)
+            ∙ stays then_.number (now.0 - then_.number) (from_opening start_chunks has k then_ c left) (omega arith) left
 
     pub over_stands : chunk_in (known_image i (log_of w)) line unit ≡ Some c → chunk_in (media i (log_of w)) line unit ≡ Some c
     over_stands is_known =

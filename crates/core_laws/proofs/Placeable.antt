@@ -247,7 +247,7 @@ kind_positions i us w pad o at kind is = go kind
     go : (kind : StripeKind) → filter_map (position_in i.shape) (blocks_for i.shape (log_of w 0) o at kind) ≡ next_positions i.shape
         (entries_of i.shape (log_of w 0) pad) kind
     go kinds.Start = record_positions i.shape o.start.seq (start_len i.shape) (start_bytes i.shape o.start) (at - 0) (at - 0 + i.shape.ws_opt) small
-    go kinds.Data = data_positions i us w is small ∙ ap (take i.shape.ws_opt) (sym (waiting_alike i.shape (log_of w 0) pad))
+    go kinds.Data = data_positions i w small is.simple.mount.legal ∙ ap (take i.shape.ws_opt) (sym (waiting_alike i.shape (log_of w 0) pad))
     go kinds.Pad = no_pad_positions i.shape i.shape.ws_opt small
     go kinds.End = record_positions i.shape o.start.seq (end_len i.shape o.start.width) (end_bytes i.shape (end_record i.shape (log_of w 0) o))
         (at - end_address i.shape o) (at - end_address i.shape o + i.shape.ws_opt) small

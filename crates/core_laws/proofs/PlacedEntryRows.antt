@@ -1,6 +1,6 @@
 -- What the entries of a stripe make of the table, one after another, as they are placed and as they
 -- land.
-use Rattle.std.proofs.Common.{◌≡◌, ◌≢◌, ℕ, ◌+◌, ◌<◌, ◌==◌, ◌&&◌, ◌||◌, zero, suc, nat_eq, nat_lt, Bool, true, false, Some, None, Option, List, [], ◌∷◌, ◌++◌, refl, sym, subst, ap, ◌∙◌, arith, if◌then◌else◌}
+use Rattle.std.proofs.Common.{◌≡◌, ◌≢◌, ℕ, ◌+◌, ◌<◌, ◌≤◌, ◌==◌, ◌&&◌, ◌||◌, zero, suc, nat_eq, nat_lt, Bool, true, false, Some, None, Option, List, [], ◌∷◌, ◌++◌, refl, sym, subst, ap, ◌∙◌, arith, if◌then◌else◌}
 use Rattle.std.specs.Prelude.{slice_get}
 use Rattle.std.specs.List.{AllByRecursion, find, list_any}
 use Rattle.std.specs.Option.{option_map}
@@ -14,11 +14,12 @@ use Rattle.line_table.specs.Rows.{latest, noted}
 use Rattle.pblk_world.specs.Victims.{is_freed}
 use Rattle.core_laws.specs.RowsOf.{logs_then, state_of, taker_by, width_in}
 use Rattle.core_laws.specs.ChangedTables.{note_by}
-use Rattle.core_laws.specs.PlacedEntries.{next_take, gained, place_by, place_entry, place_entries, note_entry, note_entries}
+use Rattle.core_laws.specs.PlacedEntries.{next_take, gained, place_by, taker_of, place_entry, place_entries, note_entry, note_entries}
 use Rattle.core_laws.proofs.KeptRows.{row_parts}
 use Rattle.core_laws.proofs.NextTakes.{IsRising, is_at, is_same, next_by, found_at}
-use Rattle.core_laws.proofs.EntryRows.{Places, with_entry, live_with, taker_with, IsNowhere, live_elsewhere, taker_elsewhere, live_last, taker_last, live_later, taker_later}
+use Rattle.core_laws.proofs.EntryRows.{Places, with_entry, live_with, taker_with, IsNowhere, live_elsewhere, taker_elsewhere, live_outside, taker_outside, live_last, taker_last, live_later, taker_later}
 use Rattle.core_laws.proofs.ChangedTables.{table_of, table_changes, tables_agree}
+use Rattle.lemmas.proofs.Parts.{all_by_get}
 use Rattle.lemmas.proofs.Tests.{other_number}
 
 -- what took sectors from a line of this life, where their entries have landed in these lines: of a
@@ -35,11 +36,10 @@ row_with i logs places landed line =
     (taker_for i logs landed line (life_of (logs 0) line))
 
 -- an entry among those that were taken
-pub record IsEntry (capacity : ℕ) (ts : List Taken) (t : Taken) : Type 0 where
+pub record IsEntry (ts : List Taken) (t : Taken) : Type 0 where
   pub before : List Taken
   pub after : List Taken
   pub is : ts ≡ before ++ t ∷ after
-  pub inside : t.mark.lba < capacity
 
 row_elsewhere : (i : Image) (logs : Logs) (places landed : Places) (position line m : ℕ) → IsNowhere position places → m ≢ line
     → row_with i logs (with_entry position line places) landed m ≡ row_with i logs places landed m
@@ -59,33 +59,31 @@ landed_elsewhere i logs places landed position line m nowhere apart =
     by_life (Freed past knows) = refl
 
 -- the next entry of its sector, among all
-next_is : (i : Image) (logs : Logs) (t : Taken) → IsRising (takes (logs 0)) → (its : IsEntry i.shape.capacity (takes (logs 0)) t)
+next_is : (i : Image) (logs : Logs) (t : Taken) → IsRising (takes (logs 0)) → (its : IsEntry (takes (logs 0)) t)
     → next_take (logs 0) t ≡ find (is_same t) its.after
 next_is i logs t rise its =
     ap (find (λ u. (u.mark.lba == t.mark.lba) && nat_lt t.entry.position u.entry.position)) its.is ∙ next_by its.before t its.after (subst IsRising its.is rise)
 
 -- an entry that is placed
 table_there : (i : Image) (logs : Logs) (places landed : Places) (line : ℕ) (t : Taken) → IsRising (takes (logs 0))
-    → IsEntry i.shape.capacity (takes (logs 0)) t → IsNowhere t.entry.position places
+    → IsEntry (takes (logs 0)) t → IsNowhere t.entry.position places
     → table_of i.shape (row_with i logs (with_entry t.entry.position line places) landed) ≡ place_entry (logs 0) line
     (table_of i.shape (row_with i logs places landed)) t
 table_there i logs places landed line t rise its nowhere =
-    go (find (is_same t) its.after) refl
-    ∙ ap (λ o. place_by (option_map (λ (u : Taken). u.entry.position) o) line (table_of i.shape (row_with i logs places landed)))
-    (sym (next_is i logs t rise its))
+    by_lba (nat_lt t.mark.lba i.shape.capacity) refl
   where
     risen : IsRising (its.before ++ t ∷ its.after)
     risen = subst IsRising its.is rise
 
-    go : (o : Option Taken) → find (is_same t) its.after ≡ o
+    go : t.mark.lba < i.shape.capacity → (o : Option Taken) → find (is_same t) its.after ≡ o
         → table_of i.shape (row_with i logs (with_entry t.entry.position line places) landed) ≡ place_by (option_map (λ (u : Taken). u.entry.position) o) line
         (table_of i.shape (row_with i logs places landed))
-    go None e = table_changes i.shape (row_with i logs places landed) (row_with i logs (with_entry t.entry.position line places) landed) line gained
+    go inside None e = table_changes i.shape (row_with i logs places landed) (row_with i logs (with_entry t.entry.position line places) landed) line gained
         (ap (λ n. row_parts (state_of i logs line) (width_in i logs line (life_of (logs 0) line)) n (taker_for i logs landed line (life_of (logs 0) line)))
         (subst (λ ts. live_with i.shape.capacity ts (with_entry t.entry.position line places) line ≡ live_with i.shape.capacity ts places line + 1) (sym its.is)
-        (live_last i.shape.capacity its.before t its.after places line risen nowhere its.inside e)))
+        (live_last i.shape.capacity its.before t its.after places line risen nowhere inside e)))
         (λ m other. row_elsewhere i logs places landed t.entry.position line m nowhere other)
-    go (Some u) e = tables_agree i.shape (row_with i logs places landed) (row_with i logs (with_entry t.entry.position line places) landed)
+    go inside (Some u) e = tables_agree i.shape (row_with i logs places landed) (row_with i logs (with_entry t.entry.position line places) landed)
         (λ m. each m (nat_eq m line) refl)
       where
         each : (m : ℕ) (b : Bool) → nat_eq m line ≡ b → row_with i logs (with_entry t.entry.position line places) landed m ≡ row_with i logs places landed m
@@ -97,16 +95,30 @@ table_there i logs places landed line t rise its nowhere =
             (subst (λ ts. live_with i.shape.capacity ts (with_entry t.entry.position line places) line ≡ live_with i.shape.capacity ts places line) (sym its.is)
             (live_later i.shape.capacity its.before t its.after u places line risen (found_at (is_same t) its.after u e))))
 
+    by_lba : (b : Bool) → nat_lt t.mark.lba i.shape.capacity ≡ b
+        → table_of i.shape (row_with i logs (with_entry t.entry.position line places) landed)
+        ≡ (if b then place_by (taker_of (logs 0) t) line (table_of i.shape (row_with i logs places landed))
+        else table_of i.shape (row_with i logs places landed))
+    by_lba true e =
+        let inside : t.mark.lba < i.shape.capacity = grind arith in
+        go inside (find (is_same t) its.after) refl
+        ∙ ap (λ o. place_by (option_map (λ (u : Taken). u.entry.position) o) line (table_of i.shape (row_with i logs places landed)))
+        (sym (next_is i logs t rise its))
+    by_lba false e =
+        let outside : i.shape.capacity ≤ t.mark.lba = grind arith in
+        tables_agree i.shape (row_with i logs places landed) (row_with i logs (with_entry t.entry.position line places) landed) (λ m.
+        ap (λ n. row_parts (state_of i logs m) (width_in i logs m (life_of (logs 0) m)) n (taker_for i logs landed m (life_of (logs 0) m)))
+        (subst (λ ts. live_with i.shape.capacity ts (with_entry t.entry.position line places) m ≡ live_with i.shape.capacity ts places m) (sym its.is)
+        (live_outside i.shape.capacity its.before t its.after places line m risen outside)))
+
 -- an entry that has landed
 landed_there : (i : Image) (logs : Logs) (places landed : Places) (line : ℕ) (t : Taken) → is_freed (life_of (logs 0) line) ≡ false
     → IsRising (takes (logs 0))
-    → IsEntry i.shape.capacity (takes (logs 0)) t → IsNowhere t.entry.position landed
+    → IsEntry (takes (logs 0)) t → IsNowhere t.entry.position landed
     → table_of i.shape (row_with i logs places (with_entry t.entry.position line landed)) ≡ note_entry (logs 0) line
     (table_of i.shape (row_with i logs places landed)) t
 landed_there i logs places landed line t kept rise its nowhere =
-    go (find (is_same t) its.after) refl
-    ∙ ap (λ o. note_by (option_map (λ (u : Taken). u.entry.position) o) line (table_of i.shape (row_with i logs places landed)))
-    (sym (next_is i logs t rise its))
+    by_lba (nat_lt t.mark.lba i.shape.capacity) refl
   where
     risen : IsRising (its.before ++ t ∷ its.after)
     risen = subst IsRising its.is rise
@@ -116,10 +128,10 @@ landed_there i logs places landed line t kept rise its nowhere =
     own ps (Opened o) kept = refl
     own ps (Freed past knows) kept = absurd cc
 
-    go : (o : Option Taken) → find (is_same t) its.after ≡ o
+    go : t.mark.lba < i.shape.capacity → (o : Option Taken) → find (is_same t) its.after ≡ o
         → table_of i.shape (row_with i logs places (with_entry t.entry.position line landed)) ≡ note_by (option_map (λ (u : Taken). u.entry.position) o) line
         (table_of i.shape (row_with i logs places landed))
-    go None e = tables_agree i.shape (row_with i logs places landed) (row_with i logs places (with_entry t.entry.position line landed))
+    go inside None e = tables_agree i.shape (row_with i logs places landed) (row_with i logs places (with_entry t.entry.position line landed))
         (λ m. each m (nat_eq m line) refl)
       where
         each : (m : ℕ) (b : Bool) → nat_eq m line ≡ b → row_with i logs places (with_entry t.entry.position line landed) m ≡ row_with i logs places landed m
@@ -133,15 +145,40 @@ landed_there i logs places landed line t kept rise its nowhere =
             (sym its.is)
             (taker_last i.shape.capacity its.before t its.after landed line risen e)
             ∙ sym (own landed (life_of (logs 0) line) kept)))
-    go (Some u) e = table_changes i.shape (row_with i logs places landed) (row_with i logs places (with_entry t.entry.position line landed)) line
+    go inside (Some u) e = table_changes i.shape (row_with i logs places landed) (row_with i logs places (with_entry t.entry.position line landed)) line
         (noted u.entry.position)
         (ap (λ o. row_parts (state_of i logs line) (width_in i logs line (life_of (logs 0) line)) (live_with i.shape.capacity (takes (logs 0)) places line) o)
         (own (with_entry t.entry.position line landed) (life_of (logs 0) line) kept
         ∙ subst (λ ts. taker_with i.shape.capacity ts (with_entry t.entry.position line landed) line ≡ Some
         (latest (taker_with i.shape.capacity ts landed line) u.entry.position)) (sym its.is)
-        (taker_later i.shape.capacity its.before t its.after u landed line risen nowhere its.inside (found_at (is_same t) its.after u e))
+        (taker_later i.shape.capacity its.before t its.after u landed line risen nowhere inside (found_at (is_same t) its.after u e))
         ∙ ap (λ o. Some (latest o u.entry.position)) (sym (own landed (life_of (logs 0) line) kept))))
         (λ m other. landed_elsewhere i logs places landed t.entry.position line m nowhere other)
+
+    same_taker : i.shape.capacity ≤ t.mark.lba → (m : ℕ) (life : LineLife)
+        → taker_for i logs (with_entry t.entry.position line landed) m life ≡ taker_for i logs landed m life
+    same_taker outside m AsFound =
+        subst (λ ts. taker_with i.shape.capacity ts (with_entry t.entry.position line landed) m ≡ taker_with i.shape.capacity ts landed m) (sym its.is)
+        (taker_outside i.shape.capacity its.before t its.after landed line m risen outside)
+    same_taker outside m (Opened o) =
+        subst (λ ts. taker_with i.shape.capacity ts (with_entry t.entry.position line landed) m ≡ taker_with i.shape.capacity ts landed m) (sym its.is)
+        (taker_outside i.shape.capacity its.before t its.after landed line m risen outside)
+    same_taker outside m (Freed past knows) = refl
+
+    by_lba : (b : Bool) → nat_lt t.mark.lba i.shape.capacity ≡ b
+        → table_of i.shape (row_with i logs places (with_entry t.entry.position line landed))
+        ≡ (if b then note_by (taker_of (logs 0) t) line (table_of i.shape (row_with i logs places landed))
+        else table_of i.shape (row_with i logs places landed))
+    by_lba true e =
+        let inside : t.mark.lba < i.shape.capacity = grind arith in
+        go inside (find (is_same t) its.after) refl
+        ∙ ap (λ o. note_by (option_map (λ (u : Taken). u.entry.position) o) line (table_of i.shape (row_with i logs places landed)))
+        (sym (next_is i logs t rise its))
+    by_lba false e =
+        let outside : i.shape.capacity ≤ t.mark.lba = grind arith in
+        tables_agree i.shape (row_with i logs places landed) (row_with i logs places (with_entry t.entry.position line landed)) (λ m.
+        ap (λ o. row_parts (state_of i logs m) (width_in i logs m (life_of (logs 0) m)) (live_with i.shape.capacity (takes (logs 0)) places m) o)
+        (same_taker outside m (life_of (logs 0) m)))
 
 -- ---- all of them
 
@@ -164,7 +201,7 @@ all_still position line places (t ∷ ts) above all = (
 )
 
 pub entries_placed : (i : Image) (logs : Logs) (line : ℕ) (ts : List Taken) (places landed : Places) → IsRising (takes (logs 0)) → IsRising ts
-    → AllByRecursion (IsEntry i.shape.capacity (takes (logs 0))) ts
+    → AllByRecursion (IsEntry (takes (logs 0))) ts
     → AllByRecursion (λ t. IsNowhere t.entry.position places) ts
     → table_of i.shape (row_with i logs (with_entries line ts places) landed) ≡ place_entries (logs 0) line
     (table_of i.shape (row_with i logs places landed)) ts
@@ -176,7 +213,7 @@ entries_placed i logs line (t ∷ ts) places landed rise own all nowhere =
 
 pub entries_landed : (i : Image) (logs : Logs) (line : ℕ) (ts : List Taken) (places landed : Places) → is_freed (life_of (logs 0) line) ≡ false
     → IsRising (takes (logs 0)) → IsRising ts
-    → AllByRecursion (IsEntry i.shape.capacity (takes (logs 0))) ts
+    → AllByRecursion (IsEntry (takes (logs 0))) ts
     → AllByRecursion (λ t. IsNowhere t.entry.position landed) ts
     → table_of i.shape (row_with i logs places (with_entries line ts landed)) ≡ note_entries (logs 0) line (table_of i.shape (row_with i logs places landed)) ts
 unfolding with_entries
@@ -202,9 +239,13 @@ entries_are line (t ∷ ts) places lba o =
     ∙ or_if (is_at t.entry.position o) (list_any (λ u. is_at u.entry.position o) ts) (Some line) (places lba o)
 
 -- an entry that was taken stands among all
-pub entry_at : (capacity : ℕ) (ts : List Taken) (k : ℕ) (t : Taken) → slice_get ts k ≡ Some t → t.mark.lba < capacity → IsEntry capacity ts t
-entry_at capacity [] k t e inside = absurd (none-some t e)
-entry_at capacity (u ∷ ts) zero t e inside = record { before = []; after = ts; is = ap (λ v. v ∷ ts) (same_Some u t e); inside = inside }
-entry_at capacity (u ∷ ts) (suc k) t e inside =
-    let r : IsEntry capacity ts t = entry_at capacity ts k t e inside in
-    record { before = u ∷ r.before; after = r.after; is = ap (λ vs. u ∷ vs) r.is; inside = inside }
+pub entry_at : (ts : List Taken) (k : ℕ) (t : Taken) → slice_get ts k ≡ Some t → IsEntry ts t
+entry_at [] k t e = absurd (none-some t e)
+entry_at (u ∷ ts) zero t e = record { before = []; after = ts; is = ap (λ v. v ∷ ts) (same_Some u t e) }
+entry_at (u ∷ ts) (suc k) t e =
+    let r : IsEntry ts t = entry_at ts k t e in
+    record { before = u ∷ r.before; after = r.after; is = ap (λ vs. u ∷ vs) r.is }
+
+-- all of them do
+pub all_entries : (ts : List Taken) → AllByRecursion (IsEntry ts) ts
+all_entries ts = all_by_get (IsEntry ts) ts (λ k t e. entry_at ts k t e)

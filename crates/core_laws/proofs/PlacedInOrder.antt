@@ -1,5 +1,5 @@
 -- The engine's log of a simple mount: what was taken, and that it is placed in order.
-use Rattle.std.proofs.Common.{◌≡◌, ◌⊎◌, inl, inr, ℕ, ◌+◌, ◌-◌, ◌<◌, ◌≤◌, ◌==◌, ◌&&◌, zero, suc, not, nat_lt, nat_le, min, Bool, true, false, cond, Some, None, Option, List, [], ◌∷◌, ◌++◌, length, take, drop, replicate, refl, sym, subst, ap, ap₂, ◌∙◌, arith, append-nil}
+use Rattle.std.proofs.Common.{◌≡◌, ◌⊎◌, inl, inr, ℕ, ◌+◌, ◌-◌, ◌≤◌, ◌==◌, ◌&&◌, zero, suc, not, nat_lt, nat_le, min, Bool, true, false, cond, Some, None, Option, List, [], ◌∷◌, ◌++◌, length, take, drop, replicate, refl, sym, subst, ap, ap₂, ◌∙◌, arith, append-nil}
 use Rattle.std.specs.Prelude.{is_some, if◌then◌else◌, map, slice_range}
 use Rattle.std.specs.List.{AllByRecursion, filter, filter_map, flat_map, list_any, range_with_len, cons_option}
 use Rattle.std.specs.Option.{option_to_list}
@@ -9,12 +9,12 @@ use Rattle.std.proofs.lemmas.List.FromFn.{length-range_with_len}
 use Rattle.pblk_model.specs.declared.shape.Shape.{Shape}
 use Rattle.pblk_model.specs.Chunk.{Block}
 use Rattle.pblk_model.specs.Image.{Image}
-use Rattle.pblk_model.specs.Marks.{meta_lba, void_lba, pad_block}
+use Rattle.pblk_model.specs.Marks.{meta_lba, pad_block}
 use Rattle.pblk_model.specs.LineOrder.{start_len, end_len}
 use Rattle.pblk_model.specs.StartRecord.{start_bytes}
 use Rattle.pblk_model.specs.EndRecord.{end_bytes}
 use Rattle.pblk_model.specs.Records.{named}
-use Rattle.pblk_world.specs.Events.{EngineEvent, Stripe, Beginning, Begin, Take, Place, Landed, Lost, Decides, Logged}
+use Rattle.pblk_world.specs.Events.{EngineEvent, Stripe, Beginning, Begin, Place, Landed, Lost, Decides, Logged}
 use Rattle.pblk_world.specs.World.{World, Logs, log_of}
 use Rattle.pblk_world.specs.EngineLog.{Begun, begun, Taken, takes, Opening, Placed, placed_by, placements, Answer, DidLand, answer_by, answers, answer_of, turn, is_loss, was_lost, block_of_taken, holds_position}
 use Rattle.pblk_world.specs.Fronts.{first_position, taken, times_placed, times_lost, was_placed, waits, waiting}
@@ -28,8 +28,9 @@ use Rattle.core_laws.specs.SimpleMounts.{IsSimpleMount}
 use Rattle.core_laws.specs.PlacerOf.{positions_of, positions_in_stripe, lost_entries, fresh_entries}
 use Rattle.core_laws.specs.Positions.{AreNumbered, AreMarked}
 use Rattle.core_laws.proofs.TakenNumbers.{first_stays, numbered_after}
-use Rattle.core_laws.proofs.KeptPositions.{marked_after}
+use Rattle.core_laws.proofs.KeptPositions.{marked_after, named_after}
 use Rattle.core_laws.specs.Placed.{placed_positions, placed_count}
+use Rattle.core_laws.specs.PlacedEntries.{AreNamed}
 use Rattle.core_laws.proofs.EventByEvent.{IsKept, of_plain_log}
 use Rattle.core_laws.proofs.Placed.{is_in_list, some_hold, was_placed_by, rest_are_last, placed_are_first, range_dropped, range_taken, range_joined, in_range}
 use Rattle.core_laws.proofs.BlockPositions.{record_positions, no_pad_positions}
@@ -37,15 +38,10 @@ use Rattle.core_laws.proofs.PlacerOfLemmas.{positions_taken}
 use Rattle.lemmas.proofs.Lists.{all_append, all_imply}
 use Rattle.lemmas.proofs.Maps.{filter_same}
 use Rattle.lemmas.proofs.Parts.{all_at, all_dropped, all_taken}
-use Rattle.lemmas.proofs.Tests.{lt_true}
 use Rattle.pblk_model.proofs.MarksLemmas.{accepted_small}
-use Rattle.pblk_world.proofs.EngineLogLemmas.{answers_more, takes_grow, takes_more}
-use Rattle.pblk_world.proofs.TakingLemmas.{users_mark}
+use Rattle.pblk_world.proofs.EngineLogLemmas.{answers_more, takes_grow}
 
 -- ---- what the log of a simple mount has
-
-abbrev pub AreNamed : Shape → List Logged → Type 0
-AreNamed s log = AllByRecursion (λ (t : Taken). t.mark.lba < s.capacity) (takes log)
 
 abbrev pub HaveNoLoss : List Logged → Type 0
 HaveNoLoss log = (unit : ℕ) → AllByRecursion (λ (a : Answer). is_loss (Some a) ≡ false) (answers log unit)
@@ -98,14 +94,13 @@ waiting_are_last s log numbered none order = ap₂ (λ (ts us : List Taken). ts 
 
 -- ---- the positions of a stripe of entries
 
-entries_bear : (s : Shape) (ts : List Taken) → AllByRecursion (λ (t : Taken). t.mark.lba < s.capacity) ts
+entries_bear : (s : Shape) (ts : List Taken) → AllByRecursion (λ (t : Taken). is_some (named s t.mark) ≡ true) ts
     → AllByRecursion (λ (t : Taken). t.mark.position ≡ t.entry.position) ts
     → filter_map (position_in s) (map block_of_taken ts) ≡ positions_of ts
-entries_bear s [] named marked = refl
-entries_bear s (t ∷ ts) named marked =
-    ap (λ b. cons_option (if is_some (if b then Some (Some t.mark.lba) else (if t.mark.lba == void_lba then Some None else None)) then Some t.mark.position else
-    None) (filter_map (position_in s) (map block_of_taken ts))) (lt_true t.mark.lba s.capacity named.0)
-    ∙ ap₂ (λ q qs. q ∷ qs) marked.0 (entries_bear s ts named.1 marked.1)
+entries_bear s [] names marked = refl
+entries_bear s (t ∷ ts) names marked =
+    ap (λ b. cons_option (if b then Some t.mark.position else None) (filter_map (position_in s) (map block_of_taken ts))) names.0
+    ∙ ap₂ (λ q qs. q ∷ qs) marked.0 (entries_bear s ts names.1 marked.1)
 
 positions_dropped : (n : ℕ) (ts : List Taken) → positions_of (drop n ts) ≡ drop n (positions_of ts)
 positions_dropped zero ts = refl
@@ -115,7 +110,7 @@ positions_dropped (suc n) (t ∷ ts) = positions_dropped n ts
 data_positions : (s : Shape) (log : List Logged) → s.capacity ≤ meta_lba → AreNumbered log → AreMarked log → AreNamed s log → HaveNoLoss log
     → (order : AreInOrder s log)
     → filter_map (position_in s) (data_blocks s log) ≡ range_with_len (first_position log + order.count) (min s.ws_opt (length (takes log) - order.count))
-data_positions s log small numbered marked named none order =
+data_positions s log small numbered marked names none order =
     let ts : List Taken = take s.ws_opt (drop order.count (takes log)) in
     let pads : List Block = replicate (s.ws_opt - length (map block_of_taken ts)) (pad_block s) in
     ap (λ (us : List Taken). filter_map (position_in s)
@@ -125,8 +120,8 @@ data_positions s log small numbered marked named none order =
     ∙ ap (λ qs. filter_map (position_in s) (map block_of_taken ts) ++ qs) (no_pad_positions s (s.ws_opt - length (map block_of_taken ts)) small)
     ∙ append-nil (filter_map (position_in s) (map block_of_taken ts))
     ∙ entries_bear s ts
-    (all_taken (λ (t : Taken). t.mark.lba < s.capacity) s.ws_opt (drop order.count (takes log))
-    (all_dropped (λ (t : Taken). t.mark.lba < s.capacity) order.count (takes log) named))
+    (all_taken (λ (t : Taken). is_some (named s t.mark) ≡ true) s.ws_opt (drop order.count (takes log))
+    (all_dropped (λ (t : Taken). is_some (named s t.mark) ≡ true) order.count (takes log) names))
     (all_taken (λ (t : Taken). t.mark.position ≡ t.entry.position) s.ws_opt (drop order.count (takes log))
     (all_dropped (λ (t : Taken). t.mark.position ≡ t.entry.position) order.count (takes log) marked))
     ∙ positions_taken s.ws_opt (drop order.count (takes log))
@@ -176,19 +171,6 @@ pub next_in_order : (i : Image) (logs : Logs) (stripe : Stripe) → i.shape.capa
 next_in_order i logs stripe small is may = by_kind i logs stripe may.opening small is.numbered is.marked is.named is.no_loss is.order may.kind
 
 -- ---- what each event keeps
-
-named_after : (i : Image) (known : Logs) (log : List Logged) (beginning : Begun) (e : EngineEvent) (knows : List ℕ) → IsDecision i known beginning e
-    → is_plain_decision e ≡ true
-    → AreNamed i.shape log → AreNamed i.shape (log ++ record { event = Decides e; knows = knows } ∷ [])
-named_after i known log beginning (Take entry mark) knows may plain is =
-    let l : Logged = record { event = Decides (Take entry mark); knows = knows } in
-    let same : mark.lba ≡ entry.lba = users_mark i known entry mark entry.source plain may.marked in
-    let below : entry.lba < i.shape.capacity = may.lba in
-    subst (AllByRecursion (λ (t : Taken). t.mark.lba < i.shape.capacity)) (sym (takes_more log l))
-    (all_append (λ (t : Taken). t.mark.lba < i.shape.capacity) (takes log) (record { entry = entry; mark = mark } ∷ []) is (omega arith, tt))
-named_after i known log beginning e knows may plain is =
-    let l : Logged = record { event = Decides e; knows = knows } in
-    subst (AllByRecursion (λ (t : Taken). t.mark.lba < i.shape.capacity)) (sym (takes_more log l ∙ append-nil (takes log))) is
 
 answer_is_none : (e : EngineEvent) (unit : ℕ) → is_plain_decision e ≡ true
     → AllByRecursion (λ (a : Answer). is_loss (Some a) ≡ false) (option_to_list (answer_by unit (Decides e)))
@@ -246,7 +228,7 @@ kept_after : (i : Image) (known : Logs) (log : List Logged) (beginning : Begun) 
 kept_after i known log beginning e knows small begins own may plain is = record {
   numbered = numbered_after i known log beginning e knows begins own may is.numbered;
   marked = marked_after i known log beginning e knows may is.marked;
-  named = named_after i known log beginning e knows may plain is.named;
+  named = named_after i known log beginning e knows may is.named;
   no_loss = no_loss_after log e knows plain is.no_loss;
   order = order_after i known log beginning e knows small begins own may is;
 }

@@ -9,7 +9,7 @@ use Rattle.pblk_model.specs.declared.shape.Shape.{Shape}
 use Rattle.pblk_model.specs.Chunk.{Block}
 use Rattle.pblk_model.specs.Blocks.{blocks_of}
 use Rattle.pblk_model.specs.LineOrder.{start_len, end_len}
-use Rattle.pblk_model.specs.Marks.{void_lba, meta_lba, pad_mark, meta_mark, pad_block}
+use Rattle.pblk_model.specs.Marks.{meta_lba, pad_mark, meta_mark, pad_block}
 use Rattle.pblk_model.specs.Image.{Image}
 use Rattle.pblk_model.specs.Records.{named}
 use Rattle.pblk_model.specs.StartRecord.{start_bytes}
@@ -34,7 +34,7 @@ use Rattle.lemmas.proofs.Lists.{all_replicated}
 use Rattle.lemmas.proofs.Maps.{find_agree}
 use Rattle.lemmas.proofs.Options.{none_of_map}
 use Rattle.lemmas.proofs.Parts.{all_dropped, all_taken}
-use Rattle.lemmas.proofs.Tests.{and_false, lt_true, not_first, or_no, other_number, same_number}
+use Rattle.lemmas.proofs.Tests.{and_false, not_first, or_no, other_number, same_number}
 
 -- ---- which positions the blocks of a stripe bear
 
@@ -75,22 +75,19 @@ turned_round m n = go (nat_eq m n) refl
     go true e = ap (λ k. k == n) (eqb-true m n e) ∙ ap (λ k. n == k) (sym (eqb-true m n e))
     go false e = e ∙ sym (other_number n m (λ f. eqb-false m n e (sym f)))
 
-entry_bears : (s : Shape) (q : ℕ) (t : Taken) → t.mark.lba < s.capacity → t.mark.position ≡ t.entry.position
+entry_bears : (s : Shape) (q : ℕ) (t : Taken) → is_some (named s t.mark) ≡ true → t.mark.position ≡ t.entry.position
     → bears_position s q (block_of_taken t) ≡ (q == t.entry.position)
-entry_bears s q t inside marked =
-    ap₂ (λ a n. is_some (if a then Some (Some t.mark.lba) else (if t.mark.lba == void_lba then Some None else None)) && (n == q))
-    (lt_true t.mark.lba s.capacity inside) marked
-    ∙ turned_round t.entry.position q
+entry_bears s q t names marked = ap₂ (λ a n. a && (n == q)) names marked ∙ turned_round t.entry.position q
 
 -- what is known of each of the entries
 pub record IsNamed (s : Shape) (t : Taken) : Type 0 where
-  pub inside : t.mark.lba < s.capacity
+  pub names : is_some (named s t.mark) ≡ true
   pub marked : t.mark.position ≡ t.entry.position
 
 entries_bear : (s : Shape) (q : ℕ) (ts : List Taken) → AllByRecursion (IsNamed s) ts
     → list_any (bears_position s q) (map block_of_taken ts) ≡ list_any (λ t. q == t.entry.position) ts
 entries_bear s q [] all = refl
-entries_bear s q (t ∷ ts) all = ap₂ (λ a b. a || b) (entry_bears s q t all.0.inside all.0.marked) (entries_bear s q ts all.1)
+entries_bear s q (t ∷ ts) all = ap₂ (λ a b. a || b) (entry_bears s q t all.0.names all.0.marked) (entries_bear s q ts all.1)
 
 pub data_bears : (i : Image) (logs : Logs) (o : Opening) (stripe : Stripe) → i.shape.capacity ≤ meta_lba → IsData i logs o stripe
     → AllByRecursion (IsNamed i.shape) (take i.shape.ws_opt (waiting i.shape (logs 0)))

@@ -2,12 +2,14 @@
 use Rattle.std.proofs.Common.{◌≡◌, ◌⊎◌, ℕ, ◌+◌, ◌/◌, ◌<◌, ◌≤◌, ◌==◌, ◌&&◌, ◌||◌, zero, suc, not, nat_lt, nat_le, Bool, true, false, cond, None, List, [], ◌∷◌, ◌++◌, length, take, refl, sym, subst, ap, ap₂, ◌∙◌, arith, append-nil, length-append, le_of_lt, take_all, if◌then◌else◌}
 use Rattle.std.specs.Prelude.{slice_get}
 use Rattle.std.specs.List.{AllByRecursion, filter, list_any, list_all}
+use Rattle.std.specs.Option.{is_some}
 use Rattle.std.proofs.lemmas.List.{take-append-le}
 use Rattle.std.proofs.lemmas.List.Folds.{list_any-append, list_all-append}
 use Rattle.pblk_model.specs.declared.shape.Shape.{Shape}
 use Rattle.pblk_model.specs.Marks.{meta_lba}
 use Rattle.pblk_model.specs.Image.{Image, width}
 use Rattle.pblk_model.specs.Contents.{is_of}
+use Rattle.pblk_model.specs.Records.{named}
 use Rattle.pblk_world.specs.Events.{Stripe, Place, Decides, Logged}
 use Rattle.pblk_world.specs.World.{Logs}
 use Rattle.pblk_world.specs.EngineLog.{Opened, is_life, life_of, Opening, Placed, placements, stripes_of, was_lost, is_loss, is_land, has_landed, has_failed, holds_position, Taken, takes, AsFound, Freed, LineLife}
@@ -26,17 +28,17 @@ use Rattle.core_laws.specs.RowsOf.{state_in, state_of, width_in, taker_in, row_o
 use Rattle.core_laws.proofs.Engine.{placements_before}
 use Rattle.core_laws.proofs.Placing.{with_place, new_placed, IsPlacing, answer_now, new_unanswered, stripes_now}
 use Rattle.core_laws.specs.PlainLogs.{FreedBefore, NoStripeLost}
-use Rattle.core_laws.specs.PlacedEntries.{place_entries, AreOfSectors}
+use Rattle.core_laws.specs.PlacedEntries.{place_entries, AreNamed}
 use Rattle.core_laws.proofs.KeptRows.{known_kept, KeepsChunks, state_same, width_same, same_row, then_kept, taker_same}
 use Rattle.core_laws.proofs.NextTakes.{IsRising, rising_by}
 use Rattle.core_laws.proofs.EntryRows.{Places, last_of, live_with, taker_with, IsNowhere}
 use Rattle.core_laws.proofs.PlacedAddresses.{losses_now}
-use Rattle.core_laws.proofs.PlacedEntryRows.{row_with, IsEntry, with_entries, entries_placed, entry_at, taker_for}
+use Rattle.core_laws.proofs.PlacedEntryRows.{row_with, IsEntry, with_entries, entries_placed, all_entries, taker_for}
 use Rattle.core_laws.proofs.PlacedPlaces.{BearsThese, IsNamed, data_bears, others_bear, places_now, landed_placed}
 use Rattle.core_laws.proofs.ChangedTables.{table_of, tables_agree}
 use Rattle.core_laws.proofs.TakenRows.{in_no_line}
 use Rattle.core_laws.proofs.SteppingLemmas.{found_kept}
-use Rattle.lemmas.proofs.Lists.{IsAmong, all_imply, all_of, among_all, zipped}
+use Rattle.lemmas.proofs.Lists.{all_imply, all_of, zipped}
 use Rattle.lemmas.proofs.Maps.{all_agree, all_filter, all_passed, few_pass, filter_none, row_at}
 use Rattle.lemmas.proofs.Parts.{all_taken}
 use Rattle.lemmas.proofs.Tests.{le_true, lt_true, or_no, other_number}
@@ -162,7 +164,7 @@ table_now i logs stripe knows o places is before same =
 
 rows_by : (i : Image) (logs : Logs) (stripe : Stripe) (knows : List ℕ) (o : Opening) (ts : List Taken) → IsPlacing (logs 0) stripe o → FreedBefore (logs 0)
     → BearsThese i.shape stripe ts → IsRising (takes (logs 0)) → IsRising ts
-    → AllByRecursion (IsEntry i.shape.capacity (takes (logs 0))) ts → AllByRecursion (λ t. IsUnplaced i.shape (logs 0) t.entry.position) ts
+    → AllByRecursion (IsEntry (takes (logs 0))) ts → AllByRecursion (λ t. IsUnplaced i.shape (logs 0) t.entry.position) ts
     → rows_of i (after logs (Place stripe) knows) ≡ place_entries (logs 0) stripe.line (rows_of i logs) ts
 rows_by i logs stripe knows o ts is before bears rise own all unplaced =
     let nowhere : AllByRecursion (λ t. line_of_position i.shape (logs 0) t.entry.position ≡ None) ts =
@@ -237,23 +239,22 @@ first_waiting s log P fine all = all_taken P s.ws_opt (waiting s log) (subst (Al
 -- a stripe of entries
 pub rows_placed : (i : Image) (logs : Logs) (stripe : Stripe) (knows : List ℕ) (o : Opening) → i.shape.capacity ≤ meta_lba → IsPlacing (logs 0) stripe o
     → FreedBefore (logs 0) → NoStripeLost (logs 0)
-    → AreNumbered (logs 0) → AreMarked (logs 0) → AreOfSectors i.shape (logs 0) → IsData i logs o stripe
+    → AreNumbered (logs 0) → AreMarked (logs 0) → AreNamed i.shape (logs 0) → IsData i logs o stripe
     → rows_of i (after logs (Place stripe) knows) ≡ place_entries (logs 0) stripe.line (rows_of i logs) (take i.shape.ws_opt (waiting i.shape (logs 0)))
-rows_placed i logs stripe knows o small is freed fine numbered marked sectors its =
+rows_placed i logs stripe knows o small is freed fine numbered marked names its =
     let rise : IsRising (takes (logs 0)) = rising_by (first_position (logs 0)) (length (takes (logs 0))) (takes (logs 0)) numbered in
     let waits_fresh : waiting i.shape (logs 0) ≡ filter (λ t. not (was_placed i.shape (logs 0) t)) (takes (logs 0)) = waiting_fresh i.shape (logs 0) fine in
     rows_by i logs stripe knows o (take i.shape.ws_opt (waiting i.shape (logs 0))) is freed
     (data_bears i logs o stripe small its
     (first_waiting i.shape (logs 0) (IsNamed i.shape) fine (all_filter (IsNamed i.shape) (λ t. not (was_placed i.shape (logs 0) t)) (takes (logs 0))
-    (zipped (λ (t : Taken). t.mark.lba < i.shape.capacity) (λ (t : Taken). t.mark.position ≡ t.entry.position) (IsNamed i.shape)
-    (λ t a b. record { inside = a; marked = b }) (takes (logs 0)) sectors marked))))
+    (zipped (λ (t : Taken). is_some (named i.shape t.mark) ≡ true) (λ (t : Taken). t.mark.position ≡ t.entry.position) (IsNamed i.shape)
+    (λ t a b. record { names = a; marked = b }) (takes (logs 0)) names marked))))
     rise
     (rising_taken i.shape.ws_opt (waiting i.shape (logs 0))
     (subst IsRising (sym waits_fresh) (rising_filtered (λ t. not (was_placed i.shape (logs 0) t)) (takes (logs 0)) rise)))
-    (first_waiting i.shape (logs 0) (IsEntry i.shape.capacity (takes (logs 0))) fine
-    (all_filter (IsEntry i.shape.capacity (takes (logs 0))) (λ t. not (was_placed i.shape (logs 0) t)) (takes (logs 0))
-    (zipped (λ (t : Taken). t.mark.lba < i.shape.capacity) (IsAmong (takes (logs 0))) (IsEntry i.shape.capacity (takes (logs 0)))
-    (λ t a b. entry_at i.shape.capacity (takes (logs 0)) b.0 t b.1 a) (takes (logs 0)) sectors (among_all (takes (logs 0))))))
+    (first_waiting i.shape (logs 0) (IsEntry (takes (logs 0))) fine
+    (all_filter (IsEntry (takes (logs 0))) (λ t. not (was_placed i.shape (logs 0) t)) (takes (logs 0))
+    (all_entries (takes (logs 0)))))
     (first_waiting i.shape (logs 0) (λ (t : Taken). IsUnplaced i.shape (logs 0) t.entry.position) fine
     (all_imply (λ t. not (was_placed i.shape (logs 0) t) ≡ true) (λ (t : Taken). IsUnplaced i.shape (logs 0) t.entry.position)
     (λ t h. none_pass (holds_position i.shape t.entry.position) (placements (logs 0)) h) (filter (λ t. not (was_placed i.shape (logs 0) t)) (takes (logs 0)))
@@ -267,19 +268,18 @@ some_waiting : (s : Shape) (log : List Logged) (P : Taken → Type 0) (n : ℕ) 
 some_waiting s log P n fine all = all_taken P n (waiting s log) (subst (AllByRecursion P) (sym (waiting_fresh s log fine)) all)
 
 -- no row has more live sectors than the target has sectors, also between the entries
-pub live_between : (i : Image) (logs : Logs) (line n : ℕ) → NoStripeLost (logs 0) → AreNumbered (logs 0) → AreOfSectors i.shape (logs 0)
+pub live_between : (i : Image) (logs : Logs) (line n : ℕ) → NoStripeLost (logs 0) → AreNumbered (logs 0)
     → EachRow (place_entries (logs 0) line (rows_of i logs) (take n (waiting i.shape (logs 0)))) (λ m row. row.live ≤ i.shape.capacity)
-live_between i logs line n fine numbered sectors =
+live_between i logs line n fine numbered =
     let rise : IsRising (takes (logs 0)) = rising_by (first_position (logs 0)) (length (takes (logs 0))) (takes (logs 0)) numbered in
     let same : table_of i.shape (row_with i logs (with_entries line (take n (waiting i.shape (logs 0))) (line_of i logs)) (landed_line_of i logs)) ≡
     place_entries (logs 0) line (rows_of i logs) (take n (waiting i.shape (logs 0))) =
     entries_placed i logs line (take n (waiting i.shape (logs 0))) (line_of i logs) (landed_line_of i logs) rise
     (rising_taken n (waiting i.shape (logs 0))
     (subst IsRising (sym (waiting_fresh i.shape (logs 0) fine)) (rising_filtered (λ t. not (was_placed i.shape (logs 0) t)) (takes (logs 0)) rise)))
-    (some_waiting i.shape (logs 0) (IsEntry i.shape.capacity (takes (logs 0))) n fine
-    (all_filter (IsEntry i.shape.capacity (takes (logs 0))) (λ t. not (was_placed i.shape (logs 0) t)) (takes (logs 0))
-    (zipped (λ (t : Taken). t.mark.lba < i.shape.capacity) (IsAmong (takes (logs 0))) (IsEntry i.shape.capacity (takes (logs 0)))
-    (λ t a b. entry_at i.shape.capacity (takes (logs 0)) b.0 t b.1 a) (takes (logs 0)) sectors (among_all (takes (logs 0))))))
+    (some_waiting i.shape (logs 0) (IsEntry (takes (logs 0))) n fine
+    (all_filter (IsEntry (takes (logs 0))) (λ t. not (was_placed i.shape (logs 0) t)) (takes (logs 0))
+    (all_entries (takes (logs 0)))))
     (some_waiting i.shape (logs 0) (λ (t : Taken). IsNowhere t.entry.position (line_of i logs)) n fine
     (all_imply (λ t. not (was_placed i.shape (logs 0) t) ≡ true) (λ (t : Taken). IsNowhere t.entry.position (line_of i logs))
     (λ t h. λ lba u e. ap (line_of_position i.shape (logs 0)) e

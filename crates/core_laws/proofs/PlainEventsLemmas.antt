@@ -1,12 +1,11 @@
 -- Lemmas on plain logs.
-use Rattle.std.proofs.Common.{Bool, List, None, Option, Some, [], ap, ap₂, false, if◌then◌else◌, nat_eq, refl, sym, true, ℕ, ◌+◌, ◌==◌, ◌||◌, ◌∷◌, ◌≡◌}
+use Rattle.std.proofs.Common.{Bool, List, None, Option, Some, [], ap, ap₂, false, if◌then◌else◌, nat_eq, refl, sym, true, ℕ, ◌||◌, ◌∷◌, ◌≡◌}
 use Rattle.std.proofs.lemmas.Option.{none-some}
-use Rattle.std.specs.List.{AllByRecursion, cons_option, enumerate_from, fold, list_any}
+use Rattle.std.specs.List.{AllByRecursion, cons_option, list_any}
 use Rattle.core_laws.specs.PlainEvents.{ArePlain, is_plain_event}
 use Rattle.lemmas.proofs.Parts.{all_at}
-use Rattle.pblk_world.specs.EngineLog.{Answer, DidLand, LineLife, Opened, Opening, Placed, answer_by, answer_of, answers, has_failed, is_loss, is_opened, stripes_of, turn, turned, turned_by, was_lost}
-use Rattle.pblk_world.specs.Events.{Decides, Event, Free, Landed, Logged, Lost, Open}
-use Rattle.pblk_world.specs.Victims.{is_freed}
+use Rattle.pblk_world.specs.EngineLog.{Answer, DidLand, Opening, Placed, answer_by, answer_of, answers, has_failed, is_loss, stripes_of, turn, was_lost}
+use Rattle.pblk_world.specs.Events.{Decides, Event, Landed, Logged, Lost}
 
 pub not_loss : (unit : ℕ) (e : Event) (a : Answer) → is_plain_event e ≡ true → answer_by unit e ≡ Some a → is_loss (Some a) ≡ false
 not_loss unit (Decides (Landed other event)) a plain is = go (nat_eq other unit) is
@@ -32,30 +31,6 @@ not_lost log r plain = go (answer_of log r) refl
     go : (o : Option Answer) → answer_of log r ≡ o → is_loss o ≡ false
     go None e = refl
     go (Some a) e = all_at (λ (a : Answer). is_loss (Some a) ≡ false) (answers log r.stripe.unit) (turn log r) a e (none_lost r.stripe.unit log plain)
-
-pub turned_plain : (line n : ℕ) (life : LineLife) (knows : List ℕ) (e : Event) → is_plain_event e ≡ true → is_freed life ≡ false
-    → is_freed (turned_by line life n knows e) ≡ false
-turned_plain line n life knows (Decides (Open other start)) plain is =
-    elim (other == line) as (λ b. is_freed (if b then Opened (record { number = n; line = line; start = start; knows = knows }) else life) ≡ false) [
-      | true ↦ refl
-      | false ↦ is
-    ]
-turned_plain line n life knows (Decides (Free other)) plain is = absurd cc
-turned_plain line n life knows e plain is = is
-
-pub lives_unfreed : (line n : ℕ) (log : List Logged) (life : LineLife) → ArePlain log → is_freed life ≡ false
-    → is_freed (fold (turned line) life (enumerate_from n log)) ≡ false
-lives_unfreed line n [] life plain is = is
-lives_unfreed line n (l ∷ log) life plain is =
-    lives_unfreed line (n + 1) log (turned_by line life n l.knows l.event) plain.1 (turned_plain line n life l.knows l.event plain.0 is)
-
-pub opened_by_one : (line k : ℕ) (life : LineLife) (knows : List ℕ) (e : Event) → is_plain_event e ≡ true → is_opened life ≡ true
-    → is_opened (turned_by line life k knows e) ≡ true
-opened_by_one line k life knows (Decides (Open other start)) plain is =
-    elim (other == line) as (λ b. is_opened (if b then Opened (record { number = k; line = line; start = start; knows = knows }) else life) ≡ true)
-    [ true ↦ refl | false ↦ is ]
-opened_by_one line k life knows (Decides (Free other)) plain is = absurd (cc)
-opened_by_one line k life knows e plain is = is
 
 pub none_of_lost : (log : List Logged) (ps : List Placed) → ArePlain log → list_any (was_lost log) ps ≡ false
 none_of_lost log [] plain = refl

@@ -1,17 +1,12 @@
--- A mount in which nothing fails and nothing is freed.
+-- A mount in which nothing fails.
 use Rattle.std.proofs.Common.{◌≡◌, ℕ, ◌==◌, zero, suc, true, false, Some, None, List, [], ◌∷◌, refl}
 use Rattle.std.specs.Prelude.{if◌then◌else◌, slice_get}
 use Rattle.std.specs.List.{AllByRecursion, filter_map, cons_option}
 use Rattle.pblk_world.specs.Events.{Landed, Lost, Event, Decides, Logged}
-use Rattle.pblk_world.specs.EngineLog.{AsFound, life_of, Answer, DidLand, answer_by, answers, turn, is_loss, was_lost, stripes_of}
+use Rattle.pblk_world.specs.EngineLog.{Answer, DidLand, answer_by, answers, turn, is_loss, was_lost, stripes_of}
 use Rattle.core_laws.specs.PlainEvents.{is_plain_event, ArePlain}
 use Rattle.core_laws.specs.PlainLogs.{NoStripeLost, NoLineFailed}
-use Rattle.pblk_world.specs.Victims.{is_freed}
-use Rattle.core_laws.proofs.PlainEventsLemmas.{lives_unfreed}
 use Rattle.lemmas.proofs.Maps.{none_any}
-
-pub none_freed : (log : List Logged) → ArePlain log → (line : ℕ) → is_freed (life_of log line) ≡ false
-none_freed log plain line = lives_unfreed line 0 log AsFound plain refl
 
 abbrev AreLandings : List Answer → Type 0
 AreLandings xs = AllByRecursion (λ a. is_loss (Some a) ≡ false) xs

@@ -54,7 +54,7 @@ module _ (i : Image) (w : World) (mount : IsLegalMount i w) where
   log = log_of w 0
 
   -- a stripe whose line has its life still is in force
-  in_force : (p : Placed) → Contains (placements (log_of w 0)) p → life_of (log_of w 0) p.stripe.line ≡ p.life
+  pub in_force : (p : Placed) → Contains (placements (log_of w 0)) p → life_of (log_of w 0) p.stripe.line ≡ p.life
       → is_in_force (log_of w 0) p.life p.stripe.line ≡ true
   in_force p there stands =
       let life = life_of_stripe i w p mount.legal there in

@@ -57,7 +57,7 @@ lives_there all before (l ∷ log) line n life count is opened =
 pub life_there : (log : List Logged) (line : ℕ) (o : Opening) → life_of log line ≡ Opened o → opening_at log o.number ≡ Some o
 life_there log line o e = subst (IsThere log) e (lives_there log [] log line 0 AsFound refl refl tt)
 
-alive_opened : (log : List Logged) (o : Opening) → opening_at log o.number ≡ Some o → is_life o.number (life_of log o.line) ≡ true
+pub alive_opened : (log : List Logged) (o : Opening) → opening_at log o.number ≡ Some o → is_life o.number (life_of log o.line) ≡ true
     → life_of log o.line ≡ Opened o
 alive_opened log o there alive = go (life_of log o.line) refl alive
   where

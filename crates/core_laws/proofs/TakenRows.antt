@@ -1,4 +1,5 @@
--- What a user's entry that is taken changes in the table.
+-- What an entry that is taken changes in the table: one of a sector takes it over from its line, a
+-- Void one changes nothing.
 use Rattle.std.proofs.Common.{◌≡◌, ◌≢◌, ℕ, ◌+◌, ◌-◌, ◌/◌, ◌<◌, ◌≤◌, ◌==◌, ◌&&◌, zero, suc, not, nat_eq, nat_lt, Bool, true, false, cond, Some, None, Option, List, [], ◌∷◌, ◌++◌, length, refl, sym, ap, ap₂, ◌∙◌, arith, append-nil}
 use Rattle.std.specs.Prelude.{if◌then◌else◌}
 use Rattle.std.specs.List.{AllByRecursion, filter, last_or, range_with_len, find}
@@ -36,9 +37,10 @@ use Rattle.core_laws.proofs.ChangedTables.{row_changes_any, rows_stay}
 use Rattle.core_laws.proofs.NextTakes.{latest_is}
 use Rattle.core_laws.proofs.SteppingLemmas.{found_kept}
 use Rattle.lemmas.proofs.Lists.{all_imply, last_in}
-use Rattle.lemmas.proofs.Maps.{all_filter, filter_agree, find_none, found_passes}
+use Rattle.lemmas.proofs.Maps.{all_filter, all_in_range, filter_agree, find_none, found_passes}
 use Rattle.lemmas.proofs.Tests.{and_false, and_true, lt_true, not_first, other_number, same_number}
 use Rattle.pblk_world.proofs.EngineLogLemmas.{takes_more}
+use Rattle.core_laws.proofs.PlainOpenings.{third}
 
 -- ---- positions below the next one
 
@@ -108,18 +110,20 @@ in_no_line s log position none = ap (option_map (λ (p : Placed). p.stripe.line)
 
 -- ---- sectors live in a line
 
-live_now : (i : Image) (logs : Logs) (entry : Entry) (mark : Mark) (knows : List ℕ) (line lba : ℕ) (b : Bool) → (mark.lba == lba) ≡ b
-    → IsUnplaced i.shape (logs 0) entry.position
-    → is_live_in i (after logs (Take entry mark) knows) line lba ≡ (if b then false else is_live_in i logs line lba)
-live_now i logs entry mark knows line lba b e none =
-    ap (λ t. is_of line (line_of i (after logs (Take entry mark) knows) lba t)) (last_now (logs 0) entry mark knows lba b e)
-    ∙ go b
-  where
-    go : (b : Bool) → is_of line (line_of i (after logs (Take entry mark) knows) lba (if b then Some (new_taken entry mark) else last_take (logs 0) lba)) ≡
-        (if b then false else is_live_in i logs line lba)
-    go true = ap (is_of line) (line_of_kept i logs (Take entry mark) knows refl refl lba (Some (new_taken entry mark))
-        ∙ in_no_line i.shape (logs 0) entry.position none)
-    go false = ap (is_of line) (line_of_kept i logs (Take entry mark) knows refl refl lba (last_take (logs 0) lba))
+-- the sector of the entry
+live_taken : (i : Image) (logs : Logs) (entry : Entry) (mark : Mark) (knows : List ℕ) (line lba : ℕ) → (mark.lba == lba) ≡ true
+    → IsUnplaced i.shape (logs 0) entry.position → is_live_in i (after logs (Take entry mark) knows) line lba ≡ false
+live_taken i logs entry mark knows line lba e none =
+    ap (λ t. is_of line (line_of i (after logs (Take entry mark) knows) lba t)) (last_now (logs 0) entry mark knows lba true e)
+    ∙ ap (is_of line) (line_of_kept i logs (Take entry mark) knows refl refl lba (Some (new_taken entry mark))
+    ∙ in_no_line i.shape (logs 0) entry.position none)
+
+-- another one
+live_beside : (i : Image) (logs : Logs) (entry : Entry) (mark : Mark) (knows : List ℕ) (line lba : ℕ) → (mark.lba == lba) ≡ false
+    → is_live_in i (after logs (Take entry mark) knows) line lba ≡ is_live_in i logs line lba
+live_beside i logs entry mark knows line lba e =
+    ap (λ t. is_of line (line_of i (after logs (Take entry mark) knows) lba t)) (last_now (logs 0) entry mark knows lba false e)
+    ∙ ap (is_of line) (line_of_kept i logs (Take entry mark) knows refl refl lba (last_take (logs 0) lba))
 
 count_above : (f g : ℕ → Bool) (n a : ℕ) → ((m : ℕ) → a ≤ m → g m ≡ f m) → length (filter g (range_with_len a n)) ≡ length (filter f (range_with_len a n))
 count_above f g zero a same = refl
@@ -169,8 +173,8 @@ lost_one i logs entry mark knows line none inside was =
     let fewer : length (filter (is_live_in i logs line) (range_with_len 0 i.shape.capacity)) ≡ length
     (filter (is_live_in i new line) (range_with_len 0 i.shape.capacity)) + 1 =
     count_less (is_live_in i logs line) (is_live_in i new line) i.shape.capacity 0 mark.lba inside (ap (is_live_in i logs line) first ∙ was)
-    (ap (is_live_in i new line) first ∙ live_now i logs entry mark knows line mark.lba true (same_number mark.lba) none)
-    (λ m other. live_now i logs entry mark knows line m false (other_number mark.lba m (λ e. other (sym e ∙ sym first))) none) in
+    (ap (is_live_in i new line) first ∙ live_taken i logs entry mark knows line mark.lba (same_number mark.lba) none)
+    (λ m other. live_beside i logs entry mark knows line m (other_number mark.lba m (λ e. other (sym e ∙ sym first)))) in
     omega arith
 
 lost_none : (i : Image) (logs : Logs) (entry : Entry) (mark : Mark) (knows : List ℕ) (line : ℕ) → IsUnplaced i.shape (logs 0) entry.position
@@ -178,8 +182,16 @@ lost_none : (i : Image) (logs : Logs) (entry : Entry) (mark : Mark) (knows : Lis
 lost_none i logs entry mark knows line none was = live_same i logs (after logs (Take entry mark) knows) line (λ lba. each lba (nat_eq mark.lba lba) refl)
   where
     each : (lba : ℕ) (b : Bool) → nat_eq mark.lba lba ≡ b → is_live_in i (after logs (Take entry mark) knows) line lba ≡ is_live_in i logs line lba
-    each lba true e = live_now i logs entry mark knows line lba true e none ∙ sym (ap (is_live_in i logs line) (sym (eqb-true mark.lba lba e)) ∙ was)
-    each lba false e = live_now i logs entry mark knows line lba false e none
+    each lba true e = live_taken i logs entry mark knows line lba e none ∙ sym (ap (is_live_in i logs line) (sym (eqb-true mark.lba lba e)) ∙ was)
+    each lba false e = live_beside i logs entry mark knows line lba e
+
+-- none of the sectors below the capacity is that of the entry
+lost_outside : (i : Image) (logs : Logs) (entry : Entry) (mark : Mark) (knows : List ℕ) (line : ℕ) → i.shape.capacity ≤ mark.lba
+    → live i (after logs (Take entry mark) knows) line ≡ live i logs line
+lost_outside i logs entry mark knows line outside =
+    ap length (filter_agree (λ lba. lba < i.shape.capacity) (is_live_in i (after logs (Take entry mark) knows) line) (is_live_in i logs line)
+    (λ lba low. live_beside i logs entry mark knows line lba (other_number mark.lba lba (λ e. absurd (omega arith))))
+    (range_with_len 0 i.shape.capacity) (all_in_range 0 i.shape.capacity i.shape.capacity (omega arith)))
 
 -- ---- takers
 
@@ -189,36 +201,38 @@ took_old i logs entry mark knows line t below = ap (λ b. nat_lt t.mark.lba i.sh
     (ap (λ u. is_of line (landed_line_of i (after logs (Take entry mark) knows) t.mark.lba u)) (before_old (logs 0) entry mark knows t below)
     ∙ ap (is_of line) (landed_of_kept i logs (Take entry mark) knows refl refl (λ unit. refl) t.mark.lba (take_before (logs 0) t)))
 
+-- whether an entry of this sector takes it from the line
+abbrev takes_over : Image → Logs → ℕ → ℕ → Bool
+takes_over i logs line lba = nat_lt lba i.shape.capacity && is_of line (landed_line_of i logs lba (last_take (logs 0) lba))
+
+takes_from : (i : Image) (logs : Logs) (line lba : ℕ) → lba < i.shape.capacity → is_of line (landed_line_of i logs lba (last_take (logs 0) lba)) ≡ true
+    → takes_over i logs line lba ≡ true
+takes_from i logs line lba inside is = ap₂ (λ a b. a && b) (lt_true lba i.shape.capacity inside) is
+
 took_new : (i : Image) (logs : Logs) (entry : Entry) (mark : Mark) (knows : List ℕ) (line : ℕ) → AreNumbered (logs 0) → entry.position ≡ taken (logs 0)
-    → mark.lba < i.shape.capacity
-    → took_from i (after logs (Take entry mark) knows) line (new_taken entry mark) ≡ is_of line (landed_line_of i logs mark.lba (last_take (logs 0) mark.lba))
-took_new i logs entry mark knows line numbered next inside =
-    ap (λ b. b && is_of line (landed_line_of i (after logs (Take entry mark) knows) mark.lba
-    (take_before (after logs (Take entry mark) knows 0) (new_taken entry mark)))) (lt_true mark.lba i.shape.capacity inside)
-    ∙ ap (λ u. is_of line (landed_line_of i (after logs (Take entry mark) knows) mark.lba u)) (before_new (logs 0) entry mark knows numbered next)
-    ∙ ap (is_of line) (landed_of_kept i logs (Take entry mark) knows refl refl (λ unit. refl) mark.lba (last_take (logs 0) mark.lba))
+    → took_from i (after logs (Take entry mark) knows) line (new_taken entry mark) ≡ takes_over i logs line mark.lba
+took_new i logs entry mark knows line numbered next = ap (λ b. nat_lt mark.lba i.shape.capacity && b)
+    (ap (λ u. is_of line (landed_line_of i (after logs (Take entry mark) knows) mark.lba u)) (before_new (logs 0) entry mark knows numbered next)
+    ∙ ap (is_of line) (landed_of_kept i logs (Take entry mark) knows refl refl (λ unit. refl) mark.lba (last_take (logs 0) mark.lba)))
 
 takers_now : (i : Image) (logs : Logs) (entry : Entry) (mark : Mark) (knows : List ℕ) (line : ℕ) (b : Bool) → AreNumbered (logs 0)
-    → entry.position ≡ taken (logs 0) → mark.lba < i.shape.capacity
-    → is_of line (landed_line_of i logs mark.lba (last_take (logs 0) mark.lba)) ≡ b
+    → entry.position ≡ taken (logs 0) → takes_over i logs line mark.lba ≡ b
     → filter (took_from i (after logs (Take entry mark) knows) line) (takes (after logs (Take entry mark) knows 0)) ≡ filter (took_from i logs line)
     (takes (logs 0)) ++ cond b (new_taken entry mark ∷ []) []
-takers_now i logs entry mark knows line b numbered next inside is =
+takers_now i logs entry mark knows line b numbered next is =
     let new : Logs = after logs (Take entry mark) knows in
     ap (filter (took_from i new line)) (takes_now (logs 0) entry mark knows)
-    ∙ filter_last (took_from i new line) (takes (logs 0)) (new_taken entry mark) b (took_new i logs entry mark knows line numbered next inside ∙ is)
+    ∙ filter_last (took_from i new line) (takes (logs 0)) (new_taken entry mark) b (took_new i logs entry mark knows line numbered next ∙ is)
     ∙ ap (λ xs. xs ++ cond b (new_taken entry mark ∷ []) [])
     (filter_agree (λ (t : Taken). t.entry.position < taken (logs 0)) (took_from i new line) (took_from i logs line)
     (λ t below. took_old i logs entry mark knows line t (omega arith)) (takes (logs 0)) (all_below (logs 0) numbered))
 
 taker_lost : (i : Image) (logs : Logs) (entry : Entry) (mark : Mark) (knows : List ℕ) (line : ℕ) → AreNumbered (logs 0) → entry.position ≡ taken (logs 0)
-    → mark.lba < i.shape.capacity
-    → is_of line (landed_line_of i logs mark.lba (last_take (logs 0) mark.lba)) ≡ true
+    → takes_over i logs line mark.lba ≡ true
     → taker_by i (after logs (Take entry mark) knows) line ≡ Some (latest (taker_by i logs line) entry.position)
-taker_lost i logs entry mark knows line numbered next inside is =
+taker_lost i logs entry mark knows line numbered next is =
     let ts : List Taken = filter (took_from i logs line) (takes (logs 0)) in
-    ap (λ (us : List Taken). option_map (λ (t : Taken). t.entry.position) (last_or None us))
-    (takers_now i logs entry mark knows line true numbered next inside is)
+    ap (λ (us : List Taken). option_map (λ (t : Taken). t.entry.position) (last_or None us)) (takers_now i logs entry mark knows line true numbered next is)
     ∙ ap (option_map (λ (t : Taken). t.entry.position)) (last_last None ts (new_taken entry mark))
     ∙ ap (λ n. Some n) (sym (latest_is entry.position (last_or None ts) (λ t e.
     let below : t.entry.position < taken (logs 0) = last_in (λ (u : Taken). u.entry.position < taken (logs 0)) None ts t (λ y f. absurd (none-some y f))
@@ -226,12 +240,10 @@ taker_lost i logs entry mark knows line numbered next inside is =
     omega arith)))
 
 taker_same_now : (i : Image) (logs : Logs) (entry : Entry) (mark : Mark) (knows : List ℕ) (line : ℕ) → AreNumbered (logs 0) → entry.position ≡ taken (logs 0)
-    → mark.lba < i.shape.capacity
-    → is_of line (landed_line_of i logs mark.lba (last_take (logs 0) mark.lba)) ≡ false
-    → taker_by i (after logs (Take entry mark) knows) line ≡ taker_by i logs line
-taker_same_now i logs entry mark knows line numbered next inside is =
+    → takes_over i logs line mark.lba ≡ false → taker_by i (after logs (Take entry mark) knows) line ≡ taker_by i logs line
+taker_same_now i logs entry mark knows line numbered next is =
     ap (λ (us : List Taken). option_map (λ (t : Taken). t.entry.position) (last_or None us))
-    (takers_now i logs entry mark knows line false numbered next inside is ∙ append-nil (filter (took_from i logs line) (takes (logs 0))))
+    (takers_now i logs entry mark knows line false numbered next is ∙ append-nil (filter (took_from i logs line) (takes (logs 0))))
 
 -- ---- rows
 
@@ -270,24 +282,27 @@ state_kept i logs entry mark knows line before =
       then_ = then_;
     }
 
--- the sector was live in another line, or in none
+-- the line has as many live sectors, and nothing was taken from it
 row_same_now : (i : Image) (logs : Logs) (entry : Entry) (mark : Mark) (knows : List ℕ) (line : ℕ) → FreedBefore (logs 0) → AreNumbered (logs 0)
-    → IsUnplaced i.shape (logs 0) entry.position → entry.position ≡ taken (logs 0)
-    → mark.lba < i.shape.capacity → is_live_in i logs line mark.lba ≡ false → is_of line (landed_line_of i logs mark.lba (last_take (logs 0) mark.lba)) ≡ false
+    → entry.position ≡ taken (logs 0) → live i (after logs (Take entry mark) knows) line ≡ live i logs line → takes_over i logs line mark.lba ≡ false
     → row_of_line i (after logs (Take entry mark) knows) line ≡ row_of_line i logs line
-row_same_now i logs entry mark knows line before numbered none next inside is apart =
+row_same_now i logs entry mark knows line before numbered next lives apart =
     let new : Logs = after logs (Take entry mark) knows in
     let kept : IsStateKept i logs new line = state_kept i logs entry mark knows line before in
     same_row (row_of_line i new line).state (row_of_line i logs line).state (row_of_line i new line).width (row_of_line i logs line).width (live i new line)
     (live i logs line)
-    (row_of_line i new line).taker (row_of_line i logs line).taker kept.state kept.wide (lost_none i logs entry mark knows line none is)
+    (row_of_line i new line).taker (row_of_line i logs line).taker kept.state kept.wide lives
     (ap (taker_in i new line) kept.life
-    ∙ taker_same i logs new line (life_of (logs 0) line) kept.then_ (taker_same_now i logs entry mark knows line numbered next inside apart))
+    ∙ taker_same i logs new line (life_of (logs 0) line) kept.then_ (taker_same_now i logs entry mark knows line numbered next apart))
 
-third : (a b c : Bool) → (a && b && c) ≡ true → c ≡ true
-third true true c h = h
-third true false c h = absurd cc
-third false b c h = absurd cc
+-- the sector was live in another line, or in none
+row_beside : (i : Image) (logs : Logs) (entry : Entry) (mark : Mark) (knows : List ℕ) (line : ℕ) → FreedBefore (logs 0) → AreNumbered (logs 0)
+    → IsUnplaced i.shape (logs 0) entry.position → entry.position ≡ taken (logs 0)
+    → is_live_in i logs line mark.lba ≡ false → is_of line (landed_line_of i logs mark.lba (last_take (logs 0) mark.lba)) ≡ false
+    → row_of_line i (after logs (Take entry mark) knows) line ≡ row_of_line i logs line
+row_beside i logs entry mark knows line before numbered none next is apart =
+    row_same_now i logs entry mark knows line before numbered next (lost_none i logs entry mark knows line none is)
+    (and_false (nat_lt mark.lba i.shape.capacity) (is_of line (landed_line_of i logs mark.lba (last_take (logs 0) mark.lba))) apart)
 
 unfreed_found : (life : LineLife) → is_as_found life ≡ true → is_freed life ≡ false
 unfreed_found AsFound e = refl
@@ -347,7 +362,7 @@ row_lost i logs entry mark knows line before numbered none next inside is there 
     (lost_one i logs entry mark knows line none inside is)
     (ap (taker_in i new line) kept.life
     ∙ taker_is i new line (life_of (logs 0) line) unfreed
-    ∙ taker_lost i logs entry mark knows line numbered next inside there
+    ∙ taker_lost i logs entry mark knows line numbered next (takes_from i logs line mark.lba inside there)
     ∙ ap (λ t. Some (latest t entry.position)) (sym (taker_is i logs line (life_of (logs 0) line) unfreed)))
 
 -- it was live there, and hadn't landed
@@ -362,7 +377,8 @@ row_lowered i logs entry mark knows line before numbered none next inside is apa
     (live i logs line - 1)
     (row_of_line i new line).taker (row_of_line i logs line).taker kept.state kept.wide (lost_one i logs entry mark knows line none inside is)
     (ap (taker_in i new line) kept.life
-    ∙ taker_same i logs new line (life_of (logs 0) line) kept.then_ (taker_same_now i logs entry mark knows line numbered next inside apart))
+    ∙ taker_same i logs new line (life_of (logs 0) line) kept.then_ (taker_same_now i logs entry mark knows line numbered next
+    (and_false (nat_lt mark.lba i.shape.capacity) (is_of line (landed_line_of i logs mark.lba (last_take (logs 0) mark.lba))) apart)))
 
 -- by the line in which it was live, and whether it had landed there
 pub rows_taken : (i : Image) (logs : Logs) (entry : Entry) (mark : Mark) (knows : List ℕ) (landed : Bool) → FreedBefore (logs 0) → AreNumbered (logs 0)
@@ -386,14 +402,21 @@ rows_taken i logs entry mark knows landed before numbered none next inside there
     go : (o : Option ℕ) → line_of i logs mark.lba (last_take (logs 0) mark.lba) ≡ o → (b : Bool)
         → landed_line_of i logs mark.lba (last_take (logs 0) mark.lba) ≡ (if b then line_of i logs mark.lba (last_take (logs 0) mark.lba) else None)
         → rows_of i new ≡ lose_in o b entry.position (rows_of i logs)
-    go None e b is = rows_stay i logs new (λ m. row_same_now i logs entry mark knows m before numbered none next inside (ap (is_of m) e)
+    go None e b is = rows_stay i logs new (λ m. row_beside i logs entry mark knows m before numbered none next (ap (is_of m) e)
         (ap (is_of m) (is ∙ none_of (line_of i logs mark.lba (last_take (logs 0) mark.lba)) b e)))
     go (Some line) e true is = row_changes_any i logs new line (lost entry.position)
         (row_lost i logs entry mark knows line before numbered none next inside (ap (is_of line) e ∙ same_number line)
         (ap (is_of line) (is ∙ e) ∙ same_number line))
-        (λ m other. row_same_now i logs entry mark knows m before numbered none next inside (ap (is_of m) e ∙ other_number line m (λ f. other (sym f)))
+        (λ m other. row_beside i logs entry mark knows m before numbered none next (ap (is_of m) e ∙ other_number line m (λ f. other (sym f)))
         (ap (is_of m) (is ∙ e) ∙ apart_by m line true other))
     go (Some line) e false is = row_changes_any i logs new line lowered
         (row_lowered i logs entry mark knows line before numbered none next inside (ap (is_of line) e ∙ same_number line) (ap (is_of line) is))
-        (λ m other. row_same_now i logs entry mark knows m before numbered none next inside (ap (is_of m) e ∙ other_number line m (λ f. other (sym f)))
+        (λ m other. row_beside i logs entry mark knows m before numbered none next (ap (is_of m) e ∙ other_number line m (λ f. other (sym f)))
         (ap (is_of m) is))
+
+-- a Void entry
+pub rows_void : (i : Image) (logs : Logs) (entry : Entry) (mark : Mark) (knows : List ℕ) → FreedBefore (logs 0) → AreNumbered (logs 0)
+    → entry.position ≡ taken (logs 0) → i.shape.capacity ≤ mark.lba → rows_of i (after logs (Take entry mark) knows) ≡ rows_of i logs
+rows_void i logs entry mark knows before numbered next outside = rows_stay i logs (after logs (Take entry mark) knows) (λ m.
+    row_same_now i logs entry mark knows m before numbered next (lost_outside i logs entry mark knows m outside)
+    (ap (λ b. b && is_of m (landed_line_of i logs mark.lba (last_take (logs 0) mark.lba))) (not_below i.shape.capacity mark.lba outside)))

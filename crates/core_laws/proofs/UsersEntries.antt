@@ -10,12 +10,13 @@ use Rattle.pblk_world.specs.World.{World, Logs, log_of}
 use Rattle.pblk_world.specs.EngineLog.{Begun, Taken, takes}
 use Rattle.pblk_world.specs.Fronts.{is_users}
 use Rattle.pblk_world.specs.Legal.{IsLegal, IsDecision}
+use Rattle.core_laws.specs.PlacedEntries.{AreNamed}
 use Rattle.core_laws.specs.Positions.{AreNumbered, AreMarked, AreTaken}
 use Rattle.core_laws.specs.PlainEvents.{is_plain_event, is_plain_decision}
 use Rattle.core_laws.specs.SimpleMounts.{IsSimpleMount}
 use Rattle.core_laws.proofs.SimpleMounts.{engine_plain}
 use Rattle.core_laws.proofs.TakenNumbers.{numbered_after}
-use Rattle.core_laws.proofs.KeptPositions.{marked_after, taken_after}
+use Rattle.core_laws.proofs.KeptPositions.{marked_after, named_after, taken_after}
 use Rattle.core_laws.proofs.KeptByEvents.{IsKept, kept}
 use Rattle.lemmas.proofs.Lists.{all_append, all_true}
 use Rattle.pblk_world.proofs.EngineLogLemmas.{takes_more}
@@ -27,20 +28,22 @@ pub record IsUsers (s : Shape) (t : Taken) : Type 0 where
   pub sector : t.mark.lba ≡ t.entry.lba
   pub lba : t.entry.lba < s.capacity
 
--- ---- positions are in order
+-- ---- positions are in order, and marks name them
 
 pub record AreInOrder (s : Shape) (log : List Logged) : Type 0 where
   pub numbered : AreNumbered log
   pub marked : AreMarked log
+  pub named : AreNamed s log
   pub taken : AreTaken s log
 
 order_kept : (i : Image) → i.shape.capacity ≤ meta_lba → IsKept i (λ e. true) (AreInOrder i.shape)
 order_kept i small = record {
-  empty = record { numbered = refl; marked = tt; taken = tt };
-  first = λ known b knows may. record { numbered = refl; marked = tt; taken = tt };
+  empty = record { numbered = refl; marked = tt; named = tt; taken = tt };
+  first = λ known b knows may. record { numbered = refl; marked = tt; named = tt; taken = tt };
   next = λ known log beginning e knows begins own passes may was. record {
     numbered = numbered_after i known log beginning e knows begins own may was.numbered;
     marked = marked_after i known log beginning e knows may was.marked;
+    named = named_after i known log beginning e knows may was.named;
     taken = taken_after i known log beginning e knows small begins own may was.numbered was.marked was.taken;
   };
 }

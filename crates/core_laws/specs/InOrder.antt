@@ -1,5 +1,5 @@
 -- What holds of the logs of each simple mount.
-use Rattle.std.specs.Prelude.{ℕ, ◌*◌, ◌<◌, ◌≤◌, ◌≡◌, List, length}
+use Rattle.std.specs.Prelude.{ℕ, ◌*◌, ◌<◌, ◌≤◌, ◌≡◌, false, List, length}
 use Rattle.std.specs.List.{AllByRecursion}
 use Rattle.pblk_model.specs.declared.shape.Shape.{Shape}
 use Rattle.pblk_model.specs.LineOrder.{data_len}
@@ -7,26 +7,26 @@ use Rattle.pblk_model.specs.Marks.{meta_lba}
 use Rattle.pblk_model.specs.Image.{Image}
 use Rattle.pblk_world.specs.Events.{Logged}
 use Rattle.pblk_world.specs.World.{Logs}
-use Rattle.pblk_world.specs.EngineLog.{Opening, Opened, life_of, Placed, placements, placed_on, stripes_of, answers}
+use Rattle.pblk_world.specs.EngineLog.{Opening, Opened, life_of, Placed, placements, placed_on, stripes_of, answers, is_answered}
 use Rattle.pblk_world.specs.Placing.{line_end}
 use Rattle.core_laws.specs.Positions.{AreNumbered, AreMarked, AreTaken}
 use Rattle.core_laws.specs.PlainLogs.{FreedBefore, NoStripeLost, NoLineFailed}
-use Rattle.core_laws.specs.PlacedEntries.{AreOfSectors}
+use Rattle.core_laws.specs.PlacedEntries.{AreNamed}
 
--- A placed stripe is in a line of the drive. That line is opened still, by the opening that it had
--- when the stripe was placed.
+-- A placed stripe is in a line of the drive. Until it is answered the line is opened by the opening
+-- that it had when the stripe was placed.
 pub record IsInPlace (i : Image) (log : List Logged) (p : Placed) : Type 0 where
   pub in_range : p.stripe.line < i.shape.chunks
   pub chunk : p.stripe.chunk ≡ p.stripe.line
   pub opening : Opening
   pub life : p.life ≡ Opened opening
-  pub stands : life_of log p.stripe.line ≡ Opened opening
+  pub stands : is_answered log p ≡ false → life_of log p.stripe.line ≡ Opened opening
 
 pub record IsInOrder (i : Image) (logs : Logs) : Type 0 where
   pub small : i.shape.capacity ≤ meta_lba
   pub numbered : AreNumbered (logs 0)
   pub marked : AreMarked (logs 0)
-  pub sectors : AreOfSectors i.shape (logs 0)
+  pub named : AreNamed i.shape (logs 0)
   pub taken : AreTaken i.shape (logs 0)
   pub placed : AllByRecursion (IsInPlace i (logs 0)) (placements (logs 0))
   pub answered : (unit : ℕ) → length (answers (logs 0) unit) ≤ length (placed_on (logs 0) unit)

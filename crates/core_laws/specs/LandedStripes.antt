@@ -18,3 +18,8 @@ keeps_landed (Lost unit event) = false
 keeps_landed (Again unit event) = true
 keeps_landed (ResetDone unit event) = true
 keeps_landed (Free line) = true
+
+-- an event that places a stripe
+abbrev pub places : EngineEvent → Bool
+places (Place stripe) = true
+places e = false

@@ -30,3 +30,6 @@ pub mod JustBegun
 pub mod OnlineUnits
 pub mod OpeningTables
 pub mod Spent
+pub mod ClosedLines
+pub mod CandidateLines
+pub mod SlotPositions

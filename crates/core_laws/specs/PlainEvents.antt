@@ -1,11 +1,11 @@
--- The events of a log in which nothing fails, is copied or is freed.
+-- The events of a log in which nothing fails or is copied.
 use Rattle.std.specs.Prelude.{◌≡◌, Bool, true, false, List}
 use Rattle.std.specs.List.{AllByRecursion}
 use Rattle.pblk_world.specs.Events.{EngineEvent, Begin, Take, Open, Place, Landed, Lost, Again, ResetDone, Free, Event, Decides, Does, Logged}
 use Rattle.pblk_world.specs.Fronts.{is_users}
 use Rattle.core_laws.specs.FaultlessMounts.{is_answered}
 
--- the engine neither copied nor freed anything, and heard of no failure
+-- the engine copied nothing, and heard of no failure
 abbrev pub is_plain_decision : EngineEvent → Bool
 is_plain_decision (Begin b) = true
 is_plain_decision (Take entry mark) = is_users entry.source
@@ -15,7 +15,7 @@ is_plain_decision (Landed unit event) = true
 is_plain_decision (Lost unit event) = false
 is_plain_decision (Again unit event) = true
 is_plain_decision (ResetDone unit event) = true
-is_plain_decision (Free line) = false
+is_plain_decision (Free line) = true
 
 abbrev pub is_plain_event : Event → Bool
 is_plain_event (Decides e) = is_plain_decision e

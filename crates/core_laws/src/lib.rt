@@ -16,6 +16,10 @@
 //!   history a sector holds what its last entry has.
 //! - A line may be freed exactly where it is spent: no sector is live in it, the newest start record
 //!   is beyond all that counts there, and what took its sectors is below the front synced.
+//! - What each event makes of the closed lines, to which nothing more is written before they are
+//!   reset, and of the newest start record that has landed. By these a target tells which lines may
+//!   be freed, and which is collected next: that line stays closed until it is freed, and what is
+//!   live in it is what the map names there.
 //! - When a mount has just begun, each line, each sector and the units of each line are as they
 //!   were found. Each front is at the end that was found, and nothing was taken, opened or placed.
 #![tactic(auto)]

@@ -4,7 +4,7 @@ use Rattle.std.specs.List.{slice_index_or, slice_set}
 use Rattle.std.specs.Int.{bit_not, w64, trailing_zeros}
 use Rattle.std.proofs.lemmas.List.{get_or-set_same, get_or-set_other}
 use Rattle.std.proofs.lemmas.Bool.{eqb-true, eqb-false}
-use Rattle.std.proofs.lemmas.Nat.Bits.{bit_at_set_same, bit_at_set_other, bit_at_clear_same, bit_at_clear_other, bit_at-zero, bit_at-trailing_zeros}
+use Rattle.std.proofs.lemmas.Nat.Bits.{bit_at_set_same, bit_at_set_other, bit_at_clear_same, bit_at_clear_other, bit_at-zero, bit_at-trailing_zeros, shr_and_one}
 use Rattle.line_table.specs.LineSets.{is_set, has}
 
 pub bit_is_set : (word bit : ℕ) → bit < 64 → is_set (bit_or word (1 * 2 ^ bit % 2 ^ 64)) bit ≡ true
@@ -26,6 +26,11 @@ others_as_cleared word bit n h inside other = ap (λ b. eqb b 1) (bit_at_clear_o
 pub none_in_zero : (n : ℕ) → is_set 0 n ≡ false
 unfolding is_set
 none_in_zero n = ap (λ b. eqb b 1) (bit_at-zero n)
+
+-- the test of one bit
+pub bit_tested : (words : List ℕ) (n : ℕ) → eqb (bit_and (slice_index_or words (n / 64) 0 / 2 ^ (n % 64)) 1) 1 ≡ has words n
+unfolding has is_set
+bit_tested words n = ap (λ b. eqb b 1) (shr_and_one (slice_index_or words (n / 64) 0) (n % 64))
 
 -- the words of the empty set
 zeros : (k i : ℕ) → slice_index_or {A = ℕ} (replicate k 0) i 0 ≡ 0

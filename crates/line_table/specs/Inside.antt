@@ -19,4 +19,4 @@ pub record Keeps (s : Shape) (words : List ℕ) (count : ℕ) (rows : List Row) 
   pub addresses : count ≡ sum_by (free_len s) rows
 
 abbrev pub IsTable : inside.Inside → Type 0
-IsTable t = Keeps t.layout t.free.words t.free_addresses t.rows.items
+IsTable t = Keeps t.layout t.free t.free_addresses t.rows.items

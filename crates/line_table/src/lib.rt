@@ -8,5 +8,6 @@ mod lines;
 mod opening;
 mod row;
 
+pub use line_set::LineSet;
 pub use lines::Lines;
 pub use row::{LineState, Row};

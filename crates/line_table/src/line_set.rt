@@ -3,34 +3,57 @@
 ghost use Rattle.std.specs.Prelude.{ℕ, ◌≡◌, ◌≢◌, ◌<◌, true, false, IfSome, IfNone};
 ghost use Rattle.line_table.specs.LineSets.{is_set, has};
 
-/// A set of lines, of which the least is at hand: a bit for each of 1024.
+use std::marker::Model;
+
+/// A set of lines, of which the least is at hand. A drive has at most 1024 lines, and the set is a bit for each. It
+/// takes no memory, and each call takes the same few steps, whatever the set.
+///
+/// Contracts see the list of its words. `has` of them tells whether a line is in the set.
 #[derive(Drop)]
-pub(crate) struct LineSet {
+pub struct LineSet {
     words: [u64; 16],
 }
 
+impl Model for LineSet {
+    ghost use Rattle.std.specs.Prelude.{ℕ, List};
+
+    ghost Value = { List ℕ };
+
+    ghost view = { λ s. s.words };
+}
+
 impl LineSet {
-    pub(crate) fn empty() -> LineSet
-        ensures { (n : ℕ) → has result.words n ≡ false }
+    /// No line.
+    pub fn empty() -> LineSet
+        ensures { (n : ℕ) → has result n ≡ false }
     {
         LineSet { words: [0; 16] }
     }
 
-    /// Puts a line in or takes it out.
-    pub(crate) fn set(&mut self, line: u32, to: bool)
+    /// Puts a line in or takes it out. Its number is below 1024.
+    pub fn set(&mut self, line: u32, to: bool)
         requires { line < 1024 }
-        ensures set { has self.new.words line ≡ to }
-        ensures others { (n : ℕ) → n ≢ line → has self.new.words n ≡ has self.old.words n }
+        ensures set { has self.new line ≡ to }
+        ensures others { (n : ℕ) → n ≢ line → has self.new n ≡ has self.old n }
     {
         let index = line as usize / 64;
         self.words[index] = with_bit(self.words[index], line % 64, to);
     }
 
-    /// The least line of the set.
-    pub(crate) fn least(&self) -> Option<u32>
-        ensures found { IfSome result (λ n. has self.now.words n ≡ true) }
-        ensures least { IfSome result (λ n. (m : ℕ) → m < n → has self.now.words m ≡ false) }
-        ensures none { IfNone result ((m : ℕ) → has self.now.words m ≡ false) }
+    /// Whether a line is in the set. Its number is below 1024.
+    pub fn has(&self, line: u32) -> bool
+        requires { line < 1024 }
+        ensures { result ≡ has self.now line }
+    {
+        self.words[line as usize / 64] >> (line % 64) & 1 == 1
+    }
+
+    /// The least line of the set. None exactly where the set is empty.
+    pub fn least(&self) -> Option<u32>
+        ensures inside { IfSome result (λ n. n < 1024) }
+        ensures found { IfSome result (λ n. has self.now n ≡ true) }
+        ensures least { IfSome result (λ n. (m : ℕ) → m < n → has self.now m ≡ false) }
+        ensures none { IfNone result ((m : ℕ) → has self.now m ≡ false) }
     {
         for index in 0..16u32 {
             let word = self.words[index as usize];

@@ -91,7 +91,7 @@ pub(crate) fn opening_rows(
 /// The Free lines.
 pub(crate) fn free_lines(rows: &[Row]) -> LineSet
     requires { length rows.now ≤ 1024 }
-    ensures { (n : ℕ) → has result.words n ≡ is_free_at rows.now n }
+    ensures { (n : ℕ) → has result n ≡ is_free_at rows.now n }
 {
     let mut free = LineSet::empty();
     for line in 0..rows.len() {

@@ -28,7 +28,6 @@ use Rattle.unit_port.specs.Unit.{ModelUnit}
 use Rattle.ocssd_drive.specs.Units.{WornUnit}
 use Rattle.prefix_law.proofs.Prefix.{prefix_above}
 use Rattle.scan_recovery.specs.Lost.{IsLostAt}
-use Rattle.scan_recovery.specs.MayStop.{AllMayStop}
 use Rattle.scan_recovery.specs.Readying.{AreHandedBack}
 use Rattle.scan_recovery.specs.Units.{AreFit, image_of}
 use Rattle.block_port.specs.declared.rows.DriveAnswer.{DriveAnswer}
@@ -39,7 +38,7 @@ use Rattle.block_target.specs.Arm.{IsArm}
 use Rattle.block_target.specs.Granted.{AreGranted}
 use Rattle.block_target.specs.Mount.{MountView, synced_in, taken_in, world_in}
 use Rattle.block_target.specs.NothingLeft.{AreRefusals}
-use Rattle.block_target.specs.Opened.{IsOpened, OpenCause}
+use Rattle.block_target.specs.Opened.{AreReadied, IsOpened, OpenCause, readied_world}
 use Rattle.block_target.specs.Serial.{SerialView, Settles, device, lines_in, settle_faults, settle_worns}
 use Rattle.block_target.specs.declared.opening.OpenErr.{OpenErr}
 use Rattle.block_target.specs.declared.opening.OpenErr.TheVariants as errors
@@ -63,7 +62,6 @@ use Rattle.pblk_cli.proofs.Sessions.{answered}
 use Rattle.pblk_cli.proofs.WornCauses.{no_worns, one_worns}
 use Rattle.lemmas.proofs.Parts.{take_nothing}
 use Rattle.block_target.proofs.DeviceFronts.{positions_in}
-use Rattle.block_target.proofs.RefusedOpenings.{refused_arm, refused_legal, refused_none, refused_world}
 use Rattle.block_target.proofs.Written.{lines_kept}
 
 -- what no call changes of a target
@@ -375,30 +373,23 @@ fits_target s units target script fresh fits = subst (λ (j : Image). ScriptFits
 
 -- An opening that was refused.
 
-module _ (s : Shape) (old new : List WornUnit) (accepted : IsAccepted s) (fit : AreFit s (units_of old)) (may : AllMayStop (units_of old))
-    (refused : AreHandedBack s (units_of old) (units_of new)) where
+module _ (s : Shape) (old new : List WornUnit) (refused : AreHandedBack s (units_of old) (units_of new))
+    (readied : AreReadied s (units_of old) (units_of new)) where
   abbrev still : World
-  still = refused_world s (units_of old) (units_of new)
+  still = readied_world s (units_of old) (units_of new)
 
   abbrev as_it_was : Image
   as_it_was = image_of s (units_of old)
 
-  arm_at : (number : ℕ) (u : ModelUnit) → slice_get (units_of new) number ≡ Some u
-      → (was : ModelUnit) × (slice_get (units_of old) number ≡ Some was) × IsArm (image_of s (units_of old)) (log_of still) number was u
-  arm_at = refused_arm s (units_of old) (units_of new) accepted fit may refused
-
-  none : log_of still 0 ≡ []
-  none = refused_none s (units_of old) (units_of new) accepted fit may refused
-
   pub refused_back : wear_of new ≡ wear_of old → AreBack s old new
-  refused_back wear = back_of s as_it_was (log_of still) old new (units_of old) refl refl refused.kept.count wear arm_at
+  refused_back wear = back_of s as_it_was (log_of still) old new (units_of old) refl refl refused.kept.count wear readied.each
 
   -- it answered an event
   module _ (script : List (List Command)) (records : Records) (unit event : ℕ) (lost : IsLostAt (units_of old) (units_of new) unit event)
       (number : IsEvent unit event) (threads : records.threads ≡ []) (opening : records.opening ≡ Some (Drive unit event))
-      (closing : records.closing ≡ None) (fits : ScriptFits s.capacity script) where
+      (closing : records.closing ≡ None) (accepted : IsAccepted s) (fits : ScriptFits s.capacity script) where
     nothing_taken : user_positions (log_of still 0) ≡ []
-    nothing_taken = ap user_positions none
+    nothing_taken = ap user_positions readied.none
 
     nothing_written : (end : ℕ) → (transcript_of script records end).history ≡ []
     nothing_written end = rw (threads, no_more script) refl
@@ -413,7 +404,7 @@ module _ (s : Shape) (old new : List WornUnit) (accepted : IsAccepted s) (fit : 
     events_is = rw (threads, opening, closing) refl
 
     no_take : (k : ℕ) (l : Logged) → slice_get (log_of still 0) k ≡ Some l → ⊥
-    no_take k l there = none-some l (ap (λ (log : List Logged). slice_get log k) (sym none) ∙ there)
+    no_take k l there = none-some l (ap (λ (log : List Logged). slice_get log k) (sym readied.none) ∙ there)
 
     ran_nothing : (size : ℕ) (start : List (List ℕ)) → IsRun size script start (transcript_of script records left_end) start
     ran_nothing size start = unopened size script records start left_end unit event threads opening closing number
@@ -422,9 +413,9 @@ module _ (s : Shape) (old new : List WornUnit) (accepted : IsAccepted s) (fit : 
     unopened_served = record {
       world = still;
       serving = record {
-        legal = refused_legal s (units_of old) (units_of new) accepted fit may refused;
-        has_begun = rw (opening, none) tt;
-        each = λ k u there. left_by as_it_was as_it_was (log_of still) (units_of old) (units_of old) k u refl refl (arm_at k u there);
+        legal = readied.legal;
+        has_begun = rw (opening, readied.none) tt;
+        each = λ k u there. left_by as_it_was as_it_was (log_of still) (units_of old) (units_of old) k u refl refl (readied.each k u there);
         recorded = record {
           capacity = s.capacity;
           number = (let small : s.capacity < 2 ^ 40 = accepted.target.capacity_number in omega arith);
@@ -432,7 +423,7 @@ module _ (s : Shape) (old new : List WornUnit) (accepted : IsAccepted s) (fit : 
           answered = rw (opening, threads) refl;
         };
         named = subst (AreNewLosses (units_of old) (units_of new)) (sym events_is) (loss_at (units_of old) (units_of new) unit event lost);
-        history_is = ap history none ∙ ap (sector_writes s.sector) (sym (nothing_written left_end));
+        history_is = ap history readied.none ∙ ap (sector_writes s.sector) (sym (nothing_written left_end));
         worn = rw (threads, closing) tt;
         granted = record { each = λ k knows entry mark there its. absurd (no_take k _ there) };
         kept = nothing_kept left_end ∙ sym (ap (λ ps. users ps left_end) nothing_taken);
@@ -450,9 +441,9 @@ module _ (s : Shape) (old new : List WornUnit) (accepted : IsAccepted s) (fit : 
       → ((unit event : ℕ) → cause ≡ errors.Drive unit event → IsEvent unit event × IfOk result (λ records. (records.threads ≡ [])
       × (records.opening ≡ Some (Drive unit event)) × (records.closing ≡ None)))
       → (cause ≡ errors.Memory → (records : Records) → result ≡ Ok records → ⊥)
-      → ScriptFits s.capacity script → IfOk result (IsServed s script old new)
-  refused_served script (errors.Drive unit event) result lost named memory fits =
+      → IsAccepted s → ScriptFits s.capacity script → IfOk result (IsServed s script old new)
+  refused_served script (errors.Drive unit event) result lost named memory accepted fits =
       let h = named unit event refl in
-      IfOk-weaker result _ _ (λ records is. unopened_served script records unit event lost h.0 is.0 is.1 is.2 fits) h.1
-  refused_served script errors.Memory (Ok records) lost named memory fits = absurd (memory refl records refl)
-  refused_served script errors.Memory (Err e) lost named memory fits = tt
+      IfOk-weaker result _ _ (λ records is. unopened_served script records unit event lost h.0 is.0 is.1 is.2 accepted fits) h.1
+  refused_served script errors.Memory (Ok records) lost named memory accepted fits = absurd (memory refl records refl)
+  refused_served script errors.Memory (Err e) lost named memory accepted fits = tt

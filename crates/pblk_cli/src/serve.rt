@@ -10,7 +10,7 @@ ghost use Rattle.scan_recovery.specs.MayStop.{AllMayStop};
 ghost use Rattle.scan_recovery.specs.Units.{AreFit};
 ghost use Rattle.pblk_cli.specs.Serving.{AreBack, Closes, IsClosed, IsServed, IsServedOn, trouble_of, units_of, with_closing};
 
-use block_target::{OpenErr, Refused, Serial, SettleErr};
+use block_target::{OpenErr, Refused, Serial, SettleErr, a_refused_opening_is_of_a_legal_world};
 use ocssd_drive::MemoryUnit;
 use pblk_model::{Script, Shape};
 use run_threads::{Records, ThreadRows, Trouble, run};
@@ -47,10 +47,13 @@ pub(crate) fn serve<R: Wait>(
 {
     match Serial::open(alloc, units, shape) {
         Ok(target) => serve_on(rt, alloc, target, script),
-        Err(Refused { units, cause }) => Served {
-            units,
-            records: not_opened(alloc, cause),
-        },
+        Err(Refused { units, cause }) => {
+            a_refused_opening_is_of_a_legal_world();
+            Served {
+                units,
+                records: not_opened(alloc, cause),
+            }
+        }
     }
 }
 

@@ -1,8 +1,9 @@
 -- The row of a line as entries are placed in it, or have landed, one after another.
-use Rattle.std.proofs.Common.{◌≡◌, ℕ, ◌+◌, ◌<◌, Some, None, Option, length, refl, sym, subst, ap, ◌∙◌, arith, length-set}
+use Rattle.std.proofs.Common.{◌≡◌, ℕ, ◌+◌, ◌<◌, ◌==◌, Bool, true, false, if◌then◌else◌, Some, None, Option, length, refl, sym, subst, ap, ◌∙◌, arith, length-set}
 use Rattle.std.specs.Prelude.{slice_get, slice_set}
 use Rattle.std.specs.Option.{option_map_or}
 use Rattle.std.proofs.lemmas.Option.{same_Some}
+use Rattle.pblk_model.specs.Marks.{void_lba}
 use Rattle.line_table.specs.declared.row.Row.{Row}
 use Rattle.line_table.specs.Rows.{Table, IsRow, Changes, noted}
 use Rattle.line_table.proofs.Places.{get_set_same}
@@ -39,19 +40,21 @@ noted_inside t line m h inside = go h.taker
     go (Some by) = set_rows t line m (noted by) inside
 
 pub placed_inside : (t : Table) (line m : ℕ) (h : Hold) → m < length t.rows → m < length (place_hold line t (Some h)).rows
-placed_inside t line m h inside = go h.taker
+placed_inside t line m h inside = go (h.mark.lba == void_lba) h.taker
   where
-    go : (o : Option ℕ) → m < length (place_by o line t).rows
-    go None = set_rows t line m gained inside
-    go (Some by) = inside
+    go : (b : Bool) (o : Option ℕ) → m < length (if b then t else place_by o line t).rows
+    go true o = inside
+    go false None = set_rows t line m gained inside
+    go false (Some by) = inside
 
 pub placed_room : (t : Table) (line : ℕ) (h : Hold) (n m : ℕ) → line < length t.rows → ((r : Row) → IsRow t line r → r.live + (n + 1) < m)
     → (row : Row) → IsRow (place_hold line t (Some h)) line row → row.live + n < m
-placed_room t line h n m inside before row there = go h.taker there
+placed_room t line h n m inside before row there = go (h.mark.lba == void_lba) h.taker there
   where
-    go : (o : Option ℕ) → IsRow (place_by o line t) line row → row.live + n < m
-    go (Some by) there = let old : row.live + (n + 1) < m = before row there in omega arith
-    go None there =
+    go : (b : Bool) (o : Option ℕ) → IsRow (if b then t else place_by o line t) line row → row.live + n < m
+    go true o there = let old : row.live + (n + 1) < m = before row there in omega arith
+    go false (Some by) there = let old : row.live + (n + 1) < m = before row there in omega arith
+    go false None there =
         let r = got_within t.rows line inside in
         let rows : (with_row line gained t).rows ≡ slice_set t.rows line (gained r.0) =
         ap (λ o. option_map_or (λ row. slice_set t.rows line (gained row)) o t.rows) r.1 in

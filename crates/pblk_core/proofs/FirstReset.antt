@@ -26,7 +26,7 @@ pub record IsFirstOf (g : ℕ → List ℕ) (a n : ℕ) (r : LineChunk) : Type 0
   pub is : g r.line ≡ r.unit ∷ units
   pub before : (k : ℕ) → a ≤ k → k < r.line → g k ≡ []
 
-same_first : (a k : ℕ) → a ≤ k → (a ≡ k) ⊎ (a + 1 ≤ k)
+pub same_first : (a k : ℕ) → a ≤ k → (a ≡ k) ⊎ (a + 1 ≤ k)
 same_first a k low = go (cases_order a k)
   where
     go : (a ≡ k) ⊎ ((a < k) ⊎ (k < a)) → (a ≡ k) ⊎ (a + 1 ≤ k)
@@ -54,7 +54,7 @@ first_is g a (suc n) r e = go (g a) refl e (λ f. first_is g (a + 1) n r f)
     go (u ∷ us) is f rest = subst (IsFirstOf g a (suc n)) (same_Some (chunk_of a u) r f)
         (record { low = omega arith; inside = omega arith; units = us; is = is; before = λ k from less. absurd (omega arith) })
 
-same_above : (g h : ℕ → List ℕ) (a n : ℕ) → ((k : ℕ) → a ≤ k → h k ≡ g k) → all_chunks h a n ≡ all_chunks g a n
+pub same_above : (g h : ℕ → List ℕ) (a n : ℕ) → ((k : ℕ) → a ≤ k → h k ≡ g k) → all_chunks h a n ≡ all_chunks g a n
 same_above g h a zero same = refl
 same_above g h a (suc n) same = ap₂ (λ us rest. in_line a us ++ rest) (same a (omega arith)) (same_above g h (a + 1) n (λ k from. same k (omega arith)))
 

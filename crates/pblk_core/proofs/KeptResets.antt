@@ -103,51 +103,59 @@ empty_none j line all = filter_none (is_used_in j line) (range_with_len 0 (units
 
 -- ---- a program that has landed
 
-pub resets_landed : (i : Image) (w : World) (unit event : ℕ) (knows : List ℕ) (p : Placed) (b : Begun) → IsSimpleMount i w → MayLand (log_of w) unit event
-    → unanswered_on (log_of w 0) unit ≡ Some p → begun (log_of w 0) ≡ Some b
-    → is_opened (life_of (log_of w 0) p.stripe.line) ≡ true → resets_of i (after (log_of w) (Landed unit event) knows) ≡ resets_of i (log_of w)
-resets_landed i w unit event knows p b simple may waits begins opened =
-    resets_same i (log_of w) (after (log_of w) (Landed unit event) knows) (λ line inside. go line (is_given_up (log_of w 0) line) refl)
-  where
-    is : IsItsProgram w unit event p
-    is = landed_program i w unit event p simple may waits
+module _ (i : Image) (w : World) (unit event : ℕ) (knows : List ℕ) (p : Placed) (b : Begun) (simple : IsSimpleMount i w) (may : MayLand (log_of w) unit event)
+    (waits : unanswered_on (log_of w 0) unit ≡ Some p) (begins : begun (log_of w 0) ≡ Some b) where
+  is : IsItsProgram w unit event p
+  is = landed_program i w unit event p simple may waits
 
-    same : (line : ℕ) → is_given_up (after (log_of w) (Landed unit event) knows 0) line ≡ is_given_up (log_of w 0) line
-    same line = given_up_kept (log_of w) (Landed unit event) knows line refl
-        (life_more (log_of w 0) (record { event = Decides (Landed unit event); knows = knows }) line)
+  told : (u : ℕ) (c : Bool) → nat_eq unit u ≡ c
+      → told_by (log_of w) u (Decides (Landed unit event)) ≡ (if c then unit_event_at (log_of w) unit event else None)
+  told u c e = ap (λ (x : Bool). if x then unit_event_at (log_of w) u event else None) e ∙ go c e
+    where
+      go : (c : Bool) → nat_eq unit u ≡ c → (if c then unit_event_at (log_of w) u event else None) ≡ (if c then unit_event_at (log_of w) unit event else None)
+      go true e = ap (λ v. unit_event_at (log_of w) v event) (sym (eqb-true unit u e))
+      go false e = refl
 
-    apart : (line : ℕ) → is_given_up (log_of w 0) line ≡ true → is.done.event.chunk ≢ line
-    apart line given e =
-        let no : is_given_up (log_of w 0) p.stripe.line ≡ false = opened_kept (log_of w 0) p.stripe.line opened in
-        let yes : is_given_up (log_of w 0) p.stripe.line ≡ true = ap (is_given_up (log_of w 0)) (sym is.chunk ∙ e) ∙ given in
-        absurd cc
+  -- the chunks of another line are as they were
+  chunk_same : (line u : ℕ) → line ≢ p.stripe.line
+      → chunk_in (known_image i (after (log_of w) (Landed unit event) knows)) line u ≡ chunk_in (known_image i (log_of w)) line u
+  chunk_same line u apart = by (nat_eq unit u) refl
+    where
+      by : (c : Bool) → nat_eq unit u ≡ c
+          → chunk_in (known_image i (after (log_of w) (Landed unit event) knows)) line u ≡ chunk_in (known_image i (log_of w)) line u
+      by true e = beside_after i (log_of w) (Landed unit event) knows u line b is.done.event begins (told u true e ∙ is.done.is_event)
+          (λ same. apart (sym same ∙ is.chunk))
+      by false e = untold_after i (log_of w) (Landed unit event) knows u line b begins (told u false e)
 
-    told : (u : ℕ) (c : Bool) → nat_eq unit u ≡ c
-        → told_by (log_of w) u (Decides (Landed unit event)) ≡ (if c then unit_event_at (log_of w) unit event else None)
-    told u c e = ap (λ (x : Bool). if x then unit_event_at (log_of w) u event else None) e ∙ go c e
-      where
-        go : (c : Bool) → nat_eq unit u ≡ c → (if c then unit_event_at (log_of w) u event else None) ≡ (if c then unit_event_at (log_of w) unit event else None)
-        go true e = ap (λ v. unit_event_at (log_of w) v event) (sym (eqb-true unit u e))
-        go false e = refl
+  pub used_beside : (line : ℕ) → line ≢ p.stripe.line
+      → used_units (known_image i (after (log_of w) (Landed unit event) knows)) line ≡ used_units (known_image i (log_of w)) line
+  used_beside line apart =
+      filter_same (is_used_in (known_image i (after (log_of w) (Landed unit event) knows)) line) (is_used_in (known_image i (log_of w)) line)
+      (λ u. ap (λ (o : Option Chunk). option_map_or (λ (c : Chunk). is_used_state c.state) o false) (chunk_same line u apart))
+      (range_with_len 0 (units i.shape))
 
-    chunk_same : (line u : ℕ) → is_given_up (log_of w 0) line ≡ true
-        → chunk_in (known_image i (after (log_of w) (Landed unit event) knows)) line u ≡ chunk_in (known_image i (log_of w)) line u
-    chunk_same line u given = by (nat_eq unit u) refl
-      where
-        by : (c : Bool) → nat_eq unit u ≡ c
-            → chunk_in (known_image i (after (log_of w) (Landed unit event) knows)) line u ≡ chunk_in (known_image i (log_of w)) line u
-        by true e = beside_after i (log_of w) (Landed unit event) knows u line b is.done.event begins (told u true e ∙ is.done.is_event) (apart line given)
-        by false e = untold_after i (log_of w) (Landed unit event) knows u line b begins (told u false e)
+  pub resets_landed : is_opened (life_of (log_of w 0) p.stripe.line) ≡ true → resets_of i (after (log_of w) (Landed unit event) knows) ≡ resets_of i (log_of w)
+  resets_landed opened =
+      resets_same i (log_of w) (after (log_of w) (Landed unit event) knows) (λ line inside. go line (is_given_up (log_of w 0) line) refl)
+    where
+      same : (line : ℕ) → is_given_up (after (log_of w) (Landed unit event) knows 0) line ≡ is_given_up (log_of w 0) line
+      same line = given_up_kept (log_of w) (Landed unit event) knows line refl
+          (life_more (log_of w 0) (record { event = Decides (Landed unit event); knows = knows }) line)
 
-    go : (line : ℕ) (c : Bool) → is_given_up (log_of w 0) line ≡ c
-        → units_to_reset i (after (log_of w) (Landed unit event) knows) line ≡ units_to_reset i (log_of w) line
-    go line false e = ap (λ c. if c then used_units (known_image i (after (log_of w) (Landed unit event) knows)) line else []) (same line ∙ e)
-        ∙ sym (ap (λ c. if c then used_units (known_image i (log_of w)) line else []) e)
-    go line true e =
-        ap (λ c. if c then used_units (known_image i (after (log_of w) (Landed unit event) knows)) line else []) (same line ∙ e)
-        ∙ filter_same (is_used_in (known_image i (after (log_of w) (Landed unit event) knows)) line) (is_used_in (known_image i (log_of w)) line)
-        (λ u. ap (λ (o : Option Chunk). option_map_or (λ (c : Chunk). is_used_state c.state) o false) (chunk_same line u e)) (range_with_len 0 (units i.shape))
-        ∙ sym (ap (λ c. if c then used_units (known_image i (log_of w)) line else []) e)
+      apart : (line : ℕ) → is_given_up (log_of w 0) line ≡ true → line ≢ p.stripe.line
+      apart line given e =
+          let no : is_given_up (log_of w 0) p.stripe.line ≡ false = opened_kept (log_of w 0) p.stripe.line opened in
+          let yes : is_given_up (log_of w 0) p.stripe.line ≡ true = ap (is_given_up (log_of w 0)) (sym e) ∙ given in
+          absurd cc
+
+      go : (line : ℕ) (c : Bool) → is_given_up (log_of w 0) line ≡ c
+          → units_to_reset i (after (log_of w) (Landed unit event) knows) line ≡ units_to_reset i (log_of w) line
+      go line false e = ap (λ c. if c then used_units (known_image i (after (log_of w) (Landed unit event) knows)) line else []) (same line ∙ e)
+          ∙ sym (ap (λ c. if c then used_units (known_image i (log_of w)) line else []) e)
+      go line true e =
+          ap (λ c. if c then used_units (known_image i (after (log_of w) (Landed unit event) knows)) line else []) (same line ∙ e)
+          ∙ used_beside line (apart line e)
+          ∙ sym (ap (λ c. if c then used_units (known_image i (log_of w)) line else []) e)
 
 -- ---- a line that is opened has none
 

@@ -1,11 +1,8 @@
 -- What the blocks of the stripes of a line are.
-use Rattle.std.proofs.Common.{◌≡◌, ◌≢◌, ◌⊎◌, ℕ, ◌+◌, ◌-◌, ◌*◌, ◌/◌, ◌<◌, ◌≤◌, ◌==◌, nat_lt, nat_eq, true, false, zero, suc, Bool, Some, None, List, [], ◌∷◌, ◌++◌, length, drop, refl, sym, subst, ap, ap₂, ◌∙◌, arith, inl, inr, if◌then◌else◌, append-nil, le_refl}
+use Rattle.std.proofs.Common.{◌≡◌, ◌≢◌, ◌⊎◌, ℕ, ◌+◌, ◌-◌, ◌*◌, ◌/◌, ◌<◌, ◌≤◌, ◌==◌, nat_lt, true, false, Bool, Some, None, List, ◌++◌, length, take, drop, sym, subst, ap, ◌∙◌, arith, inl, inr, if◌then◌else◌}
 use Rattle.std.specs.Prelude.{slice_get, slice_range, is_some, nat_le}
-use Rattle.std.specs.List.{AllByRecursion, filter}
-use Rattle.std.specs.Option.{option_to_list}
+use Rattle.std.specs.List.{AllByRecursion, Contains}
 use Rattle.std.proofs.Math.Nat.{mul-le-mul_right}
-use Rattle.std.proofs.lemmas.Bool.{eqb-true}
-use Rattle.std.proofs.lemmas.Option.{same_Some, none-some}
 use Rattle.pblk_model.specs.declared.shape.Shape.{Shape}
 use Rattle.pblk_model.specs.declared.chunk.Mark.{Mark}
 use Rattle.pblk_model.specs.Accepted.{IsAccepted}
@@ -14,40 +11,38 @@ use Rattle.pblk_model.specs.Image.{Image}
 use Rattle.pblk_model.specs.Marks.{meta_mark, pad_lba, void_lba}
 use Rattle.pblk_model.specs.Records.{named}
 use Rattle.pblk_model.specs.LineOrder.{start_len, end_len}
-use Rattle.pblk_model.specs.StartRecord.{StartRecord, start_bytes}
-use Rattle.pblk_world.specs.Events.{Stripe, Open, Place, Free, Event, Decides, Logged}
-use Rattle.pblk_world.specs.World.{World, Logs, log_of, prefixes}
-use Rattle.pblk_world.specs.EngineLog.{Opening, Opened, life_of, is_life, Taken, taken_by, takes, Placed, placements, stripes_of, has_failed}
-use Rattle.pblk_world.specs.Placing.{MayPlace, IsStart, IsData, IsEnd, IsPad, record_blocks, data_blocks, end_address}
-use Rattle.pblk_world.proofs.Appending.{life_more, placements_more}
-use Rattle.pblk_world.proofs.Growing.{at_end}
+use Rattle.pblk_model.specs.StartRecord.{start_bytes}
+use Rattle.pblk_world.specs.Events.{Stripe, Logged}
+use Rattle.pblk_world.specs.World.{World, Logs, log_of}
+use Rattle.pblk_world.specs.EngineLog.{Opening, Taken, takes, stripes_of, has_failed}
+use Rattle.pblk_world.specs.Placing.{IsStart, IsData, IsEnd, IsPad, record_blocks, data_blocks, end_address}
 use Rattle.stripe_placer.specs.Placing.{Program}
 use Rattle.core_laws.specs.SimpleMounts.{IsSimpleMount}
-use Rattle.core_laws.proofs.OpeningNumbers.{opens_at, life_at}
-use Rattle.core_laws.proofs.Opening.{placed_before}
-use Rattle.core_laws.proofs.Placing.{new_placed, with_place}
-use Rattle.core_laws.specs.PlacedEntries.{AreOfSectors}
+use Rattle.core_laws.specs.PlacedEntries.{AreNamed}
+use Rattle.core_laws.specs.PlainEvents.{is_plain_event}
 use Rattle.core_laws.proofs.LogOrders.{in_order}
-use Rattle.core_laws.proofs.Followed.{IsNextEvent, by_events, follow, plain_of}
-use Rattle.core_laws.proofs.Placing.{stripes_now as stripe_behind}
+use Rattle.core_laws.proofs.Followed.{follow}
+use Rattle.core_laws.proofs.LandedNow.{opened_now}
+use Rattle.core_laws.proofs.SimpleMounts.{engine_plain}
 use Rattle.core_laws.proofs.StripesInOrder.{its_stripes}
 use Rattle.core_laws.proofs.PartLengths.{IsStriped}
 use Rattle.core_laws.proofs.PlainOpenings.{IsOpenedLine, opened_lines}
 use Rattle.pblk_laws.proofs.MarkNames.{pad_none, meta_none}
+use Rattle.pblk_world.specs.Victims.{engine_prefix}
+use Rattle.world_laws.proofs.Later.{takes_joined}
 use Rattle.world_laws.proofs.LineStarts.{cut_marks}
+use Rattle.world_laws.proofs.LineStripes.{stripe_kind, turn_of_stripe}
 use Rattle.pblk_core.proofs.DataBlocks.{IsOfTaken, data_taken}
+use Rattle.pblk_core.proofs.LineUnits.{now_units}
+use Rattle.pblk_core.proofs.LandedWay.{IsOnWay}
 use Rattle.pblk_core.specs.Stands.{IsOpenLine}
 use Rattle.pblk_core.specs.declared.open_lines.OpenLine.{OpenLine}
-use Rattle.pblk_core.proofs.LineUnits.{now_units}
 use Rattle.pblk_core.proofs.LandedReads.{IsChunkRead}
-use Rattle.pblk_core.proofs.LandedWay.{IsOnWay}
 use Rattle.pblk_core.proofs.LandedChunk.{HasKind, AreKinds, chunk_read}
 use Rattle.core_laws.proofs.PlainEventsLemmas.{none_failed}
 use Rattle.lemmas.proofs.Lists.{IsAmong, all_front}
-use Rattle.lemmas.proofs.Maps.{filter_none}
-use Rattle.lemmas.proofs.Parts.{all_at, all_dropped, all_taken}
-use Rattle.lemmas.proofs.Tests.{first_of, lt_true, within_is}
-use Rattle.pblk_world.proofs.EngineLogLemmas.{opened_same, takes_more}
+use Rattle.lemmas.proofs.Parts.{all_at, all_dropped, all_taken, contained_among, get_more, take_and_drop}
+use Rattle.lemmas.proofs.Tests.{first_of, within_is}
 
 -- a block of a record has its mark
 of_record : (s : Shape) (seq count : ℕ) (bytes : List ℕ) (from to : ℕ) (b : Block) → IsAccepted s
@@ -64,20 +59,18 @@ by_lba s lba = is_some (if nat_lt lba s.capacity then Some (Some lba) else (if l
 
 -- ---- the stripe that is placed next
 
-of_taken : (s : Shape) (log : List Logged) (b : Block) → IsAccepted s → AreOfSectors s log → IsOfTaken s (takes log) b
+of_taken : (s : Shape) (log : List Logged) (b : Block) → IsAccepted s → AreNamed s log → IsOfTaken s (takes log) b
     → ((b.mark.lba ≡ pad_lba) × (is_some (named s b.mark) ≡ false))
     ⊎ ((b.mark.lba ≢ pad_lba) × (is_some (named s b.mark) ≡ true) × ((t : Taken) × IsAmong (takes log) t × (b.mark ≡ t.mark)))
-of_taken s log b accepted sectors (inl pad) =
+of_taken s log b accepted names (inl pad) =
     inl (ap (λ (x : Block). x.mark.lba) pad, ap (λ (x : Block). is_some (named s x.mark)) pad ∙ ap is_some (pad_none s accepted))
-of_taken s log b accepted sectors (inr (k, t, at, same)) =
+of_taken s log b accepted names (inr (k, t, at, same)) =
     let mark : b.mark ≡ t.mark = ap (λ (x : Block). x.mark) same in
-    let low : t.mark.lba < s.capacity = all_at (λ (t : Taken). t.mark.lba < s.capacity) (takes log) k t at sectors in
     let some : is_some (named s b.mark) ≡ true =
-    ap (λ (m : Mark). by_lba s m.lba) mark
-    ∙ ap (λ a. is_some (if a then Some (Some t.mark.lba) else (if t.mark.lba == void_lba then Some None else None))) (lt_true t.mark.lba s.capacity low) in
+    ap (λ (m : Mark). is_some (named s m)) mark ∙ all_at (λ (t : Taken). is_some (named s t.mark) ≡ true) (takes log) k t at names in
     inr (λ pad. let clash : true ≡ false = sym some ∙ ap (by_lba s) pad ∙ ap is_some (pad_none s accepted) in absurd cc, some, (t, (k, at), mark))
 
-module _ (i : Image) (ls : Logs) (o : Opening) (stripe : Stripe) (accepted : IsAccepted i.shape) (sectors : AreOfSectors i.shape (ls 0))
+module _ (i : Image) (ls : Logs) (o : Opening) (stripe : Stripe) (accepted : IsAccepted i.shape) (names : AreNamed i.shape (ls 0))
     (striped : IsStriped i.shape o.start.width) (sound : has_failed (ls 0) o ≡ false) where
   abbrev count : ℕ
   count = length (stripes_of (ls 0) o)
@@ -112,7 +105,7 @@ module _ (i : Image) (ls : Logs) (o : Opening) (stripe : Stripe) (accepted : IsA
   data_kind : IsData i ls o stripe → Here
   data_kind is = record {
     outside = λ b at side. absurd (between side);
-    data_of = λ b at low high. of_taken i.shape (ls 0) b accepted sectors
+    data_of = λ b at low high. of_taken i.shape (ls 0) b accepted names
         (all_at (IsOfTaken i.shape (takes (ls 0))) (data_blocks i.shape (ls 0)) at.0 b (ap (λ bs. slice_get bs at.0) (sym is.blocks) ∙ at.1)
         (data_taken i.shape (ls 0)));
   }
@@ -128,148 +121,49 @@ module _ (i : Image) (ls : Logs) (o : Opening) (stripe : Stripe) (accepted : IsA
   kind_of (inr (inr (inl is))) = end_kind is
   kind_of (inr (inr (inr is))) = let failed : has_failed (ls 0) o ≡ true = is.failed in absurd cc
 
--- ---- one more event
+-- ---- each stripe
 
-HaveKinds : Shape → List Logged → Type 0
-HaveKinds s log = (line : ℕ) (o : Opening) → life_of log line ≡ Opened o → (j : ℕ) (p : Placed) → slice_get (stripes_of log o) j ≡ Some p
-    → HasKind s (takes log) o j p.stripe.blocks
-
-more_taken : (s : Shape) (log : List Logged) (l : Logged) (o : Opening) (j : ℕ) (blocks : List Block) → HasKind s (takes log) o j blocks
-    → HasKind s (takes (log ++ l ∷ [])) o j blocks
-more_taken s log l o j blocks is = record {
+more_taken : (s : Shape) (log more : List Logged) (o : Opening) (j : ℕ) (blocks : List Block) → HasKind s (takes log) o j blocks
+    → HasKind s (takes (log ++ more)) o j blocks
+more_taken s log more o j blocks is = record {
   outside = is.outside;
   data_of = λ b at low high. go b (is.data_of b at low high);
 }
   where
-    get_more : {X : Type 0} (xs ys : List X) (k : ℕ) (x : X) → slice_get xs k ≡ Some x → slice_get (xs ++ ys) k ≡ Some x
-    get_more [] ys k x e = absurd (none-some x e)
-    get_more (y ∷ xs) ys zero x e = e
-    get_more (y ∷ xs) ys (suc k) x e = get_more xs ys k x e
-
     go : (b : Block) → ((b.mark.lba ≡ pad_lba) × (is_some (named s b.mark) ≡ false))
         ⊎ ((b.mark.lba ≢ pad_lba) × (is_some (named s b.mark) ≡ true) × ((t : Taken) × IsAmong (takes log) t × (b.mark ≡ t.mark)))
         → ((b.mark.lba ≡ pad_lba) × (is_some (named s b.mark) ≡ false))
-        ⊎ ((b.mark.lba ≢ pad_lba) × (is_some (named s b.mark) ≡ true) × ((t : Taken) × IsAmong (takes (log ++ l ∷ [])) t × (b.mark ≡ t.mark)))
+        ⊎ ((b.mark.lba ≢ pad_lba) × (is_some (named s b.mark) ≡ true) × ((t : Taken) × IsAmong (takes (log ++ more)) t × (b.mark ≡ t.mark)))
     go b (inl pad) = inl pad
-    go b (inr e) = inr (e.0, e.1, (e.2.0, (e.2.1.0, ap (λ ts. slice_get ts e.2.1.0) (takes_more log l) ∙ get_more (takes log) _ e.2.1.0 e.2.0 e.2.1.1), e.2.2))
+    go b (inr e) =
+        let at : slice_get (takes (log ++ more)) e.2.1.0 ≡ Some e.2.0 =
+        ap (λ ts. slice_get ts e.2.1.0) (takes_joined log more) ∙ get_more (takes log) (takes more) e.2.1.0 e.2.0 e.2.1.1 in
+        inr (e.0, e.1, (e.2.0, (e.2.1.0, at), e.2.2))
 
--- it places no stripe, and a line of which nothing was placed may be opened by it
-kinds_stay : (s : Shape) (log : List Logged) (l : Logged) (line : ℕ) (o : Opening) (j : ℕ) (p : Placed) → HaveKinds s log
-    → placements (log ++ l ∷ []) ≡ placements log → (life_of log line ≡ Opened o) ⊎ (o.number ≡ length log)
-    → slice_get (stripes_of (log ++ l ∷ []) o) j ≡ Some p → HasKind s (takes (log ++ l ∷ [])) o j p.stripe.blocks
-unfolding HaveKinds
-kinds_stay s log l line o j p was same (inl life) there = more_taken s log l o j p.stripe.blocks
-    (was line o life j p (ap (λ (ps : List Placed). slice_get (filter (λ (q : Placed). is_life o.number q.life) ps) j) (sym same) ∙ there))
-kinds_stay s log l line o j p was same (inr number) there =
-    absurd (none-some p (sym (ap₂ (λ (ps : List Placed) n. slice_get (filter (λ (q : Placed). is_life n q.life) ps) j) same number
-    ∙ ap (λ (ps : List Placed). slice_get ps j)
-    (filter_none (λ (q : Placed). is_life (length log) q.life) (placements log) (placed_before log (length log) (le_refl (length log))))) ∙ there))
-
-kinds_placed : (i : Image) (us : ℕ → List ℕ) (w : World) (knows : List ℕ) (stripe : Stripe)
-    → IsNextEvent i us w (record { event = Decides (Place stripe); knows = knows })
-    → AreOfSectors i.shape (log_of w 0) → HaveKinds i.shape (log_of w 0)
-    → (line : ℕ) (o : Opening) → life_of (log_of w 0) line ≡ Opened o → (j : ℕ) (p : Placed)
-    → slice_get (stripes_of (with_place (log_of w 0) stripe knows) o) j ≡ Some p
-    → HasKind i.shape (takes (with_place (log_of w 0) stripe knows)) o j p.stripe.blocks
-unfolding HaveKinds
-kinds_placed i us w knows stripe next sectors was line o life j p there = go (is_life o.number (Opened may.opening)) refl
+are_kinds : (i : Image) (w : World) (unit : ℕ) (of : Program) → IsSimpleMount i w → (is : IsOnWay i w unit of) → AreKinds i w is.row.opening
+are_kinds i w unit of simple is j p there =
+    let log : List Logged = log_of w 0 in
+    let o : Opening = is.row.opening in
+    let legal = simple.mount.legal in
+    let now = opened_now i w simple.mount is.row.stripe.stripe.line o is.stands in
+    let its : Contains (stripes_of log o) p = contained_among (stripes_of log o) p (j, there) in
+    let well : IsOpenedLine i (now_units i w) is.row.stripe.stripe.line o =
+    opened_lines i (now_units i w) w (follow i w simple) is.row.stripe.stripe.line o is.stands in
+    let then_ : HasKind i.shape (takes (take p.number log)) o (length (stripes_of (take p.number log) o)) p.stripe.blocks =
+    kind_of i (engine_prefix p.number (log_of w)) o p.stripe simple.mount.accepted (names (take p.number log) (drop p.number log) (take_and_drop p.number log))
+    (subst (IsStriped i.shape) (sym well.width)
+    (its_stripes i (now_units i w) is.row.stripe.stripe.line o simple.mount.accepted.drive.ws_opt simple.mount.accepted.drive.whole_stripes well))
+    (none_failed (take p.number log) o (all_taken (λ (l : Logged). is_plain_event l.event ≡ true) p.number log (engine_plain i w simple)))
+    (stripe_kind i w o p legal now.0 its) in
+    subst (λ (xs : List Logged). HasKind i.shape (takes xs) o j p.stripe.blocks) (take_and_drop p.number log)
+    (more_taken i.shape (take p.number log) (drop p.number log) o j p.stripe.blocks
+    (subst (λ n. HasKind i.shape (takes (take p.number log)) o n p.stripe.blocks) (turn_of_stripe log o j p there) then_))
   where
-    l : Logged
-    l = record { event = Decides (Place stripe); knows = knows }
-
-    ls : Logs
-    ls = prefixes (record { event = Decides (Place stripe); knows = knows }) (log_of w)
-
-    accepted : IsAccepted i.shape
-    accepted = next.world.simple.mount.accepted
-
-    may : MayPlace i (prefixes (record { event = Decides (Place stripe); knows = knows }) (log_of w)) stripe
-    may = next.allowed.2
-
-    opened : life_of (log_of w 0) stripe.line ≡ Opened may.opening
-    opened = ap (λ (xs : List Logged). life_of xs stripe.line) (sym next.own) ∙ may.is_open
-
-    well : IsOpenedLine i us stripe.line may.opening
-    well = opened_lines i us w next.world stripe.line may.opening opened
-
-    own : {X : Type 0} (f : List Logged → X) → f (prefixes (record { event = Decides (Place stripe); knows = knows }) (log_of w) 0) ≡ f (log_of w 0)
-    own f = ap f next.own
-
-    now : HasKind i.shape (takes (log_of w 0)) may.opening (length (stripes_of (log_of w 0) may.opening)) stripe.blocks
-    now = subst (λ (xs : List Logged). HasKind i.shape (takes xs) may.opening (length (stripes_of xs may.opening)) stripe.blocks) next.own
-        (kind_of i ls may.opening stripe accepted
-        (subst (AreOfSectors i.shape) (sym next.own) sectors)
-        (subst (IsStriped i.shape) (sym well.width) (its_stripes i us stripe.line may.opening accepted.drive.ws_opt accepted.drive.whole_stripes well))
-        (own (λ xs. has_failed xs may.opening) ∙ none_failed (log_of w 0) may.opening (plain_of i us w next.world)) may.kind)
-
-    by : may.opening ≡ o → (slice_get (stripes_of (log_of w 0) o) j ≡ Some p)
-        ⊎ ((j ≡ length (stripes_of (log_of w 0) o)) × (new_placed (log_of w 0) stripe may.opening ≡ p))
-        → HasKind i.shape (takes (log_of w 0)) o j p.stripe.blocks
-    by same (inl old) = was line o life j p old
-    by same (inr last) =
-        subst (λ (x : Placed). HasKind i.shape (takes (log_of w 0)) o j x.stripe.blocks) last.1
-        (subst (λ n. HasKind i.shape (takes (log_of w 0)) o n stripe.blocks) (sym last.0)
-        (subst (λ (x : Opening). HasKind i.shape (takes (log_of w 0)) x (length (stripes_of (log_of w 0) x)) stripe.blocks) same now))
-
-    go : (b : Bool) → is_life o.number (Opened may.opening) ≡ b → HasKind i.shape (takes (with_place (log_of w 0) stripe knows)) o j p.stripe.blocks
-    go true e =
-        let number : may.opening.number ≡ o.number = eqb-true may.opening.number o.number e in
-        let one : line ≡ stripe.line =
-        same_Some line stripe.line (sym ((life_at (log_of w 0) line o life).0) ∙ ap (opens_at (log_of w 0)) (sym number)
-        ∙ (life_at (log_of w 0) stripe.line may.opening opened).0) in
-        let same : may.opening ≡ o = opened_same may.opening o (sym opened ∙ ap (life_of (log_of w 0)) (sym one) ∙ life) in
-        more_taken i.shape (log_of w 0) l o j p.stripe.blocks
-        (by same (at_end (stripes_of (log_of w 0) o) (new_placed (log_of w 0) stripe may.opening) p j
-        (ap (λ (ps : List Placed). slice_get ps j) (sym (stripe_behind (log_of w 0) stripe knows may.opening o true opened e)) ∙ there)))
-    go false e = more_taken i.shape (log_of w 0) l o j p.stripe.blocks
-        (was line o life j p (ap (λ (ps : List Placed). slice_get ps j)
-        (sym (append-nil (stripes_of (log_of w 0) o)) ∙ sym (stripe_behind (log_of w 0) stripe knows may.opening o false opened e)) ∙ there))
-
-kinds_opened : (s : Shape) (log : List Logged) (knows : List ℕ) (other line : ℕ) (start : StartRecord) (o : Opening)
-    → (if other == line then Opened (record { number = length log; line = line; start = start; knows = knows }) else life_of log line) ≡ Opened o
-    → (life_of log line ≡ Opened o) ⊎ (o.number ≡ length log)
-kinds_opened s log knows other line start o = go (nat_eq other line)
-  where
-    go : (b : Bool) → (if b then Opened (record { number = length log; line = line; start = start; knows = knows }) else life_of log line) ≡ Opened o
-        → (life_of log line ≡ Opened o) ⊎ (o.number ≡ length log)
-    go true e = inr (ap (λ (x : Opening). x.number) (sym (opened_same (record { number = length log; line = line; start = start; knows = knows }) o e)))
-    go false e = inl e
-
-kinds_next : (i : Image) (us : ℕ → List ℕ) (w : World) (knows : List ℕ) (x : Event) → IsNextEvent i us w (record { event = x; knows = knows })
-    → AreOfSectors i.shape (log_of w 0) → HaveKinds i.shape (log_of w 0) → HaveKinds i.shape (log_of w 0 ++ record { event = x; knows = knows } ∷ [])
-unfolding HaveKinds
-kinds_next i us w knows (Decides (Place stripe)) next sectors was line o life j p there =
-    kinds_placed i us w knows stripe next sectors was line o
-    (sym (life_more (log_of w 0) (record { event = Decides (Place stripe); knows = knows }) line) ∙ life) j p there
-kinds_next i us w knows (Decides (Open other start)) next sectors was line o life j p there =
-    let l : Logged = record { event = Decides (Open other start); knows = knows } in
-    kinds_stay i.shape (log_of w 0) l line o j p was (placements_more (log_of w 0) l ∙ append-nil (placements (log_of w 0)))
-    (kinds_opened i.shape (log_of w 0) knows other line start o (sym (life_more (log_of w 0) l line) ∙ life)) there
-kinds_next i us w knows (Decides (Free other)) next sectors was line o life j p there = let plain = next.plain in absurd cc
-kinds_next i us w knows x next sectors was line o life j p there =
-    let l : Logged = record { event = x; knows = knows } in
-    kinds_stay i.shape (log_of w 0) l line o j p was (placements_more (log_of w 0) l ∙ append-nil (placements (log_of w 0)))
-    (inl (sym (life_more (log_of w 0) l line) ∙ life)) there
-
--- of a log whose entries are of sectors
-KindsOfSectors : Shape → List Logged → Type 0
-KindsOfSectors s log = AreOfSectors s log → HaveKinds s log
-
-sectors_before : (s : Shape) (log : List Logged) (l : Logged) → AreOfSectors s (log ++ l ∷ []) → AreOfSectors s log
-sectors_before s log l sectors =
-    (all_front (λ (t : Taken). t.mark.lba < s.capacity) (takes log) (option_to_list (taken_by l.event))
-    (subst (AllByRecursion (λ (t : Taken). t.mark.lba < s.capacity)) (takes_more log l) sectors)).0
-
-all_kinds : (i : Image) (w : World) → IsSimpleMount i w → HaveKinds i.shape (log_of w 0)
-unfolding HaveKinds KindsOfSectors
-all_kinds i w simple = by_events i (now_units i w) (KindsOfSectors i.shape) (λ sectors line o life. absurd cc)
-    (λ v l next before sectors.
-    let earlier : AreOfSectors i.shape (log_of v 0) = sectors_before i.shape (log_of v 0) l sectors in
-    kinds_next i (now_units i w) v l.knows l.event next earlier (before earlier)) w (follow i w simple) (in_order i w simple).sectors
-
-pub are_kinds : (i : Image) (w : World) (unit : ℕ) (of : Program) → IsSimpleMount i w → (is : IsOnWay i w unit of) → AreKinds i w is.row.opening
-unfolding HaveKinds
-are_kinds i w unit of simple is j p there = all_kinds i w simple is.row.stripe.stripe.line is.row.opening is.stands j p there
+    names : (first more : List Logged) → first ++ more ≡ log_of w 0 → AreNamed i.shape first
+    names first more whole =
+        (all_front (λ (t : Taken). is_some (named i.shape t.mark) ≡ true) (takes first) (takes more)
+        (subst (AllByRecursion (λ (t : Taken). is_some (named i.shape t.mark) ≡ true)) (ap takes (sym whole) ∙ takes_joined first more)
+        (in_order i w simple).named)).0
 
 pub chunk_is_read : (i : Image) (w : World) (unit : ℕ) (of : Program) (slot : OpenLine) → IsSimpleMount i w → (is : IsOnWay i w unit of)
     → IsOpenLine i (log_of w) is.row.opening slot → IsChunkRead i w unit is.row.opening slot

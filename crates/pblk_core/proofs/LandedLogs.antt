@@ -32,14 +32,15 @@ use Rattle.core_laws.proofs.LandedStripe.{is_answer}
 use Rattle.core_laws.proofs.UnitTurns.{filtered_is}
 use Rattle.core_laws.proofs.OneStripe.{one_stripe}
 use Rattle.core_laws.proofs.KnownChunks.{chunk_in, is_on, live_chunk}
-use Rattle.core_laws.proofs.KeptLines.{all_online, few_units, same_units}
+use Rattle.core_laws.proofs.AnsweredUnits.{first_answer}
+use Rattle.core_laws.proofs.KeptLines.{few_units, same_units, still_online}
 use Rattle.pblk_core.proofs.ChunkRows.{rows_of_chunks}
 use Rattle.pblk_core.proofs.KnownAfter.{told_after, untold_after, beside_after}
 use Rattle.pblk_core.proofs.LandedProgram.{IsItsProgram, landed_program}
 use Rattle.pblk_core.specs.Stands.{under_way}
 use Rattle.lemmas.proofs.Lists.{IsAmong}
 use Rattle.lemmas.proofs.Maps.{from_filter}
-use Rattle.lemmas.proofs.Parts.{all_at}
+use Rattle.lemmas.proofs.Parts.{contained_among}
 use Rattle.pblk_world.proofs.EngineLogLemmas.{takes_more}
 
 -- ---- what stays
@@ -82,8 +83,7 @@ same_live_unit i w unit event knows p b line u simple may waits begins =
     online =
         let among : IsAmong (placements (log_of w 0)) p =
         from_filter (λ (q : Placed). q.stripe.unit == unit) (placements (log_of w 0)) p (length (answers (log_of w 0) unit), waits) in
-        all_at (λ (q : Placed). is_live (known_image i (log_of w)) q.stripe.line q.stripe.unit ≡ true) (placements (log_of w 0)) among.0 p among.1
-        (all_online i w simple)
+        still_online i w p simple.mount (contained_among (placements (log_of w 0)) p among) (ap is_some (first_answer (log_of w 0) unit p waits))
 
     own : p.stripe.unit ≡ unit
     own = eqb-true p.stripe.unit unit

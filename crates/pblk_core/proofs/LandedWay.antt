@@ -28,8 +28,7 @@ use Rattle.core_laws.proofs.UnitRows.{under_way_is, stopped_is}
 use Rattle.core_laws.proofs.StripesByPlace.{at_its_place, find_only, not_at}
 use Rattle.core_laws.proofs.Answered.{first_unanswered}
 use Rattle.core_laws.proofs.LandedStripe.{one_more}
-use Rattle.core_laws.specs.InOrder.{IsInPlace}
-use Rattle.core_laws.proofs.LogOrders.{in_order}
+use Rattle.core_laws.proofs.UnansweredLines.{first_open}
 use Rattle.core_laws.specs.LeftOpenings.{left_openings}
 use Rattle.core_laws.proofs.LeftLines.{lines_of_left, left_apart}
 use Rattle.core_laws.proofs.OneStripe.{one_stripe}
@@ -40,7 +39,7 @@ use Rattle.core_laws.proofs.Followed.{IsFollowed, follow}
 use Rattle.pblk_core.proofs.LineUnits.{now_units, opened_earlier, same_live}
 use Rattle.lemmas.proofs.Lists.{IsAmong}
 use Rattle.lemmas.proofs.Maps.{any_member, from_map, in_filter, in_map, row_at}
-use Rattle.lemmas.proofs.Parts.{all_at, get_first}
+use Rattle.lemmas.proofs.Parts.{get_first}
 use Rattle.lemmas.proofs.Tests.{first_of, or_right, same_number}
 
 -- ---- the stripe of a row
@@ -151,10 +150,7 @@ on_way i w unit of simple row =
     let p : Placed = row.stripe in
     let steady : IsFollowed i (now_units i w) w = follow i w simple in
     let first = first_unanswered (log_of w 0) unit p row.waits in
-    let place : IsInPlace i (log_of w 0) p =
-    all_at (IsInPlace i (log_of w 0)) (placements (log_of w 0)) first.among.0 p first.among.1 (in_order i w simple).placed in
-    let opened_is : Opened place.opening ≡ Opened row.opening = sym place.life ∙ row.life in
-    let stands : life_of (log_of w 0) row.stripe.stripe.line ≡ Opened row.opening = place.stands ∙ opened_is in
+    let stands : life_of (log_of w 0) row.stripe.stripe.line ≡ Opened row.opening = first_open i w unit p simple.mount.legal row.waits ∙ row.life in
     let its_line : row.opening.line ≡ row.stripe.stripe.line = (opened_lines i (now_units i w) w steady row.stripe.stripe.line row.opening stands).its_line in
     let line_is : IsLineOf i (now_units i w) w row.opening = line_of i (now_units i w) w row.opening steady (ap (life_of (log_of w 0)) its_line ∙ stands) in
     let among : IsAmong (stripes_of (log_of w 0) row.opening) row.stripe =

@@ -1,3 +1,5 @@
+pub mod NotesKept
+pub mod NotesSet
 pub mod DataBlocks
 pub mod Filled
 pub mod Runs
@@ -8,11 +10,13 @@ pub mod LineUnits
 pub mod ChunkRows
 pub mod KnownAfter
 pub mod LandedProgram
+pub mod UsedBits
 pub mod ResetLists
 pub mod LineBits
 pub mod FoundLines
 pub mod FoundMap
 pub mod FoundRows
+pub mod FoundNotes
 pub mod FitFindings
 pub mod KeptResets
 pub mod FirstReset
@@ -68,3 +72,12 @@ pub mod SimpleLogs
 pub mod StoppedStripe
 pub mod StoppedConditions
 pub mod StandsAgain
+pub mod FreedResets
+pub mod RemovedRow
+pub mod LeftOut
+pub mod FreedConditions
+pub mod SpentTables
+pub mod StandsFreed
+pub mod LandedNotes
+pub mod StartKinds
+pub mod LandedConditions

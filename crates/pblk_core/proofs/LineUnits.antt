@@ -1,22 +1,18 @@
 -- The units of the lines that a mount opened, as they are known: those of each opened line stay as they were when it was opened.
-use Rattle.std.proofs.Common.{◌≡◌, ℕ, ◌<◌, ◌≤◌, true, Some, List, length, length-take, take, sym, ap, ◌∙◌, arith}
+use Rattle.std.proofs.Common.{◌≡◌, ℕ, ◌<◌, ◌≤◌, Some, List, length, length-take, take, sym, ap, ◌∙◌, arith}
 use Rattle.std.specs.Prelude.{slice_get}
 use Rattle.std.specs.List.{AllByRecursion, enumerate_from}
 use Rattle.std.proofs.lemmas.Option.{same_Some, none-some}
 use Rattle.pblk_model.specs.Image.{Image, line_units}
 use Rattle.pblk_world.specs.Events.{Event, Decides, Place, Logged}
 use Rattle.pblk_world.specs.World.{World, Logs, log_of}
-use Rattle.pblk_world.specs.EngineLog.{Opening, Opened, life_of, is_opened, Placed, placed_by, placements}
+use Rattle.pblk_world.specs.EngineLog.{Opening, Opened, life_of, Placed, placed_by, placements}
 use Rattle.pblk_world.specs.Victims.{engine_prefix}
 use Rattle.pblk_world.specs.Lines.{known_image}
 use Rattle.core_laws.specs.OpenedLines.{as_opened, bits_of}
-use Rattle.core_laws.specs.SimpleMounts.{IsSimpleMount}
 use Rattle.core_laws.proofs.Opening.{all_made}
 use Rattle.core_laws.proofs.PlacedLines.{life_is_before as opened_before}
-use Rattle.core_laws.specs.InOrder.{IsInPlace}
-use Rattle.core_laws.proofs.LogOrders.{in_order}
-use Rattle.core_laws.proofs.TwoLines.{prefix_prefix as prefix_twice}
-use Rattle.lemmas.proofs.Lists.{all_imply}
+use Rattle.core_laws.proofs.OpenedTurns.{prefix_prefix as prefix_twice}
 use Rattle.lemmas.proofs.Parts.{all_at}
 
 -- the units of each line, as they are known
@@ -48,13 +44,3 @@ opened_earlier log k p o there life =
 
 pub same_live : (i : Image) (logs : Logs) (o : Opening) (n : ℕ) → o.number ≤ n → (as_opened i (engine_prefix n logs) o).live ≡ (as_opened i logs o).live
 same_live i logs o n within = ap (λ (ls : Logs). bits_of (line_units (known_image i ls) o.line)) (prefix_twice logs o.number n within)
-
--- ---- lives
-
--- a stripe has the life that its line has
-abbrev pub IsLiving : List Logged → Placed → Type 0
-IsLiving log p = (life_of log p.stripe.line ≡ p.life) × (is_opened p.life ≡ true)
-
-pub living : (i : Image) (w : World) → IsSimpleMount i w → AllByRecursion (IsLiving (log_of w 0)) (placements (log_of w 0))
-living i w simple = all_imply (IsInPlace i (log_of w 0)) (IsLiving (log_of w 0)) (λ p is. (is.stands ∙ sym is.life, ap is_opened is.life))
-    (placements (log_of w 0)) (in_order i w simple).placed

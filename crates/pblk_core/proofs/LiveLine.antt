@@ -4,13 +4,14 @@ use Rattle.std.specs.Prelude.{slice_get, ◌%◌}
 use Rattle.std.specs.List.{filter, find}
 use Rattle.std.specs.Option.{option_map, option_map_or, option_and_then}
 use Rattle.std.proofs.lemmas.Option.{same_Some, none-some, slice_get-map, slice_get_within}
+use Rattle.pblk_model.specs.declared.shape.Shape.{Shape}
 use Rattle.pblk_model.specs.Image.{Image}
 use Rattle.pblk_model.specs.Records.{Record}
 use Rattle.pblk_model.specs.Contents.{counted, winner}
 use Rattle.pblk_world.specs.Events.{Logged}
 use Rattle.pblk_world.specs.World.{World, log_of}
 use Rattle.pblk_world.proofs.Takers.{not_landed_line}
-use Rattle.pblk_world.specs.EngineLog.{Taken, takes, Placed, placements, LineLife, AsFound, Opened, Freed, life_of, is_life, is_as_found, is_opened, holds_position, was_lost, has_landed}
+use Rattle.pblk_world.specs.EngineLog.{Taken, takes, Placed, placements, LineLife, life_of, is_as_found, holds_position, was_lost, has_landed}
 use Rattle.pblk_world.specs.Fronts.{first_position, has_landed_at, last_take}
 use Rattle.pblk_world.specs.Lines.{found_image}
 use Rattle.pblk_world.specs.Space.{gives_back, freed}
@@ -24,9 +25,8 @@ use Rattle.core_laws.proofs.Placing.{not_below}
 use Rattle.write_window.specs.Entries.{has_landed as progress_landed}
 use Rattle.write_window.specs.Window as view
 use Rattle.write_window.specs.declared.held.Held.{Held}
-use Rattle.core_laws.proofs.WinnerStarts.{winner_starts}
-use Rattle.pblk_core.proofs.FoundLines.{started_as_found}
-use Rattle.pblk_core.proofs.LineUnits.{IsLiving, living}
+use Rattle.core_laws.proofs.LatestLines.{latest_stands, winner_as_found}
+use Rattle.core_laws.proofs.StandingLines.{in_force}
 use Rattle.core_laws.proofs.PlainLogs.{none_lost}
 use Rattle.core_laws.proofs.Growing.{given_holds, given_landed}
 use Rattle.core_laws.proofs.UsersEntries.{in_order}
@@ -43,8 +43,8 @@ use Rattle.pblk_core.specs.Stands.{Stands, AreHolds}
 use Rattle.pblk_core.specs.declared.target_core.Core.{Core}
 use Rattle.lemmas.proofs.Lists.{IsAmong, among_all}
 use Rattle.lemmas.proofs.Maps.{any_member, find_agree, found_none, found_passes}
-use Rattle.lemmas.proofs.Parts.{get_dropped, is_in}
-use Rattle.lemmas.proofs.Tests.{first_of, same_number, second_of}
+use Rattle.lemmas.proofs.Parts.{contained_among, get_dropped, is_in}
+use Rattle.lemmas.proofs.Tests.{first_of, second_of}
 use Rattle.pblk_model.proofs.MarksLemmas.{accepted_small}
 
 -- ---- lists
@@ -82,29 +82,27 @@ single_found f (y ∷ xs) x (suc k) few at is = single_by f y xs x k (f y) refl 
 
 -- ---- the line of a position
 
-in_force : (log : List Logged) (p : Placed) (life : LineLife) → p.life ≡ life → life_of log p.stripe.line ≡ life → is_opened life ≡ true
-    → is_in_force log p.life p.stripe.line ≡ true
-in_force log p AsFound is now opened = absurd cc
-in_force log p (Freed was knows) is now opened = absurd cc
-in_force log p (Opened o) is now opened =
-    ap (λ l. is_in_force log l p.stripe.line) is ∙ ap (λ (l : LineLife). is_life o.number l) now ∙ same_number o.number
-
-pub position_line : (i : Image) (w : World) (q : ℕ) → IsSimpleMount i w → line_of_position i.shape (log_of w 0) q ≡ placed_line i.shape (log_of w 0) q
-position_line i w q simple =
-    ap (option_map (λ (p : Placed). p.stripe.line))
-    (find_agree (IsLiving (log_of w 0)) (λ p. holds_position i.shape q p && not (was_lost (log_of w 0) p) && is_in_force (log_of w 0) p.life p.stripe.line)
-    (λ p. holds_position i.shape q p && not (was_lost (log_of w 0) p))
-    (λ p living. same p (in_force (log_of w 0) p p.life refl living.0 living.1)) (placements (log_of w 0)) (living i w simple))
+-- where its stripes that weren't lost stand, it is that of the first of them
+pub position_line : (s : Shape) (log : List Logged) (q : ℕ)
+    → ((p : Placed) → IsAmong (placements log) p → holds_position s q p ≡ true → was_lost log p ≡ false → is_in_force log p.life p.stripe.line ≡ true)
+    → line_of_position s log q ≡ placed_line s log q
+position_line s log q force = ap (option_map (λ (p : Placed). p.stripe.line))
+    (find_agree (IsAmong (placements log)) (λ p. holds_position s q p && not (was_lost log p) && is_in_force log p.life p.stripe.line)
+    (λ p. holds_position s q p && not (was_lost log p))
+    (λ p among. by (holds_position s q p) (was_lost log p) (is_in_force log p.life p.stripe.line) (force p among)) (placements log)
+    (among_all (placements log)))
   where
-    and_true : (b : Bool) → (b && true) ≡ b
-    and_true true = refl
-    and_true false = refl
+    by : (a l f : Bool) → (a ≡ true → l ≡ false → f ≡ true) → (a && not l && f) ≡ (a && not l)
+    by false l f stands = refl
+    by true true f stands = refl
+    by true false f stands = stands refl refl
 
-    same : (p : Placed) → is_in_force (log_of w 0) p.life p.stripe.line ≡ true
-        → (holds_position i.shape q p && not (was_lost (log_of w 0) p) && is_in_force (log_of w 0) p.life p.stripe.line) ≡
-        (holds_position i.shape q p && not (was_lost (log_of w 0) p))
-    same p force = ap (λ b. holds_position i.shape q p && not (was_lost (log_of w 0) p) && b) force
-        ∙ and_true (holds_position i.shape q p && not (was_lost (log_of w 0) p))
+-- those of the latest entry of a sector do
+latest_line : (i : Image) (w : World) (lba : ℕ) (t : Taken) → IsSimpleMount i w → lba < i.shape.capacity → last_take (log_of w 0) lba ≡ Some t
+    → line_of_position i.shape (log_of w 0) t.entry.position ≡ placed_line i.shape (log_of w 0) t.entry.position
+latest_line i w lba t simple inside last = position_line i.shape (log_of w 0) t.entry.position
+    (λ p among holds kept. in_force i w simple.mount p (contained_among (placements (log_of w 0)) p among)
+    (latest_stands i w simple.mount lba t p inside last (contained_among (placements (log_of w 0)) p among) holds kept))
 
 -- ---- where a position has landed
 
@@ -207,19 +205,19 @@ entry_line i w holds t simple are among = go (find (gives_back i.shape (log_of w
         ∙ ap (option_map (λ (p : Placed). p.stripe.line))
         (single_found (holds_position i.shape t.entry.position) (placements (log_of w 0)) p found.1.0 (held_once i w simple t.entry.position) found.1.1 held))
 
-pub line_is : (i : Image) (w : World) (holds : Holds) (lba : ℕ) → IsSimpleMount i w → AreHolds i.shape (log_of w 0) holds
+pub line_is : (i : Image) (w : World) (holds : Holds) (lba : ℕ) → IsSimpleMount i w → lba < i.shape.capacity → AreHolds i.shape (log_of w 0) holds
     → line_of_slot holds.rows.items (slot_of i (log_of w) lba) ≡ line_of i (log_of w) lba (last_take (log_of w 0) lba)
-line_is i w holds lba simple are = go (last_take (log_of w 0) lba) refl
+line_is i w holds lba simple inside are = go (last_take (log_of w 0) lba) refl
   where
-    found_line : (o : Option Record) → winner (counted (found_image i (log_of w))) lba ≡ o
+    found_line : (o : Option Record) → last_take (log_of w 0) lba ≡ None → winner (counted (found_image i (log_of w))) lba ≡ o
         → line_of_slot holds.rows.items (slot_of_winner o) ≡ option_and_then
         (λ (r : Record). if is_as_found (life_of (log_of w 0) r.line) then Some r.line else None) o
-    found_line None e = refl
-    found_line (Some r) e = sym (ap (λ b. cond b (Some r.line) None) (started_as_found i w r.line simple (winner_starts (found_image i (log_of w)) lba r e)))
+    found_line None none e = refl
+    found_line (Some r) none e = sym (ap (λ (life : LineLife). if is_as_found life then Some r.line else None) (winner_as_found i w simple.mount lba r none e))
 
     go : (o : Option Taken) → last_take (log_of w 0) lba ≡ o → line_of_slot holds.rows.items (slot_by i (log_of w) lba o) ≡ line_of i (log_of w) lba o
-    go None e = found_line (winner (counted (found_image i (log_of w))) lba) refl
-    go (Some t) e = entry_line i w holds t simple are (last_is_among (log_of w 0) lba t e).0 ∙ sym (position_line i w t.entry.position simple)
+    go None e = found_line (winner (counted (found_image i (log_of w))) lba) e refl
+    go (Some t) e = entry_line i w holds t simple are (last_is_among (log_of w 0) lba t e).0 ∙ sym (latest_line i w lba t simple inside e)
 
 -- whether it has landed there
 pub landed_is : (i : Image) (w : World) (c : Core) (lba : ℕ) → IsSimpleMount i w → Stands i (log_of w) c

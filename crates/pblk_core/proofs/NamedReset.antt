@@ -1,5 +1,5 @@
 -- The chunk that a core names to be reset.
-use Rattle.std.proofs.Common.{◌≡◌, ℕ, ◌<◌, nat_lt, if◌then◌else◌, Bool, true, false, Some, None, Option, List, [], ◌∷◌, refl, sym, ap, ◌∙◌, arith, ◌+◌, ◌==◌}
+use Rattle.std.proofs.Common.{◌≡◌, ◌⊎◌, inl, inr, ℕ, ◌<◌, nat_lt, if◌then◌else◌, Bool, true, false, Some, None, Option, List, [], ◌∷◌, refl, sym, ap, ◌∙◌, arith, ◌+◌, ◌==◌}
 use Rattle.std.specs.Prelude.{slice_get}
 use Rattle.std.specs.List.{filter, list_any, range_with_len}
 use Rattle.std.specs.Option.{is_some, option_map_or}
@@ -12,12 +12,9 @@ use Rattle.pblk_model.specs.Image.{Image}
 use Rattle.pblk_laws.specs.LineBlocks.{chunk_in}
 use Rattle.pblk_world.specs.Events.{Logged}
 use Rattle.pblk_world.specs.World.{World, Logs, log_of}
-use Rattle.pblk_world.specs.EngineLog.{Begun, begun, LineLife, AsFound, Opened, Freed, life_of}
+use Rattle.pblk_world.specs.EngineLog.{Begun, begun, LineLife, AsFound, Opened, Freed, Opening, life_of}
 use Rattle.pblk_world.specs.Lines.{found_by, found_image, known_image, is_stray, stray_lines, is_given_up_by, strays_of, is_given_up}
-use Rattle.pblk_world.specs.Victims.{is_freed}
-use Rattle.core_laws.proofs.SimpleMounts.{engine_plain}
-use Rattle.core_laws.specs.SimpleMounts.{IsSimpleMount}
-use Rattle.core_laws.proofs.PlainLogs.{none_freed}
+use Rattle.world_laws.specs.LegalMounts.{IsLegalMount}
 use Rattle.world_laws.proofs.FoundImages.{found_strays}
 use Rattle.core_laws.proofs.MadeLists.{any_passed}
 use Rattle.stripe_placer.specs.Placing.{next_stripe}
@@ -121,24 +118,26 @@ to_reset i logs line unit is = record {
   used = is.used;
 }
 
--- ---- a line that was given up, where none was freed, is a stray of its beginning
+-- ---- a line that was given up is a stray of the beginning, or was freed
 
-pub given_as_found : (log : List Logged) (line : ℕ) → is_freed (life_of log line) ≡ false → is_given_up log line ≡ true
-    → (life_of log line ≡ AsFound) × (list_any (λ stray. stray == line) (strays_of log) ≡ true)
-given_as_found log line freed given = go (life_of log line) refl freed given
+pub given_by : (log : List Logged) (line : ℕ) → is_given_up log line ≡ true
+    → ((life_of log line ≡ AsFound) × (list_any (λ stray. stray == line) (strays_of log) ≡ true))
+    ⊎ ((past : Option Opening) × (knows : List ℕ) × (life_of log line ≡ Freed past knows))
+given_by log line given = go (life_of log line) refl given
   where
-    go : (life : LineLife) → life_of log line ≡ life → is_freed life ≡ false → is_given_up_by (strays_of log) line life ≡ true
-        → (life_of log line ≡ AsFound) × (list_any (λ stray. stray == line) (strays_of log) ≡ true)
-    go AsFound is kept e = (is, e)
-    go (Opened o) is kept e = absurd cc
-    go (Freed was knows) is kept e = absurd cc
+    go : (life : LineLife) → life_of log line ≡ life → is_given_up_by (strays_of log) line life ≡ true
+        → ((life_of log line ≡ AsFound) × (list_any (λ stray. stray == line) (strays_of log) ≡ true))
+        ⊎ ((past : Option Opening) × (knows : List ℕ) × (life_of log line ≡ Freed past knows))
+    go AsFound is e = inl (is, e)
+    go (Opened o) is e = absurd cc
+    go (Freed was knows) is e = inr (was, knows, is)
 
-pub given_unstarted : (i : Image) (w : World) (line : ℕ) (b : Begun) → IsSimpleMount i w → begun (log_of w 0) ≡ Some b → line < i.shape.chunks
-    → is_given_up (log_of w 0) line ≡ true → start_of (found_image i (log_of w)) line ≡ None
-given_unstarted i w line b simple begins inside given =
+-- a stray had no start record
+pub stray_unstarted : (i : Image) (w : World) (line : ℕ) (b : Begun) → IsLegalMount i w → begun (log_of w 0) ≡ Some b → line < i.shape.chunks
+    → list_any (λ stray. stray == line) (strays_of (log_of w 0)) ≡ true → start_of (found_image i (log_of w)) line ≡ None
+stray_unstarted i w line b mount begins inside among =
     let strays : strays_of (log_of w 0) ≡ stray_lines (found_image i (log_of w)) =
-    ap (λ (o : Option Begun). option_map_or (λ (x : Begun). x.beginning.strays) o []) begins ∙ found_strays i w b simple.mount.legal begins in
-    let among = (given_as_found (log_of w 0) line (none_freed (log_of w 0) (engine_plain i w simple) line) given).1 in
+    ap (λ (o : Option Begun). option_map_or (λ (x : Begun). x.beginning.strays) o []) begins ∙ found_strays i w b mount.legal begins in
     let shape : (found_image i (log_of w)).shape ≡ i.shape = found_shape i (log_of w) in
     let stray : is_stray (found_image i (log_of w)) line ≡ true =
     sym (any_passed (is_stray (found_image i (log_of w))) 0 i.shape.chunks line (omega arith) (omega arith))

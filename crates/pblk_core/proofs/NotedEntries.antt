@@ -1,10 +1,12 @@
--- The entries of a program under way, as they were taken, and what the table notes of them once they have landed.
-use Rattle.std.proofs.Common.{◌≡◌, ℕ, ◌+◌, ◌-◌, ◌<◌, ◌≤◌, ◌==◌, ◌&&◌, ◌||◌, zero, suc, min, Bool, true, false, Some, None, Option, List, [], ◌∷◌, ◌++◌, length, take, drop, refl, sym, subst, ap, ap₂, ◌∙◌, arith, length-set}
+-- The entries of a program under way, as they were taken, and what the table notes of them once
+-- they have landed.
+use Rattle.std.proofs.Common.{◌≡◌, ℕ, ◌+◌, ◌-◌, ◌≤◌, ◌==◌, ◌&&◌, ◌||◌, zero, suc, min, Bool, true, false, Some, None, Option, List, [], ◌∷◌, ◌++◌, length, take, drop, refl, sym, subst, ap, ap₂, ◌∙◌, arith, length-set}
 use Rattle.std.specs.Prelude.{slice_get, slice_set, map}
 use Rattle.std.specs.List.{AllByRecursion, flat_map, list_any, range_with_len}
-use Rattle.std.specs.Option.{option_map, option_map_or}
+use Rattle.std.specs.Option.{is_some, option_map, option_map_or}
 use Rattle.std.proofs.lemmas.Option.{same_Some, none-some, slice_get-map, slice_get_within}
 use Rattle.pblk_model.specs.Image.{Image}
+use Rattle.pblk_model.specs.Records.{named}
 use Rattle.pblk_world.specs.Events.{Logged}
 use Rattle.pblk_world.specs.World.{World, log_of}
 use Rattle.pblk_world.specs.EngineLog.{Taken, takes, Placed, placements, is_land, has_landed, holds_position}
@@ -25,8 +27,9 @@ use Rattle.core_laws.proofs.NewlyHeld.{member_of}
 use Rattle.core_laws.specs.ChangedTables.{note_by}
 use Rattle.core_laws.proofs.LandedEntries.{AreItsEntries}
 use Rattle.core_laws.proofs.NextTakes.{rising_by}
-use Rattle.core_laws.proofs.LogOrders.{in_order}
-use Rattle.core_laws.proofs.PlacedEntryRows.{IsEntry, entry_at}
+use Rattle.core_laws.proofs.UsersEntries.{in_order}
+use Rattle.core_laws.proofs.LogOrders.{small_capacity}
+use Rattle.core_laws.proofs.PlacedEntryRows.{IsEntry, all_entries}
 use Rattle.core_laws.proofs.PlacedPlaces.{BearsThese, turned_round}
 use Rattle.core_laws.proofs.PlacedInOrder.{IsOrdered, ordered}
 use Rattle.core_laws.proofs.Placed.{range_dropped, range_taken}
@@ -40,7 +43,7 @@ use Rattle.pblk_core.proofs.LandedCore.{holds_it, positions_are}
 use Rattle.pblk_core.proofs.LandedWay.{IsOnWay}
 use Rattle.pblk_world.proofs.Takers.{not_landed_line}
 use Rattle.pblk_core.proofs.WaitingEntries.{row_of_entry}
-use Rattle.lemmas.proofs.Lists.{IsAmong, among_all, zipped}
+use Rattle.lemmas.proofs.Lists.{IsAmong}
 use Rattle.lemmas.proofs.Maps.{map_dropped}
 use Rattle.lemmas.proofs.Parts.{all_by_get, all_dropped, all_taken, get_dropped, get_whole}
 use Rattle.lemmas.proofs.Tests.{first_of, second_of}
@@ -118,6 +121,7 @@ pub record AreEntriesOf (i : Image) (w : World) (c : Core) (unit : ℕ) (of : Pr
   pub entries : List Taken
   pub positions : positions_of entries ≡ of.positions
   pub own : AreItsEntries i (log_of w) is.row.stripe entries
+  pub names : AllByRecursion (λ (t : Taken). is_some (named i.shape t.mark) ≡ true) entries
   pub rows : AllByRecursion (λ (t : Taken). row_at c.holds.rows.items t.entry.position ≡ Some (hold_of i.shape (log_of w 0) t)) entries
 
 pub entries_of_way : (i : Image) (w : World) (c : Core) (unit : ℕ) (of : Program) → IsSimpleMount i w → Stands i (log_of w) c → (is : IsOnWay i w unit of)
@@ -129,12 +133,13 @@ entries_of_way i w c unit of simple st is = record {
   own = record {
     bears = λ q. bears_is i.shape q is.row.stripe.stripe.blocks ∙ ap (list_any (λ m. m == q)) (part.is ∙ sym numbered) ∙ any_of q ts;
     rising = rising_by part.from (length its) ts numbered;
-    among = all_taken (IsEntry i.shape.capacity (takes log)) (length its) (drop k (takes log)) (all_dropped (IsEntry i.shape.capacity (takes log)) k (takes log)
-        (zipped (λ (t : Taken). t.mark.lba < i.shape.capacity) (IsAmong (takes log)) (IsEntry i.shape.capacity (takes log))
-        (λ t a b. entry_at i.shape.capacity (takes log) b.0 t b.1 a) (takes log) (in_order i w simple).sectors (among_all (takes log))));
+    among = all_taken (IsEntry (takes log)) (length its) (drop k (takes log)) (all_dropped (IsEntry (takes log)) k (takes log) (all_entries (takes log)));
     nowhere = all_by_get (λ (t : Taken). landed_line i.shape log t.entry.position ≡ None) ts
         (λ n t at. not_landed_line i.shape log t.entry.position (away n t at));
   };
+  names = all_taken (λ (t : Taken). is_some (named i.shape t.mark) ≡ true) (length its) (drop k (takes log))
+      (all_dropped (λ (t : Taken). is_some (named i.shape t.mark) ≡ true) k (takes log)
+      (in_order i w (small_capacity i simple.mount.accepted) simple.mount.legal).named);
   rows = all_by_get (λ (t : Taken). row_at c.holds.rows.items t.entry.position ≡ Some (hold_of i.shape log t)) ts (λ n t at.
       row_of_entry i w c t (k + n) st (sym (get_dropped k (takes log) n) ∙ get_whole (length its) (drop k (takes log)) n t at)
       (not_given t (away n t at) (is_given_back i.shape log t.entry.position) refl));

@@ -1,5 +1,5 @@
 -- The numbers of the start record of the line that is opened next fit a start record.
-use Rattle.std.proofs.Common.{◌≡◌, ◌≢◌, ℕ, ◌+◌, ◌-◌, ◌^◌, ◌<◌, ◌≤◌, ◌==◌, not, zero, suc, if◌then◌else◌, cond, Bool, true, false, Some, None, Option, List, [], ◌∷◌, length, refl, sym, subst, ap, ◌∙◌, arith, IsTrue}
+use Rattle.std.proofs.Common.{◌≡◌, ◌≢◌, ℕ, ◌+◌, ◌-◌, ◌^◌, ◌<◌, ◌≤◌, ◌==◌, not, zero, suc, if◌then◌else◌, Bool, true, false, Some, None, Option, List, [], ◌∷◌, length, refl, sym, subst, ap, ◌∙◌, arith, IsTrue}
 use Rattle.std.specs.Prelude.{slice_get}
 use Rattle.std.specs.List.{AllByRecursion, filter_map, cons_option, range_with_len}
 use Rattle.std.proofs.lemmas.Option.{none-some, same_Some}
@@ -16,7 +16,6 @@ use Rattle.pblk_world.specs.Lines.{found_image}
 use Rattle.pblk_world.specs.Space.{freed}
 use Rattle.pblk_world.specs.Starts.{found_row, older_row, older_rows}
 use Rattle.write_window.specs.Window as view
-use Rattle.core_laws.proofs.SimpleMounts.{engine_plain}
 use Rattle.core_laws.specs.SimpleMounts.{IsSimpleMount}
 use Rattle.line_table.proofs.Places.{eqb-same}
 use Rattle.core_laws.proofs.Growing.{freed_within}
@@ -26,7 +25,7 @@ use Rattle.world_laws.proofs.StartFits.{next_positive as some_next}
 use Rattle.pblk_core.specs.declared.target_core.Core.{Core}
 use Rattle.pblk_core.specs.Named.{next_line, next_start}
 use Rattle.pblk_core.specs.Stands.{Stands, IsOlder}
-use Rattle.pblk_core.proofs.FoundLines.{free_unstarted}
+use Rattle.pblk_core.proofs.FoundLines.{free_has_no_row}
 use Rattle.pblk_core.proofs.OpeningFacts.{MayOpenNext, IsNextLine, next_line_is}
 use Rattle.pblk_core.proofs.WorkOf.{synced_at}
 use Rattle.lemmas.proofs.Tests.{and_both, le_true, lt_true, other_number}
@@ -117,8 +116,7 @@ next_fits i w c simple st may =
     let first : c.start.first_seq ≡ st.beginning.beginning.seq = st.first_seq in
     let next : c.start.seq ≡ st.beginning.beginning.seq + length (openings (log_of w 0)) = st.next_seq in
     let some : 1 ≤ st.beginning.beginning.seq = begin_seq i w st.beginning simple.mount.legal st.has_begun in
-    let none : older_row i (log_of w) (next_line c) ≡ None =
-    unstarted_row i (log_of w) (next_line c) (free_unstarted i (log_of w) (next_line c) (engine_plain i w simple) is.least.is_free) in
+    let none : older_row i (log_of w) (next_line c) ≡ None = free_has_no_row i (log_of w) (next_line c) is.least.is_free in
     let from : 0 + next_line c ≡ next_line c = omega arith in
     let fewer : length (older_rows i (log_of w)) + 1 ≤ i.shape.chunks =
     fewer_made (older_row i (log_of w)) 0 i.shape.chunks (next_line c) (ap (older_row i (log_of w)) from ∙ none) is.least.in_range in
@@ -128,14 +126,6 @@ next_fits i w c simple st may =
     (rows_are_fit i (log_of w) (next_start c) c.first 0 0 i.shape.chunks none (front_above i w c simple st) (omega arith) (omega arith)
     (subst (AllByRecursion (IsOlder c.start.first_seq c.first)) st.older st.fits.rows)))
   where
-    unstarted_row : (i : Image) (logs : Logs) (line : ℕ) → start_of (found_image i logs) line ≡ None → older_row i logs line ≡ None
-    unstarted_row i logs line none = ap (λ o. if is_as_found (life_of (logs 0) line) then found_row i logs line o else None) none
-        ∙ either (is_as_found (life_of (logs 0) line))
-      where
-        either : (b : Bool) → ◌≡◌ {A = Option Row} (cond b None None) None
-        either true = refl
-        either false = refl
-
     front_above : (i : Image) (w : World) (c : Core) → IsSimpleMount i w → Stands i (log_of w) c → c.first ≤ (view.synced c.window).position
     front_above i w c simple st =
         let a : first_position (log_of w 0) ≤ c.window.freed = st.from_first in

@@ -1,19 +1,22 @@
--- The rows beside the entries and the table of lines, once the entries of a stripe are placed, and once they have landed.
-use Rattle.std.proofs.Common.{◌≡◌, ◌≢◌, ℕ, ◌<◌, ◌%◌, ◌==◌, ◌&&◌, ◌||◌, nat_lt, Bool, true, false, Some, None, Option, List, [], ◌∷◌, length, take, refl, sym, subst, ap, ap₂, ◌∙◌, length-set}
-use Rattle.std.specs.Prelude.{map, slice_get, slice_set}
+-- The rows beside the entries and the table of lines, once the entries of a stripe are placed, and
+-- once they have landed.
+use Rattle.std.proofs.Common.{◌≡◌, ◌≢◌, ℕ, ◌<◌, ◌≤◌, ◌%◌, ◌==◌, ◌&&◌, ◌||◌, nat_eq, nat_lt, Bool, true, false, Some, None, Option, List, [], ◌∷◌, length, take, refl, sym, subst, ap, ap₂, ◌∙◌, arith, length-set}
+use Rattle.std.specs.Prelude.{if◌then◌else◌, is_some, map, slice_get, slice_set}
 use Rattle.std.specs.List.{AllByRecursion, Contains, list_any}
 use Rattle.std.specs.Option.{option_map, option_map_or}
 use Rattle.std.proofs.lemmas.Bool.{eqb-true}
 use Rattle.std.proofs.lemmas.Option.{same_Some, slice_get_within}
 use Rattle.pblk_model.specs.declared.shape.Shape.{Shape}
 use Rattle.pblk_model.specs.Image.{Image}
+use Rattle.pblk_model.specs.Marks.{meta_lba, void_lba}
+use Rattle.pblk_model.specs.Records.{named}
 use Rattle.pblk_world.specs.Events.{Stripe, Place, Decides, Logged}
 use Rattle.pblk_world.specs.World.{World, log_of}
 use Rattle.pblk_world.specs.EngineLog.{Opening, Taken, takes, bears_position}
 use Rattle.line_table.specs.Rows.{Table}
 use Rattle.line_table.proofs.Places.{get_set_same, get_set_other}
 use Rattle.core_laws.specs.ChangedTables.{note_by}
-use Rattle.core_laws.specs.PlacedEntries.{next_take, place_by, place_entry, place_entries, note_entry, note_entries}
+use Rattle.core_laws.specs.PlacedEntries.{next_take, taker_of, place_by, place_entry, place_entries, note_entry, note_entries}
 use Rattle.core_laws.specs.PlacerOf.{positions_of, positions_in_stripe}
 use Rattle.pblk_world.specs.Fronts.{waiting}
 use Rattle.std.proofs.lemmas.Option.{slice_get-get_or}
@@ -30,7 +33,7 @@ use Rattle.core_laws.proofs.TakenSlots.{find_same}
 use Rattle.core_laws.proofs.StillWaiting.{holds_is as bears_is}
 use Rattle.core_laws.specs.EntryHolds.{later_take, placed_line}
 use Rattle.pblk_core.specs.Entries.{with_line, row_placed, placed_rows, place_hold, placed_lines, note_hold, noted_lines}
-use Rattle.pblk_core.specs.Holds.{hold_of, row_at}
+use Rattle.pblk_core.specs.Holds.{hold_of, row_at, taker_in}
 use Rattle.pblk_core.specs.declared.hold.Hold.{Hold}
 use Rattle.lemmas.proofs.Parts.{all_at, all_by_get, get_whole}
 use Rattle.lemmas.proofs.Tests.{same_number}
@@ -110,23 +113,66 @@ later_is_next log t =
 abbrev taker_by : Option Taken → Option ℕ
 taker_by o = option_map (λ (u : Taken). u.entry.position) o
 
-pub lines_placed_are : (s : Shape) (log : List Logged) (line : ℕ) (rows : List Hold) (table : Table) (ts : List Taken)
+-- an entry that is of a sector or Void is of a sector where it isn't Void
+by_name : {X : Type 0} (s : Shape) (t : Taken) (x y : X) → s.capacity ≤ meta_lba → is_some (named s t.mark) ≡ true
+    → (if nat_lt t.mark.lba s.capacity then x else y) ≡ (if t.mark.lba == void_lba then y else x)
+by_name s t x y small names = go (nat_lt t.mark.lba s.capacity) refl (t.mark.lba == void_lba) refl names
+  where
+    go : (a : Bool) → nat_lt t.mark.lba s.capacity ≡ a → (b : Bool) → nat_eq t.mark.lba void_lba ≡ b
+        → is_some (if a then Some (Some t.mark.lba) else (if b then Some None else None)) ≡ true → (if a then x else y) ≡ (if b then y else x)
+    go true e true f names =
+        let low : t.mark.lba < s.capacity = grind arith in
+        let void : t.mark.lba ≡ void_lba = eqb-true t.mark.lba void_lba f in
+        absurd (omega arith)
+    go true e false f names = refl
+    go false e true f names = refl
+    go false e false f names = absurd cc
+
+placed_if : (log : List Logged) (line : ℕ) (table : Table) (t : Taken) (b : Bool)
+    → (if b then table else place_by (taker_of log t) line table) ≡ (if b then table else place_by (if b then None else taker_by (later_take log t)) line table)
+placed_if log line table t true = refl
+placed_if log line table t false = ap (λ o. place_by (taker_by o) line table) (sym (later_is_next log t))
+
+noted_if : (log : List Logged) (line : ℕ) (table : Table) (t : Taken) (b : Bool)
+    → (if b then table else note_by (taker_of log t) line table) ≡ note_by (if b then None else taker_by (later_take log t)) line table
+noted_if log line table t true = refl
+noted_if log line table t false = ap (λ o. note_by (taker_by o) line table) (sym (later_is_next log t))
+
+placed_shape : (b : Bool) (o : Option ℕ) (line : ℕ) (table : Table) → (if b then place_by o line table else table).shape ≡ table.shape
+placed_shape true None line table = refl
+placed_shape true (Some by) line table = refl
+placed_shape false o line table = refl
+
+noted_shape : (b : Bool) (o : Option ℕ) (line : ℕ) (table : Table) → (if b then note_by o line table else table).shape ≡ table.shape
+noted_shape true None line table = refl
+noted_shape true (Some by) line table = refl
+noted_shape false o line table = refl
+
+pub lines_placed_are : (s : Shape) (log : List Logged) (line : ℕ) (rows : List Hold) (table : Table) (ts : List Taken) → s.capacity ≤ meta_lba
+    → table.shape ≡ s → AllByRecursion (λ (t : Taken). is_some (named s t.mark) ≡ true) ts
     → AllByRecursion (λ (t : Taken). row_at rows t.entry.position ≡ Some (hold_of s log t)) ts
     → placed_lines rows line table (positions_of ts) ≡ place_entries log line table ts
-lines_placed_are s log line rows table [] all = refl
-lines_placed_are s log line rows table (t ∷ ts) all =
-    ap (λ (u : Table). placed_lines rows line u (positions_of ts))
-    (ap (place_hold line table) all.0 ∙ ap (λ o. place_by (taker_by o) line table) (later_is_next log t))
-    ∙ lines_placed_are s log line rows (place_entry log line table t) ts all.1
+lines_placed_are s log line rows table [] small same names all = refl
+lines_placed_are s log line rows table (t ∷ ts) small same names all =
+    let its : place_entry log line table t ≡ place_hold line table (Some (hold_of s log t)) =
+    ap (λ (z : Shape). if nat_lt t.mark.lba z.capacity then place_by (taker_of log t) line table else table) same
+    ∙ by_name s t (place_by (taker_of log t) line table) table small names.0 ∙ placed_if log line table t (t.mark.lba == void_lba) in
+    ap (λ (u : Table). placed_lines rows line u (positions_of ts)) (ap (place_hold line table) all.0 ∙ sym its)
+    ∙ lines_placed_are s log line rows (place_entry log line table t) ts small
+    (placed_shape (nat_lt t.mark.lba table.shape.capacity) (taker_of log t) line table ∙ same) names.1 all.1
 
-pub lines_noted_are : (s : Shape) (log : List Logged) (line : ℕ) (rows : List Hold) (table : Table) (ts : List Taken)
+pub lines_noted_are : (s : Shape) (log : List Logged) (line : ℕ) (rows : List Hold) (table : Table) (ts : List Taken) → s.capacity ≤ meta_lba
+    → table.shape ≡ s → AllByRecursion (λ (t : Taken). is_some (named s t.mark) ≡ true) ts
     → AllByRecursion (λ (t : Taken). row_at rows t.entry.position ≡ Some (hold_of s log t)) ts
     → noted_lines rows line table (positions_of ts) ≡ note_entries log line table ts
-lines_noted_are s log line rows table [] all = refl
-lines_noted_are s log line rows table (t ∷ ts) all =
-    ap (λ (u : Table). noted_lines rows line u (positions_of ts))
-    (ap (note_hold line table) all.0 ∙ ap (λ o. note_by (taker_by o) line table) (later_is_next log t))
-    ∙ lines_noted_are s log line rows (note_entry log line table t) ts all.1
+lines_noted_are s log line rows table [] small same names all = refl
+lines_noted_are s log line rows table (t ∷ ts) small same names all =
+    let its : note_entry log line table t ≡ note_hold line table (Some (hold_of s log t)) =
+    ap (λ (z : Shape). if nat_lt t.mark.lba z.capacity then note_by (taker_of log t) line table else table) same
+    ∙ by_name s t (note_by (taker_of log t) line table) table small names.0 ∙ noted_if log line table t (t.mark.lba == void_lba) in
+    ap (λ (u : Table). noted_lines rows line u (positions_of ts)) (ap (note_hold line table) all.0 ∙ sym its)
+    ∙ lines_noted_are s log line rows (note_entry log line table t) ts small
+    (noted_shape (nat_lt t.mark.lba table.shape.capacity) (taker_of log t) line table ∙ same) names.1 all.1
 
 -- ---- the rows by the log
 
@@ -202,12 +248,11 @@ row_placed_is i w c stripe knows o n t simple st placing positions among kept =
         (positions_of (take n (waiting i.shape (log_of w 0))))
     bears = bears_is i.shape t.entry.position stripe.blocks ∙ ap (list_any (λ q. q == t.entry.position)) positions
 
-    taker_same : option_map (λ (u : Taken). u.entry.position) (later_take (with_place (log_of w 0) stripe knows) t) ≡ option_map
-        (λ (u : Taken). u.entry.position) (later_take (log_of w 0) t)
-    taker_same = ap (option_map (λ (u : Taken). u.entry.position)) (later_same (log_of w 0) (record { event = Decides (Place stripe); knows = knows }) t refl)
+    taker_same : taker_in t (later_take (with_place (log_of w 0) stripe knows) t) ≡ taker_in t (later_take (log_of w 0) t)
+    taker_same = ap (taker_in t) (later_same (log_of w 0) (record { event = Decides (Place stripe); knows = knows }) t refl)
 
     with_line_of : (a : Option ℕ) → a ≡ placed_line i.shape (with_place (log_of w 0) stripe knows) t.entry.position
-        → ◌≡◌ {A = Hold} (record { mark = t.mark; line = a; taker = option_map (λ (u : Taken). u.entry.position) (later_take (log_of w 0) t) })
+        → ◌≡◌ {A = Hold} (record { mark = t.mark; line = a; taker = taker_in t (later_take (log_of w 0) t) })
         (hold_of i.shape (with_place (log_of w 0) stripe knows) t)
     with_line_of a e = λ j. record { mark = t.mark; line = e j; taker = sym taker_same j }
 

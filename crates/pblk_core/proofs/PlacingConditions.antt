@@ -1,7 +1,7 @@
 -- What the calls ask for that place a stripe.
 use Rattle.std.proofs.Math.Nat.{mul-le-mul_right}
-use Rattle.std.proofs.Common.{◌≡◌, ◌⊎◌, inl, inr, ℕ, ◌+◌, ◌-◌, ◌*◌, ◌<◌, ◌≤◌, ◌^◌, Bool, true, false, Some, None, Option, List, [], ◌++◌, length, take, replicate, min, refl, sym, subst, ap, ap₂, ◌∙◌, arith, length-take, nat_lt, if◌then◌else◌}
-use Rattle.std.specs.Prelude.{map, slice_get}
+use Rattle.std.proofs.Common.{◌≡◌, ◌⊎◌, inl, inr, ℕ, ◌+◌, ◌-◌, ◌*◌, ◌<◌, ◌≤◌, ◌^◌, Bool, true, false, Some, None, Option, List, [], ◌++◌, length, take, replicate, max, min, refl, sym, subst, ap, ap₂, ◌∙◌, arith, length-take, nat_lt, if◌then◌else◌}
+use Rattle.std.specs.Prelude.{map, slice_get, slice_set}
 use Rattle.std.specs.Option.{option_map}
 use Rattle.std.proofs.lemmas.List.{length-map}
 use Rattle.std.proofs.lemmas.List.FromFn.{length-map-range_with_len}
@@ -31,6 +31,7 @@ use Rattle.line_table.specs.declared.row.Row.{Row}
 use Rattle.line_table.specs.Rows.{Table, IsRow}
 use Rattle.core_laws.proofs.LiveCounts.{live_few}
 use Rattle.write_window.specs.Window as view
+use Rattle.core_laws.specs.ClosedLines.{top_of}
 use Rattle.core_laws.specs.PlacerOf.{positions_of, row_of}
 use Rattle.core_laws.specs.SimpleMounts.{IsSimpleMount}
 use Rattle.core_laws.specs.Stepping.{after}
@@ -41,9 +42,11 @@ use Rattle.core_laws.specs.StripeFor.{IsStripeFor, blocks_for, positions_for}
 use Rattle.pblk_core.proofs.SimpleLogs.{its_row}
 use Rattle.pblk_core.specs.Entries.{entry_blocks, placed_lines, placed_rows}
 use Rattle.pblk_core.specs.Filling.{Filling, followed_by, empty_stripe}
+use Rattle.pblk_core.specs.LineNotes.{note_placed}
 use Rattle.pblk_core.specs.LineRecords.{Records, AreOf, blocks_at_start, blocks_at_end, end_begins}
 use Rattle.pblk_core.specs.Slots.{IsSlot}
 use Rattle.pblk_core.specs.Stands.{Stands, IsOpenLine}
+use Rattle.pblk_core.specs.declared.line_notes.LineNote.{LineNote}
 use Rattle.pblk_core.specs.declared.target_core.Core.{Core}
 use Rattle.pblk_core.specs.declared.open_lines.OpenLine.{OpenLine as KeptLine}
 use Rattle.pblk_core.specs.declared.open_lines.OpenLines.{OpenLines}
@@ -53,7 +56,7 @@ use Rattle.pblk_core.proofs.StandsFacts.{window_taken_is}
 use Rattle.pblk_core.proofs.StandsPlaced.{entries_for, positions_are, left_by_kind, slots_for}
 use Rattle.pblk_core.proofs.WaitingEntries.{IsSized, are_sized, IsWaiting, waiting_at, waiting_blocks}
 use Rattle.lemmas.proofs.Maps.{row_at}
-use Rattle.lemmas.proofs.Parts.{all_at, get_whole, got_within}
+use Rattle.lemmas.proofs.Parts.{all_at, get_whole, got_within, set_same}
 
 -- ---- the program
 
@@ -121,6 +124,18 @@ in_the_window i w c o of k q simple st now e =
     let high : at.0.entry.position < taken (log_of w 0) = is.high in
     let same : at.0.entry.position ≡ q = at.2 in
     (omega arith, omega arith)
+
+pub positions_small : (i : Image) (w : World) (c : Core) (o : Opening) (of : Program) (k q : ℕ) → IsSimpleMount i w → Stands i (log_of w) c
+    → IsOfferedNow i w c.placer.entries.pad o of → slice_get of.positions k ≡ Some q → q < 2 ^ 63
+positions_small i w c o of k q simple st now e =
+    let n : ℕ = entries_for of.kind i.shape.ws_opt in
+    let at = entry_at (take n (waiting i.shape (log_of w 0))) k q
+    (ap (λ (qs : List ℕ). slice_get qs k) (sym (now.positions ∙ positions_are i.shape (log_of w 0) of.kind)) ∙ e) in
+    let is : IsWaiting i w c at.0 k = waiting_at i w c k at.0 simple st (get_whole n (waiting i.shape (log_of w 0)) k at.0 at.1) in
+    let small : at.0.entry.position < 2 ^ 62 =
+    IsSized.position (all_at (IsSized i.shape) (takes (log_of w 0)) is.number at.0 is.there (are_sized i w simple)) in
+    let same : at.0.entry.position ≡ q = at.2 in
+    omega arith
 
 few_for : (kind : StripeKind) (n : ℕ) → entries_for kind n ≤ n
 few_for kinds.Start n = omega arith
@@ -396,6 +411,9 @@ pub record IsSettledInto (old mid : Core) (k : ℕ) (slot : KeptLine) (of : Prog
   pub open_slots : mid.open.slots.items ≡ slots_for of.kind old.open.slots.items k slot stripe
   pub live : mid.live ≡ old.live
   pub resets : mid.resets ≡ old.resets
+  pub note_rows : (row : LineNote) → slice_get old.notes.rows.items of.line ≡ Some row
+      → mid.notes.rows.items ≡ slice_set old.notes.rows.items of.line (note_placed (top_of of.positions) row)
+  pub newest : mid.notes.newest ≡ old.notes.newest
   pub start : mid.start ≡ old.start
   pub first : mid.first ≡ old.first
   pub placed : mid.placed ≡ old.placed + length of.positions
@@ -421,6 +439,9 @@ settled_same old mid p kept k slot of stripe same is count slots none quiet all 
   open_slots = ap (λ (c : Core). c.open.slots.items) same ∙ slots ∙ sym quiet;
   live = ap (λ (c : Core). c.live) same;
   resets = ap (λ (c : Core). c.resets) same;
+  note_rows = λ row there. ap (λ (c : Core). c.notes.rows.items) same ∙ sym (ap (λ (r : LineNote). slice_set old.notes.rows.items of.line r)
+      (ap (λ (qs : List ℕ). note_placed (top_of qs) row) none ∙ no_more row) ∙ set_same old.notes.rows.items of.line row there);
+  newest = ap (λ (c : Core). c.notes.newest) same;
   start = ap (λ (c : Core). c.start) same;
   first = ap (λ (c : Core). c.first) same;
   placed = ap (λ (c : Core). c.placed) same ∙ more old.placed (length of.positions) (ap (λ (qs : List ℕ). length qs) none);
@@ -432,6 +453,9 @@ settled_same old mid p kept k slot of stripe same is count slots none quiet all 
   where
     more : (a b : ℕ) → b ≡ 0 → a ≡ a + b
     more a b e = omega arith
+
+    no_more : (row : LineNote) → note_placed 0 row ≡ row
+    no_more row = let same : max row.top 0 ≡ row.top = omega arith in ap (λ top. record row { top = top }) same
 
 pub left_back : (left less blocks n : ℕ) → less ≡ blocks → n ≡ blocks → blocks ≤ left → left - less + n ≡ left
 left_back left less blocks n a b h = omega arith

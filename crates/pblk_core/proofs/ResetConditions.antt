@@ -23,7 +23,6 @@ use Rattle.pblk_core.specs.declared.work.Work.TheVariants.{Reset}
 use Rattle.pblk_core.specs.Named.{named}
 use Rattle.pblk_core.specs.Resets.{kept_units, emptied}
 use Rattle.pblk_core.specs.Stands.{Stands, IsStanding}
-use Rattle.pblk_core.proofs.SimpleLogs.{its_simple}
 use Rattle.pblk_core.proofs.LineBits.{known_bits}
 use Rattle.pblk_core.proofs.NamedReset.{IsNamedReset}
 use Rattle.pblk_core.proofs.ResetRows.{state_before}
@@ -43,12 +42,12 @@ reset_next c line unit standing names = record {
   line_units = slice_get_within c.live.items line (live_now i (log_of w) line) units_there;
   small = let few : units i.shape ≤ 64 = standing.legal.accepted.drive.few_units in let inside : unit < units i.shape = named_is.unit_in_range in omega arith;
   unit_in = λ us there. subst (λ n. is_in n unit ≡ true) (same_Some (live_now i (log_of w) line) us (sym units_there ∙ there))
-      (unit_was_in i w line unit (its_simple standing) named_is);
+      (unit_was_in i w line unit standing.legal named_is);
   below = λ us there. subst (λ n. n < 2 ^ units c.layout) (same_Some (live_now i (log_of w) line) us (sym units_there ∙ there))
       (subst (λ (s : Shape). live_now i (log_of w) line < 2 ^ units s) (sym st.layout) (known_bits i w (log_of w) line standing.legal));
   line_row = slice_get_within c.lines.rows line (row_of_line i (log_of w) line) row_is;
   freed = λ row there. ap (λ (r : Row). r.state) (sym (same_Some (row_of_line i (log_of w) line) row (sym row_is ∙ there)))
-      ∙ state_before i w line unit st.beginning (its_simple standing) st.has_begun named_is;
+      ∙ state_before i w line unit st.beginning standing.legal st.has_begun named_is;
 }
   where
     i : Image

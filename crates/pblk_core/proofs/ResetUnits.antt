@@ -16,7 +16,7 @@ use Rattle.pblk_world.specs.World.{World, Logs, log_of}
 use Rattle.pblk_world.specs.Lines.{known_image, is_empty_state, are_empty, is_given_up}
 use Rattle.pblk_world.proofs.Appending.{life_more}
 use Rattle.core_laws.specs.OpenedLines.{bits_of, live_now}
-use Rattle.core_laws.specs.SimpleMounts.{IsSimpleMount}
+use Rattle.world_laws.specs.LegalMounts.{IsLegalMount}
 use Rattle.core_laws.specs.Stepping.{after}
 use Rattle.core_laws.proofs.UnitBits.{bit_is, units_below}
 use Rattle.core_laws.proofs.PlacedLines.{get_row as row_there}
@@ -46,12 +46,19 @@ line_left i logs unit event line knows state named is = named.passed.others (is_
     (tested_now is_used_state i logs unit event line knows state is ∙ empty_not state is.empty)
     (λ u other. tested_else is_used_state i logs unit event line knows state is line u (inr other))
 
+-- the used chunks of another line
+pub others_used : (i : Image) (logs : Logs) (unit event line : ℕ) (knows : List ℕ) (state : ChunkState) → IsNoted i logs unit event line knows state → (l : ℕ)
+    → l ≢ line
+    → used_units (known_image i (after logs (ResetDone unit event) knows)) l ≡ used_units (known_image i logs) l
+others_used i logs unit event line knows state is l other =
+    filter_same (is_used_in (known_image i (after logs (ResetDone unit event) knows)) l) (is_used_in (known_image i logs) l)
+    (λ u. tested_else is_used_state i logs unit event line knows state is l u (inl other)) (range_with_len 0 (units i.shape))
+
 pub others_left : (i : Image) (logs : Logs) (unit event line : ℕ) (knows : List ℕ) (state : ChunkState) → IsNoted i logs unit event line knows state → (l : ℕ)
     → l ≢ line
     → units_to_reset i (after logs (ResetDone unit event) knows) l ≡ units_to_reset i logs l
-others_left i logs unit event line knows state is l other = ap₂ (λ b us. if b then us else []) (given_same i logs unit event knows l)
-    (filter_same (is_used_in (known_image i (after logs (ResetDone unit event) knows)) l) (is_used_in (known_image i logs) l)
-    (λ u. tested_else is_used_state i logs unit event line knows state is l u (inl other)) (range_with_len 0 (units i.shape)))
+others_left i logs unit event line knows state is l other =
+    ap₂ (λ b us. if b then us else []) (given_same i logs unit event knows l) (others_used i logs unit event line knows state is l other)
 
 pub units_left : (i : Image) (logs : Logs) (unit event line : ℕ) (knows : List ℕ) (state : ChunkState) (named : IsNamedReset i logs line unit)
     → IsNoted i logs unit event line knows state
@@ -69,11 +76,11 @@ resets_less i logs unit event line knows state named is =
 -- ---- units
 
 -- the units of a line as bits
-pub live_bits : (i : Image) (w : World) (ls : Logs) (line : ℕ) → IsSimpleMount i w
+pub live_bits : (i : Image) (w : World) (ls : Logs) (line : ℕ) → IsLegalMount i w
     → live_now i ls line ≡ bits_of (filter (is_live (known_image i ls) line) (range_with_len 0 (units i.shape)))
-live_bits i w ls line simple =
-    ap bits_of (units_below (known_image i ls) line (few_units i w ls simple.mount)
-    ∙ ap (λ n. filter (is_live (known_image i ls) line) (range_with_len 0 n)) (known_count i w ls simple.mount))
+live_bits i w ls line mount =
+    ap bits_of (units_below (known_image i ls) line (few_units i w ls mount)
+    ∙ ap (λ n. filter (is_live (known_image i ls) line) (range_with_len 0 n)) (known_count i w ls mount))
 
 pub was_live : (i : Image) (logs : Logs) (unit event line : ℕ) (knows : List ℕ) (state : ChunkState) → IsNoted i logs unit event line knows state
     → is_live (known_image i logs) line unit ≡ true
@@ -92,17 +99,17 @@ live_here : (i : Image) (logs : Logs) (unit event line : ℕ) (knows : List ℕ)
 live_here i logs unit event line knows state is = live_is (known_image i (after logs (ResetDone unit event) knows)) line unit
     ∙ tested_now is_online_in i logs unit event line knows state is
 
-bits_same : (i : Image) (w : World) (ls new : Logs) (l : ℕ) → IsSimpleMount i w → ((u : ℕ) → is_live (known_image i new) l u ≡ is_live (known_image i ls) l u)
+bits_same : (i : Image) (w : World) (ls new : Logs) (l : ℕ) → IsLegalMount i w → ((u : ℕ) → is_live (known_image i new) l u ≡ is_live (known_image i ls) l u)
     → live_now i new l ≡ live_now i ls l
-bits_same i w ls new l simple same =
-    live_bits i w new l simple ∙ ap bits_of (filter_same (is_live (known_image i new) l) (is_live (known_image i ls) l) same (range_with_len 0 (units i.shape)))
-    ∙ sym (live_bits i w ls l simple)
+bits_same i w ls new l mount same =
+    live_bits i w new l mount ∙ ap bits_of (filter_same (is_live (known_image i new) l) (is_live (known_image i ls) l) same (range_with_len 0 (units i.shape)))
+    ∙ sym (live_bits i w ls l mount)
 
-pub units_kept : (i : Image) (w : World) (unit event line : ℕ) (knows : List ℕ) (state : ChunkState) → IsSimpleMount i w → IsNamedReset i (log_of w) line unit
+pub units_kept : (i : Image) (w : World) (unit event line : ℕ) (knows : List ℕ) (state : ChunkState) → IsLegalMount i w → IsNamedReset i (log_of w) line unit
     → IsNoted i (log_of w) unit event line knows state
     → kept_units (map (live_now i (log_of w)) (range_with_len 0 i.shape.chunks)) line unit state ≡ map
     (live_now i (after (log_of w) (ResetDone unit event) knows)) (range_with_len 0 i.shape.chunks)
-units_kept i w unit event line knows state simple named is = go (is_online_in state) refl
+units_kept i w unit event line knows state mount named is = go (is_online_in state) refl
   where
     logs : Logs
     logs = log_of w
@@ -114,10 +121,10 @@ units_kept i w unit event line knows state simple named is = go (is_online_in st
     old_list = map (live_now i logs) (range_with_len 0 i.shape.chunks)
 
     other_line : (l : ℕ) → l ≢ line → live_now i new l ≡ live_now i logs l
-    other_line l other = bits_same i w logs new l simple (λ u. live_else i logs unit event line knows state is l u (inl other))
+    other_line l other = bits_same i w logs new l mount (λ u. live_else i logs unit event line knows state is l u (inl other))
 
     online_line : is_online_in state ≡ true → live_now i new line ≡ live_now i logs line
-    online_line online = bits_same i w logs new line simple (λ u. by u (nat_eq u unit) refl)
+    online_line online = bits_same i w logs new line mount (λ u. by u (nat_eq u unit) refl)
       where
         by : (u : ℕ) (b : Bool) → nat_eq u unit ≡ b → is_live (known_image i new) line u ≡ is_live (known_image i logs) line u
         by u true e =
@@ -129,9 +136,9 @@ units_kept i w unit event line knows state simple named is = go (is_online_in st
     less : is_online_in state ≡ false → live_now i new line ≡ live_now i logs line - 2 ^ unit
     less offline =
         let old : live_now i logs line ≡ bits_of (filter (is_live (known_image i logs) line) (range_with_len 0 (units i.shape))) =
-        live_bits i w logs line simple in
+        live_bits i w logs line mount in
         let now : live_now i new line ≡ bits_of (filter (is_live (known_image i new) line) (range_with_len 0 (units i.shape))) =
-        live_bits i w new line simple in
+        live_bits i w new line mount in
         let fewer : bits_of (filter (is_live (known_image i logs) line) (range_with_len 0 (units i.shape))) ≡ bits_of
         (filter (is_live (known_image i new) line) (range_with_len 0 (units i.shape))) + 2 ^ unit =
         bits_less (is_live (known_image i logs) line) (is_live (known_image i new) line) (units i.shape) unit named.unit_in_range
@@ -160,9 +167,9 @@ units_kept i w unit event line knows state simple named is = go (is_online_in st
         (λ l other. other_line l (λ same. other (same ∙ sym from))))
 
 -- its unit was one of the line's
-pub unit_was_in : (i : Image) (w : World) (line unit : ℕ) → IsSimpleMount i w → IsNamedReset i (log_of w) line unit
+pub unit_was_in : (i : Image) (w : World) (line unit : ℕ) → IsLegalMount i w → IsNamedReset i (log_of w) line unit
     → is_in (live_now i (log_of w) line) unit ≡ true
-unit_was_in i w line unit simple named = ap (λ n. is_in n unit) (live_bits i w (log_of w) line simple)
+unit_was_in i w line unit mount named = ap (λ n. is_in n unit) (live_bits i w (log_of w) line mount)
     ∙ bit_is (is_live (known_image i (log_of w)) line) (units i.shape) unit named.unit_in_range
     ∙ (live_is (known_image i (log_of w)) line unit ∙ ap (test_chunk is_online_in) named.is_chunk ∙ used_online named.chunk.state named.used)
 

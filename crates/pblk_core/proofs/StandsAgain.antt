@@ -23,25 +23,29 @@ use Rattle.core_laws.specs.PlacerOf.{placing_of, without_unit}
 use Rattle.core_laws.specs.RowsOf.{row_of_line, rows_of}
 use Rattle.core_laws.specs.SimpleMounts.{IsSimpleMount}
 use Rattle.core_laws.specs.WindowOf.{sectors_in, window_from}
+use Rattle.core_laws.specs.ClosedLines.{closed_line}
+use Rattle.core_laws.proofs.ClosedKept.{closed_stopped}
 use Rattle.core_laws.proofs.KeptRows.{begun_kept, known_kept, row_kept, then_kept}
 use Rattle.core_laws.proofs.KeptStripes.{KeepsStripes, alike_kept, have_landed_alike, lives_kept, stripes_kept}
 use Rattle.core_laws.proofs.LandedRows.{keeps_chunks, lines_kept}
 use Rattle.core_laws.proofs.OpenAddresses.{addresses_kept, failed_kept}
 use Rattle.core_laws.proofs.PlacedFront.{front_kept}
 use Rattle.core_laws.proofs.FreedMoments.{freed_before}
-use Rattle.core_laws.proofs.QuietEvents.{IsQuiet, quiet_alike, quiet_window, quiet_slot, stop_is_quiet}
+use Rattle.core_laws.proofs.QuietEvents.{IsQuiet, quiet_alike, quiet_window, quiet_slot, stop_is_quiet, quiet_takes}
 use Rattle.core_laws.proofs.SimpleMounts.{engine_plain, simple_after}
 use Rattle.core_laws.proofs.Steady.{AreAlike, standing_same}
 use Rattle.core_laws.proofs.Stopping.{placing_again, placing_stopped}
 use Rattle.core_laws.proofs.TakenNumbers.{first_stays}
+use Rattle.pblk_core.specs.LineNotes.{AreNotes}
 use Rattle.pblk_core.specs.Resets.{resets_left}
-use Rattle.pblk_core.specs.Stands.{Stands, AreHolds, AreOpenLines}
+use Rattle.pblk_core.specs.Stands.{Stands, AreHolds, AreOpenLines, AreUsed}
 use Rattle.pblk_core.specs.declared.open_lines.OpenLines.{OpenLines}
 use Rattle.pblk_core.specs.declared.target_core.Core.{Core}
 use Rattle.pblk_core.proofs.FoundLines.{HasOldRow, older_kept}
 use Rattle.pblk_core.proofs.KeptFrames.{placed_pad}
 use Rattle.pblk_core.proofs.KeptResets.{fits_same, resets_quiet}
-use Rattle.pblk_core.proofs.StandsOpened.{quiet_holds, quiet_freed, takes_same}
+use Rattle.pblk_core.proofs.NotesKept.{quiet_notes, quiet_used}
+use Rattle.pblk_core.proofs.StandsOpened.{quiet_holds, quiet_freed}
 use Rattle.pblk_core.proofs.AnswerCounts.{counts_same}
 use Rattle.pblk_core.proofs.FullOpenings.{full_kept}
 use Rattle.pblk_core.proofs.SteadyLines.{open_lines_same, under_way_same}
@@ -61,6 +65,7 @@ pub record IsPlacedAgain (old new : Core) (of : Program) : Type 0 where
   pub open_slots : new.open.slots.items ≡ old.open.slots.items
   pub live : new.live ≡ old.live
   pub resets : new.resets ≡ old.resets
+  pub notes : new.notes ≡ old.notes
   pub start : new.start ≡ old.start
   pub first : new.first ≡ old.first
   pub placed : new.placed ≡ old.placed
@@ -83,6 +88,7 @@ again_into old mid p kept of same is count slots = record {
   open_slots = ap (λ (c : Core). c.open.slots.items) same ∙ slots;
   live = ap (λ (c : Core). c.live) same;
   resets = ap (λ (c : Core). c.resets) same;
+  notes = ap (λ (c : Core). c.notes) same;
   start = ap (λ (c : Core). c.start) same;
   first = ap (λ (c : Core). c.first) same;
   placed = ap (λ (c : Core). c.placed) same;
@@ -115,6 +121,9 @@ again_stands i logs old new of st there is = record {
   table = is.lines ∙ st.table;
   units = ap (λ l. l.items) is.live ∙ st.units;
   resets = ap resets_left is.resets ∙ st.resets;
+  used_lines = ap (λ r. length r.used) is.resets ∙ st.used_lines;
+  used = subst (AreUsed i logs) (sym is.resets) st.used;
+  notes = subst (AreNotes i logs) (sym is.notes) st.notes;
   size = ap (λ v. v.size) is.window ∙ st.size;
   window = ap sectors_in is.window ∙ st.window ∙ ap (λ (v : view.WindowView). window_from i.shape (logs 0) v.freed) (sym is.window);
   from_first = subst (λ v. first_position (logs 0) ≤ v.freed) (sym is.window) st.from_first;
@@ -180,6 +189,7 @@ pub record IsStoppedInto (old new : Core) (of : Program) : Type 0 where
   pub open_same : new.open ≡ old.open
   pub live : new.live ≡ old.live
   pub resets : new.resets ≡ old.resets
+  pub notes : new.notes ≡ old.notes
   pub start : new.start ≡ old.start
   pub first : new.first ≡ old.first
   pub placed : new.placed ≡ old.placed
@@ -191,7 +201,7 @@ pub record IsStoppedInto (old new : Core) (of : Program) : Type 0 where
 its_stop_stands : (i : Image) (w : World) (event : ℕ) (knows : List ℕ) (old new : Core) (of : Program) → IsSimpleMount i w → Stands i (log_of w) old
     → slice_get old.placer.units of.unit ≡ Some (UnderWay of) → IsStoppedInto old new of → Stands i (after (log_of w) (Again of.unit event) knows) new
 its_stop_stands i w event knows old new of simple st there is = record {
-  simple = simple_after (log_of w 0) l st.simple refl refl refl;
+  simple = simple_after (log_of w 0) l st.simple refl refl;
   layout = is.layout ∙ st.layout;
   beginning = st.beginning;
   has_begun = begun_kept (log_of w 0) e knows refl ∙ st.has_begun;
@@ -202,6 +212,10 @@ its_stop_stands i w event knows old new of simple st there is = record {
       ∙ map_same (live_now i (log_of w)) (live_now i new_logs)
       (λ line. ap (λ (j : Image). bits_of (line_units j line)) (sym (known_kept i (log_of w) e knows refl (λ unit. refl)))) (range_with_len 0 i.shape.chunks);
   resets = ap resets_left is.resets ∙ st.resets ∙ sym (resets_quiet i (log_of w) e knows refl (λ unit. refl) (λ line. life_more (log_of w 0) l line));
+  used_lines = ap (λ r. length r.used) is.resets ∙ st.used_lines;
+  used = subst (AreUsed i new_logs) (sym is.resets) (quiet_used i (log_of w) e knows old.resets refl (λ unit. refl) same_closed st.used);
+  notes = subst (AreNotes i new_logs) (sym is.notes)
+      (quiet_notes i w st.beginning e knows old.notes simple.mount st.has_begun refl refl (λ line. life_more (log_of w 0) l line) same_closed st.notes);
   size = ap (λ v. v.size) is.window ∙ st.size;
   window = ap sectors_in is.window ∙ st.window ∙ sym (quiet_window i.shape (log_of w) e knows old.window.freed quiet)
       ∙ ap (λ (v : view.WindowView). window_from i.shape (new_logs 0) v.freed) (sym is.window);
@@ -225,7 +239,7 @@ its_stop_stands i w event knows old new of simple st there is = record {
   in_flight = is.under_way ∙ st.in_flight ∙ under_way_same i.shape (log_of w 0) (new_logs 0) alike;
   answers = is.answers ∙ st.answers ∙ counts_same i.shape (log_of w 0) (new_logs 0) alike;
   full = full_kept i (log_of w) e knows refl st.full;
-  users = is.users ∙ st.users ∙ ap (λ ts. length (filter (λ (t : Taken). is_users t.entry.source) ts)) (sym (takes_same (log_of w 0) e knows quiet));
+  users = is.users ∙ st.users ∙ ap (λ ts. length (filter (λ (t : Taken). is_users t.entry.source) ts)) (sym (quiet_takes (log_of w 0) e knows quiet));
 }
   where
     e : EngineEvent
@@ -251,6 +265,9 @@ its_stop_stands i w event knows old new of simple st there is = record {
 
     same_standing : standing (new_logs 0) ≡ standing (log_of w 0)
     same_standing = standing_same (log_of w 0) (new_logs 0) same_openings (λ m. life_more (log_of w 0) l m)
+
+    same_closed : (line : ℕ) → closed_line i (after (log_of w) (Again of.unit event) knows) line ≡ closed_line i (log_of w) line
+    same_closed line = closed_stopped i (log_of w) of.unit event knows line
 
     old_row : (m : ℕ) → HasOldRow i (log_of w) (after (log_of w) (Again of.unit event) knows) m
     old_row m = inl (ap is_as_found (life_more (log_of w 0) l m))

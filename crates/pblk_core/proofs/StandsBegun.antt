@@ -27,9 +27,8 @@ use Rattle.core_laws.specs.OpenedLines.{open_line}
 use Rattle.core_laws.specs.PlacerOf.{placing_of, unanswered_on}
 use Rattle.core_laws.specs.SimpleMounts.{IsSimpleMount}
 use Rattle.core_laws.specs.WindowOf.{sectors_in, window_from, HeldSectors, HeldSector, without_frame}
-use Rattle.world_laws.specs.Finding.{IsFoundOf, taken_state}
+use Rattle.world_laws.specs.Finding.{IsFoundOf, NoneOpen}
 use Rattle.world_laws.specs.MountBeginnings.{seq_after, beginning_of}
-use Rattle.world_laws.proofs.FoundStates.{state_is}
 use Rattle.core_laws.specs.JustBegun.{HasJustBegun}
 use Rattle.core_laws.specs.OpeningTables.{row_found}
 use Rattle.core_laws.proofs.BegunImages.{just_begun, begun_is, knows_found}
@@ -44,6 +43,7 @@ use Rattle.pblk_core.specs.OlderLines.{older_found}
 use Rattle.pblk_core.specs.Resets.{is_used_state, is_used_in, is_used_at, used_units, used_below, in_line, resets_found, resets_of}
 use Rattle.pblk_core.specs.Stands.{Stands, IsOlder, left_openings}
 use Rattle.pblk_core.proofs.AnswerCounts.{counts_none}
+use Rattle.pblk_core.proofs.FoundNotes.{found_shape, notes_begun, used_begun, used_same}
 use Rattle.pblk_core.specs.declared.target_core.Core.{Core}
 use Rattle.core_laws.proofs.SimpleMounts.{simple_after, simple_none}
 use Rattle.pblk_core.proofs.KeptResets.{flat_same}
@@ -115,22 +115,6 @@ fit_rows s f fit = from 0 f.lines (λ k row there. ap (slice_get f.lines) (zero-
 
 -- ---- the chunks that are to be reset
 
-used_taken : (state : ChunkState) → is_used_state (taken_state state) ≡ is_used_state state
-used_taken states.Free = refl
-used_taken states.Open = refl
-used_taken states.Closed = refl
-used_taken states.Offline = refl
-
-used_at : (o : Option Chunk) → is_used_at (option_map (λ (c : Chunk). taken_state c.state) o) ≡ option_map_or (λ (c : Chunk). is_used_state c.state) o false
-used_at None = refl
-used_at (Some c) = used_taken c.state
-
-used_same : (j : Image) (f : Found) (line : ℕ) → IsFit j → IsFoundOf j f → line < j.shape.chunks
-    → used_below j.shape f.chunks line (units j.shape) ≡ used_units j line
-used_same j f line fit found inside =
-    filter_same (λ unit. is_used_at (slice_get f.chunks (unit * j.shape.chunks + line))) (is_used_in j line)
-    (λ unit. ap is_used_at (state_is j f line unit fit found inside) ∙ used_at (chunk_in j line unit)) (range_with_len 0 (units j.shape))
-
 resets_begun : (j : Image) (f : Found) → IsFit j → IsFoundOf j f
     → resets_found j.shape f.chunks f.strays ≡ flat_map (λ line. in_line line (if list_any (λ stray. stray == line) f.strays then used_units j line else []))
     (range_with_len 0 j.shape.chunks)
@@ -152,10 +136,11 @@ resets_begun j f fit found =
 -- ---- the core
 
 pub made_stands : (i : Image) (w : World) (knows : List ℕ) (f : Found) (c : Core) → IsSimpleMount i w → log_of w 0 ≡ [] → IsFitFound i.shape f
-    → IsFoundOf (found_image i (after (log_of w) (Begin (beginning_of f)) knows)) f → IsMadeOn i.shape f c
+    → IsFoundOf (found_image i (after (log_of w) (Begin (beginning_of f)) knows)) f
+    → NoneOpen (found_image i (after (log_of w) (Begin (beginning_of f)) knows)) → IsMadeOn i.shape f c
     → Stands i (after (log_of w) (Begin (beginning_of f)) knows) c
-made_stands i w knows f c simple none fit found is = record {
-  simple = simple_after (log_of w 0) (record { event = Decides (Begin (beginning_of f)); knows = knows }) (simple_none (log_of w 0) none) refl refl refl;
+made_stands i w knows f c simple none fit found closed is = record {
+  simple = simple_after (log_of w 0) (record { event = Decides (Begin (beginning_of f)); knows = knows }) (simple_none (log_of w 0) none) refl refl;
   layout = is.layout;
   beginning = record { beginning = beginning_of f; knows = begins.knows };
   has_begun = begun_is i f new begins;
@@ -164,6 +149,9 @@ made_stands i w knows f c simple none fit found is = record {
   table = table_is i f new c.lines begins is.lines;
   units = is.live ∙ sym (lines_online i f new begins);
   resets = is.resets ∙ resets_are;
+  used_lines = is.used_lines;
+  used = used_begun i f new begins c.resets is.used;
+  notes = notes_begun i w f knows c.notes simple.mount none found closed is.notes is.newest;
   size = is.size;
   window = window_empty;
   from_first = subst (λ n. n ≤ c.window.freed) (sym (first_is i f new begins)) (subst (λ n. f.end ≤ n) (sym is.freed) (le_refl f.end));
@@ -206,7 +194,7 @@ made_stands i w knows f c simple none fit found is = record {
     begins = just_begun i w f knows simple.mount.accepted simple.mount.fit simple.mount.legal none found
 
     shape_is : (found_image i new).shape ≡ i.shape
-    shape_is = ap (λ (j : Image). j.shape) (sym (knows_found i f new begins))
+    shape_is = found_shape i f new begins
 
     resets_are : resets_found i.shape f.chunks f.strays ≡ resets_of i new
     resets_are =
@@ -231,10 +219,12 @@ made_stands i w knows f c simple none fit found is = record {
 
 -- for a drive of this shape
 pub made_on : (i : Image) (w : World) (knows : List ℕ) (s : Shape) (f : Found) (c : Core) → i.shape ≡ s → IsSimpleMount i w → log_of w 0 ≡ [] → IsFitFound s f
-    → IsFoundOf (found_image i (after (log_of w) (Begin (beginning_of f)) knows)) f → IsMadeOn s f c
+    → IsFoundOf (found_image i (after (log_of w) (Begin (beginning_of f)) knows)) f
+    → NoneOpen (found_image i (after (log_of w) (Begin (beginning_of f)) knows)) → IsMadeOn s f c
     → Stands i (after (log_of w) (Begin (beginning_of f)) knows) c
-made_on i w knows s f c same simple none fit found is =
-    made_stands i w knows f c simple none (subst (λ (x : Shape). IsFitFound x f) (sym same) fit) found (subst (λ (x : Shape). IsMadeOn x f c) (sym same) is)
+made_on i w knows s f c same simple none fit found closed is =
+    made_stands i w knows f c simple none (subst (λ (x : Shape). IsFitFound x f) (sym same) fit) found closed
+    (subst (λ (x : Shape). IsMadeOn x f c) (sym same) is)
 
 -- what holds of each core that was made
 pub if_made : {E : Type 0} (r : Result Core E) (P Q : Core → Type 0) → ((c : Core) → P c → Q c) → IfOk r P → IfOk r Q

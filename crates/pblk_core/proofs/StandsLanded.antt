@@ -1,17 +1,21 @@
 -- A core whose program has landed stands for the log with that.
-use Rattle.std.specs.Prelude.{min, slice_get, slice_set}
-use Rattle.std.proofs.Common.{◌≡◌, ℕ, ◌^◌, ◌+◌, ◌-◌, ◌*◌, ◌/◌, ◌<◌, ◌≤◌, ◌==◌, ◌||◌, if◌then◌else◌, Bool, true, false, Some, Option, List, [], ◌∷◌, length, refl, sym, subst, ap, ap₂, ◌∙◌, arith, le_trans, inl}
-use Rattle.std.specs.List.{Contains}
-use Rattle.std.specs.Option.{option_map}
+use Rattle.std.specs.Prelude.{◌↔◌, IsTrue, min, slice_get, slice_set}
+use Rattle.std.proofs.Common.{◌≡◌, ◌≢◌, nat_eq, ℕ, ◌^◌, ◌+◌, ◌-◌, ◌*◌, ◌/◌, ◌<◌, ◌≤◌, ◌==◌, ◌||◌, if◌then◌else◌, Bool, true, false, Some, Option, List, [], ◌∷◌, length, refl, sym, subst, ap, ap₂, ◌∙◌, arith, le_trans, inl}
+use Rattle.std.specs.List.{Contains, list_all}
 use Rattle.std.specs.FinMap as fin
 use Rattle.std.proofs.Math.Nat.{mul-div_cancel}
+use Rattle.std.proofs.lemmas.Bool.{eqb-false, eqb-true}
+use Rattle.std.proofs.lemmas.Option.{none-some}
+use Rattle.pblk_model.specs.Chunk.{Chunk}
 use Rattle.pblk_model.specs.Shape.{units}
 use Rattle.pblk_model.specs.Image.{Image}
 use Rattle.pblk_meta.specs.Records.{start_numbers}
 use Rattle.pblk_world.specs.Answering.{MayLand}
 use Rattle.pblk_world.specs.Events.{Landed, Decides, Logged}
 use Rattle.pblk_world.specs.World.{World, Logs, log_of}
-use Rattle.pblk_world.specs.EngineLog.{Taken, takes, is_life, Placed, is_as_found, is_opened}
+use Rattle.pblk_layout.specs.Live.{units_in}
+use Rattle.pblk_world.specs.EngineLog.{Taken, takes, is_life, life_of, Opened, Placed, is_as_found, is_opened}
+use Rattle.pblk_world.specs.Lines.{chunks_of, is_over_state, known_image}
 use Rattle.pblk_world.specs.Fronts.{first_position}
 use Rattle.pblk_world.specs.Placing.{line_end}
 use Rattle.pblk_world.specs.Space.{freed}
@@ -19,6 +23,13 @@ use Rattle.pblk_world.specs.Starts.{have_landed}
 use Rattle.write_window.specs.Window.{WindowView, has_landed_at, turned}
 use Rattle.write_window.specs.declared.held.Progress.TheVariants as progress
 use Rattle.stripe_placer.specs.Placing.{Program, landed}
+use Rattle.stripe_placer.specs.declared.placement.StripeKind.TheVariants as kinds
+use Rattle.core_laws.specs.ClosedLines.{ClosedLine, closed_line, placed_top}
+use Rattle.core_laws.proofs.ClosedKept.{closed_others}
+use Rattle.core_laws.proofs.ClosedLanded.{closed_if, closed_landed}
+use Rattle.core_laws.proofs.KeptLines.{few_units}
+use Rattle.core_laws.proofs.PlacedLines.{get_row as row_there}
+use Rattle.core_laws.proofs.UnitBits.{bits_back}
 use Rattle.core_laws.specs.Stepping.{after}
 use Rattle.core_laws.specs.OpenedLines.{live_now}
 use Rattle.core_laws.specs.PlacerOf.{IsAwaited, placing_of}
@@ -42,12 +53,13 @@ use Rattle.core_laws.proofs.LandedCounts.{landed_whole, one_landed}
 use Rattle.core_laws.proofs.LandedEntries.{AreItsEntries, rows_landed}
 use Rattle.core_laws.proofs.LineRoom.{has_room}
 use Rattle.core_laws.proofs.OpenAddresses.{addresses_kept}
-use Rattle.core_laws.proofs.LogOrders.{in_order}
+use Rattle.core_laws.proofs.LogOrders.{in_order, small_capacity}
 use Rattle.core_laws.proofs.PlacedFront.{front_kept}
 use Rattle.core_laws.proofs.EntryHolds.{later_same, line_same}
 use Rattle.core_laws.proofs.StripesInOrder.{stripe_count}
 use Rattle.core_laws.proofs.MadeLists.{mapped_agree as same_in_range}
 use Rattle.pblk_core.specs.Entries.{noted_lines}
+use Rattle.pblk_core.specs.Holds.{taker_in}
 use Rattle.pblk_core.specs.Landing.{all_landed, one_landed as entry_landed}
 use Rattle.pblk_core.specs.Readable.{ReadBlock, all_moved, all_readable, reads_of}
 use Rattle.pblk_core.specs.Stands.{Stands, AreHolds, AreOpenLines, answer_count, answer_counts, under_way, unlanded}
@@ -68,9 +80,15 @@ use Rattle.pblk_core.proofs.LandedOpen.{IsLandedIn, IsRemoved, lines_stay, line_
 use Rattle.pblk_core.proofs.LandedWay.{IsOnWay, line_of_way, unit_is}
 use Rattle.pblk_core.proofs.LineUnits.{now_units}
 use Rattle.pblk_core.proofs.FoundLines.{older_kept}
-use Rattle.pblk_core.proofs.KeptResets.{resets_landed, fits_same}
+use Rattle.pblk_core.proofs.KeptResets.{resets_landed, used_beside, fits_same}
+use Rattle.pblk_core.proofs.FreedResets.{used_over}
+use Rattle.pblk_core.proofs.LandedNotes.{closed_when, notes_landed}
+use Rattle.pblk_core.proofs.SpentTables.{closed_numbered}
+use Rattle.pblk_core.proofs.StartKinds.{is_start}
 use Rattle.pblk_world.proofs.Appending.{life_more}
-use Rattle.pblk_core.specs.Resets.{resets_left}
+use Rattle.pblk_core.specs.declared.line_notes.LineNote.{LineNote}
+use Rattle.pblk_core.specs.LineNotes.{newest_landed, note_landed}
+use Rattle.pblk_core.specs.Resets.{resets_left, used_in, used_units}
 use Rattle.lemmas.proofs.Tests.{other_number, same as number_same, same_number}
 
 -- ---- the window keeps its front and its size
@@ -140,7 +158,7 @@ given_before true b e = e
 given_before false b e = refl
 
 abbrev told_hold : Taken → Option ℕ → Option Taken → Option Hold
-told_hold t ln u = Some (record { mark = t.mark; line = ln; taker = option_map (λ (v : Taken). v.entry.position) u })
+told_hold t ln u = Some (record { mark = t.mark; line = ln; taker = taker_in t u })
 
 holds_now : (i : Image) (w : World) (unit event : ℕ) (knows : List ℕ) (of : Program) (kept : Holds) → IsSimpleMount i w → (is : IsOnWay i w unit of)
     → AreHolds i.shape (log_of w 0) kept → AreHolds i.shape (after (log_of w) (Landed unit event) knows 0) kept
@@ -177,7 +195,16 @@ pub record IsLandedInto (old new : Core) (of : Program) (k : ℕ) (slot : OpenLi
   pub left : slot.stripes_left - 1 ≡ 0 → full ≡ true
   pub none_left : full ≡ true → slot.stripes_left - 1 ≡ 0
   pub live : new.live ≡ old.live
-  pub resets : new.resets ≡ old.resets
+  pub resets : resets_left new.resets ≡ resets_left old.resets
+  pub used_lines : length new.resets.used ≡ length old.resets.used
+  pub used : full ≡ true → (live : ℕ) → slice_get old.live.items of.line ≡ Some live → used_in new.resets of.line ≡ live
+  pub used_others : (other : ℕ) → other ≢ of.line → used_in new.resets other ≡ used_in old.resets other
+  -- whether the stripe is one of its line's start record
+  pub is_start : Bool
+  pub start_is : IsTrue is_start ↔ (of.kind ≡ kinds.Start)
+  pub notes : (row : LineNote) → slice_get old.notes.rows.items of.line ≡ Some row
+      → new.notes.rows.items ≡ slice_set old.notes.rows.items of.line (closed_when full (note_landed is_start row))
+  pub newest : (row : LineNote) → slice_get old.notes.rows.items of.line ≡ Some row → new.notes.newest ≡ newest_landed is_start row old.notes.newest
   pub start : new.start ≡ old.start
   pub first : new.first ≡ old.first
   pub placed : new.placed ≡ old.placed
@@ -218,7 +245,7 @@ pub landed_stands : (i : Image) (w : World) (unit event : ℕ) (knows : List ℕ
     → IsLandedInto old new of has.k has.slot mid full from to → AreReadNow i w unit event knows old new
     → Stands i (after (log_of w) (Landed unit event) knows) new
 landed_stands i w unit event knows old new of mid full from to simple st is waits may has into reads = record {
-  simple = simple_after (log_of w 0) (record { event = Decides (Landed unit event); knows = knows }) st.simple refl refl refl;
+  simple = simple_after (log_of w 0) (record { event = Decides (Landed unit event); knows = knows }) st.simple refl refl;
   layout = into.layout ∙ st.layout;
   beginning = st.beginning;
   has_begun = begun_kept (log_of w 0) (Landed unit event) knows refl ∙ st.has_begun;
@@ -229,8 +256,16 @@ landed_stands i w unit event knows old new of mid full from to simple st is wait
   units = ap (λ l. l.items) into.live ∙ st.units
       ∙ same_in_range (live_now i (log_of w)) (live_now i new_logs) 0 i.shape.chunks
       (λ line inside. sym (live_landed i w unit event knows is.row.stripe st.beginning line simple may is.row.waits st.has_begun));
-  resets = ap resets_left into.resets ∙ st.resets
+  resets = into.resets ∙ st.resets
       ∙ sym (resets_landed i w unit event knows is.row.stripe st.beginning simple may is.row.waits st.has_begun (ap is_opened is.stands));
+  used_lines = into.used_lines ∙ st.used_lines;
+  used = λ other c closed. used_now other c closed (nat_eq other of.line) refl;
+  notes = notes_landed i w simple.mount simple.engine.lost st.beginning st.has_begun unit event knows may is.row.stripe is.row.waits is.row.opening
+      is.row.life is.stands is.number is.there into.is_start (is_start i w unit of into.is_start simple is into.start_is) full whole old.notes new.notes
+      line_inside
+      (λ row there. into.notes row (ap (slice_get old.notes.rows.items) its_line ∙ there)
+      ∙ ap (λ n. slice_set old.notes.rows.items n (closed_when full (note_landed into.is_start row))) its_line)
+      (λ row there. into.newest row (ap (slice_get old.notes.rows.items) its_line ∙ there)) st.notes;
   size = ap (λ v. v.size) into.window ∙ (reads_keep (all_landed old.window of.positions) (reads_of has.slot of.unit from to)).1
       ∙ (landed_keeps old.window of.positions).1 ∙ st.size;
   window = reads.window;
@@ -271,10 +306,70 @@ landed_stands i w unit event knows old new of mid full from to simple st is wait
 
     lines_are : noted_lines old.holds.rows.items of.line old.lines of.positions ≡ note_entries (log_of w 0) of.line (rows_of i (log_of w)) entries.entries
     lines_are = ap₂ (λ (t : Table) (qs : List ℕ). noted_lines old.holds.rows.items of.line t qs) st.table (sym entries.positions)
-        ∙ lines_noted_are i.shape (log_of w 0) of.line old.holds.rows.items (rows_of i (log_of w)) entries.entries entries.rows
+        ∙ lines_noted_are i.shape (log_of w 0) of.line old.holds.rows.items (rows_of i (log_of w)) entries.entries
+        (small_capacity i simple.mount.accepted) refl entries.names entries.rows
 
     full_is : (landed_count (log_of w 0) is.row.opening + 1 == stripe_count i (now_units i w) is.row.opening.line) ≡ full
     full_is = full_by i w unit of has.slot.stripes_left full is has.is.left into.left into.none_left
+
+    -- ---- its line
+
+    its_line : of.line ≡ is.row.stripe.stripe.line
+    its_line = sym (line_of_way i w unit of is) ∙ is.its_line
+
+    line_inside : is.row.stripe.stripe.line < i.shape.chunks
+    line_inside = subst (λ n. n < i.shape.chunks) is.its_line is.line_is.well.in_range
+
+    whole : have_landed (new_logs 0) is.row.opening (line_end i.shape is.row.opening / i.shape.ws_opt) ≡ full
+    whole = whole_now i w unit event knows of simple is ∙ full_is
+
+    life_now : life_of (new_logs 0) of.line ≡ Opened is.row.opening
+    life_now = life_more (log_of w 0) (record { event = Decides (Landed unit event); knows = knows }) of.line ∙ ap (life_of (log_of w 0)) its_line ∙ is.stands
+
+    -- it is closed where it is full
+    full_where : (c : ClosedLine) (b : Bool) → full ≡ b → closed_line i new_logs of.line ≡ Some c → full ≡ true
+    full_where c true e closed = e
+    full_where c false e closed =
+        let seq : ℕ = is.row.opening.start.seq in
+        let top : ℕ = placed_top i.shape (log_of w 0) is.row.opening in
+        absurd (none-some c (sym (ap (λ t. closed_if t (record { seq = seq; top = top })) (whole ∙ e))
+        ∙ sym (closed_landed i w unit event knows is.row.stripe is.row.opening simple.mount simple.engine.lost may is.row.waits is.row.life is.stands)
+        ∙ ap (closed_line i new_logs) (sym its_line) ∙ closed))
+
+    live_there : slice_get old.live.items of.line ≡ Some (live_now i (log_of w) of.line)
+    live_there =
+        let from : 0 + of.line ≡ of.line = omega arith in
+        let inside : of.line < i.shape.chunks = subst (λ n. n < i.shape.chunks) (sym its_line) line_inside in
+        ap (λ us. slice_get us of.line) st.units ∙ row_there (live_now i (log_of w)) i.shape.chunks 0 of.line inside
+        ∙ ap (λ n. Some (live_now i (log_of w) n)) from
+
+    -- its chunks that aren't Offline are used then
+    units_used : (c : ClosedLine) → closed_line i new_logs of.line ≡ Some c
+        → units_in (live_now i (log_of w) of.line) ≡ used_units (known_image i new_logs) of.line
+    units_used c closed =
+        let over : list_all (λ (x : Chunk). is_over_state false x.state) (chunks_of (known_image i new_logs) of.line) ≡ true =
+        ap (λ l. list_all (λ (x : Chunk). is_over_state (is_as_found l) x.state) (chunks_of (known_image i new_logs) of.line)) (sym life_now)
+        ∙ (closed_numbered i new_logs of.line c closed).0 in
+        ap units_in (sym (live_landed i w unit event knows is.row.stripe st.beginning of.line simple may is.row.waits st.has_begun))
+        ∙ bits_back (known_image i new_logs) of.line (few_units i w new_logs simple.mount)
+        ∙ sym (used_over i w new_logs of.line simple.mount over)
+
+    used_now : (other : ℕ) (c : ClosedLine) → closed_line i new_logs other ≡ Some c → (b : Bool) → nat_eq other of.line ≡ b
+        → units_in (used_in new.resets other) ≡ used_units (known_image i new_logs) other
+    used_now other c closed true e =
+        let here : other ≡ of.line = eqb-true other of.line e in
+        let its : closed_line i new_logs of.line ≡ Some c = ap (closed_line i new_logs) (sym here) ∙ closed in
+        ap (λ n. units_in (used_in new.resets n)) here
+        ∙ ap units_in (into.used (full_where c full refl its) (live_now i (log_of w) of.line) live_there)
+        ∙ units_used c its
+        ∙ ap (used_units (known_image i new_logs)) (sym here)
+    used_now other c closed false e =
+        let differs : other ≢ of.line = eqb-false other of.line e in
+        let apart : other ≢ is.row.stripe.stripe.line = λ same. differs (same ∙ sym its_line) in
+        let was : closed_line i (log_of w) other ≡ Some c =
+        sym (closed_others i w unit event knows is.row.stripe other simple.mount may is.row.waits apart) ∙ closed in
+        ap units_in (into.used_others other differs) ∙ st.used other c was
+        ∙ sym (used_beside i w unit event knows is.row.stripe st.beginning simple may is.row.waits st.has_begun other apart)
 
     few : landed_count (log_of w 0) is.row.opening + 1 ≤ stripe_count i (now_units i w) is.row.opening.line
     few = fewer_landed i w unit of is

@@ -1,8 +1,7 @@
 -- A core that opened a line stands for the log with it.
-use Rattle.std.proofs.Common.{◌≡◌, ◌≢◌, ◌⊎◌, eqb, ℕ, ◌+◌, ◌-◌, ◌*◌, ◌/◌, ◌<◌, ◌≤◌, true, false, Some, List, [], ◌∷◌, ◌++◌, length, refl, sym, subst, ap, ap₂, ◌∙◌, arith, inl, inr, length-append, length-set, append-nil, le_refl, take, nat_eq, Bool, if◌then◌else◌}
+use Rattle.std.proofs.Common.{◌≡◌, ◌≢◌, ◌⊎◌, eqb, ℕ, ◌+◌, ◌-◌, ◌*◌, ◌/◌, ◌<◌, ◌≤◌, true, false, None, Some, List, [], ◌∷◌, ◌++◌, length, refl, sym, subst, ap, ap₂, ◌∙◌, arith, inl, inr, length-append, length-set, le_refl, take, nat_eq, Bool, if◌then◌else◌}
 use Rattle.std.specs.Prelude.{map, slice_get, slice_set, slice_range}
 use Rattle.std.specs.List.{Contains, filter, flat_map, range_with_len}
-use Rattle.std.specs.Option.{option_map}
 use Rattle.std.specs.FinMap as fin
 use Rattle.std.proofs.Math.Seq.{drop-nil, take-nil}
 use Rattle.std.proofs.lemmas.Option.{same_Some, slice_get_within}
@@ -19,13 +18,14 @@ use Rattle.pblk_world.specs.Lines.{known_image, found_image}
 use Rattle.pblk_world.specs.Opening.{MayOpen}
 use Rattle.pblk_world.specs.Placing.{end_address}
 use Rattle.pblk_world.specs.Space.{freed}
+use Rattle.pblk_world.specs.Starts.{start_stripes}
 use Rattle.pblk_world.proofs.Appending.{openings_more, life_more}
 use Rattle.line_table.specs.declared.row.LineState.TheVariants as states
 use Rattle.line_table.specs.Rows.{Changes, turned}
 use Rattle.line_table.proofs.Places.{get_within, get_set_same, get_set_other, each_more}
 use Rattle.stripe_placer.specs.Placing.{begun as line_begun}
 use Rattle.write_window.specs.Window as view
-use Rattle.core_laws.proofs.SimpleMounts.{engine_plain, simple_after}
+use Rattle.core_laws.proofs.SimpleMounts.{simple_after}
 use Rattle.core_laws.specs.Stepping.{after}
 use Rattle.core_laws.specs.OpenedLines.{bits_of, live_now}
 use Rattle.core_laws.specs.PlacerOf.{placing_of}
@@ -38,9 +38,10 @@ use Rattle.core_laws.proofs.Opening.{placing_opened, placed_before}
 use Rattle.core_laws.proofs.Steady.{AreAlike}
 use Rattle.core_laws.proofs.PlacedLines.{get_row as row_there}
 use Rattle.core_laws.proofs.TakenWindow.{given_same}
-use Rattle.core_laws.proofs.QuietEvents.{IsQuiet, quiet_alike, quiet_window, quiet_slot, open_is_quiet}
+use Rattle.core_laws.proofs.QuietEvents.{IsQuiet, quiet_alike, quiet_window, quiet_slot, open_is_quiet, quiet_takes}
 use Rattle.core_laws.proofs.LeastPositions.{least_rises}
 use Rattle.core_laws.specs.ChangedTables.{with_row}
+use Rattle.core_laws.proofs.ClosedKept.{closed_opened}
 use Rattle.core_laws.proofs.KeptRows.{begun_kept, known_kept}
 use Rattle.core_laws.proofs.OpenAddresses.{addresses_opened}
 use Rattle.core_laws.proofs.OpenedRows.{rows_opened}
@@ -53,9 +54,10 @@ use Rattle.pblk_model.specs.Contents.{least_missing}
 use Rattle.pblk_core.specs.declared.target_core.Core.{Core}
 use Rattle.pblk_core.specs.declared.hold.Holds.{Holds}
 use Rattle.pblk_core.specs.declared.open_lines.OpenLine.{OpenLine}
-use Rattle.pblk_core.specs.Holds.{hold_of}
+use Rattle.pblk_core.specs.Holds.{hold_of, taker_in}
 use Rattle.pblk_core.specs.Slots.{IsSlot, opened_slot}
-use Rattle.pblk_core.specs.Stands.{Stands, AreHolds, AreOpenLines, IsOpenLine, left_openings}
+use Rattle.pblk_core.specs.LineNotes.{note_opened}
+use Rattle.pblk_core.specs.Stands.{Stands, AreHolds, AreOpenLines, AreUsed, IsOpenLine, left_openings}
 use Rattle.pblk_core.specs.Named.{next_line, next_units, next_start}
 use Rattle.std.proofs.lemmas.Bool.Decides.{eqb_tells}
 use Rattle.pblk_core.proofs.OpeningFacts.{MayOpenNext, IsNextLine, next_line_is, next_may_open}
@@ -63,35 +65,31 @@ use Rattle.core_laws.proofs.Steady.{lost_same}
 use Rattle.pblk_core.proofs.AnswerCounts.{counts_same}
 use Rattle.pblk_core.proofs.FullOpenings.{full_opened}
 use Rattle.pblk_core.proofs.SteadyLines.{open_same, under_way_same}
-use Rattle.pblk_core.proofs.FoundLines.{HasOldRow, free_unstarted, older_kept}
+use Rattle.pblk_core.proofs.FoundLines.{HasOldRow, free_is_new, older_kept}
 use Rattle.pblk_core.proofs.KeptResets.{resets_opened, fits_same}
+use Rattle.pblk_core.proofs.NotesKept.{quiet_used}
+use Rattle.pblk_core.proofs.NotesSet.{notes_opened, set_at}
 use Rattle.pblk_core.specs.Resets.{resets_left}
 use Rattle.std.proofs.lemmas.Bool.{eqb-true}
 use Rattle.lemmas.proofs.Maps.{filter_none, map_same}
-use Rattle.pblk_world.proofs.EngineLogLemmas.{takes_more}
 
 -- ---- entries and their rows
 
 hold_same : (s : Shape) (log : List Logged) (e : EngineEvent) (knows : List ℕ) (t : Taken) → IsQuiet log e knows
     → hold_of s (log ++ record { event = Decides e; knows = knows } ∷ []) t ≡ hold_of s log t
-hold_same s log e knows t quiet = ap₂ (λ l u. record { mark = t.mark; line = l; taker = option_map (λ (v : Taken). v.entry.position) u })
+hold_same s log e knows t quiet = ap₂ (λ l u. record { mark = t.mark; line = l; taker = taker_in t u })
     (line_same s log new (quiet_alike log e knows quiet).placements (lost_same log new (quiet_alike log e knows quiet)) t.entry.position)
     (later_same log (record { event = Decides e; knows = knows }) t quiet.takes)
   where
     new : List Logged
     new = log ++ record { event = Decides e; knows = knows } ∷ []
 
-pub takes_same : (log : List Logged) (e : EngineEvent) (knows : List ℕ) → IsQuiet log e knows
-    → takes (log ++ record { event = Decides e; knows = knows } ∷ []) ≡ takes log
-takes_same log e knows quiet = takes_more log (record { event = Decides e; knows = knows })
-    ∙ ap (λ o. takes log ++ o) (ap (λ o. Rattle.std.specs.Option.option_to_list o) quiet.takes) ∙ append-nil (takes log)
-
 pub quiet_holds : (s : Shape) (log : List Logged) (e : EngineEvent) (knows : List ℕ) (holds : Holds) → IsQuiet log e knows → AreHolds s log holds
     → AreHolds s (log ++ record { event = Decides e; knows = knows } ∷ []) holds
 quiet_holds s log e knows holds quiet are = record {
   room = are.room;
   each = λ t among waits.
-      are.each t (subst (λ ts. Contains ts t) (takes_same log e knows quiet) among)
+      are.each t (subst (λ ts. Contains ts t) (quiet_takes log e knows quiet) among)
       (sym (given_same s log (log ++ record { event = Decides e; knows = knows } ∷ []) (quiet_alike log e knows quiet) t.entry.position) ∙ waits)
       ∙ ap Some (sym (hold_same s log e knows t quiet));
 }
@@ -102,7 +100,7 @@ pub quiet_freed : (s : Shape) (log : List Logged) (e : EngineEvent) (knows : Lis
 quiet_freed s log e knows quiet first =
     let new : List Logged = log ++ record { event = Decides e; knows = knows } ∷ [] in
     subst (λ p. freed s log ≤ least_missing (is_given_back s new) (length (takes new)) p) (sym first)
-    (subst (λ ts. freed s log ≤ least_missing (is_given_back s new) (length ts) (first_position log)) (sym (takes_same log e knows quiet))
+    (subst (λ ts. freed s log ≤ least_missing (is_given_back s new) (length ts) (first_position log)) (sym (quiet_takes log e knows quiet))
     (least_rises (is_given_back s log) (is_given_back s new) (length (takes log)) (length (takes log)) (first_position log)
     (λ q h. given_same s log new (quiet_alike log e knows quiet) q ∙ h) (le_refl (length (takes log)))))
 
@@ -143,6 +141,9 @@ pub record IsOpenedInto (old new : Core) : Type 0 where
       (opened_slot line (next_start old) (next_units old) ((next_start old).width * (old.layout.clba / old.layout.ws_opt)))
   pub live : new.live ≡ old.live
   pub resets : new.resets ≡ old.resets
+  pub note_rows : new.notes.rows.items ≡ slice_set old.notes.rows.items (next_line old)
+      (note_opened (next_start old).seq (next_start old).front (start_stripes old.layout))
+  pub newest : new.notes.newest ≡ old.notes.newest
   pub seq : new.start.seq ≡ old.start.seq + 1
   pub first_seq : new.start.first_seq ≡ old.start.first_seq
   pub own_capacity : new.start.capacity ≡ old.start.capacity
@@ -153,15 +154,6 @@ pub record IsOpenedInto (old new : Core) : Type 0 where
   pub under_way : new.under_way ≡ old.under_way
   pub answers : new.answers.items ≡ old.answers.items
   pub users : new.users ≡ old.users
-
--- the line of a place is the one that was set there, or stands there as it did
-set_at : (lines : List OpenLine) (n k : ℕ) (x line : OpenLine) → n < length lines → slice_get (slice_set lines n x) k ≡ Some line
-    → ((k ≡ n) × (x ≡ line)) ⊎ ((k ≢ n) × (slice_get lines k ≡ Some line))
-set_at lines n k x line inside there = go (eqb_tells k n)
-  where
-    go : ((eqb k n ≡ true) × (k ≡ n)) ⊎ ((eqb k n ≡ false) × (k ≢ n)) → ((k ≡ n) × (x ≡ line)) ⊎ ((k ≢ n) × (slice_get lines k ≡ Some line))
-    go (inl h) = inl (h.1, same_Some x line (sym (get_set_same lines n k x h.1 inside) ∙ there))
-    go (inr h) = inr (h.1, sym (get_set_other lines n k x h.1) ∙ there)
 
 one_more : (n : ℕ) → n < 2 → n + 1 ≤ 2
 one_more n h = omega arith
@@ -255,7 +247,7 @@ pub opened_stands : (i : Image) (w : World) (knows : List ℕ) (old new : Core) 
     → IsOpenedInto old new
     → Stands i (after (log_of w) (Open (next_line old) (next_start old)) knows) new
 opened_stands i w knows old new simple st may is = record {
-  simple = simple_after (log_of w 0) (record { event = Decides (Open (next_line old) (next_start old)); knows = knows }) st.simple refl refl refl;
+  simple = simple_after (log_of w 0) (record { event = Decides (Open (next_line old) (next_start old)); knows = knows }) st.simple refl refl;
   layout = is.layout ∙ st.layout;
   beginning = st.beginning;
   has_begun = begun_kept (log_of w 0) e knows refl ∙ st.has_begun;
@@ -266,6 +258,13 @@ opened_stands i w knows old new simple st may is = record {
       ∙ map_same (live_now i (log_of w)) (live_now i new_logs)
       (λ line. ap (λ (j : Image). bits_of (line_units j line)) (sym (known_kept i (log_of w) e knows refl (λ unit. refl)))) (range_with_len 0 i.shape.chunks);
   resets = ap resets_left is.resets ∙ st.resets ∙ sym (resets_opened i (log_of w) (next_line old) (next_start old) knows line_is.least.is_free);
+  used_lines = ap (λ r. length r.used) is.resets ∙ st.used_lines;
+  used = subst (AreUsed i new_logs) (sym is.resets)
+      (quiet_used i (log_of w) e knows old.resets refl (λ unit. refl)
+      (λ line. closed_opened i w st.beginning (next_line old) (next_start old) knows line simple.mount st.has_begun allowed) st.used);
+  notes = notes_opened i w st.beginning (next_line old) (next_start old) knows old.notes new.notes simple.mount st.has_begun allowed
+      (is.note_rows ∙ ap (λ (s : Shape). slice_set old.notes.rows.items (next_line old)
+      (note_opened (next_start old).seq (next_start old).front (start_stripes s))) st.layout) is.newest st.notes;
   size = ap (λ v. v.size) is.window ∙ st.size;
   window = ap sectors_in is.window ∙ st.window ∙ sym (quiet_window i.shape (log_of w) e knows old.window.freed quiet)
       ∙ ap (λ (v : view.WindowView). window_from i.shape (new_logs 0) v.freed) (sym is.window);
@@ -291,7 +290,7 @@ opened_stands i w knows old new simple st may is = record {
   in_flight = is.under_way ∙ st.in_flight ∙ under_way_same i.shape (log_of w 0) (new_logs 0) alike;
   answers = is.answers ∙ st.answers ∙ counts_same i.shape (log_of w 0) (new_logs 0) alike;
   full = full_opened i (log_of w) (next_line old) (next_start old) knows (sym st.left ∙ may.left) st.full;
-  users = is.users ∙ st.users ∙ ap (λ ts. length (filter (λ (t : Taken). is_users t.entry.source) ts)) (sym (takes_same (log_of w 0) e knows quiet));
+  users = is.users ∙ st.users ∙ ap (λ ts. length (filter (λ (t : Taken). is_users t.entry.source) ts)) (sym (quiet_takes (log_of w 0) e knows quiet));
 }
   where
     e : EngineEvent
@@ -317,8 +316,17 @@ opened_stands i w knows old new simple st may is = record {
 
     old_row : (line : ℕ) (c : Bool) → nat_eq (next_line old) line ≡ c
         → HasOldRow i (log_of w) (after (log_of w) (Open (next_line old) (next_start old)) knows) line
-    old_row line true f = inr (ap (λ n. start_of (found_image i (log_of w)) n) (sym (eqb-true (next_line old) line f))
-        ∙ free_unstarted i (log_of w) (next_line old) (engine_plain i w simple) line_is.least.is_free)
+    old_row line true f = go (free_is_new i (log_of w) (next_line old) line_is.least.is_free)
+      where
+        it : next_line old ≡ line
+        it = eqb-true (next_line old) line f
+
+        go : (is_as_found (life_of (log_of w 0) (next_line old)) ≡ false) ⊎ (start_of (found_image i (log_of w)) (next_line old) ≡ None)
+            → HasOldRow i (log_of w) (after (log_of w) (Open (next_line old) (next_start old)) knows) line
+        go (inl new) = inl (ap is_as_found (life_more (log_of w 0) (record { event = Decides (Open (next_line old) (next_start old)); knows = knows }) line
+            ∙ ap (λ c. if c then Opened (record { number = length (log_of w 0); line = line; start = next_start old; knows = knows }) else life_of
+            (log_of w 0) line) f) ∙ sym (ap (λ n. is_as_found (life_of (log_of w 0) n)) (sym it) ∙ new))
+        go (inr unstarted) = inr (ap (λ n. start_of (found_image i (log_of w)) n) (sym it) ∙ unstarted)
     old_row line false f = inl (ap is_as_found (life_more (log_of w 0) (record { event = Decides (Open (next_line old) (next_start old)); knows = knows }) line
         ∙ ap (λ c. if c then Opened (record { number = length (log_of w 0); line = line; start = next_start old; knows = knows }) else life_of
         (log_of w 0) line) f))

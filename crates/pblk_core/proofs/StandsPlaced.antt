@@ -1,8 +1,8 @@
 -- A core that placed a stripe stands for the log with it.
-use Rattle.std.proofs.Common.{◌≡◌, ◌≢◌, inl, inr, ℕ, ◌+◌, ◌-◌, ◌<◌, ◌≤◌, zero, suc, nat_eq, Bool, true, false, Some, List, [], ◌∷◌, ◌++◌, length, take, drop, refl, sym, subst, ap, ap₂, ◌∙◌, arith, append-nil, length-append, length-take, length-set, replicate, le_trans}
+use Rattle.std.proofs.Common.{◌≡◌, ◌≢◌, inl, inr, ℕ, ◌+◌, ◌-◌, ◌*◌, ◌/◌, ◌<◌, ◌≤◌, ◌&&◌, zero, suc, nat_eq, Bool, true, false, None, Some, List, [], ◌∷◌, ◌++◌, length, take, drop, refl, sym, subst, ap, ap₂, ◌∙◌, arith, append-nil, length-append, length-take, length-set, replicate, le_trans}
 use Rattle.pblk_model.specs.Contents.{least_missing}
-use Rattle.std.specs.Prelude.{◌%◌, map, slice_get, slice_set, slice_range}
-use Rattle.std.specs.List.{AllByRecursion, Contains, filter, range_with_len}
+use Rattle.std.specs.Prelude.{◌%◌, map, slice_get, slice_set, slice_range, is_some}
+use Rattle.std.specs.List.{AllByRecursion, Contains, filter, list_all, range_with_len}
 use Rattle.std.specs.FinMap as fin
 use Rattle.std.proofs.lemmas.Bool.{eqb-true}
 use Rattle.std.proofs.lemmas.List.{length-map, length-replicate}
@@ -12,23 +12,30 @@ use Rattle.pblk_model.specs.declared.chunk.Mark.{Mark}
 use Rattle.pblk_model.specs.Accepted.{IsAccepted}
 use Rattle.pblk_model.specs.Chunk.{Block}
 use Rattle.pblk_model.specs.Image.{Image, line_units}
+use Rattle.pblk_model.specs.Records.{named}
 use Rattle.pblk_model.specs.Marks.{pad_block}
 use Rattle.pblk_meta.specs.Records.{start_numbers}
 use Rattle.pblk_world.specs.Events.{Stripe, Place, Decides, Logged}
 use Rattle.pblk_world.specs.World.{World, Logs, log_of}
-use Rattle.pblk_world.specs.EngineLog.{Taken, takes, openings, Opening, Opened, is_life, life_of, Placed, placements, stripes_of, block_of_taken, is_as_found}
+use Rattle.pblk_world.specs.EngineLog.{Taken, takes, openings, Opening, Opened, is_life, life_of, Placed, placements, stripes_of, block_of_taken, has_landed, is_as_found}
 use Rattle.pblk_world.specs.Fronts.{first_position, waiting, is_users}
-use Rattle.pblk_world.specs.Placing.{MayPlace, next_address, end_address, data_marks}
+use Rattle.pblk_world.specs.Placing.{MayPlace, next_address, end_address, line_end, data_marks}
+use Rattle.pblk_world.specs.Starts.{have_landed}
 use Rattle.pblk_world.specs.Space.{freed, placed_front, open_addresses}
 use Rattle.pblk_world.proofs.Appending.{openings_more, life_more}
 use Rattle.stripe_placer.specs.declared.placement.StripeKind.{StripeKind}
 use Rattle.stripe_placer.specs.declared.placement.StripeKind.TheVariants as kinds
 use Rattle.stripe_placer.specs.OpenLines.{has_left}
 use Rattle.stripe_placer.specs.Placing.{Program, Placing, placed}
+use Rattle.stripe_placer.proofs.Rising.{le_false}
 use Rattle.line_table.specs.Rows.{Table}
+use Rattle.core_laws.specs.ClosedLines.{closed_line, placed_top, top_of}
 use Rattle.core_laws.specs.InOrder.{IsInOrder}
 use Rattle.core_laws.specs.PlacedEntries.{place_entries}
+use Rattle.core_laws.proofs.ClosedKept.{closed_placed}
+use Rattle.core_laws.proofs.ClosedLanded.{closed_if, closed_now}
 use Rattle.core_laws.proofs.KeptRows.{begun_kept, known_kept}
+use Rattle.core_laws.proofs.LineRoom.{few_stripes}
 use Rattle.core_laws.proofs.LogOrders.{in_order}
 use Rattle.core_laws.proofs.PlacedAddresses.{data_addresses, other_addresses}
 use Rattle.core_laws.proofs.PlacedFront.{front_placed}
@@ -53,12 +60,16 @@ use Rattle.core_laws.specs.StripeFor.{IsStripeFor, blocks_for, positions_for}
 use Rattle.line_table.proofs.Places.{get_set_same, get_set_other}
 use Rattle.pblk_core.specs.Entries.{placed_lines, placed_rows}
 use Rattle.pblk_core.specs.Slots.{with_marks}
-use Rattle.pblk_core.specs.Stands.{Stands, AreHolds, IsOpenLine, AreOpenLines, left_openings}
+use Rattle.pblk_core.specs.LineNotes.{note_placed}
+use Rattle.pblk_core.specs.Stands.{Stands, AreHolds, AreUsed, IsOpenLine, AreOpenLines, left_openings}
+use Rattle.pblk_core.specs.declared.line_notes.LineNote.{LineNote}
 use Rattle.pblk_core.specs.Holds.{hold_of, row_at}
 use Rattle.pblk_core.specs.declared.hold.Hold.{Hold}
 use Rattle.pblk_core.specs.declared.target_core.Core.{Core}
 use Rattle.pblk_core.specs.declared.open_lines.OpenLine.{OpenLine as KeptLine}
 use Rattle.core_laws.proofs.SimpleMounts.{simple_after}
+use Rattle.pblk_core.proofs.NotesKept.{quiet_used}
+use Rattle.pblk_core.proofs.NotesSet.{notes_placed}
 use Rattle.pblk_core.proofs.PlacedEntries.{rows_length, row_placed_is, lines_placed_are}
 use Rattle.pblk_core.proofs.AnswerCounts.{counts_placed}
 use Rattle.pblk_core.proofs.FullOpenings.{full_kept}
@@ -70,7 +81,7 @@ use Rattle.pblk_core.proofs.FoundLines.{older_kept}
 use Rattle.pblk_core.proofs.KeptResets.{resets_quiet, fits_same}
 use Rattle.pblk_core.specs.Resets.{resets_left}
 use Rattle.lemmas.proofs.Maps.{all_filter, map_same}
-use Rattle.lemmas.proofs.Parts.{all_by_get, get_whole}
+use Rattle.lemmas.proofs.Parts.{all_at, all_by_get, get_whole}
 use Rattle.lemmas.proofs.Tests.{other_number, same_number}
 use Rattle.pblk_world.proofs.EngineLogLemmas.{takes_more}
 
@@ -102,6 +113,9 @@ pub record IsPlacedInto (old new : Core) (k : ℕ) (slot : KeptLine) (of : Progr
   pub open_slots : new.open.slots.items ≡ slots_for of.kind old.open.slots.items k slot stripe
   pub live : new.live ≡ old.live
   pub resets : new.resets ≡ old.resets
+  pub note_rows : (row : LineNote) → slice_get old.notes.rows.items of.line ≡ Some row
+      → new.notes.rows.items ≡ slice_set old.notes.rows.items of.line (note_placed (top_of of.positions) row)
+  pub newest : new.notes.newest ≡ old.notes.newest
   pub start : new.start ≡ old.start
   pub first : new.first ≡ old.first
   pub placed : new.placed ≡ old.placed + length of.positions
@@ -131,7 +145,7 @@ rows_by_kind : (i : Image) (logs : Logs) (stripe : Stripe) (knows : List ℕ) (o
     → rows_of i (after logs (Place stripe) knows) ≡ place_entries (logs 0) stripe.line (rows_of i logs)
     (take (entries_for kind i.shape.ws_opt) (waiting i.shape (logs 0)))
 rows_by_kind i logs stripe knows o kinds.Start is at its = rows_beside i logs stripe knows o is.small at is.freed is.numbered (inl its)
-rows_by_kind i logs stripe knows o kinds.Data is at its = rows_placed i logs stripe knows o is.small at is.freed is.lost is.numbered is.marked is.sectors its
+rows_by_kind i logs stripe knows o kinds.Data is at its = rows_placed i logs stripe knows o is.small at is.freed is.lost is.numbered is.marked is.named its
 rows_by_kind i logs stripe knows o kinds.Pad is at its = absurd its
 rows_by_kind i logs stripe knows o kinds.End is at its = rows_beside i logs stripe knows o is.small at is.freed is.numbered (inr (inl its))
 
@@ -376,6 +390,28 @@ lines_stand i w knows old new o of stripe simple st has here is = record {
         (rise_filtered (λ p. has_left (open_line i (log_of w) p)) (standing (log_of w 0)) (standing_rise (log_of w 0))) at has.opening (sym f))))
         (st.open_lines.each k other line at before)
 
+-- ---- the notes
+
+-- not all stripes of the line have landed yet, since this one is still to be placed
+some_left : (i : Image) (w : World) (pad : ℕ) (o : Opening) (of : Program) → 0 < i.shape.ws_opt → IsOfferedNow i w pad o of
+    → have_landed (log_of w 0) o (line_end i.shape o / i.shape.ws_opt) ≡ false
+some_left i w pad o of some now =
+    let n : ℕ = length (stripes_of (log_of w 0) o) in
+    let at : of.at ≡ n * i.shape.ws_opt = now.at in
+    let whole : of.at + i.shape.ws_opt ≤ line_end i.shape o = now.whole in
+    let parts : (n + 1) * i.shape.ws_opt ≡ n * i.shape.ws_opt + i.shape.ws_opt = omega arith in
+    let room : n + 1 ≤ line_end i.shape o / i.shape.ws_opt = few_stripes (n + 1) (line_end i.shape o) i.shape.ws_opt some (omega arith) in
+    ap (λ b. b && list_all (has_landed (log_of w 0)) (take (line_end i.shape o / i.shape.ws_opt) (stripes_of (log_of w 0) o)))
+    (le_false (line_end i.shape o / i.shape.ws_opt) n (omega arith))
+
+line_unclosed : (i : Image) (w : World) (pad : ℕ) (o : Opening) (of : Program) → IsSimpleMount i w → IsOfferedNow i w pad o of
+    → closed_line i (log_of w) of.line ≡ None
+line_unclosed i w pad o of simple now =
+    ap (closed_line i (log_of w)) now.own
+    ∙ closed_now i w simple.mount o (ap (life_of (log_of w 0)) (sym now.own) ∙ now.opened) simple.engine.lost
+    ∙ ap (λ t. closed_if t (record { seq = o.start.seq; top = placed_top i.shape (log_of w 0) o }))
+    (some_left i w pad o of simple.mount.accepted.drive.ws_opt now)
+
 -- ---- the core
 
 freed_placed : (s : Shape) (log : List Logged) (stripe : Stripe) (knows : List ℕ) (o : Opening) → IsPlacing log stripe o
@@ -397,7 +433,7 @@ pub placed_stands : (i : Image) (w : World) (knows : List ℕ) (old new : Core) 
     → IsPlacedInto old new has.k has.slot of stripe
     → Stands i (after (log_of w) (Place stripe) knows) new
 placed_stands i w knows old new o of stripe simple st has now for count is = record {
-  simple = simple_after (log_of w 0) (record { event = Decides (Place stripe); knows = knows }) st.simple refl refl refl;
+  simple = simple_after (log_of w 0) (record { event = Decides (Place stripe); knows = knows }) st.simple refl refl;
   layout = is.layout ∙ st.layout;
   beginning = st.beginning;
   has_begun = begun_kept (log_of w 0) (Place stripe) knows refl ∙ st.has_begun;
@@ -411,6 +447,14 @@ placed_stands i w knows old new o of stripe simple st has now for count is = rec
   resets = ap resets_left is.resets ∙ st.resets
       ∙ sym (resets_quiet i (log_of w) (Place stripe) knows refl (λ unit. refl)
       (λ line. life_more (log_of w 0) (record { event = Decides (Place stripe); knows = knows }) line));
+  used_lines = ap (λ r. length r.used) is.resets ∙ st.used_lines;
+  used = subst (AreUsed i new_logs) (sym is.resets)
+      (quiet_used i (log_of w) (Place stripe) knows old.resets refl (λ unit. refl) (λ line. closed_placed i (log_of w) stripe knows line) st.used);
+  notes = notes_placed i w st.beginning stripe knows o old.notes new.notes simple.mount st.has_begun here.its.opened here.may.in_range
+      (ap (closed_line i (log_of w)) for.line ∙ line_unclosed i w old.placer.entries.pad o of simple now)
+      (λ row there. is.note_rows row (ap (slice_get old.notes.rows.items) (sym for.line) ∙ there)
+      ∙ ap₂ (λ line positions. slice_set old.notes.rows.items line (note_placed (top_of positions) row)) (sym for.line) (sym here.its.positions))
+      is.newest st.notes;
   size = ap (λ v. v.size) is.window ∙ st.size;
   window = ap sectors_in is.window ∙ st.window ∙ sym (place_window i (log_of w) w stripe knows old.window.freed simple.mount.legal refl here.may)
       ∙ ap (window_from i.shape (new_logs 0)) (sym (ap (λ v. v.freed) is.window));
@@ -462,11 +506,16 @@ placed_stands i w knows old new o of stripe simple st has now for count is = rec
     rows = all_by_get (λ (t : Taken). row_at old.holds.rows.items t.entry.position ≡ Some (hold_of i.shape (log_of w 0) t)) ts
         (λ k t e. IsWaiting.row (waiting_at i w old k t simple st (get_whole (entries_for of.kind i.shape.ws_opt) (waiting i.shape (log_of w 0)) k t e)))
 
+    names : AllByRecursion (λ (t : Taken). is_some (named i.shape t.mark) ≡ true) ts
+    names = all_by_get (λ (t : Taken). is_some (named i.shape t.mark) ≡ true) ts (λ k t e.
+        let waits = waiting_at i w old k t simple st (get_whole (entries_for of.kind i.shape.ws_opt) (waiting i.shape (log_of w 0)) k t e) in
+        all_at (λ (t : Taken). is_some (named i.shape t.mark) ≡ true) (takes (log_of w 0)) waits.number t waits.there order.named)
+
     table_is : new.lines ≡ rows_of i new_logs
     table_is =
         is.lines
         ∙ ap₂ (λ (t : Table) (qs : List ℕ). placed_lines old.holds.rows.items of.line t qs) st.table here.positions
-        ∙ lines_placed_are i.shape (log_of w 0) of.line old.holds.rows.items (rows_of i (log_of w)) ts rows
+        ∙ lines_placed_are i.shape (log_of w 0) of.line old.holds.rows.items (rows_of i (log_of w)) ts order.small refl names rows
         ∙ ap (λ line. place_entries (log_of w 0) line (rows_of i (log_of w)) ts) (sym for.line)
         ∙ sym (rows_by_kind i (log_of w) stripe knows o of.kind order here.placing here.kind)
 

@@ -1,5 +1,5 @@
 -- A core that noted a reset stands for the log with it.
-use Rattle.std.proofs.Common.{◌≡◌, ℕ, ◌+◌, ◌<◌, ◌≤◌, Bool, true, false, Some, List, [], length, drop, refl, sym, subst, ap, ap₂, ◌∙◌, arith, append-nil, inl, not, ◌&&◌}
+use Rattle.std.proofs.Common.{◌≡◌, ◌≢◌, ℕ, ◌+◌, ◌<◌, ◌≤◌, Bool, true, false, Some, List, [], length, drop, refl, sym, subst, ap, ap₂, ◌∙◌, arith, append-nil, inl, not, ◌&&◌}
 use Rattle.std.specs.Prelude.{map, slice_get}
 use Rattle.std.specs.List.{filter, range_with_len}
 use Rattle.std.specs.FinMap as fin
@@ -12,7 +12,7 @@ use Rattle.pblk_world.specs.Events.{EngineEvent, ResetDone, Decides, Logged}
 use Rattle.pblk_world.specs.World.{World, Logs, log_of}
 use Rattle.pblk_world.specs.EngineLog.{Taken, openings, is_as_found}
 use Rattle.pblk_world.specs.Fronts.{first_position, is_users}
-use Rattle.pblk_world.specs.Lines.{known_image}
+use Rattle.pblk_world.specs.Lines.{is_given_up, known_image}
 use Rattle.pblk_world.specs.Space.{freed}
 use Rattle.pblk_world.proofs.Appending.{openings_more, life_more}
 use Rattle.line_table.specs.Rows.{Changes, turned}
@@ -29,8 +29,11 @@ use Rattle.core_laws.proofs.Steady.{AreAlike, standing_same, lines_same, row_sam
 use Rattle.core_laws.proofs.Stopping.{entries_same}
 use Rattle.core_laws.proofs.Taking.{same_placing}
 use Rattle.core_laws.proofs.PlacedLines.{get_row as row_there}
-use Rattle.core_laws.proofs.QuietEvents.{IsQuiet, quiet_alike, quiet_window, quiet_slot, reset_is_quiet}
+use Rattle.core_laws.proofs.QuietEvents.{IsQuiet, quiet_alike, quiet_window, quiet_slot, reset_is_quiet, quiet_takes}
 use Rattle.core_laws.specs.ChangedTables.{with_row}
+use Rattle.core_laws.specs.ClosedLines.{ClosedLine, closed_line}
+use Rattle.core_laws.proofs.ClosedKept.{closed_reset}
+use Rattle.core_laws.proofs.FreedWidths.{not_given_up}
 use Rattle.core_laws.proofs.KeptRows.{begun_kept}
 use Rattle.core_laws.proofs.OpenAddresses.{addresses_kept}
 use Rattle.core_laws.proofs.PlacedFront.{front_kept}
@@ -38,8 +41,9 @@ use Rattle.core_laws.proofs.ChangedTables.{changed_is}
 use Rattle.pblk_core.specs.declared.target_core.Core.{Core}
 use Rattle.pblk_core.specs.declared.work.Work.TheVariants.{Reset}
 use Rattle.pblk_core.specs.Named.{named}
-use Rattle.pblk_core.specs.Resets.{resets_left, resets_of, units_to_reset, is_of_line, kept_units, emptied, IsResetTo}
-use Rattle.pblk_core.specs.Stands.{Stands, AreHolds, AreOpenLines}
+use Rattle.pblk_core.specs.LineNotes.{AreNotes}
+use Rattle.pblk_core.specs.Resets.{resets_left, resets_of, units_to_reset, is_of_line, kept_units, emptied, IsResetTo, used_in}
+use Rattle.pblk_core.specs.Stands.{Stands, AreHolds, AreOpenLines, AreUsed}
 use Rattle.core_laws.proofs.SimpleMounts.{simple_after}
 use Rattle.pblk_core.proofs.FirstReset.{is_there, none_there}
 use Rattle.pblk_core.proofs.FoundLines.{HasOldRow, older_kept}
@@ -47,13 +51,16 @@ use Rattle.pblk_core.proofs.KeptResets.{fits_same}
 use Rattle.pblk_core.proofs.LineBits.{bits_width}
 use Rattle.pblk_core.proofs.NamedReset.{IsNamedReset, named_first, reset_named}
 use Rattle.pblk_core.proofs.ResetChunks.{IsNoted, noted}
-use Rattle.pblk_core.proofs.ResetUnits.{units_left, others_left, resets_less, units_kept}
+use Rattle.pblk_core.proofs.ResetUnits.{units_left, others_left, others_used, resets_less, units_kept}
 use Rattle.pblk_core.proofs.ResetRows.{table_stays, table_turns}
-use Rattle.pblk_core.proofs.StandsOpened.{quiet_holds, quiet_freed, takes_same}
+use Rattle.pblk_core.proofs.StandsOpened.{quiet_holds, quiet_freed}
 use Rattle.pblk_core.proofs.AnswerCounts.{counts_same}
 use Rattle.pblk_core.proofs.FullOpenings.{full_kept}
+use Rattle.pblk_core.proofs.NotesKept.{quiet_notes}
+use Rattle.pblk_core.proofs.SpentTables.{closed_numbered}
 use Rattle.pblk_core.proofs.SteadyLines.{open_lines_same, under_way_same}
 use Rattle.lemmas.proofs.Maps.{map_same}
+use Rattle.lemmas.proofs.Tests.{not_both, other_number}
 
 -- what a core's fields are once it noted the reset of a chunk, which has this state
 pub record IsResetInto (old new : Core) (line unit : ℕ) (state : ChunkState) : Type 0 where
@@ -66,6 +73,9 @@ pub record IsResetInto (old new : Core) (line unit : ℕ) (state : ChunkState) :
   pub start : new.start ≡ old.start
   pub live : new.live.items ≡ kept_units old.live.items line unit state
   pub resets : resets_left new.resets ≡ drop 1 (resets_left old.resets)
+  pub used_lines : length new.resets.used ≡ length old.resets.used
+  pub used : (other : ℕ) → is_of_line other (slice_get (resets_left old.resets) 0) ≡ false → used_in new.resets other ≡ used_in old.resets other
+  pub notes : new.notes ≡ old.notes
   pub lines_stay : is_of_line line (slice_get (resets_left new.resets) 0) ≡ true → new.lines ≡ old.lines
   pub lines_turn : (live : ℕ) → is_of_line line (slice_get (resets_left new.resets) 0) ≡ false → slice_get new.live.items line ≡ Some live
       → Changes old.lines new.lines line (turned (emptied old.layout (length (units_in live))) (length (units_in live)))
@@ -83,7 +93,7 @@ pub reset_stands : (i : Image) (w : World) (line unit event : ℕ) (knows : List
     → Stands i (log_of w) old → named old ≡ Reset line unit
     → IsResetTo i (log_of w) unit event line state → IsResetInto old new line unit state → Stands i (after (log_of w) (ResetDone unit event) knows) new
 reset_stands i w line unit event knows state old new simple st names to is = record {
-  simple = simple_after (log_of w 0) (record { event = Decides (ResetDone unit event); knows = knows }) st.simple refl refl refl;
+  simple = simple_after (log_of w 0) (record { event = Decides (ResetDone unit event); knows = knows }) st.simple refl refl;
   layout = is.layout ∙ st.layout;
   beginning = st.beginning;
   has_begun = begun_kept (log_of w 0) e knows refl ∙ st.has_begun;
@@ -92,6 +102,9 @@ reset_stands i w line unit event knows state old new simple st names to is = rec
   table = table_is (is_of_line line (slice_get (resets_left new.resets) 0)) refl;
   units = units_are;
   resets = resets_are;
+  used_lines = is.used_lines ∙ st.used_lines;
+  used = used_are;
+  notes = notes_are;
   size = ap (λ v. v.size) is.window ∙ st.size;
   window = ap sectors_in is.window ∙ st.window ∙ sym (quiet_window i.shape (log_of w) e knows old.window.freed quiet)
       ∙ ap (λ (v : view.WindowView). window_from i.shape (new_logs 0) v.freed) (sym is.window);
@@ -115,7 +128,7 @@ reset_stands i w line unit event knows state old new simple st names to is = rec
   in_flight = is.under_way ∙ st.in_flight ∙ under_way_same i.shape (log_of w 0) (new_logs 0) alike;
   answers = is.answers ∙ st.answers ∙ counts_same i.shape (log_of w 0) (new_logs 0) alike;
   full = full_kept i (log_of w) e knows refl st.full;
-  users = is.users ∙ st.users ∙ ap (λ ts. length (filter (λ (t : Taken). is_users t.entry.source) ts)) (sym (takes_same (log_of w 0) e knows quiet));
+  users = is.users ∙ st.users ∙ ap (λ ts. length (filter (λ (t : Taken). is_users t.entry.source) ts)) (sym (quiet_takes (log_of w 0) e knows quiet));
 }
   where
     e : EngineEvent
@@ -154,8 +167,31 @@ reset_stands i w line unit event knows state old new simple st names to is = rec
     resets_are : resets_left new.resets ≡ resets_of i new_logs
     resets_are = is.resets ∙ ap (drop 1) st.resets ∙ sym (resets_less i (log_of w) unit event line knows state named_is seen)
 
+    closed_is : (other : ℕ) → closed_line i (after (log_of w) (ResetDone unit event) knows) other ≡ closed_line i (log_of w) other
+    closed_is other = closed_reset i w st.beginning unit event knows other simple.mount st.has_begun to.may
+        (ap (is_given_up (log_of w 0)) to.chunk ∙ named_is.given_up)
+
+    -- a closed line has a sequence number, and the one that is reset was given up
+    apart : (other : ℕ) (c : ClosedLine) → closed_line i (log_of w) other ≡ Some c → other ≢ line
+    apart other c closed same =
+        let kept : is_given_up (log_of w 0) other ≡ false =
+        not_given_up i w simple.mount other st.beginning st.has_begun c.seq (closed_numbered i (log_of w) other c closed).1 in
+        not_both (is_given_up (log_of w 0) other) (ap (is_given_up (log_of w 0)) same ∙ named_is.given_up) kept
+
+    used_are : AreUsed i (after (log_of w) (ResetDone unit event) knows) new.resets
+    used_are other c closed =
+        let was : closed_line i (log_of w) other ≡ Some c = sym (closed_is other) ∙ closed in
+        let other_line : other ≢ line = apart other c was in
+        ap units_in (is.used other (ap (is_of_line other) (named_first old line unit names) ∙ other_number line other (λ e. other_line (sym e))))
+        ∙ st.used other c was
+        ∙ sym (others_used i (log_of w) unit event line knows state seen other other_line)
+
+    notes_are : AreNotes i (after (log_of w) (ResetDone unit event) knows) new.notes
+    notes_are = subst (AreNotes i new_logs) (sym is.notes)
+        (quiet_notes i w st.beginning e knows old.notes simple.mount st.has_begun refl refl (λ m. life_more (log_of w 0) l m) closed_is st.notes)
+
     units_are : new.live.items ≡ map (live_now i new_logs) (range_with_len 0 i.shape.chunks)
-    units_are = is.live ∙ ap (λ us. kept_units us line unit state) st.units ∙ units_kept i w unit event line knows state simple named_is seen
+    units_are = is.live ∙ ap (λ us. kept_units us line unit state) st.units ∙ units_kept i w unit event line knows state simple.mount named_is seen
 
     from : 0 + line ≡ line
     from = omega arith
@@ -175,7 +211,7 @@ reset_stands i w line unit event knows state old new simple st names to is = rec
     table_is true at =
         let more = is_there (units_to_reset i new_logs) i.shape.chunks line (ap (λ rs. is_of_line line (slice_get rs 0)) (sym resets_are) ∙ at) in
         is.lines_stay at ∙ st.table
-        ∙ sym (table_stays i w unit event line knows state st.beginning more.0 more.1 simple st.has_begun named_is seen
+        ∙ sym (table_stays i w unit event line knows state st.beginning more.0 more.1 simple.mount st.has_begun named_is seen
         (sym (units_left i (log_of w) unit event line knows state named_is seen) ∙ more.2))
     table_is false at =
         let none : units_to_reset i new_logs line ≡ [] =
@@ -188,7 +224,7 @@ reset_stands i w line unit event knows state old new simple st names to is = rec
         (is.lines_turn (live_now i new_logs line) at live_there)
         ∙ ap₂ (λ s n. with_row line (turned (emptied s n) n) old.lines) st.layout wide
         ∙ ap (with_row line (turned (emptied i.shape (width (known_image i new_logs) line)) (width (known_image i new_logs) line))) st.table
-        ∙ sym (table_turns i w unit event line knows state st.beginning simple st.has_begun named_is seen
+        ∙ sym (table_turns i w unit event line knows state st.beginning simple.mount st.has_begun named_is seen
         (sym (units_left i (log_of w) unit event line knows state named_is seen) ∙ none))
 
     placing_is : placing_of i new_logs old.placer.entries.pad st.again ≡ placing_of i (log_of w) old.placer.entries.pad st.again
@@ -196,7 +232,7 @@ reset_stands i w line unit event knows state old new simple st names to is = rec
         same_placing i.shape (entries_of i.shape (new_logs 0) old.placer.entries.pad) (entries_of i.shape (log_of w 0) old.placer.entries.pad)
         (map (row_of i new_logs st.again) (range_with_len 0 (units i.shape))) (map (row_of i (log_of w) st.again) (range_with_len 0 (units i.shape)))
         (open_lines i new_logs) (open_lines i (log_of w))
-        (entries_same i.shape (log_of w 0) (new_logs 0) old.placer.entries.pad alike (takes_same (log_of w 0) e knows quiet))
+        (entries_same i.shape (log_of w 0) (new_logs 0) old.placer.entries.pad alike (quiet_takes (log_of w 0) e knows quiet))
         (map_same (row_of i new_logs st.again) (row_of i (log_of w) st.again)
         (λ u. row_same i (log_of w) e knows st.again st.again u (ap₂ (λ ps ns. unanswered_in ps ns u) alike.placements alike.answers)
         (ap (λ b. b && not (contains_unit st.again u)) (stopped_more (log_of w 0) l u))) (range_with_len 0 (units i.shape)))

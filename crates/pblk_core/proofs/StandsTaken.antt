@@ -9,6 +9,7 @@ use Rattle.std.specs.Cmp.{nat_cmp_total}
 use Rattle.pblk_model.specs.declared.shape.Shape.{Shape}
 use Rattle.pblk_model.specs.declared.chunk.Mark.{Mark}
 use Rattle.pblk_model.specs.Image.{Image, line_units}
+use Rattle.pblk_model.specs.Marks.{meta_lba, void_lba}
 use Rattle.pblk_model.specs.Chunk.{IsBlock}
 use Rattle.pblk_world.specs.Taking.{IsMarked, MayTake}
 use Rattle.pblk_world.specs.Events.{Entry, Take, Decides, Logged}
@@ -29,9 +30,12 @@ use Rattle.core_laws.proofs.TakenSlots.{slot_taken, gives_back_same, any_same}
 use Rattle.core_laws.proofs.TakenWindow.{window_taken}
 use Rattle.core_laws.proofs.Steady.{AreAlike, standing_same}
 use Rattle.core_laws.proofs.TakenNumbers.{first_stays}
+use Rattle.core_laws.specs.ClosedLines.{closed_line}
+use Rattle.core_laws.proofs.ClosedKept.{closed_taken}
 use Rattle.core_laws.proofs.KeptRows.{begun_kept, known_kept}
 use Rattle.core_laws.proofs.LeastPositions.{least_rises}
-use Rattle.pblk_core.specs.Stands.{Stands, AreOpenLines}
+use Rattle.pblk_core.specs.LineNotes.{AreNotes}
+use Rattle.pblk_core.specs.Stands.{Stands, AreOpenLines, AreUsed}
 use Rattle.pblk_core.proofs.AnswerCounts.{counts_same}
 use Rattle.pblk_core.proofs.FullOpenings.{full_kept}
 use Rattle.pblk_core.proofs.SteadyLines.{open_lines_same, under_way_same}
@@ -75,7 +79,7 @@ use Rattle.write_window.specs.declared.held.Progress.TheVariants.{Waiting}
 use Rattle.write_window.specs.Window as view
 use Rattle.stripe_placer.specs.Placing.{waits}
 use Rattle.core_laws.specs.SimpleMounts.{IsSimpleMount}
-use Rattle.core_laws.proofs.SimpleMounts.{engine_plain, simple_after}
+use Rattle.core_laws.proofs.SimpleMounts.{simple_after}
 use Rattle.pblk_model.specs.Contents.{least_missing}
 use Rattle.pblk_world.specs.EngineLog.{placements}
 use Rattle.pblk_world.specs.Space.{gives_back}
@@ -85,6 +89,7 @@ use Rattle.std.specs.Prelude.{slice_set, ◌%◌}
 use Rattle.std.proofs.lemmas.Bool.Decides.{eqb_tells}
 use Rattle.pblk_core.proofs.FoundLines.{older_kept}
 use Rattle.pblk_core.proofs.KeptResets.{resets_quiet, fits_same}
+use Rattle.pblk_core.proofs.NotesKept.{quiet_notes, quiet_used}
 use Rattle.pblk_core.specs.Resets.{resets_left}
 use Rattle.lemmas.proofs.Maps.{map_same, row_at}
 use Rattle.lemmas.proofs.Tests.{other_key, same_key}
@@ -165,6 +170,7 @@ pub record IsTakenInto (old new : Core) (e : FramedEntry) : Type 0 where
   pub open_lines : new.open ≡ old.open
   pub live : new.live ≡ old.live
   pub resets : new.resets ≡ old.resets
+  pub notes : new.notes ≡ old.notes
   pub start : new.start ≡ old.start
   pub first : new.first ≡ old.first
   pub placed : new.placed ≡ old.placed
@@ -204,7 +210,7 @@ slot_line : (i : Image) (w : World) (c : Core) (lba : ℕ) (slot : Slot) (line :
     → line_of_slot c.holds.rows.items slot ≡ Some line → line_of i (log_of w) lba (last_take (log_of w 0) lba) ≡ Some line
 slot_line i w c lba slot line simple st found inside is =
     let now : slot ≡ slot_of i (log_of w) lba = same_Some slot (slot_of i (log_of w) lba) (sym found ∙ st.slots lba inside) in
-    sym (line_is i w c.holds lba simple st.holds) ∙ sym (ap (line_of_slot c.holds.rows.items) now) ∙ is
+    sym (line_is i w c.holds lba simple inside st.holds) ∙ sym (ap (line_of_slot c.holds.rows.items) now) ∙ is
 
 pub live_there : (i : Image) (w : World) (c : Core) (lba : ℕ) (slot : Slot) (line : ℕ) (row : Row) → IsSimpleMount i w → Stands i (log_of w) c
     → fin.get c.map lba ≡ Some slot → lba < i.shape.capacity
@@ -230,7 +236,7 @@ pub taken_stands : (i : Image) (w : World) (knows : List ℕ) (old new : Core) (
     → e.position ≡ view.taken old.window → length old.window.entries < old.window.size → e.class ≡ User → e.source ≡ None → e.lba < i.shape.capacity
     → Stands i (after (log_of w) (Take (entry_of e) (mark_of e)) knows) new
 taken_stands i w knows old new e simple st is position room class user inside = record {
-  simple = simple_after (log_of w 0) (record { event = Decides (Take (entry_of e) (mark_of e)); knows = knows }) st.simple refl
+  simple = simple_after (log_of w 0) (record { event = Decides (Take (entry_of e) (mark_of e)); knows = knows }) st.simple
       (ap (λ source. not (is_users (option_map (λ (at : EntrySource). record { line = at.line; at = at.at; position = at.position }) source))) user) refl;
   layout = is.layout ∙ st.layout;
   beginning = st.beginning;
@@ -246,6 +252,12 @@ taken_stands i w knows old new e simple st is position room class user inside = 
   resets = ap resets_left is.resets ∙ st.resets
       ∙ sym (resets_quiet i (log_of w) (Take (entry_of e) (mark_of e)) knows refl (λ unit. refl)
       (λ line. life_more (log_of w 0) (record { event = Decides (Take (entry_of e) (mark_of e)); knows = knows }) line));
+  used_lines = ap (λ r. length r.used) is.resets ∙ st.used_lines;
+  used = subst (AreUsed i new_logs) (sym is.resets)
+      (quiet_used i (log_of w) (Take (entry_of e) (mark_of e)) knows old.resets refl (λ unit. refl) same_closed st.used);
+  notes = subst (AreNotes i new_logs) (sym is.notes)
+      (quiet_notes i w st.beginning (Take (entry_of e) (mark_of e)) knows old.notes simple.mount st.has_begun refl refl
+      (λ line. life_more (log_of w 0) (record { event = Decides (Take (entry_of e) (mark_of e)); knows = knows }) line) same_closed st.notes);
   size = ap (λ v. v.size) is.window ∙ st.size;
   window = window_is;
   from_first = subst (λ v. first_position (new_logs 0) ≤ v.freed) (sym is.window) (subst (λ p. p ≤ old.window.freed) (sym first_is) st.from_first);
@@ -253,7 +265,7 @@ taken_stands i w knows old new e simple st is position room class user inside = 
       (le_trans st.to_freed (freed_taken i.shape (log_of w 0) (entry_of e) (mark_of e) knows st.beginning st.has_begun));
   holds = holds_taken i (log_of w) knows (entry_of e) (mark_of e) old.holds new.holds old.window.freed
       (in_order i w (accepted_small i.shape simple.mount.accepted) simple.mount.legal).numbered
-      unplaced st.holds refl taken_is st.to_freed within holds_are;
+      unplaced st.holds refl no_void taken_is st.to_freed within holds_are;
   again = st.again;
   placing = placing_is;
   open_lines = subst (AreOpenLines i new_logs) (sym is.open_lines)
@@ -279,11 +291,14 @@ taken_stands i w knows old new e simple st is position room class user inside = 
     new_logs : Logs
     new_logs = after (log_of w) (Take (entry_of e) (mark_of e)) knows
 
+    same_closed : (line : ℕ) → closed_line i (after (log_of w) (Take (entry_of e) (mark_of e)) knows) line ≡ closed_line i (log_of w) line
+    same_closed line = closed_taken i (log_of w) (entry_of e) (mark_of e) knows line
+
     slot_now : is.slot ≡ slot_of i (log_of w) e.lba
     slot_now = same_Some is.slot (slot_of i (log_of w) e.lba) (sym is.found ∙ st.slots e.lba inside)
 
     line_now : line_of_slot old.holds.rows.items is.slot ≡ line_of i (log_of w) e.lba (last_take (log_of w 0) e.lba)
-    line_now = ap (line_of_slot old.holds.rows.items) slot_now ∙ line_is i w old.holds e.lba simple st.holds
+    line_now = ap (line_of_slot old.holds.rows.items) slot_now ∙ line_is i w old.holds e.lba simple inside st.holds
 
     older_is : older_rows i (log_of w) ≡ older_rows i new_logs
     older_is = older_kept i (log_of w) (Take (entry_of e) (mark_of e)) knows st.beginning st.has_begun refl
@@ -351,6 +366,9 @@ taken_stands i w knows old new e simple st is position room class user inside = 
         (freed_before i w simple.mount.legal)
         (in_order i w (accepted_small i.shape simple.mount.accepted) simple.mount.legal).numbered unplaced taken_is inside
         (landed_is i w old e.lba simple st)
+
+    no_void : e.lba < void_lba
+    no_void = let low : i.shape.capacity ≤ meta_lba = accepted_small i.shape simple.mount.accepted in omega arith
 
     placing_is : new.placer ≡ placing_of i new_logs new.placer.entries.pad st.again
     placing_is =

@@ -68,20 +68,25 @@ open_same i logs e knows o kept alike before is = record {
   left = is.left ∙ sym (unlanded_same i.shape (logs 0) (after logs e knows 0) alike o);
 }
 
+-- where the same lines have a stripe left
+pub open_lines_left : (i : Image) (logs : Logs) (e : EngineEvent) (knows : List ℕ) (kept : OpenLines) → AreAlike (logs 0) (after logs e knows 0)
+    → left_openings i (after logs e knows) ≡ left_openings i logs
+    → AreOpenLines i logs kept → AreOpenLines i (after logs e knows) kept
+open_lines_left i logs e knows kept alike left are = record {
+  two = are.two;
+  shapes = are.shapes;
+  count = are.count ∙ ap length (sym left);
+  few = are.few;
+  each = λ k o line there held.
+      let old : slice_get (left_openings i logs) k ≡ Some o = ap (λ os. slice_get os k) (sym left) ∙ there in
+      open_same i logs e knows o line alike (left_before i logs k o old) (are.each k o line old held);
+}
+
+-- and so where the same lines stand
 pub open_lines_same : (i : Image) (logs : Logs) (e : EngineEvent) (knows : List ℕ) (kept : OpenLines) → AreAlike (logs 0) (after logs e knows 0)
     → standing (after logs e knows 0) ≡ standing (logs 0)
     → AreOpenLines i logs kept → AreOpenLines i (after logs e knows) kept
-open_lines_same i logs e knows kept alike same are =
-    let left : left_openings i (after logs e knows) ≡ left_openings i logs = left_same i logs e knows alike same in
-    record {
-      two = are.two;
-      shapes = are.shapes;
-      count = are.count ∙ ap length (sym left);
-      few = are.few;
-      each = λ k o line there held.
-          let old : slice_get (left_openings i logs) k ≡ Some o = ap (λ os. slice_get os k) (sym left) ∙ there in
-          open_same i logs e knows o line alike (left_before i logs k o old) (are.each k o line old held);
-    }
+open_lines_same i logs e knows kept alike same = open_lines_left i logs e knows kept alike (left_same i logs e knows alike same)
 
 pub under_way_same : (s : Shape) (old new : List Logged) → AreAlike old new → under_way s old ≡ under_way s new
 under_way_same s old new alike =

@@ -1,5 +1,5 @@
--- A stripe that isn't answered can be filled again: its blocks are those of its kind, by the records of its line and by the
--- entries in the window.
+-- A stripe that isn't answered can be filled again: its blocks are those of its kind, by the
+-- records of its line and by the entries in the window.
 use Rattle.std.proofs.Common.{◌≡◌, inl, inr, ℕ, ◌+◌, ◌*◌, ◌/◌, ◌<◌, ◌≤◌, true, false, Some, None, Option, List, [], ◌∷◌, ◌++◌, ◌||◌, length, drop, take, refl, sym, subst, ap, ap₂, ◌∙◌, arith, mul-div_cancel}
 use Rattle.std.proofs.Math.Nat.{div-le_of_le-mul}
 use Rattle.std.specs.Prelude.{map, slice_get}
@@ -39,7 +39,6 @@ use Rattle.core_laws.proofs.PlacerOfLemmas.{positions_taken}
 use Rattle.core_laws.proofs.HeldInWorlds.{own_in_window}
 use Rattle.core_laws.specs.StripeFor.{blocks_for}
 use Rattle.core_laws.proofs.BlockPositions.{Bears, all_bear, positions_by}
-use Rattle.core_laws.proofs.Followed.{follow}
 use Rattle.core_laws.proofs.Placeable.{HasParts, IsPart, kind_by, part_of, parts_of}
 use Rattle.write_window.specs.Window.{sector_at}
 use Rattle.pblk_core.specs.Entries.{entry_block, entry_blocks}
@@ -75,7 +74,7 @@ sound_stripe s log o l j plain = go (placed_as s log o l j)
     go None = refl
     go (Some p) = by_it (answer_of log p) (not_lost log p plain)
 
-sound_stripes : (s : Shape) (log : List Logged) (o : Opening) (l : OpenLine) (js : List ℕ) → ArePlain log
+pub sound_stripes : (s : Shape) (log : List Logged) (o : Opening) (l : OpenLine) (js : List ℕ) → ArePlain log
     → list_any is_lost (map (outcome s log o l) js) ≡ false
 sound_stripes s log o l [] plain = refl
 sound_stripes s log o l (j ∷ js) plain = ap₂ (λ a b. a || b) (sound_stripe s log o l j plain) (sound_stripes s log o l js plain)
@@ -132,7 +131,7 @@ module _ (i : Image) (w : World) (unit : ℕ) (of : Program) (simple : IsSimpleM
   same_data : (open_line i (engine_prefix is.row.stripe.number (log_of w)) is.row.opening).data_count ≡ (open_line i (log_of w) is.row.opening).data_count
   same_data = ap (λ live. (opened s o.line live).data_count) (same_live i (log_of w) o p.number later)
 
-  number_then : number_of i.shape (open_line i (engine_prefix is.row.stripe.number (log_of w)) is.row.opening) is.row.stripe.stripe ≡ is.number
+  pub number_then : number_of i.shape (open_line i (engine_prefix is.row.stripe.number (log_of w)) is.row.opening) is.row.stripe.stripe ≡ is.number
   number_then =
       sym (mul-div_cancel (number_of s line_then p.stripe) some)
       ∙ ap (λ n. n / s.ws_opt) (ap (λ (x : Program). x.at) is.row.is ∙ is.number_is) ∙ mul-div_cancel is.number some
@@ -251,7 +250,7 @@ module _ (i : Image) (w : World) (unit : ℕ) (of : Program) (simple : IsSimpleM
   bear_then : AllByRecursion (Bears i.shape) (takes (take is.row.stripe.number (log_of w 0)))
   bear_then =
       (all_front (Bears s) (takes (take p.number log)) (takes (drop p.number log))
-      (subst (AllByRecursion (Bears s)) taken_parts (all_bear i (now_units i w) w (follow i w simple)))).0
+      (subst (AllByRecursion (Bears s)) taken_parts (all_bear i w small simple.mount.legal))).0
 
   pub positions_then : of.kind ≡ kinds.Data → of.positions ≡ positions_of (take i.shape.ws_opt (waiting i.shape (take is.row.stripe.number (log_of w 0))))
   positions_then kind =

@@ -1,6 +1,6 @@
 -- The rows beside the entries once one more is taken.
 use Rattle.std.proofs.Common.{◌≡◌, ◌≢◌, ◌⊎◌, inl, inr, ℕ, ◌+◌, ◌*◌, ◌/◌, ◌%◌, ◌<◌, ◌≤◌, ◌==◌, ◌&&◌, zero, suc, not, nat_lt, Bool, true, false, cond, Some, None, Option, List, [], ◌∷◌, ◌++◌, length, refl, sym, subst, ap, ap₂, ◌∙◌, arith, length-set}
-use Rattle.std.specs.Prelude.{slice_get, slice_set}
+use Rattle.std.specs.Prelude.{if◌then◌else◌, slice_get, slice_set}
 use Rattle.std.specs.List.{Contains, filter, find, list_any, last_or}
 use Rattle.std.specs.Option.{option_map, option_map_or}
 use Rattle.std.proofs.Math.Nat.{div-add-mod, mul-le-mul_left}
@@ -9,6 +9,7 @@ use Rattle.std.proofs.lemmas.Bool.{cases_order, eqb-true}
 use Rattle.std.proofs.lemmas.Option.{same_Some, none-some, slice_get_read, slice_get_within}
 use Rattle.pblk_model.specs.declared.chunk.Mark.{Mark}
 use Rattle.pblk_model.specs.Image.{Image}
+use Rattle.pblk_model.specs.Marks.{void_lba}
 use Rattle.pblk_world.specs.Events.{Entry, Take, Decides, Logged}
 use Rattle.pblk_world.specs.World.{Logs}
 use Rattle.pblk_world.specs.EngineLog.{Taken, takes, Placed, placements, was_lost, holds_position}
@@ -36,13 +37,13 @@ use Rattle.stripe_placer.proofs.Chunks.{lt_of as below_is}
 use Rattle.core_laws.proofs.NoneDue.{none_at as none_passes}
 use Rattle.pblk_core.specs.declared.hold.Hold.{Hold}
 use Rattle.pblk_core.specs.declared.hold.Holds.{Holds}
-use Rattle.pblk_core.specs.Holds.{hold_of, row_at, with_taker, rows_with_taker}
+use Rattle.pblk_core.specs.Holds.{hold_of, row_at, taker_in, with_taker, rows_with_taker}
 use Rattle.pblk_core.specs.Stands.{AreHolds}
 use Rattle.pblk_core.proofs.HoldRows.{taker_length}
 use Rattle.lemmas.proofs.Lists.{all_imply}
 use Rattle.lemmas.proofs.Maps.{find_none}
 use Rattle.lemmas.proofs.Parts.{get_set_other, get_set_same, is_in}
-use Rattle.lemmas.proofs.Tests.{both as both_true, lt_true, not_first, same_number}
+use Rattle.lemmas.proofs.Tests.{both as both_true, lt_true, not_first, other_number, same_number}
 use Rattle.pblk_world.proofs.EngineLogLemmas.{takes_more}
 
 -- ---- numbers
@@ -181,11 +182,11 @@ rows_own q by rows h some is =
 
 pub holds_taken : (i : Image) (logs : Logs) (knows : List ℕ) (entry : Entry) (mark : Mark) (holds new : Holds) (from : ℕ)
     → AreNumbered (logs 0) → IsUnplaced i.shape (logs 0) entry.position → AreHolds i.shape (logs 0) holds
-    → mark.lba ≡ entry.lba → entry.position ≡ taken (logs 0) → from ≤ freed i.shape (logs 0) → taken (logs 0) < from + i.shape.ring
+    → mark.lba ≡ entry.lba → mark.lba < void_lba → entry.position ≡ taken (logs 0) → from ≤ freed i.shape (logs 0) → taken (logs 0) < from + i.shape.ring
     → new.rows.items ≡ slice_set (rows_with_taker (slot_of i logs entry.lba) entry.position holds.rows.items)
     (entry.position % length (rows_with_taker (slot_of i logs entry.lba) entry.position holds.rows.items)) (record { mark = mark; line = None; taker = None })
     → AreHolds i.shape (after logs (Take entry mark) knows 0) new
-holds_taken i logs knows entry mark holds new from numbered none are sector next low room is = record {
+holds_taken i logs knows entry mark holds new from numbered none are sector named next low room is = record {
   room = ap length rows_are ∙ length-set rows (entry.position % i.shape.ring) fresh ∙ rows_length;
   each = λ t there kept. each t there kept;
 }
@@ -235,8 +236,18 @@ holds_taken i logs knows entry mark holds new from numbered none are sector next
         (placements new_log)
         ∙ ap (list_any (gives_back i.shape log q)) (AreAlike.placements (alike log entry mark knows))
 
-    taker_of : Option Taken → Option ℕ
-    taker_of o = option_map (λ (u : Taken). u.entry.position) o
+    -- no taker is told where there is none
+    untaken : (t : Taken) → taker_in t None ≡ None
+    untaken t = go (t.mark.lba == void_lba)
+      where
+        go : (b : Bool) → (if b then None else (option_map (λ (u : Taken). u.entry.position) None)) ≡ None
+        go true = refl
+        go false = refl
+
+    -- and of the sector that is taken it is
+    is_told : (t u : Taken) → mark.lba ≡ t.mark.lba → taker_in t (Some u) ≡ Some u.entry.position
+    is_told t u same =
+        ap (λ b. if b then None else Some u.entry.position) (other_number t.mark.lba void_lba (λ e. absurd (omega arith)))
 
     -- where an entry that isn't given back stands
     place : (t : Taken) (k : ℕ) → slice_get (takes log) k ≡ Some t → t.entry.position ≡ first_position log + k
@@ -276,8 +287,8 @@ holds_taken i logs knows entry mark holds new from numbered none are sector next
         ap (λ rs. slice_get rs (entry.position % i.shape.ring)) rows_are
         ∙ get_set_same rows (entry.position % i.shape.ring) fresh
         (subst (λ n. entry.position % i.shape.ring < n) (sym rows_length) (mod_below entry.position i.shape.ring some))
-        ∙ ap Some (same_hold mark None (placed_line i.shape new_log entry.position) None (taker_of (later_take new_log t0)) (sym no_line)
-        (sym (ap taker_of none_later)))
+        ∙ ap Some (same_hold mark None (placed_line i.shape new_log entry.position) None (taker_in t0 (later_take new_log t0)) (sym no_line)
+        (sym (ap (taker_in t0) none_later ∙ untaken t0)))
 
     -- a row that stays
     passes : Taken → Bool
@@ -309,9 +320,9 @@ holds_taken i logs knows entry mark holds new from numbered none are sector next
     stays t k at kept differs later =
         rows_other slot entry.position items (t.entry.position % i.shape.ring) (another t k at kept differs)
         ∙ are.each t (is_in (takes log) k t at) kept
-        ∙ ap Some (same_hold t.mark (placed_line i.shape log t.entry.position) (placed_line i.shape new_log t.entry.position) (taker_of (later_take log t))
-        (taker_of (later_take new_log t))
-        (sym (line_now t.entry.position)) (sym (ap taker_of later)))
+        ∙ ap Some (same_hold t.mark (placed_line i.shape log t.entry.position) (placed_line i.shape new_log t.entry.position) (taker_in t (later_take log t))
+        (taker_in t (later_take new_log t))
+        (sym (line_now t.entry.position)) (sym (ap (taker_in t) later)))
 
     -- the entry that was the last of its sector
     is_last : (t : Taken) (k : ℕ) → slice_get (takes log) k ≡ Some t → mark.lba ≡ t.mark.lba → later_take log t ≡ None → (o : Option Taken)
@@ -347,8 +358,9 @@ holds_taken i logs knows entry mark holds new from numbered none are sector next
         ∙ rows_own t.entry.position entry.position items (hold_of i.shape log t) some_rows
         (ap (λ n. slice_get items (t.entry.position % n)) are.room ∙ are.each t (is_in (takes log) k t at) kept)
         ∙ ap Some (same_hold t.mark (placed_line i.shape log t.entry.position) (placed_line i.shape new_log t.entry.position) (Some entry.position)
-        (taker_of (later_take new_log t))
-        (sym (line_now t.entry.position)) (sym (ap taker_of (later_of_sector log entry mark knows t later same (below t k at)))))
+        (taker_in t (later_take new_log t))
+        (sym (line_now t.entry.position))
+        (sym (ap (taker_in t) (later_of_sector log entry mark knows t later same (below t k at)) ∙ is_told t t0 same)))
       where
         slot_is : slot ≡ Cached t.entry.position
         slot_is =

@@ -1,10 +1,10 @@
--- The entries of a stripe: their blocks, and what they change in the table of lines once the stripe is placed, and once
--- it has landed.
-use Rattle.std.specs.Prelude.{ℕ, ◌%◌, List, [], map, length, slice_set, Option, Some, None}
+-- The entries of a stripe: their blocks, and what they change in the table of lines once the stripe
+-- is placed, and once it has landed.
+use Rattle.std.specs.Prelude.{ℕ, ◌%◌, ◌==◌, if◌then◌else◌, List, [], map, length, slice_set, Option, Some, None}
 use Rattle.std.specs.List.{fold}
 use Rattle.std.specs.Option.{option_map_or, unwrap_or}
 use Rattle.pblk_model.specs.Chunk.{Block}
-use Rattle.pblk_model.specs.Marks.{pad_mark}
+use Rattle.pblk_model.specs.Marks.{pad_mark, void_lba}
 use Rattle.line_table.specs.Rows.{Table}
 use Rattle.core_laws.specs.ChangedTables.{note_by}
 use Rattle.core_laws.specs.PlacedEntries.{place_by}
@@ -22,10 +22,11 @@ entry_block w rows position = record {
 abbrev pub entry_blocks : WindowView → List Hold → List ℕ → List Block
 entry_blocks w rows positions = map (entry_block w rows) positions
 
--- An entry brings its line a live sector, unless a later entry of the sector was taken.
+-- An entry of a sector brings its line a live one, unless a later entry of the sector was taken. A
+-- Void entry brings none.
 abbrev pub place_hold : ℕ → Table → Option Hold → Table
 place_hold line t None = t
-place_hold line t (Some h) = place_by h.taker line t
+place_hold line t (Some h) = if h.mark.lba == void_lba then t else place_by h.taker line t
 
 abbrev pub placed_lines : List Hold → ℕ → Table → List ℕ → Table
 placed_lines rows line t positions = fold (λ u position. place_hold line u (row_at rows position)) t positions

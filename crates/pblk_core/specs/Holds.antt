@@ -1,7 +1,8 @@
 -- What the core keeps beside each entry of its window, by the logs.
-use Rattle.std.specs.Prelude.{ℕ, ◌%◌, Bool, true, false, List, length, slice_get, slice_set, Option, Some, None}
+use Rattle.std.specs.Prelude.{ℕ, ◌%◌, ◌==◌, if◌then◌else◌, Bool, true, false, List, length, slice_get, slice_set, Option, Some, None}
 use Rattle.std.specs.Option.{option_map, option_map_or, option_and_then}
 use Rattle.pblk_model.specs.declared.shape.Shape.{Shape}
+use Rattle.pblk_model.specs.Marks.{void_lba}
 use Rattle.pblk_world.specs.Events.{Logged}
 use Rattle.pblk_world.specs.EngineLog.{Taken}
 use Rattle.core_laws.specs.EntryHolds.{later_take, placed_line}
@@ -10,11 +11,15 @@ use Rattle.l2p_map.specs.declared.slot.Slot.TheVariants.{Unwritten, Cached, Medi
 use Rattle.write_window.specs.Window.{WindowView, has_landed_at}
 use Rattle.pblk_core.specs.declared.hold.Hold.{Hold}
 
+-- the position of the later entry that took an entry's sector, which a Void one hasn't
+abbrev pub taker_in : Taken → Option Taken → Option ℕ
+taker_in t later = if t.mark.lba == void_lba then None else option_map (λ (u : Taken). u.entry.position) later
+
 abbrev pub hold_of : Shape → List Logged → Taken → Hold
 hold_of s log t = record {
   mark = t.mark;
   line = placed_line s log t.entry.position;
-  taker = option_map (λ (u : Taken). u.entry.position) (later_take log t);
+  taker = taker_in t (later_take log t);
 }
 
 -- What is latest of a sector is taken from it by a later entry.

@@ -4,6 +4,8 @@ pub mod RecordFields
 pub mod StripeFields
 pub mod Holds
 pub mod Taken
+pub mod Resets
+pub mod LineNotes
 pub mod Stands
 pub mod Mounts
 pub mod Made
@@ -12,5 +14,5 @@ pub mod Entries
 pub mod Readable
 pub mod Named
 pub mod Landing
-pub mod Resets
 pub mod OlderLines
+pub mod Freeing

@@ -4,13 +4,15 @@ use Rattle.std.specs.FinMap as fin
 use Rattle.pblk_model.specs.declared.shape.Shape.{Shape}
 use Rattle.pblk_model.specs.declared.found.Found.{Found}
 use Rattle.pblk_model.specs.Shape.{units}
+use Rattle.pblk_layout.specs.Live.{units_in}
 use Rattle.pblk_meta.specs.Records.{row_numbers}
 use Rattle.stripe_placer.specs.Placing.{nothing_placed}
 use Rattle.world_laws.specs.MountBeginnings.{seq_after}
 use Rattle.core_laws.specs.OnlineUnits.{all_online}
 use Rattle.core_laws.specs.OpeningTables.{IsOpeningTable, slot_found}
 use Rattle.pblk_core.specs.OlderLines.{older_found}
-use Rattle.pblk_core.specs.Resets.{resets_found, resets_left}
+use Rattle.pblk_core.specs.LineNotes.{head_start, note_found}
+use Rattle.pblk_core.specs.Resets.{resets_found, resets_left, used_below, used_in}
 use Rattle.pblk_core.specs.declared.open_lines.OpenLine.{OpenLine}
 use Rattle.pblk_core.specs.declared.target_core.Core.{Core}
 
@@ -22,6 +24,10 @@ pub record IsMadeOn (s : Shape) (f : Found) (c : Core) : Type 0 where
   pub lines : IsOpeningTable s f c.lines
   pub live : c.live.items ≡ all_online s f s.chunks
   pub resets : resets_left c.resets ≡ resets_found s f.chunks f.strays
+  pub used : (line : ℕ) → line < s.chunks → units_in (used_in c.resets line) ≡ used_below s f.chunks line (units s)
+  pub notes : c.notes.rows.items ≡ map note_found f.lines
+  pub newest : c.notes.newest ≡ head_start f.lines f.head f.front
+  pub used_lines : length c.resets.used ≡ s.chunks
   -- positions from the end on, of which none was taken
   pub size : c.window.size ≡ s.ring
   pub freed : c.window.freed ≡ f.end

@@ -1,6 +1,6 @@
 -- The chunks of lines that were given up and that are still to be reset.
-use Rattle.std.specs.Prelude.{ℕ, ◌+◌, ◌-◌, ◌*◌, ◌^◌, ◌<◌, ◌≡◌, ◌==◌, not, if◌then◌else◌, Bool, true, false, List, [], drop, map, slice_get, slice_set, Option, Some, None}
-use Rattle.std.specs.List.{filter, flat_map, range_with_len}
+use Rattle.std.specs.Prelude.{ℕ, ◌+◌, ◌-◌, ◌*◌, ◌^◌, ◌<◌, ◌≤◌, ◌≡◌, ◌≢◌, ◌==◌, not, if◌then◌else◌, Bool, true, false, List, [], ◌++◌, length, map, slice_get, slice_set, Option, Some, None}
+use Rattle.std.specs.List.{AllByRecursion, filter, flat_map, range_with_len, slice_index_or}
 use Rattle.std.specs.Option.{option_map_or}
 use Rattle.pblk_model.specs.declared.shape.Shape.{Shape}
 use Rattle.pblk_model.specs.declared.chunk.ChunkState.{ChunkState}
@@ -14,10 +14,11 @@ use Rattle.pblk_laws.specs.LineBlocks.{chunk_in}
 use Rattle.pblk_world.specs.World.{Logs}
 use Rattle.pblk_world.specs.Answering.{MayNoteReset}
 use Rattle.pblk_world.specs.Lines.{known_image, is_empty_state, is_given_up}
+use Rattle.pblk_layout.specs.Live.{units_in}
+use Rattle.line_table.specs.LineSets.{has}
 use Rattle.line_table.specs.declared.row.LineState.{LineState}
 use Rattle.line_table.specs.declared.row.LineState.TheVariants.{Dead, Free}
 use Rattle.pblk_core.specs.declared.resets.LineChunk.{LineChunk}
-use Rattle.pblk_core.specs.declared.resets.Resets.{Resets}
 
 -- neither Free nor Offline
 abbrev pub is_used_state : ChunkState → Bool
@@ -69,7 +70,8 @@ used_below s chunks line n = filter (λ unit. is_used_at (slice_get chunks (unit
 abbrev pub resets_found : Shape → List ChunkState → List ℕ → List LineChunk
 resets_found s chunks strays = flat_map (λ line. in_line line (used_below s chunks line (units s))) strays
 
--- What a reset changes of the units of lines, by their bits, and of the line's state once all its chunks are Free or Offline.
+-- What a reset changes of the units of lines, by their bits, and of the line's state once all its
+-- chunks are Free or Offline.
 
 -- the unit isn't one of the line's if its chunk is Offline
 abbrev pub kept_units : List ℕ → ℕ → ℕ → ChunkState → List ℕ
@@ -82,10 +84,40 @@ emptied s width = if data_len s width == 0 then Dead else Free
 
 -- By the core: those that are left.
 
-abbrev pub resets_left : Resets → List LineChunk
-resets_left r = drop r.done r.chunks.items
+-- the lines that wait for resets, as the words of their set, and of each line the used units, as bits
+pub record ResetQueue : Type 0 where
+  pub waiting : List ℕ
+  pub used : List ℕ
+
+abbrev pub used_in : ResetQueue → ℕ → ℕ
+used_in r line = slice_index_or r.used line 0
+
+abbrev pub waiting_units : ResetQueue → ℕ → List ℕ
+waiting_units r line = if has r.waiting line then units_in (used_in r line) else []
+
+abbrev pub resets_left : ResetQueue → List LineChunk
+resets_left r = flat_map (λ line. in_line line (waiting_units r line)) (range_with_len 0 (length r.used))
+
+-- There are few lines, and one that waits has a used unit.
+pub record IsResetQueue (r : ResetQueue) : Type 0 where
+  pub few : length r.used ≤ 1024
+  pub some : (line : ℕ) → has r.waiting line ≡ true → units_in (used_in r line) ≢ []
+
+-- no chunk of the line is among them
+abbrev pub HasNoneOf : ℕ → List LineChunk → Type 0
+HasNoneOf line chunks = AllByRecursion (λ c. c.line ≢ line) chunks
 
 -- whether the first one is of the line
 abbrev pub is_of_line : ℕ → Option LineChunk → Bool
 is_of_line line None = false
 is_of_line line (Some c) = c.line == line
+
+-- The chunks of these units of a line came to the others, behind those of lines before it and
+-- before those of lines after it.
+pub record GetsChunks (old new : List LineChunk) (line : ℕ) (units : List ℕ) : Type 0 where
+  pub front : List LineChunk
+  pub back : List LineChunk
+  pub was : old ≡ front ++ back
+  pub is : new ≡ front ++ in_line line units ++ back
+  pub below : AllByRecursion (λ c. c.line < line) front
+  pub above : AllByRecursion (λ c. line < c.line) back

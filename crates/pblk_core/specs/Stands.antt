@@ -12,8 +12,10 @@ use Rattle.pblk_world.specs.Events.{Logged}
 use Rattle.pblk_world.specs.World.{World, Logs, log_of}
 use Rattle.pblk_world.specs.EngineLog.{Begun, begun, Opening, Taken, takes, openings, stripes_of, has_landed, answers}
 use Rattle.pblk_world.specs.Fronts.{first_position, user_takes}
+use Rattle.pblk_world.specs.Lines.{known_image}
 use Rattle.pblk_world.specs.Space.{freed, placed_front, open_addresses}
 use Rattle.pblk_world.specs.Starts.{older_rows}
+use Rattle.pblk_layout.specs.Live.{units_in}
 use Rattle.stripe_placer.specs.OpenLines.{has_left}
 use Rattle.core_laws.specs.OpenedLines.{opened_units, bits_of, live_now, open_line, standing}
 use Rattle.core_laws.specs.PlacerOf.{placing_of, unanswered_on}
@@ -21,11 +23,13 @@ use Rattle.core_laws.specs.RowsOf.{rows_of}
 use Rattle.core_laws.specs.SlotOf.{slot_of}
 use Rattle.core_laws.specs.WindowOf.{is_given_back, sectors_in, window_from}
 use Rattle.core_laws.specs.SimpleMounts.{IsSimpleLog}
+use Rattle.core_laws.specs.ClosedLines.{ClosedLine, closed_line}
 use Rattle.core_laws.specs.Spent.{OpensWhenFull}
 use Rattle.world_laws.specs.LegalMounts.{IsLegalMount}
 use Rattle.pblk_core.specs.Holds.{hold_of}
 use Rattle.pblk_core.specs.LineRecords.{AreOf}
-use Rattle.pblk_core.specs.Resets.{resets_left, resets_of}
+use Rattle.pblk_core.specs.LineNotes.{AreNotes}
+use Rattle.pblk_core.specs.Resets.{ResetQueue, resets_left, resets_of, used_in, used_units}
 use Rattle.pblk_core.specs.declared.hold.Holds.{Holds}
 use Rattle.pblk_core.specs.declared.open_lines.OpenLine.{OpenLine}
 use Rattle.pblk_core.specs.declared.open_lines.OpenLines.{OpenLines}
@@ -57,6 +61,11 @@ pub record AreOpenLines (i : Image) (logs : Logs) (kept : OpenLines) : Type 0 wh
   pub few : kept.count ≤ 2
   pub each : (k : ℕ) (o : Opening) (line : OpenLine) → slice_get (left_openings i logs) k ≡ Some o
       → slice_get kept.slots.items k ≡ Some line → IsOpenLine i logs o line
+
+-- the chunks that are used of each line that is closed
+abbrev pub AreUsed : Image → Logs → ResetQueue → Type 0
+AreUsed i logs resets = (line : ℕ) (closed : ClosedLine) → closed_line i logs line ≡ Some closed
+    → units_in (used_in resets line) ≡ used_units (known_image i logs) line
 
 -- how many units have a stripe that is neither landed nor lost
 abbrev pub under_way : Shape → List Logged → ℕ
@@ -90,6 +99,9 @@ pub record Stands (i : Image) (logs : Logs) (c : Core) : Type 0 where
   pub table : c.lines ≡ rows_of i logs
   pub units : c.live.items ≡ map (live_now i logs) (range_with_len 0 i.shape.chunks)
   pub resets : resets_left c.resets ≡ resets_of i logs
+  pub used_lines : length c.resets.used ≡ i.shape.chunks
+  pub used : AreUsed i logs c.resets
+  pub notes : AreNotes i logs c.notes
   -- the window
   pub size : c.window.size ≡ i.shape.ring
   pub window : sectors_in c.window ≡ window_from i.shape (logs 0) c.window.freed

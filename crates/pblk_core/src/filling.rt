@@ -10,9 +10,11 @@ ghost use Rattle.pblk_core.specs.Entries.{entry_blocks, note_hold, noted_lines, 
 use crate::hold::{Hold, Holds};
 use crate::stripe::Stripe;
 use line_table::Lines;
+use pblk_model::Mark;
 use write_window::Window;
 
-/// Adds the entries of these positions to an empty stripe, in their order, each with the mark that is kept of it.
+/// Adds the entries of these positions to an empty stripe, in their order, each with the mark that
+/// is kept of it.
 ///
 /// The window holds them, each of the size of a sector, and the stripe has room for them.
 pub(crate) fn fill(window: &Window, holds: &Holds, positions: &[u64], into: &mut Stripe)
@@ -48,8 +50,8 @@ fn add_entry(window: &Window, holds: &Holds, position: u64, into: &mut Stripe)
     }
 }
 
-/// Notes that the entries of a placement are in its line: each is a live sector there, unless a later entry of
-/// the sector was taken already. The line has room for their number.
+/// Notes that the entries of a placement are in its line: each is a live sector there, unless it is
+/// Void or a later entry of the sector was taken already. The line has room for their number.
 pub(crate) fn settle_lines(lines: &mut Lines, holds: &Holds, line: u32, positions: &[u64])
     requires rows { 0 < length holds.now.rows.items }
     requires inside { line < length lines.old.rows }
@@ -69,13 +71,16 @@ fn settle_line(lines: &mut Lines, line: u32, hold: &Hold)
     requires room { (row : Row) → IsRow lines.old line row → row.live + 1 < 2 ^ 32 }
     ensures { lines.new ≡ place_hold line lines.old (Some hold.now) }
 {
+    if hold.mark.lba == Mark::VOID_LBA {
+        return;
+    }
     if hold.taker.is_none() {
         lines.gain(line);
     }
 }
 
-/// Notes that the entries of a stripe have landed in its line. Where a later entry of the sector was taken
-/// before, it took the sector from the line.
+/// Notes that the entries of a stripe have landed in its line. Where a later entry of the sector
+/// was taken before, it took the sector from the line.
 pub(crate) fn note_takers(lines: &mut Lines, holds: &Holds, line: u32, positions: &[u64])
     requires rows { 0 < length holds.now.rows.items }
     requires inside { line < length lines.old.rows }

@@ -14,7 +14,7 @@ pub(crate) struct Hold {
     pub(crate) mark: Mark,
     /// The line in which it was placed.
     pub(crate) line: Option<u32>,
-    /// The next entry of its sector that was taken.
+    /// The next entry of its sector that was taken. A Void entry has no sector.
     pub(crate) taker: Option<u64>,
 }
 

@@ -2,7 +2,9 @@
 #![tactic(auto)]
 
 mod filling;
+mod freeing;
 mod hold;
+mod line_notes;
 mod line_turns;
 mod naming;
 mod open_lines;

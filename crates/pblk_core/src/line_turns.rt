@@ -73,6 +73,9 @@ impl Core {
         self.start.width = width;
         self.start.front = self.window.synced().position;
         self.open.begin(&self.start, live.bits(), stripes);
+        let starts = self.layout.start_len() / shape.ws_opt;
+        self.notes
+            .open(line, self.start.seq, self.start.front, starts);
         self.start.seq += 1;
         self.lines.turn(line, LineState::Open, width);
         self.placer.begin(line, live.bits());

@@ -92,6 +92,7 @@ impl Core {
                 into.pad();
                 settle_lines(&mut self.lines, &self.holds, of.line, positions);
                 settle_holds(&mut self.holds, of.line, positions);
+                self.notes.place(of.line, positions);
                 let (_, marks) = into.parts();
                 self.open.mark_data(index, marks);
                 self.left -= u64::from(self.layout.shape().ws_opt);
@@ -176,9 +177,12 @@ impl Core {
         self.placer.landed(&of);
         self.under_way -= 1;
         add_answer(&mut self.answers, unit);
+        self.notes.land(of.line, of.kind == StripeKind::Start);
         if self.open.land(index) == 0 {
             let width = self.layout.width(self.open.get(index).live);
             self.lines.turn(of.line, LineState::Full, width);
+            self.resets.set_used(of.line, self.live[of.line as usize]);
+            self.notes.close(of.line);
             self.open.remove(index);
         }
     }

@@ -10,7 +10,7 @@ ghost use Rattle.pblk_world.specs.EngineLog.{Placed, answers, is_answered, place
 ghost use Rattle.pblk_world.specs.Events.{Begin};
 ghost use Rattle.pblk_world.specs.World.{World, Logs, log_of};
 ghost use Rattle.pblk_world.specs.Lines.{found_image, known_image, is_given_up, are_empty};
-ghost use Rattle.world_laws.specs.Finding.{IsFoundOf};
+ghost use Rattle.world_laws.specs.Finding.{IsFoundOf, NoneOpen};
 ghost use Rattle.world_laws.specs.MountBeginnings.{beginning_of};
 ghost use Rattle.pblk_world.specs.Fronts.{taken, synced, user_takes};
 ghost use Rattle.write_window.specs.Window as view;
@@ -29,6 +29,7 @@ ghost use Rattle.pblk_core.specs.Mounts.{InItsMount};
 ghost use Rattle.pblk_core.specs.Stands.{Stands, IsStanding, answer_count};
 
 use crate::hold::Holds;
+use crate::line_notes::LineNotes;
 use crate::open_lines::OpenLines;
 use crate::opening::{all_online_units, found_map, next_seq, no_answers, older_rows};
 use crate::resets::Resets;
@@ -56,8 +57,11 @@ pub struct Core {
     pub(crate) open: OpenLines,
     // the online units of each line
     pub(crate) live: Vec<LineUnits>,
-    // the chunks of the strays that are still to be reset
+    // the chunks that are still to be reset, of strays and of lines that were freed, and the used
+    // units of each line
     pub(crate) resets: Resets,
+    // what tells when a line may be freed
+    pub(crate) notes: LineNotes,
     // what the start record of the next line says, but for the line and the front
     pub(crate) start: StartRecord,
     // the mount's first position
@@ -77,14 +81,16 @@ pub struct Core {
 impl Core {
     /// The core of a target that opens on a drive of an accepted shape, of which recovery found
     /// this (Bjørling, González, Bonnet, FAST 2017, recovery): it begins at the end that was found.
-    /// The findings fit the shape, as those of any image of it do. The pad target is 0. Fails only
-    /// where there isn't the memory, of which it takes all that the core uses.
+    /// The findings fit the shape, as those of any image of it do, and no chunk of the image is Open.
+    /// The pad target is 0. Fails only where there isn't the memory, of which it takes all that the
+    /// core uses.
     pub fn new(alloc: Global, shape: &Shape, found: Found) -> Result<Core, AllocError>
         requires accepted { IsAccepted shape.now }
         requires fit { IsFitFound shape.now found }
         ensures stands { IfOk result (λ core. (i : Image) (w : World) (knows : List ℕ)
             → i.shape ≡ shape.now → IsLegalMount i w → log_of w 0 ≡ []
             → IsFoundOf (found_image i (after (log_of w) (Begin (beginning_of found)) knows)) found
+            → NoneOpen (found_image i (after (log_of w) (Begin (beginning_of found)) knows))
             → Stands i (after (log_of w) (Begin (beginning_of found)) knows) core) }
         ensures pad { IfOk result (λ core. pad_of core ≡ 0) }
         ensures resting { IfOk result IsResting }
@@ -107,6 +113,7 @@ impl Core {
         let open = OpenLines::new(alloc, &layout)?;
         let live = all_online_units(alloc, &layout, found)?;
         let resets = Resets::new(alloc, shape, states, found.strays.as_slice())?;
+        let notes = LineNotes::new(alloc, found.lines.as_slice(), found.head, found.front)?;
         let answers = no_answers(alloc, shape.units())?;
         let seq = next_seq(found.lines.as_slice(), found.head);
         let start = StartRecord {
@@ -128,6 +135,7 @@ impl Core {
             open,
             live,
             resets,
+            notes,
             start,
             first: found.end,
             placed: 0,
@@ -251,6 +259,7 @@ impl Core {
             open: _,
             live: _,
             resets: _,
+            notes: _,
             start: _,
             first: _,
             placed: _,

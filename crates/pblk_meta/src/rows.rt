@@ -1,6 +1,6 @@
 //! The rows of a start record.
 
-ghost use Rattle.std.specs.Prelude.{◌≡◌, ◌+◌, ◌≤◌, [], ◌∷◌, ◌++◌, length, take, OnOk, OnErr};
+ghost use Rattle.std.specs.Prelude.{◌≡◌, ◌+◌, ◌<◌, ◌≤◌, [], ◌∷◌, ◌++◌, length, take, drop, OnOk, OnErr};
 ghost use Rattle.std.specs.Str.{bytes_eq};
 ghost use Rattle.pblk_model.specs.StartRecord.{row_bytes};
 ghost use Rattle.pblk_meta.specs.Records.{row_numbers, row_in};
@@ -50,6 +50,15 @@ impl Rows {
     {
         self.list.push(row)?;
         Ok(())
+    }
+
+    /// Takes out the row at an index, which is below the number of rows. The others keep their order. It takes
+    /// no memory.
+    pub fn remove(&mut self, index: usize)
+        requires { index < length self.old }
+        ensures { self.new ≡ take index self.old ++ drop (index + 1) self.old }
+    {
+        self.list.remove(index);
     }
 
     /// The rows in their order.

@@ -9,7 +9,7 @@ const MOUNTS: &str = r#"
 call=show|image ; images=drive small 4=9 5=9 6=9 7=9 4@7272 5@7800 6@8328 7@8856 ; text=end 0 sectors 64/
 call=run|image|script ; script=thread/w 10 4 5/f/ ; text=h 0 0 10 5/h 1 0 11 5/h 2 0 12 5/h 3 0 13 5/f 0 1 4/kept 4/
 call=show|image ; text=10 5/11 5/12 5/13 5/end 4 sectors 64/
-call=report|image ; text={"capacity":64,"closed":2,"counted":4,"end":4,"free":12,"head":1,"live":4,"offline":0,"open":2,"seq":2}/
+call=report|image ; text={"capacity":64,"closed":0,"counted":4,"end":4,"free":14,"head":1,"live":4,"offline":0,"open":2,"seq":2}/
 # Three mounts on each other's images: a sector of the first is overwritten in the second, and read
 # in the third.
 call=run|image|script ; images=drive small ; script=thread/w 5 1 17/r 5 1/f/ ; text=h 0 0 5 17/r 0 1 1 17/f 0 2 1/kept 1/
@@ -18,7 +18,7 @@ call=run|image|script ; script=thread/r 5 1/w 4 3 20/r 4 3/f/ ; text=h 0 0 4 20/
 call=report|image ; text={"capacity":64,"closed":2,"counted":4,"end":4,"free":12,"head":1,"live":3,"offline":0,"open":2,"seq":2}/
 call=run|image|script ; script=thread/r 3 4/w 6 1 30/f/r 4 4/ ; text=h 0 0 6 30/r 0 0 0 0 20 20 20/f 0 2 1/r 0 3 1 20 20 30 0/kept 1/
 call=show|image ; text=4 20/5 20/6 30/end 5 sectors 64/
-call=report|image ; text={"capacity":64,"closed":4,"counted":5,"end":5,"free":10,"head":2,"live":3,"offline":0,"open":2,"seq":3}/
+call=report|image ; text={"capacity":64,"closed":2,"counted":4,"end":5,"free":12,"head":0,"live":3,"offline":0,"open":2,"seq":3}/
 # A mount in which nothing is written, and one in which nothing is run.
 call=run|image|script ; images=drive small 5=17 ; script=thread/r 5 1/f/ ; text=r 0 0 0 17/f 0 1 0/kept 0/
 call=run|image|script ; script= ; text=kept 0/

@@ -74,31 +74,45 @@ fn numbers_are_kept_and_the_rest_is_zeros(rt: HostRuntime) -> Result<(), Fail> {
     )
 }
 
-// Rounds over the sectors of the small drive, a flush of them all, and a read: the parts of a row
-// but its text; how many lines of the history that begins with; and the rest of it.
-const ROUNDS: [(&str, u64, &str); 3] = [
+// Rounds over the sectors of the small drive, a flush of them all, and a read: how many rounds; what
+// else its row says; how many lines of the history the text begins with; and the rest of it. Lines
+// of earlier rounds are freed for later ones.
+const ROUNDS: [(u32, &str, u64, &str); 4] = [
     (
-        "script=thread/w 0 16 1/w 16 16 1/w 32 16 1/w 48 16 1/w 0 16 2/w 16 16 2/w 32 16 2/w 48 16 2/w 0 16 3/w 16 16 3/w 32 16 3/w 48 16 3/f/r 0 16/",
+        3,
+        "",
         192,
         "f 0 12 192/r 0 13 192 3 3 3 3 3 3 3 3 3 3 3 3 3 3 3 3/kept 192/",
     ),
-    // There is no room for the fourth round.
     (
-        "script=thread/w 0 16 1/w 16 16 1/w 32 16 1/w 48 16 1/w 0 16 2/w 16 16 2/w 32 16 2/w 48 16 2/w 0 16 3/w 16 16 3/w 32 16 3/w 48 16 3/w 0 16 4/w 16 16 4/w 32 16 4/w 48 16 4/f/r 0 16/ ; status=6",
-        192,
-        "worn 0 12 208 204/worn 0 13 208 204/worn 0 14 208 204/worn 0 15 208 204/f 0 16 192/r 0 17 192 3 3 3 3 3 3 3 3 3 3 3 3 3 3 3 3/kept 192/",
+        4,
+        "",
+        256,
+        "f 0 16 256/r 0 17 256 4 4 4 4 4 4 4 4 4 4 4 4 4 4 4 4/kept 256/",
     ),
     // Where the output fails, half of the text is written.
+    (4, " ; output=1 ; status=8", 135, "h "),
     (
-        "script=thread/w 0 16 1/w 16 16 1/w 32 16 1/w 48 16 1/w 0 16 2/w 16 16 2/w 32 16 2/w 48 16 2/w 0 16 3/w 16 16 3/w 32 16 3/w 48 16 3/w 0 16 4/w 16 16 4/w 32 16 4/w 48 16 4/f/r 0 16/ ; output=1 ; status=8",
-        105,
-        "h 105 0 41",
+        40,
+        "",
+        2560,
+        "f 0 160 2560/r 0 161 2560 40 40 40 40 40 40 40 40 40 40 40 40 40 40 40 40/kept 2560/",
     ),
 ];
 
 // The row of so many rounds.
-fn rounds_row(alloc: Global, parts: &str, lines: u64, rest: &str) -> Result<String, AllocError> {
-    let mut row = format!(in alloc; "call=run|image|script ; {parts} ; text=")?;
+fn rounds_row(
+    alloc: Global,
+    rounds: u32,
+    ends: &str,
+    lines: u64,
+    rest: &str,
+) -> Result<String, AllocError> {
+    let mut row = format!(in alloc; "call=run|image|script ; script=thread/")?;
+    for command in 0..u64::from(rounds) * 4 {
+        write!(row, "w {} 16 {}/", command % 4 * 16, command / 4 + 1)?;
+    }
+    write!(row, "f/r 0 16/{ends} ; text=")?;
     for number in 0..lines {
         write!(row, "h {number} 0 {} {}/", number % 64, number / 64 + 1)?;
     }
@@ -107,9 +121,9 @@ fn rounds_row(alloc: Global, parts: &str, lines: u64, rest: &str) -> Result<Stri
 }
 
 #[test]
-fn a_script_may_want_more_room(rt: HostRuntime) -> Result<(), Fail> {
-    for (parts, lines, rest) in &ROUNDS {
-        let row = rounds_row(rt.alloc(), parts, *lines, rest)?;
+fn rounds_over_all_sectors_free_lines(rt: HostRuntime) -> Result<(), Fail> {
+    for (rounds, ends, lines, rest) in &ROUNDS {
+        let row = rounds_row(rt.alloc(), *rounds, ends, *lines, rest)?;
         check(&rt, rt.alloc(), "images=drive small ; after=untold", &row)?;
     }
     Ok(())

@@ -201,7 +201,7 @@ fn wrong_openings<R: Wait>(
 }
 
 // Whether an image holds this still after an opening that was stopped at any program of this unit,
-// and after one more. Padding a chunk takes seven programs at most.
+// and after one more. Here an opening makes six programs on a unit at most.
 fn openings_keep<R: Wait>(
     rt: &R,
     alloc: Global,

@@ -1,6 +1,7 @@
 -- The block of a sector whose last entry is on the drive.
 use Rattle.std.proofs.Common.{◌≡◌, ℕ, ◌+◌, ◌-◌, ◌*◌, ◌/◌, ◌<◌, ◌≤◌, ◌==◌, true, Some, None, Option, List, length, refl, sym, subst, ap, ap₂, ◌∙◌, arith}
 use Rattle.std.specs.Prelude.{is_some, slice_get}
+use Rattle.std.specs.List.{Contains}
 use Rattle.std.specs.Option.{option_and_then}
 use Rattle.std.proofs.lemmas.Bool.{eqb-true}
 use Rattle.std.proofs.lemmas.Option.{same_Some, none-some, slice_get_within}
@@ -11,7 +12,7 @@ use Rattle.pblk_model.specs.Marks.{sector_mark}
 use Rattle.pblk_model.specs.Records.{named}
 use Rattle.pblk_model.specs.Image.{Image}
 use Rattle.pblk_layout.specs.Live.{units_in}
-use Rattle.pblk_world.specs.World.{World, log_of, media}
+use Rattle.pblk_world.specs.World.{World, Logs, log_of, media}
 use Rattle.pblk_world.specs.EngineLog.{Opening, Opened, life_of, is_life, Taken, takes, block_of_taken, Placed, placements, stripes_of, stripes_on, bears_position}
 use Rattle.pblk_world.specs.Fronts.{first_position, last_take}
 use Rattle.pblk_world.specs.Space.{is_readable_in}
@@ -27,17 +28,20 @@ use Rattle.core_laws.specs.InOrder.{IsInPlace}
 use Rattle.core_laws.proofs.LogOrders.{in_order as ordered}
 use Rattle.core_laws.specs.StripeTurns.{IsAtTurn}
 use Rattle.core_laws.proofs.StripeBlocks.{have_blocks}
-use Rattle.core_laws.proofs.GoingLines.{few_places}
-use Rattle.core_laws.proofs.TwoLines.{units_stay, width_stays, bits_are_units, turns_are, room_is}
+use Rattle.core_laws.proofs.KeptLines.{keeps_units}
+use Rattle.core_laws.proofs.LatestLines.{latest_stands}
+use Rattle.core_laws.proofs.OpenedTurns.{bits_are_units, few_stripes, turns_are}
+use Rattle.core_laws.proofs.PlacedAnew.{landed_not_lost}
+use Rattle.world_laws.proofs.Stripes.{life_of_stripe}
 use Rattle.step_laws.proofs.Given.{given}
 use Rattle.step_laws.specs.SlotBlocks.{IsOfEntry, IsOfLatest, IsBlockOfSlot}
 use Rattle.step_laws.proofs.Borne.{IsOfOne, IsEntrys, placed_entries}
-use Rattle.step_laws.proofs.LineAddresses.{number_is, address_within, place_is}
+use Rattle.core_laws.proofs.LineAddresses.{number_is, address_within, place_is}
 use Rattle.step_laws.proofs.LiveUnits.{live_units}
-use Rattle.step_laws.proofs.ReadBlocks.{IsReadIn, IsEntryOnDrive}
+use Rattle.core_laws.proofs.ReadBlocks.{IsReadIn, IsEntryOnDrive}
 use Rattle.lemmas.proofs.Lists.{IsAmong}
-use Rattle.lemmas.proofs.Maps.{in_filter}
-use Rattle.lemmas.proofs.Parts.{all_at}
+use Rattle.lemmas.proofs.Maps.{any_member, in_filter}
+use Rattle.lemmas.proofs.Parts.{all_at, contained_among}
 use Rattle.lemmas.proofs.Tests.{both, same_number}
 use Rattle.pblk_model.proofs.MarksLemmas.{accepted_small}
 use Rattle.pblk_world.proofs.WorldLemmas.{length_media}
@@ -54,12 +58,12 @@ taken_at i w t mount among =
     let index : t.entry.position - first_position (log_of w 0) ≡ among.0 = omega arith in
     (omega arith, ap (slice_get (takes (log_of w 0))) index ∙ among.1)
 
-its_mark : (i : Image) (w : World) (t : Taken) → IsLegalMount i w → IsAmong (takes (log_of w 0)) t → t.mark.position ≡ t.entry.position
+pub its_mark : (i : Image) (w : World) (t : Taken) → IsLegalMount i w → IsAmong (takes (log_of w 0)) t → t.mark.position ≡ t.entry.position
 its_mark i w t mount among = all_at (λ (t : Taken). t.mark.position ≡ t.entry.position) (takes (log_of w 0)) among.0 t among.1
     (in_order i w (accepted_small i.shape mount.accepted) mount.legal).marked
 
 -- a block of a stripe that bears the position of an entry is that entry's
-its_block : (i : Image) (w : World) (t : Taken) (p : Placed) (r : ℕ) (b : Block) → IsLegalMount i w → IsAmong (takes (log_of w 0)) t
+pub its_block : (i : Image) (w : World) (t : Taken) (p : Placed) (r : ℕ) (b : Block) → IsLegalMount i w → IsAmong (takes (log_of w 0)) t
     → IsAmong (placements (log_of w 0)) p → slice_get p.stripe.blocks r ≡ Some b
     → bears_position i.shape t.entry.position b ≡ true → b ≡ block_of_taken t
 its_block i w t p r b mount among placed there bears =
@@ -86,50 +90,97 @@ unit_within j line unit c there = by (slice_get j.units unit) refl there
     by None e f = absurd (none-some c f)
     by (Some chunks) e f = slice_get_within j.units unit chunks e
 
+-- ---- its address
+
+-- the block of this number in a stripe stands at this address of the line
+pub record IsAddressed (i : Image) (logs : Logs) (p : Placed) (number at : ℕ) : Type 0 where
+  pub place : slice_get (line_order i.shape (units_in (live_now i logs p.stripe.line))) at ≡ Some (p.stripe.unit, p.stripe.at + number)
+  pub within : at < length (units_in (live_now i logs p.stripe.line)) * i.shape.clba
+
+-- its line is opened still
+pub record IsOpenIn (i : Image) (logs : Logs) (p : Placed) : Type 0 where
+  pub opening : Opening
+  pub life : p.life ≡ Opened opening
+  pub opened : life_of (logs 0) p.stripe.line ≡ Opened opening
+
+pub still_open : (i : Image) (w : World) (lba : ℕ) (t : Taken) (p : Placed) → IsLegalMount i w → lba < i.shape.capacity → last_take (log_of w 0) lba ≡ Some t
+    → IsReadIn i (log_of w) t.entry.position p → IsOpenIn i (log_of w) p
+still_open i w lba t p mount inside last read =
+    let there : Contains (placements (log_of w 0)) p = contained_among (placements (log_of w 0)) p read.among in
+    let life = life_of_stripe i w p mount.legal there in
+    record {
+      opening = life.0;
+      life = life.1;
+      opened = latest_stands i w mount lba t p inside last there
+          (any_member (bears_position i.shape t.entry.position) p.stripe.blocks read.number read.block read.there read.bears)
+          (landed_not_lost (log_of w 0) p read.landed) ∙ life.1;
+    }
+
+pub entry_address : (i : Image) (w : World) (line at q : ℕ) (t : Taken) → IsSimpleMount i w → (is : IsEntryOnDrive i (log_of w) t line at q)
+    → IsOpenIn i (log_of w) is.stripe → IsAddressed i (log_of w) is.stripe is.read.number at
+entry_address i w line at q t simple is open_in =
+    let mount : IsLegalMount i w = simple.mount in
+    let p : Placed = is.stripe in
+    let read : IsReadIn i (log_of w) t.entry.position is.stripe = is.read in
+    let o : Opening = open_in.opening in
+    let opened : life_of (log_of w 0) p.stripe.line ≡ Opened o = open_in.opened in
+    let among : IsAmong (stripes_of (log_of w 0) o) p =
+    in_filter (λ (x : Placed). is_life o.number x.life) (placements (log_of w 0)) p read.among (ap (is_life o.number) open_in.life ∙ same_number o.number) in
+    let turn : IsAtTurn i.shape (opened_units i (log_of w) o) p.stripe.line among.0 p = turns_are i w p.stripe.line o simple opened among.0 p among.1 in
+    let count : length p.stripe.blocks ≡ i.shape.ws_opt =
+    all_at (λ (x : Placed). length x.stripe.blocks ≡ i.shape.ws_opt) (placements (log_of w 0)) read.among.0 p read.among.1
+    (have_blocks i w mount.accepted mount.legal).blocks in
+    let short : read.number < length p.stripe.blocks = slice_get_within p.stripe.blocks read.number read.block read.there in
+    let inside : read.number < i.shape.ws_opt = omega arith in
+    let some : 0 < i.shape.ws_opt = mount.accepted.drive.ws_opt in
+    let whole = mount.accepted.drive.whole_stripes in
+    let live : units_in (as_opened i (log_of w) o).live ≡ opened_units i (log_of w) o = bits_are_units i w o mount in
+    let few : length (stripes_of (log_of w 0) o) ≤ i.shape.clba / i.shape.ws_opt * length (opened_units i (log_of w) o) =
+    few_stripes i w p.stripe.line o simple opened in
+    let nth : among.0 < length (stripes_of (log_of w 0) o) = slice_get_within (stripes_of (log_of w 0) o) among.0 p among.1 in
+    let below : among.0 < i.shape.clba / i.shape.ws_opt * length (opened_units i (log_of w) o) = omega arith in
+    let number = number_is i (log_of w) o (opened_units i (log_of w) o) p.stripe.line among.0 p some whole live turn read.number inside below in
+    let left : p.stripe.at + read.number - p.stripe.at ≡ read.number = omega arith in
+    let address : at ≡ among.0 * i.shape.ws_opt + read.number =
+    sym is.address ∙ ap (λ l. address_in i (log_of w) l p (p.stripe.at + read.number)) open_in.life ∙ ap₂ (λ m n. m * i.shape.ws_opt + n) number left in
+    let now : units_in (live_now i (log_of w) p.stripe.line) ≡ opened_units i (log_of w) o = live_units i w p.stripe.line mount
+    ∙ keeps_units i w p.stripe.line o mount opened in
+    record {
+      place = ap₂ (λ (xs : List ℕ) n. slice_get (line_order i.shape xs) n) now address
+          ∙ place_is i (log_of w) o (opened_units i (log_of w) o) p.stripe.line among.0 p some whole live turn read.number inside below;
+      within = subst (λ (xs : List ℕ). at < length xs * i.shape.clba) (sym now)
+          (subst (λ n. n < length (opened_units i (log_of w) o) * i.shape.clba) (sym address)
+          (address_within i (log_of w) o (opened_units i (log_of w) o) p.stripe.line among.0 p some whole live turn read.number inside below));
+    }
+
 -- ---- the block
 
-pub block_of_entry : (i : Image) (w : World) (lba line at q : ℕ) (t : Taken) → IsSimpleMount i w → last_take (log_of w 0) lba ≡ Some t
+pub block_of_entry : (i : Image) (w : World) (lba line at q : ℕ) (t : Taken) → IsSimpleMount i w → lba < i.shape.capacity → last_take (log_of w 0) lba ≡ Some t
     → IsEntryOnDrive i (log_of w) t line at q → IsBlockOfSlot i (log_of w) lba line at q
-block_of_entry i w lba line at q t simple last is =
+block_of_entry i w lba line at q t simple small last is =
     let mount : IsLegalMount i w = simple.mount in
     let p : Placed = is.stripe in
     let read : IsReadIn i (log_of w) t.entry.position is.stripe = is.read in
     let last_one = last_is_among (log_of w 0) lba t last in
     let place : IsInPlace i (log_of w 0) is.stripe =
     all_at (IsInPlace i (log_of w 0)) (placements (log_of w 0)) read.among.0 is.stripe read.among.1 (ordered i w simple).placed in
-    let o : Opening = place.opening in
-    let us : List ℕ = opened_units i (log_of w) o in
-    let opened : life_of (log_of w 0) p.stripe.line ≡ Opened o = place.stands in
+    let open_in : IsOpenIn i (log_of w) is.stripe = still_open i w lba t is.stripe mount small last read in
+    let o : Opening = open_in.opening in
+    let opened : life_of (log_of w 0) p.stripe.line ≡ Opened o = open_in.opened in
     let among : IsAmong (stripes_of (log_of w 0) o) p =
-    in_filter (λ (x : Placed). is_life o.number x.life) (placements (log_of w 0)) p read.among (ap (is_life o.number) place.life ∙ same_number o.number) in
+    in_filter (λ (x : Placed). is_life o.number x.life) (placements (log_of w 0)) p read.among (ap (is_life o.number) open_in.life ∙ same_number o.number) in
     let on : IsAmong (stripes_on (log_of w 0) o p.stripe.unit) p =
     in_filter (λ (x : Placed). x.stripe.unit == p.stripe.unit) (stripes_of (log_of w 0) o) p among (same_number p.stripe.unit) in
-    let turn : IsAtTurn i.shape (opened_units i (log_of w) o) p.stripe.line among.0 p = turns_are i w p.stripe.line o among.0 p simple opened among.1 in
     let count : length p.stripe.blocks ≡ i.shape.ws_opt =
     all_at (λ (x : Placed). length x.stripe.blocks ≡ i.shape.ws_opt) (placements (log_of w 0)) read.among.0 p read.among.1
     (have_blocks i w mount.accepted mount.legal).blocks in
     let short : read.number < length p.stripe.blocks = slice_get_within p.stripe.blocks read.number read.block read.there in
     let inside : read.number < i.shape.ws_opt = omega arith in
     let stands = given i w p.stripe.line p.stripe.unit on.0 read.number o p read.block simple opened on.1 inside read.there read.landed
-    (subst (λ l. is_readable_in i.shape (log_of w 0) p.stripe.unit (p.stripe.at + read.number) l ≡ true) place.life read.readable) in
+    (subst (λ l. is_readable_in i.shape (log_of w 0) p.stripe.unit (p.stripe.at + read.number) l ≡ true) open_in.life read.readable) in
     let unit : p.stripe.unit < length (media i (log_of w)).units = unit_within (media i (log_of w)) p.stripe.line p.stripe.unit stands.0 stands.1 in
     let drive : p.stripe.unit < units i.shape = subst (λ n. p.stripe.unit < n) (length_media i (log_of w) ∙ mount.fit.units) unit in
-    let some : 0 < i.shape.ws_opt = mount.accepted.drive.ws_opt in
-    let whole = mount.accepted.drive.whole_stripes in
-    let live : units_in (as_opened i (log_of w) o).live ≡ opened_units i (log_of w) o = bits_are_units i w o mount in
-    let room : length (stripes_of (log_of w 0) o) * i.shape.ws_opt ≤ length (opened_units i (log_of w) o) * i.shape.clba =
-    subst (λ n. length (stripes_of (log_of w 0) o) * i.shape.ws_opt ≤ n * i.shape.clba) (width_stays i w p.stripe.line o mount.legal opened)
-    (room_is i w p.stripe.line o simple opened) in
-    let few : length (stripes_of (log_of w 0) o) ≤ i.shape.clba / i.shape.ws_opt * length (opened_units i (log_of w) o) =
-    few_places i.shape.ws_opt i.shape.clba (length (opened_units i (log_of w) o)) (length (stripes_of (log_of w 0) o)) some whole room in
-    let nth : among.0 < length (stripes_of (log_of w 0) o) = slice_get_within (stripes_of (log_of w 0) o) among.0 p among.1 in
-    let below : among.0 < i.shape.clba / i.shape.ws_opt * length (opened_units i (log_of w) o) = omega arith in
-    let number = number_is i (log_of w) o (opened_units i (log_of w) o) p.stripe.line among.0 p some whole live turn read.number inside below in
-    let left : p.stripe.at + read.number - p.stripe.at ≡ read.number = omega arith in
-    let address : at ≡ among.0 * i.shape.ws_opt + read.number =
-    sym is.address ∙ ap (λ l. address_in i (log_of w) l p (p.stripe.at + read.number)) place.life ∙ ap₂ (λ m n. m * i.shape.ws_opt + n) number left in
-    let now : units_in (live_now i (log_of w) p.stripe.line) ≡ opened_units i (log_of w) o = live_units i w p.stripe.line mount
-    ∙ units_stay i w p.stripe.line o mount.legal opened in
+    let addressed : IsAddressed i (log_of w) is.stripe is.read.number at = entry_address i w line at q t simple is open_in in
     let block : read.block ≡ block_of_taken t = its_block i w t p read.number read.block mount last_one.0 read.among read.there read.bears in
     let mark : t.mark ≡ sector_mark lba t.entry.position = ap₂ sector_mark last_one.1 (its_mark i w t mount last_one.0) in
     let its : IsOfEntry i (log_of w) lba p.stripe.line t.entry.position read.block t = record {
@@ -143,13 +194,10 @@ block_of_entry i w lba line at q t simple last is =
     } in
     let found : IsBlockOfSlot i (log_of w) lba p.stripe.line at t.entry.position = record {
       in_range = place.in_range;
-      within = subst (λ (xs : List ℕ). at < length xs * i.shape.clba) (sym now)
-          (subst (λ n. n < length (opened_units i (log_of w) o) * i.shape.clba) (sym address)
-          (address_within i (log_of w) o (opened_units i (log_of w) o) p.stripe.line among.0 p some whole live turn read.number inside below));
+      within = addressed.within;
       unit = p.stripe.unit;
       number = p.stripe.at + read.number;
-      place = ap₂ (λ (xs : List ℕ) n. slice_get (line_order i.shape xs) n) now address
-          ∙ place_is i (log_of w) o (opened_units i (log_of w) o) p.stripe.line among.0 p some whole live turn read.number inside below;
+      place = addressed.place;
       of_drive = drive;
       chunk = stands.0;
       there = stands.1;

@@ -1,34 +1,28 @@
 -- Lines as the mount found them: one with a start record is no stray, and a line that is no stray
 -- keeps its chunks, on the media and as the engine knows them.
-use Rattle.std.proofs.Common.{◌≡◌, ℕ, ◌+◌, ◌-◌, ◌<◌, ◌≤◌, ◌==◌, not, suc, Bool, true, false, Some, None, List, [], ◌∷◌, length, refl, sym, subst, ap, ◌∙◌, arith}
+use Rattle.std.proofs.Common.{◌≡◌, ℕ, ◌+◌, ◌-◌, ◌<◌, ◌≤◌, ◌==◌, not, suc, Bool, true, false, Some, List, length, refl, sym, subst, ap, ◌∙◌, arith}
 use Rattle.std.specs.Prelude.{is_some, slice_get, slice_index}
-use Rattle.std.specs.List.{filter, last_or, list_any, range_with_len}
+use Rattle.std.specs.List.{list_any, range_with_len}
 use Rattle.std.proofs.Math.Seq.{take-length}
 use Rattle.std.proofs.lemmas.Bool.{eqb-true}
-use Rattle.std.proofs.lemmas.Option.{none-some}
 use Rattle.pblk_model.specs.Chunk.{Chunk}
-use Rattle.pblk_model.specs.Contents.{counted, winner}
 use Rattle.pblk_model.specs.Image.{Image, line_units}
-use Rattle.pblk_model.specs.Records.{Record}
 use Rattle.pblk_model.specs.StartRecord.{start_of}
 use Rattle.pblk_laws.specs.LineBlocks.{chunk_in}
 use Rattle.pblk_world.specs.Events.{Logged}
 use Rattle.pblk_world.specs.World.{World, Logs, log_of, media}
-use Rattle.pblk_world.specs.EngineLog.{Begun, begun, AsFound, life_of, Taken, takes}
-use Rattle.pblk_world.specs.Fronts.{last_take}
+use Rattle.pblk_world.specs.EngineLog.{Begun, begun, AsFound, life_of}
 use Rattle.pblk_world.specs.Legal.{IsLegal}
 use Rattle.pblk_world.specs.Lines.{are_empty, found_image, known_image, is_stray, stray_lines}
 use Rattle.pblk_world.proofs.EngineLogLemmas.{begun_knows}
 use Rattle.pblk_world.proofs.LinesLemmas.{length_found, length_known}
 use Rattle.pblk_world.proofs.VictimsLemmas.{whole_prefix}
-use Rattle.lemmas.proofs.Lists.{IsAmong, all_imply}
-use Rattle.lemmas.proofs.Maps.{all_passed, any_fail, in_filter}
+use Rattle.pblk_world.proofs.WorldLemmas.{length_media}
+use Rattle.lemmas.proofs.Lists.{all_imply}
+use Rattle.lemmas.proofs.Maps.{all_passed, any_fail}
 use Rattle.lemmas.proofs.Parts.{got_within}
-use Rattle.lemmas.proofs.Tests.{first_of, not_both, not_true, same_number}
+use Rattle.lemmas.proofs.Tests.{first_of, not_both, not_true}
 use Rattle.world_laws.proofs.FoundImages.{found_strays}
-use Rattle.world_laws.proofs.HeldSectors.{never_none}
-use Rattle.world_laws.specs.LegalMounts.{IsLegalMount}
-use Rattle.world_laws.proofs.WinnerLines.{winner_stands}
 use Rattle.world_laws.specs.UnitChunks.{chunk_after}
 use Rattle.world_laws.proofs.KeptChunks.{found_stays}
 use Rattle.world_laws.proofs.KnownChunks.{IsKnownTo, known_first, known_later}
@@ -53,23 +47,6 @@ no_stray i w b line legal begins numbered =
         let none : is_some (start_of found x) ≡ false =
         not_true (is_some (start_of found x)) (first_of (not (is_some (start_of found x))) (not (are_empty found x)) stray) in
         absurd (not_both (is_some (start_of found line)) numbered (ap (λ n. is_some (start_of found n)) (sym (eqb-true x line e)) ∙ none))
-
--- ---- the line of a winner whose sector wasn't taken since
-
-no_last : {X : Type 0} (xs : List X) → last_or None xs ≡ None → xs ≡ []
-no_last [] e = refl
-no_last (x ∷ xs) e = absurd (never_none x xs e)
-
-none_taken : (log : List Logged) (lba : ℕ) (t : Taken) → last_take log lba ≡ None → IsAmong (takes log) t → t.mark.lba ≡ lba → ⊥
-none_taken log lba t last among its =
-    let at : IsAmong (filter (λ (u : Taken). u.mark.lba == lba) (takes log)) t =
-    in_filter (λ (u : Taken). u.mark.lba == lba) (takes log) t among (ap (λ n. n == lba) its ∙ same_number lba) in
-    none-some t (ap (λ (xs : List Taken). slice_get xs at.0) (sym (no_last (filter (λ (u : Taken). u.mark.lba == lba) (takes log)) last)) ∙ at.1)
-
-pub winners_line : (i : Image) (w : World) (lba : ℕ) (r : Record) → IsLegalMount i w → last_take (log_of w 0) lba ≡ None
-    → winner (counted (found_image i (log_of w))) lba ≡ Some r → life_of (log_of w 0) r.line ≡ AsFound
-winners_line i w lba r mount last wins =
-    winner_stands i w lba r mount.accepted mount.legal wins (λ t among its. absurd (none_taken (log_of w 0) lba t last among its))
 
 -- ---- its chunks
 
@@ -108,3 +85,8 @@ module _ (i : Image) (w : World) (legal : IsLegal i w) (b : Begun) (begins : beg
       let found : length (found_image i (log_of w)).units ≡ length i.units = length_found i (log_of w) (begun (log_of w 0)) in
       same_units (known_image i (log_of w)) (found_image i (log_of w)) line (known ∙ sym found)
       (λ unit below. let has = got_within i.units unit (omega arith) in ap is_on (known_kept unit has.0 has.1))
+
+  pub media_units : line_units (media i (log_of w)) line ≡ line_units (found_image i (log_of w)) line
+  media_units =
+      let found : length (found_image i (log_of w)).units ≡ length i.units = length_found i (log_of w) (begun (log_of w 0)) in
+      same_units (media i (log_of w)) (found_image i (log_of w)) line (length_media i (log_of w) ∙ sym found) (λ unit below. ap is_on (media_kept unit))

@@ -1,9 +1,8 @@
 -- What a sector holds after the history, by its slot.
-use Rattle.std.proofs.Common.{◌≡◌, ℕ, ◌+◌, ◌-◌, ◌<◌, ◌≤◌, Some, None, Option, List, length, refl, sym, ap, ◌∙◌, arith}
+use Rattle.std.proofs.Common.{◌≡◌, ℕ, ◌+◌, ◌-◌, ◌<◌, ◌≤◌, Some, None, Option, List, refl, sym, ap, ◌∙◌, arith}
 use Rattle.std.specs.Prelude.{slice_get}
 use Rattle.std.specs.List.{find, range_with_len}
 use Rattle.std.specs.Option.{option_map_or, option_map}
-use Rattle.std.proofs.lemmas.List.FromFn.{length-map-range_with_len}
 use Rattle.std.proofs.lemmas.Option.{slice_get-map}
 use Rattle.pblk_model.specs.declared.shape.Shape.{Shape}
 use Rattle.pblk_model.specs.Bytes.{zeros}
@@ -42,24 +41,17 @@ found_sector i w lba inside =
     slice_get-map (sector_of (found_image i (log_of w))) (range_with_len 0 (found_image i (log_of w)).shape.capacity) lba
     ∙ ap (option_map (sector_of (found_image i (log_of w)))) (range_get 0 (found_image i (log_of w)).shape.capacity lba (omega arith) ∙ ap (λ n. Some n) same)
 
-in_contents : (i : Image) (w : World) (lba : ℕ) → lba < i.shape.capacity → lba < length (contents (found_image i (log_of w)))
-in_contents i w lba inside =
-    let capacity : (found_image i (log_of w)).shape.capacity ≡ i.shape.capacity = ap (λ (s : Shape). s.capacity) (found_shape i w) in
-    let count : length (contents (found_image i (log_of w))) ≡ (found_image i (log_of w)).shape.capacity =
-    length-map-range_with_len (sector_of (found_image i (log_of w))) 0 (found_image i (log_of w)).shape.capacity in
-    omega arith
-
 abbrev pub now : Image → World → List (List ℕ)
 now i w = histories.after (contents (found_image i (log_of w))) (history (log_of w 0))
 
 pub latest : (i : Image) (w : World) (lba : ℕ) (t : Taken) → IsSimpleMount i w → lba < i.shape.capacity → last_take (log_of w 0) lba ≡ Some t
     → slice_get (now i w) lba ≡ Some t.entry.sector
-latest i w lba t simple inside last = latest_sector i w (contents (found_image i (log_of w))) lba t simple (in_contents i w lba inside) last
+latest i w lba t simple inside last = latest_sector i w lba t simple.mount inside last
 
 -- a sector that wasn't written in this mount holds what was found
 first : (i : Image) (w : World) (lba : ℕ) → IsSimpleMount i w → lba < i.shape.capacity → last_take (log_of w 0) lba ≡ None
     → slice_get (now i w) lba ≡ Some (sector_of (found_image i (log_of w)) lba)
-first i w lba simple inside none = first_sector i w (contents (found_image i (log_of w))) lba simple (in_contents i w lba inside) none
+first i w lba simple inside none = first_sector i w lba simple.mount inside none
     ∙ found_sector i w lba inside
 
 -- ---- a sector that isn't written

@@ -6,6 +6,8 @@ pub mod UnitSteps
 pub mod Programs
 pub mod OtherUnits
 pub mod UnitStays
+pub mod SpentStays
+pub mod FreedWorlds
 pub mod Fetches
 pub mod Known
 pub mod Levels
@@ -18,13 +20,12 @@ pub mod UnitEvents
 pub mod Readied
 pub mod Worlds
 pub mod Borne
-pub mod LineAddresses
 pub mod LiveUnits
 pub mod HeldSectors
-pub mod ReadBlocks
 pub mod FoundLines
 pub mod FoundRecords
 pub mod EntryBlocks
 pub mod WinnerBlocks
 pub mod SlotBlocks
 pub mod LatestSectors
+pub mod CopySources

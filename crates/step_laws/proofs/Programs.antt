@@ -1,6 +1,6 @@
 -- The program of a unit's stripe that isn't answered, where all stripes before it are. It may be
 -- made, and be noted by its outcome.
-use Rattle.std.proofs.Common.{◌≡◌, ℕ, ◌<◌, ◌==◌, suc, true, false, None, Some, Option, List, [], ◌∷◌, length, take, refl, sym, subst, ap, ◌∙◌, arith}
+use Rattle.std.proofs.Common.{◌≡◌, ℕ, ◌<◌, ◌==◌, suc, false, None, Some, Option, List, [], ◌∷◌, length, take, refl, sym, subst, ap, ◌∙◌, arith}
 use Rattle.std.specs.Prelude.{slice_get}
 use Rattle.std.proofs.lemmas.Bool.{eqb-true}
 use Rattle.std.proofs.lemmas.Option.{slice_get_within}
@@ -10,20 +10,17 @@ use Rattle.pblk_model.specs.Chunk.{Chunk}
 use Rattle.pblk_model.specs.ChunkStep.{ChunkCommand, Write, Done, refusal}
 use Rattle.pblk_model.specs.UnitLog.{UnitEvent, Answered, Failed, Stopped}
 use Rattle.pblk_model.specs.Image.{Image}
-use Rattle.pblk_layout.specs.Live.{is_live}
 use Rattle.pblk_laws.specs.LineBlocks.{chunk_in}
 use Rattle.pblk_world.specs.Events.{Maker, Logged}
 use Rattle.pblk_world.specs.World.{World, log_of, known, unit_events, media}
 use Rattle.pblk_world.specs.EngineLog.{Begun, begun, Placed, placements, placed_on, answers}
-use Rattle.pblk_world.specs.Lines.{known_image}
 use Rattle.pblk_world.specs.Commanding.{is_program, has_stopped, ended_stripes, IsCommand, IsStripe}
 use Rattle.pblk_world.specs.Answering.{IsOfStripe, MayLand, MayLose, MayOfferAgain}
 use Rattle.pblk_world.specs.Legal.{IsLegal}
 use Rattle.core_laws.specs.SimpleMounts.{IsSimpleMount}
 use Rattle.core_laws.specs.PlacerOf.{unanswered_on}
 use Rattle.core_laws.proofs.UnitTurns.{filtered_is}
-use Rattle.core_laws.proofs.KeptLines.{all_online}
-use Rattle.core_laws.proofs.OfferedStripes.{live_inside as live_within}
+use Rattle.core_laws.proofs.KeptLines.{on_drive}
 use Rattle.step_laws.specs.NextEvents.{CanProgram}
 use Rattle.step_laws.specs.Whole.{unit_step, after_unit, next_event}
 use Rattle.step_laws.proofs.Knowing.{known_whole}
@@ -31,8 +28,7 @@ use Rattle.step_laws.proofs.NextProgram.{has_chunk_of, program_is_taken}
 use Rattle.step_laws.proofs.UnitSteps.{unit_log, new_event, engine_log, has_begun, engine_longer, unit_next, is_new}
 use Rattle.lemmas.proofs.Lists.{IsAmong}
 use Rattle.lemmas.proofs.Maps.{from_filter}
-use Rattle.lemmas.proofs.Parts.{all_at}
-use Rattle.pblk_world.proofs.LinesLemmas.{length_known}
+use Rattle.lemmas.proofs.Parts.{contained_among}
 
 -- ---- the stripe
 
@@ -40,14 +36,8 @@ pub unit_in_range : (i : Image) (w : World) (unit k : ℕ) (p : Placed) → IsSi
     → unit < units i.shape
 unit_in_range i w unit k p simple there =
     let among : IsAmong (placements (log_of w 0)) p = from_filter (λ (q : Placed). q.stripe.unit == unit) (placements (log_of w 0)) p (k, there) in
-    let live : is_live (known_image i (log_of w)) p.stripe.line p.stripe.unit ≡ true =
-    all_at (λ (p : Placed). is_live (known_image i (log_of w)) p.stripe.line p.stripe.unit ≡ true) (placements (log_of w 0)) among.0 p among.1
-    (all_online i w simple) in
     let on : p.stripe.unit ≡ unit = eqb-true p.stripe.unit unit (filtered_is (λ (q : Placed). q.stripe.unit == unit) (placements (log_of w 0)) k p there) in
-    let within : p.stripe.unit < length (known_image i (log_of w)).units = live_within (known_image i (log_of w)) p.stripe.line p.stripe.unit live in
-    let count : length (known_image i (log_of w)).units ≡ length i.units = length_known i (log_of w) in
-    let fit : length i.units ≡ units i.shape = simple.mount.fit.units in
-    omega arith
+    subst (λ n. n < units i.shape) on (on_drive i w p simple.mount (contained_among (placements (log_of w 0)) p among))
 
 -- its unit has the chunk
 pub program_chunk : (i : Image) (w : World) (unit : ℕ) (p : Placed) → IsSimpleMount i w → unanswered_on (log_of w 0) unit ≡ Some p

@@ -1,5 +1,5 @@
 -- What a step of a unit leaves as it was.
-use Rattle.std.proofs.Common.{◌≡◌, ℕ, ◌==◌, zero, suc, List, ◌∷◌, refl, ap, ◌∙◌}
+use Rattle.std.proofs.Common.{◌≡◌, ℕ, ◌==◌, zero, suc, List, ◌∷◌, refl, sym, subst, ap, ◌∙◌}
 use Rattle.pblk_model.specs.Image.{Image}
 use Rattle.pblk_model.specs.UnitLog.{UnitEvent}
 use Rattle.pblk_world.specs.Events.{Maker, Logged, Step}
@@ -17,11 +17,8 @@ use Rattle.world_laws.proofs.ToldSince.{same_told}
 use Rattle.core_laws.specs.OpenedLines.{live_now, open_line, open_lines}
 use Rattle.core_laws.specs.PlacerOf.{placing_of}
 use Rattle.core_laws.specs.RowsOf.{rows_of}
-use Rattle.core_laws.specs.SimpleMounts.{IsSimpleMount}
 use Rattle.core_laws.specs.SlotOf.{slot_of}
 use Rattle.core_laws.specs.WindowOf.{window_from}
-use Rattle.core_laws.proofs.SimpleMounts.{engine_plain}
-use Rattle.core_laws.proofs.PlainLogs.{none_freed}
 use Rattle.core_laws.specs.LeftOpenings.{left_openings}
 use Rattle.step_laws.specs.Whole.{unit_step}
 use Rattle.step_laws.proofs.OtherUnits.{with_units, AreAlike, room_beside, rows_beside, live_beside, line_beside, left_beside, lines_beside, older_rows_beside, slot_beside, placing_beside}
@@ -66,6 +63,9 @@ module _ (i : Image) (w : World) (unit : ℕ) (e : UnitEvent) (maker : Maker) wh
     founds = λ n. (told_then i (log_of w) swapped n (told legal)).found;
     images = λ n. image_same i (engine_prefix n (log_of w)) (engine_prefix n swapped) (told_then i (log_of w) swapped n (told legal));
   }
+
+  pub told_stays : IsLegal i w → AreSameTold i (log_of w) after_
+  told_stays legal = subst (AreSameTold i (log_of w)) (sym is_swapped) (told legal)
 
   pub known_stays : IsLegal i w → known_image i after_ ≡ known_image i (log_of w)
   known_stays legal = ap (known_image i) is_swapped ∙ whole legal

@@ -24,10 +24,11 @@ use Rattle.pblk_laws.proofs.Winners.{winner_is_winner}
 use Rattle.core_laws.specs.OpenedLines.{live_now}
 use Rattle.step_laws.specs.SlotBlocks.{IsOfWinner, IsOfLatest, IsBlockOfSlot}
 use Rattle.step_laws.proofs.EntryBlocks.{unit_within}
-use Rattle.step_laws.proofs.FoundLines.{media_kept, no_stray, units_kept, winners_line}
+use Rattle.core_laws.proofs.LatestLines.{winner_as_found}
+use Rattle.step_laws.proofs.FoundLines.{media_kept, no_stray, units_kept}
 use Rattle.step_laws.proofs.FoundRecords.{IsFoundRecord, winner_found, IsPlaced, block_placed, sealed_mark}
 use Rattle.step_laws.proofs.LiveUnits.{live_units}
-use Rattle.step_laws.proofs.ReadBlocks.{IsWinnersSlot}
+use Rattle.core_laws.proofs.ReadBlocks.{IsWinnersSlot}
 use Rattle.pblk_world.proofs.LinesLemmas.{length_found}
 use Rattle.world_laws.specs.LegalMounts.{IsLegalMount}
 use Rattle.world_laws.specs.UnitChunks.{chunk_after}
@@ -76,7 +77,7 @@ block_of_winner i w b lba line at q r mount begins last wins slot =
     let placed : IsPlaced (found_image i (log_of w)) r.line r.at is.block =
     block_placed (found_image i (log_of w)) r.line r.at is.block some whole is.within is.there in
     let numbered : is_some (start_of (found_image i (log_of w)) r.line) ≡ true = ap (λ (o : Option StartRecord). is_some o) is.starts in
-    let life : life_of (log_of w 0) r.line ≡ AsFound = winners_line i w lba r mount last wins in
+    let life : life_of (log_of w 0) r.line ≡ AsFound = winner_as_found i w mount lba r last wins in
     let kept : list_any (λ stray. stray == r.line) b.beginning.strays ≡ false = no_stray i w b r.line mount.legal begins numbered in
     let range : r.line < i.shape.chunks = subst (λ (s : Shape). r.line < s.chunks) shape is.in_range in
     let drive : placed.unit < units i.shape =

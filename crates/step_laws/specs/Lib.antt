@@ -1,4 +1,5 @@
 pub mod Whole
+pub mod FreedWorlds
 pub mod NextEvents
 pub mod Opened
 pub mod SlotBlocks

@@ -65,17 +65,17 @@ static ANSWERED: [(&Shape, bool, &str, &str); 22] = [
         "thread\nw 0 16 1\nw 16 16 1\nw 32 8 1\nf\nr 24 16\nw 0 1 2\nf\nr 24 16\n",
         "placed 0 16\nplaced 16 16\nplaced 32 8\nsynced 40 40\nwords 40 40 1 1 1 1 1 1 1 1 1 1 1 1 1 1 1 1\nplaced 40 1\nsynced 41 41\nwords 41 41 1 1 1 1 1 1 1 1 1 1 1 1 1 1 1 1\nclosed\nevents 23 closed 24 open 4\nevents 15 closed 24 open 4\n",
     ),
-    // Three rounds over all sectors, and four.
+    // Each full line keeps a live sector, so none is freed. There is room for twelve writes of 16 sectors.
     (
         &SMALL,
         false,
-        "thread\nw 0 16 1\nw 16 16 1\nw 32 16 1\nw 48 16 1\nw 0 16 2\nw 16 16 2\nw 32 16 2\nw 48 16 2\nw 0 16 3\nw 16 16 3\nw 32 16 3\nw 48 16 3\nf\nr 0 16\n",
+        "thread\nw 48 16 1\nw 16 16 1\nw 16 16 1\nw 44 16 1\nw 16 16 2\nw 40 16 2\nw 16 16 2\nw 16 16 2\nw 0 16 3\nw 16 16 3\nw 16 16 3\nw 16 16 3\nf\nr 0 16\n",
         "placed 0 16\nplaced 16 16\nplaced 32 16\nplaced 48 16\nplaced 64 16\nplaced 80 16\nplaced 96 16\nplaced 112 16\nplaced 128 16\nplaced 144 16\nplaced 160 16\nplaced 176 16\nsynced 192 192\nwords 192 192 3 3 3 3 3 3 3 3 3 3 3 3 3 3 3 3\nclosed\nevents 37 closed 24 closed 24 closed 24 closed 24 open 20\nevents 36 closed 24 closed 24 closed 24 closed 24 open 16\n",
     ),
     (
         &SMALL,
         false,
-        "thread\nw 0 16 1\nw 16 16 1\nw 32 16 1\nw 48 16 1\nw 0 16 2\nw 16 16 2\nw 32 16 2\nw 48 16 2\nw 0 16 3\nw 16 16 3\nw 32 16 3\nw 48 16 3\nw 0 16 4\nw 16 16 4\nw 32 16 4\nw 48 16 4\nf\nr 0 16\n",
+        "thread\nw 48 16 1\nw 16 16 1\nw 16 16 1\nw 44 16 1\nw 16 16 2\nw 40 16 2\nw 16 16 2\nw 16 16 2\nw 0 16 3\nw 16 16 3\nw 16 16 3\nw 16 16 3\nw 0 16 4\nw 16 16 4\nw 32 16 4\nw 48 16 4\nf\nr 0 16\n",
         "placed 0 16\nplaced 16 16\nplaced 32 16\nplaced 48 16\nplaced 64 16\nplaced 80 16\nplaced 96 16\nplaced 112 16\nplaced 128 16\nplaced 144 16\nplaced 160 16\nplaced 176 16\nworn 208 204\nworn 208 204\nworn 208 204\nworn 208 204\nsynced 192 192\nwords 192 192 3 3 3 3 3 3 3 3 3 3 3 3 3 3 3 3\nclosed\nevents 37 closed 24 closed 24 closed 24 closed 24 open 20\nevents 36 closed 24 closed 24 closed 24 closed 24 open 16\n",
     ),
     // A line is full to its last address: a close leaves its end record where there are Free lines enough, and
@@ -89,14 +89,14 @@ static ANSWERED: [(&Shape, bool, &str, &str); 22] = [
     (
         &SMALL,
         false,
-        "thread\nw 0 16 1\nw 16 16 1\nw 32 16 1\nw 48 16 1\nw 0 16 2\nw 16 16 2\nw 32 16 2\nw 48 16 2\nw 0 16 3\nw 16 16 3\nw 32 16 3\nw 48 16 3\nw 0 8 4\n",
+        "thread\nw 48 16 1\nw 16 16 1\nw 16 16 1\nw 44 16 1\nw 16 16 2\nw 40 16 2\nw 16 16 2\nw 16 16 2\nw 0 16 3\nw 16 16 3\nw 16 16 3\nw 16 16 3\nw 0 8 4\n",
         "placed 0 16\nplaced 16 16\nplaced 32 16\nplaced 48 16\nplaced 64 16\nplaced 80 16\nplaced 96 16\nplaced 112 16\nplaced 128 16\nplaced 144 16\nplaced 160 16\nplaced 176 16\nplaced 192 8\nclosed\nevents 30 closed 24 closed 24 closed 24 closed 24 closed 24\nevents 30 closed 24 closed 24 closed 24 closed 24 closed 24\n",
     ),
     // Writes up to the last position that is ever granted.
     (
         &SMALL,
         false,
-        "thread\nw 0 16 1\nw 16 16 1\nw 32 16 1\nw 48 16 1\nw 0 16 2\nw 16 16 2\nw 32 16 2\nw 48 16 2\nw 0 16 3\nw 16 16 3\nw 32 16 3\nw 48 16 3\nw 0 16 4\nw 0 12 4\nw 0 1 5\nw 0 16 5\nw 0 8 5\nw 0 1 6\nw 1 16 7\nw 1 5 7\nw 1 4 8\nw 1 3 8\nw 1 3 9\nw 1 3 9\nw 1 3 9\nw 1 1 10\nr 0 5\nf\nw 2 2 11\nw 2 1 12\nf\nw 2 1 13\nw 2 1 14\nf\nw 2 1 15\nf\nr 0 6\n",
+        "thread\nw 48 16 1\nw 16 16 1\nw 16 16 1\nw 44 16 1\nw 16 16 2\nw 40 16 2\nw 16 16 2\nw 16 16 2\nw 0 16 3\nw 16 16 3\nw 16 16 3\nw 16 16 3\nw 0 16 4\nw 0 12 4\nw 0 1 5\nw 0 16 5\nw 0 8 5\nw 0 1 6\nw 1 16 7\nw 1 5 7\nw 1 4 8\nw 1 3 8\nw 1 3 9\nw 1 3 9\nw 1 3 9\nw 1 1 10\nr 0 5\nf\nw 2 2 11\nw 2 1 12\nf\nw 2 1 13\nw 2 1 14\nf\nw 2 1 15\nf\nr 0 6\n",
         "placed 0 16\nplaced 16 16\nplaced 32 16\nplaced 48 16\nplaced 64 16\nplaced 80 16\nplaced 96 16\nplaced 112 16\nplaced 128 16\nplaced 144 16\nplaced 160 16\nplaced 176 16\nworn 208 204\nplaced 192 12\nplaced 204 1\nworn 221 213\nplaced 205 8\nplaced 213 1\nworn 230 219\nplaced 214 5\nworn 223 222\nplaced 219 3\nplaced 222 3\nplaced 225 3\nplaced 228 3\nworn 232 231\nwords 231 231 6 9 9 9 7\nsynced 231 231\nplaced 231 2\nworn 234 233\nsynced 233 233\nplaced 233 1\nworn 235 234\nsynced 234 234\nworn 235 234\nsynced 234 234\nwords 234 234 6 9 13 11 7 7\nclosed\nevents 39 closed 24 closed 24 closed 24 closed 24 closed 24 closed 24\nevents 39 closed 24 closed 24 closed 24 closed 24 closed 24 closed 24\n",
     ),
     (
@@ -141,7 +141,7 @@ static ANSWERED: [(&Shape, bool, &str, &str); 22] = [
         &LATE_READS,
         false,
         "thread\nw 0 16 1\nw 16 16 1\nw 32 8 1\nf\nr 0 16\nw 0 16 2\nw 16 16 2\nw 32 16 2\nw 0 4 3\nf\nr 0 16\nr 32 8\n",
-        "placed 0 16\nplaced 16 16\nplaced 32 8\nsynced 40 40\nwords 40 40 1 1 1 1 1 1 1 1 1 1 1 1 1 1 1 1\nplaced 40 16\nplaced 56 16\nplaced 72 16\nplaced 88 4\nsynced 92 92\nwords 92 92 3 3 3 3 2 2 2 2 2 2 2 2 2 2 2 2\nwords 92 92 2 2 2 2 2 2 2 2\nclosed\nevents 34 closed 24 closed 24 open 8\nevents 22 closed 24 closed 24 open 8\n",
+        "placed 0 16\nplaced 16 16\nplaced 32 8\nsynced 40 40\nwords 40 40 1 1 1 1 1 1 1 1 1 1 1 1 1 1 1 1\nplaced 40 16\nplaced 56 16\nplaced 72 16\nplaced 88 4\nsynced 92 92\nwords 92 92 3 3 3 3 2 2 2 2 2 2 2 2 2 2 2 2\nwords 92 92 2 2 2 2 2 2 2 2\nclosed\nevents 35 open 8 closed 24\nevents 23 open 8 closed 24\n",
     ),
     // Each unit has its stripe of a line.
     (

@@ -1,5 +1,5 @@
-use Rattle.core_laws.proofs.HistorySectors.{latest_sector, first_sector, history_count}
+use Rattle.core_laws.proofs.HistorySectors.{first_sector, history_count, latest_sector, unwritten_sector, written_sector}
 use Rattle.core_laws.proofs.laws.the_history_is_the_latest.Goals as goal
 
 pub returns : goal.returns
-returns c = record { written = latest_sector; unwritten = first_sector; count = history_count }
+returns c = record { latest = latest_sector; found = first_sector; written = written_sector; unwritten = unwritten_sector; count = history_count }

@@ -5,6 +5,6 @@ use Rattle.line_table.proofs.opening.free_lines.Given as goal
 
 abbrev pub invariant-loop-line : goal.invariant-loop-line
 invariant-loop-line l = record {
-  before : (n : ℕ) → n < l.line → has l.free.words n ≡ is_free_at l.rows n;
-  behind : (n : ℕ) → l.line ≤ n → has l.free.words n ≡ false;
+  before : (n : ℕ) → n < l.line → has l.free n ≡ is_free_at l.rows n;
+  behind : (n : ℕ) → l.line ≤ n → has l.free n ≡ false;
 }

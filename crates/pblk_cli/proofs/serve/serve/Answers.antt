@@ -1,4 +1,4 @@
-use Rattle.pblk_cli.specs.Serving.{IsNewTarget}
+use Rattle.pblk_cli.specs.Serving.{IsNewTarget, units_of}
 use Rattle.pblk_cli.proofs.Servings.{refused_back, refused_served, served_back, served_if}
 use Rattle.pblk_cli.proofs.serve.serve.Goals as goal
 
@@ -28,11 +28,15 @@ returns-in-Ok-clause-served g c =
 
 pub returns-in-Err-clause-back : goal.returns-in-Err-clause-back
 returns-in-Err-clause-back g c =
-    refused_back c.args.shape.now c.args.units.items c.in-Err.field-0.units.items c.requires.accepted c.requires.fit c.requires.armed
-    c.in-Err.ensures.refused c.in-Err.ensures.refused_wear
+    refused_back c.args.shape.now c.args.units.items c.in-Err.field-0.units.items c.in-Err.ensures.refused
+    (c.a_refused_opening_is_of_a_legal_world.ensures c.args.shape.now (units_of c.args.units.items) (units_of c.in-Err.field-0.units.items)
+    c.requires.accepted c.requires.fit c.requires.armed c.in-Err.ensures.refused)
+    c.in-Err.ensures.refused_wear
 
 pub returns-in-Err-clause-served : goal.returns-in-Err-clause-served
 returns-in-Err-clause-served g c =
-    refused_served c.args.shape.now c.args.units.items c.in-Err.field-0.units.items c.requires.accepted c.requires.fit c.requires.armed
-    c.in-Err.ensures.refused c.args.script.now c.in-Err.field-0.cause c.not_opened.result c.in-Err.ensures.cause c.not_opened.ensures.named
-    c.not_opened.ensures.memory c.requires.fits
+    refused_served c.args.shape.now c.args.units.items c.in-Err.field-0.units.items c.in-Err.ensures.refused
+    (c.a_refused_opening_is_of_a_legal_world.ensures c.args.shape.now (units_of c.args.units.items) (units_of c.in-Err.field-0.units.items)
+    c.requires.accepted c.requires.fit c.requires.armed c.in-Err.ensures.refused)
+    c.args.script.now c.in-Err.field-0.cause c.not_opened.result c.in-Err.ensures.cause c.not_opened.ensures.named
+    c.not_opened.ensures.memory c.requires.accepted c.requires.fits

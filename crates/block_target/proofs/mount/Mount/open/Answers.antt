@@ -6,7 +6,7 @@ use Rattle.pblk_core.specs.Filling.{Filling}
 use Rattle.pblk_core.specs.Named.{pad_of}
 use Rattle.block_target.specs.Mount.{IsMount, mount_view}
 use Rattle.block_target.specs.Opened.{IsReady, IsOpened}
-use Rattle.block_target.proofs.Begun.{all_written, can_begin, first_grant, found_fit, mount_opens, opened_view}
+use Rattle.block_target.proofs.Begun.{all_written, can_begin, first_beating, found_fit, mount_opens, opened_view}
 use Rattle.block_target.proofs.mount.Mount.open.Goals as goal
 
 pub ready_drive-requires-clause-armed : goal.ready_drive-requires-clause-armed
@@ -31,6 +31,18 @@ new-requires-2-clause-can g c =
     subst (λ xs. IsReady s (map g.U.Unit.model xs) new c.in-Ok.ready) c.as_mut_slice.ensures.value c.in-Ok.ensures.ready in
     can_begin s old new c.in-Ok.ready.found c.requires.accepted c.requires.fit c.requires.armed ready.found
 
+pub free_lines-requires : goal.free_lines-requires
+free_lines-requires g c =
+    let s = c.args.shape.now in
+    let old = map g.U.Unit.model c.args.units.items in
+    let new = map g.U.Unit.model c.ready_drive.new.units in
+    let ready : IsReady s old new c.in-Ok.ready =
+    subst (λ xs. IsReady s (map g.U.Unit.model xs) new c.in-Ok.ready) c.as_mut_slice.ensures.value c.in-Ok.ensures.ready in
+    record {
+      beating = first_beating s old new c.in-Ok.ready.found c.requires.accepted c.requires.fit c.requires.armed ready.found c.in-Ok-new-2.heart
+          c.in-Ok-new-2.ensures.begun;
+    }
+
 pub invariant_of-result : goal.invariant_of-result
 invariant_of-result g c =
     let s = c.args.shape.now in
@@ -42,14 +54,14 @@ invariant_of-result g c =
     subst (λ xs. IsReady s (map g.U.Unit.model xs) new c.in-Ok.ready) c.as_mut_slice.ensures.value c.in-Ok.ensures.ready in
     let back : take c.args.units.len (made ++ drop (length made) items) ≡ made =
     all_written c.args.units.len made items c.as_mut_slice.result.now c.ready_drive.auto.units c.as_mut_slice.ensures.value c.args.units.ok.0 in
-    let heart = c.in-Ok-new-2.heart in
+    let heart = c.free_lines.new.heart in
     let stripe = c.in-Ok-new.stripe in
     subst (λ xs. IsMount
-    (mount_view s c.in-Ok.ready.drives c.in-Ok.ready.deeds (map g.U.Unit.model xs) (map g.U.Unit.wear xs) heart.granted (pad_of heart.core))
+    (mount_view s c.in-Ok.ready.drives c.free_lines.new.deeds (map g.U.Unit.model xs) (map g.U.Unit.wear xs) heart.granted (pad_of heart.core))
     heart stripe) (sym back)
-    (mount_opens s old new c.in-Ok.ready.found c.requires.accepted c.requires.fit c.requires.armed ready.found c.in-Ok.ready.drives c.in-Ok.ready.deeds
-    (map g.U.Unit.wear made) heart stripe ready.drives ready.deeds c.in-Ok-new-2.ensures.begun c.in-Ok-new-2.ensures.resting
-    (ap (λ (x : Filling). x.shape) c.in-Ok-new.ensures))
+    (mount_opens s old new c.in-Ok.ready.found c.requires.accepted c.requires.fit c.requires.armed ready.found (map g.U.Unit.wear made) c.in-Ok-new-2.heart
+    heart stripe c.in-Ok.ready.drives c.in-Ok.ready.deeds c.free_lines.new.deeds c.in-Ok-new-2.ensures.begun ready.drives ready.deeds c.free_lines.ensures
+    c.in-Ok-new-2.ensures.resting (ap (λ (x : Filling). x.shape) c.in-Ok-new.ensures))
 
 pub returns-in-Ok-new-2-clause-opened : goal.returns-in-Ok-new-2-clause-opened
 returns-in-Ok-new-2-clause-opened g c =
@@ -62,12 +74,12 @@ returns-in-Ok-new-2-clause-opened g c =
     subst (λ xs. IsReady s (map g.U.Unit.model xs) new c.in-Ok.ready) c.as_mut_slice.ensures.value c.in-Ok.ensures.ready in
     let back : take c.args.units.len (made ++ drop (length made) items) ≡ made =
     all_written c.args.units.len made items c.as_mut_slice.result.now c.ready_drive.auto.units c.as_mut_slice.ensures.value c.args.units.ok.0 in
-    let heart = c.in-Ok-new-2.heart in
-    let grant = first_grant s old new c.in-Ok.ready.found c.requires.accepted c.requires.fit c.requires.armed ready.found heart c.in-Ok-new-2.ensures.begun in
+    let heart = c.free_lines.new.heart in
     subst (λ xs. IsOpened s old
-    (mount_view s c.in-Ok.ready.drives c.in-Ok.ready.deeds (map g.U.Unit.model xs) (map g.U.Unit.wear xs) heart.granted (pad_of heart.core))) (sym back)
-    (opened_view s old new c.in-Ok.ready.found c.in-Ok.ready.drives c.in-Ok.ready.deeds (map g.U.Unit.wear made) heart.granted (pad_of heart.core)
-    ready.found ready.drives ready.deeds grant c.in-Ok-new-2.ensures.pad)
+    (mount_view s c.in-Ok.ready.drives c.free_lines.new.deeds (map g.U.Unit.model xs) (map g.U.Unit.wear xs) heart.granted (pad_of heart.core))) (sym back)
+    (opened_view s old new c.in-Ok.ready.found c.requires.accepted c.requires.fit c.requires.armed ready.found (map g.U.Unit.wear made) c.in-Ok-new-2.heart
+    heart c.in-Ok-new.stripe c.in-Ok.ready.drives c.in-Ok.ready.deeds c.free_lines.new.deeds c.in-Ok-new-2.ensures.begun ready.drives ready.deeds
+    c.free_lines.ensures c.in-Ok-new-2.ensures.pad)
 
 pub returns-in-Ok-new-2-clause-sound : goal.returns-in-Ok-new-2-clause-sound
 returns-in-Ok-new-2-clause-sound g c = (invariant_of-result g c).sound

@@ -12,13 +12,14 @@ use Rattle.block_target.specs.Arm.{WasGiven, last_of}
 use Rattle.block_target.specs.Deeds.{Deed, Does, Lands, Offers, world_of}
 use Rattle.scan_recovery.specs.Lost.{IsLostAt, NoneLost}
 use Rattle.block_target.specs.Mount.{IsMount, MountView, engine_log, mount_view, work_in}
+use Rattle.block_target.proofs.FreedMounts.{longer_freed}
 use Rattle.block_target.proofs.GivenCommands.{was_done, was_halted}
 use Rattle.block_target.proofs.GoingOn.{Leaves, moved_on}
 use Rattle.block_target.proofs.MountLemmas.{is_named, same_from}
-use Rattle.block_target.proofs.PumpedProgram.{IsToProgram, WerePlaced, before_of, beating_programmed, landed_done, landed_more, leaves_landed, leaves_stopped, may_be_landed, placed_more, rests_idle, rests_offered, stopped_lost, stopped_more, stripe_there, to_program, unit_within, with_answer}
+use Rattle.block_target.proofs.PumpedProgram.{IsToProgram, WerePlaced, beating_landed, beating_programmed, beating_stopped, before_of, landed_done, landed_more, leaves_landed, leaves_stopped, may_be_landed, placed_more, rests_idle, rests_offered, stopped_lost, stopped_more, stripe_there, to_program, unit_within, with_answer}
 use Rattle.block_target.proofs.UnitLists.{unit_inside_all, unit_there, units_set, wear_kept}
 use Rattle.block_target.proofs.mount.Mount.program.Given.{Over}
-use Rattle.block_target.proofs.mount.Mount.program.Goals.{After-add, After-landed, After-stopped}
+use Rattle.block_target.proofs.mount.Mount.program.Goals.{After-add, After-free_lines, After-free_lines-in-Err}
 use Rattle.block_target.proofs.mount.Mount.program.Goals as goal
 
 same_least : {a b : ℕ} → a ≡ b → a ≤ b
@@ -139,7 +140,16 @@ landed-requires-clause-may g c =
     let done = was_done (given g d).event.outcome c.program-answer.result c.in-Ok.field-0 c.in-Ok.is (given g d).told in
     may_be_landed (m g d) (deeds g d) (ready g d) (was g d) (new g d) (there g d) (given g d) done
 
-module _ (g : Over) (c : After-landed g) where
+pub free_lines-requires : goal.free_lines-requires
+free_lines-requires g c =
+    let d = (goal.at.free_lines-requires g c).After-add in
+    let done = was_done (given g d).event.outcome c.program-answer.result c.in-Ok.field-0 c.in-Ok.is (given g d).told in
+    record {
+      beating = beating_landed (m g d) (deeds g d) (ready g d) (was g d) (new g d) (there g d) (given g d) done c.landed.new.self
+          c.landed.ensures.beats;
+    }
+
+module _ (g : Over) (c : After-free_lines g) where
   abbrev d : After-add g
   d = (goal.at.invariant_of-self g c).After-add
 
@@ -149,13 +159,15 @@ module _ (g : Over) (c : After-landed g) where
   last : c.add-in-Ok.new.self ≡ with_answer (deeds g d) (into g d).stripe.unit (last_of (new g d)) (Lands (into g d).stripe.unit)
   last = lasts g d Lands c.add-in-Ok.new.self c.add-in-Ok.ensures
 
-  leaves_ok : Leaves (v g d) (moved_on (v g d) c.add-in-Ok.new.self (us g d) (wear g d) c.landed.new.self.granted (pad_of c.landed.new.self.core))
-      c.landed.new.self (into g d)
+  leaves_ok : Leaves (v g d)
+      (moved_on (v g d) c.free_lines.new.deeds (us g d) (wear g d) c.free_lines.new.heart.granted (pad_of c.free_lines.new.heart.core))
+      c.free_lines.new.heart (into g d)
   leaves_ok = leaves_landed (m g d) (deeds g d) (ready g d) (was g d) (new g d) (there g d) (given g d) done c.add-in-Ok.new.self (us g d) (wear g d)
       c.landed.new.self (into g d) (placed_more (v g d) (into g d) (deeds g d) (were g d)) last (units_are g d) c.landed.ensures.beats
       (rests_idle c.self.inside.heart.core c.place.new.self.core c.landed.new.self.core (into g d).stripe.unit (m g d).resting c.place.ensures.rows
       c.landed.ensures.rows c.landed.ensures.idle) (c.place.ensures.shape ∙ (m g d).stripe) (same_wear g d)
       (le_trans c.place.ensures.granted c.landed.ensures.granted) (c.landed.ensures.pad ∙ c.place.ensures.pad)
+      c.free_lines.new.heart c.free_lines.new.deeds c.free_lines.ensures
 
 pub invariant_of-self : goal.invariant_of-self
 invariant_of-self g c = (leaves_ok g c).mount
@@ -164,7 +176,7 @@ pub returns-in-Ok-clause-same : goal.returns-in-Ok-clause-same
 returns-in-Ok-clause-same g c = same_from c.self.view_is (leaves_ok g c).same
 
 pub returns-in-Ok-clause-pad : goal.returns-in-Ok-clause-pad
-returns-in-Ok-clause-pad g c = c.landed.ensures.pad ∙ c.place.ensures.pad ∙ ap (λ (v : MountView). v.pad) c.self.view_is
+returns-in-Ok-clause-pad g c = (leaves_ok g c).pad ∙ ap (λ (v : MountView). v.pad) c.self.view_is
 
 pub returns-in-Ok-clause-done : goal.returns-in-Ok-clause-done
 returns-in-Ok-clause-done g c = λ ok.
@@ -175,8 +187,9 @@ returns-in-Ok-clause-done g c = λ ok.
 pub returns-in-Ok-clause-more : goal.returns-in-Ok-clause-more
 returns-in-Ok-clause-more g c =
     let d = (goal.at.returns-in-Ok-clause-more g c).After-add in
-    subst (λ (old : MountView). length (engine_log old) < length (log_of (world_of (v g d).image.shape c.add-in-Ok.new.self) 0)) c.self.view_is
-    (landed_more (m g d) (deeds g d) (ready g d) (was g d) (new g d) (there g d) (given g d) (done g c) c.add-in-Ok.new.self (last g c))
+    subst (λ (old : MountView). length (engine_log old) < length (log_of (world_of (v g d).image.shape c.free_lines.new.deeds) 0)) c.self.view_is
+    (longer_freed (v g d) c.add-in-Ok.new.self c.free_lines.new.deeds c.landed.new.self c.free_lines.new.heart c.free_lines.ensures
+    (landed_more (m g d) (deeds g d) (ready g d) (was g d) (new g d) (there g d) (given g d) (done g c) c.add-in-Ok.new.self (last g c)))
 
 -- ---- it was stopped
 
@@ -188,7 +201,17 @@ stopped-requires-clause-beating g c =
 pub stopped-requires-clause-under_way : goal.stopped-requires-clause-under_way
 stopped-requires-clause-under_way g c = c.place.ensures.under_way
 
-module _ (g : Over) (c : After-stopped g) where
+pub free_lines-requires-in-Err : goal.free_lines-requires-in-Err
+free_lines-requires-in-Err g c =
+    let d = (goal.at.free_lines-requires-in-Err g c).After-add in
+    let stops = was_halted (given g d).event.outcome c.program-answer.result c.in-Err.field-0 c.in-Err.is c.program-answer.ensures.unfailing
+    (given g d).told in
+    record {
+      beating = beating_stopped (m g d) (deeds g d) (ready g d) (was g d) (new g d) (there g d) (given g d) stops.0 stops.1
+          c.stopped.new.self c.stopped.ensures.beats;
+    }
+
+module _ (g : Over) (c : After-free_lines-in-Err g) where
   abbrev e : After-add g
   e = (goal.at.invariant_of-self-in-Err g c).After-add
 
@@ -198,13 +221,15 @@ module _ (g : Over) (c : After-stopped g) where
   last_err : c.add-in-Err.new.self ≡ with_answer (deeds g e) (into g e).stripe.unit (last_of (new g e)) (Offers (into g e).stripe.unit)
   last_err = lasts g e Offers c.add-in-Err.new.self c.add-in-Err.ensures
 
-  leaves_err : Leaves (v g e) (moved_on (v g e) c.add-in-Err.new.self (us g e) (wear g e) c.stopped.new.self.granted (pad_of c.stopped.new.self.core))
-      c.stopped.new.self (into g e)
+  leaves_err : Leaves (v g e)
+      (moved_on (v g e) c.free_lines-in-Err.new.deeds (us g e) (wear g e) c.free_lines-in-Err.new.heart.granted (pad_of c.free_lines-in-Err.new.heart.core))
+      c.free_lines-in-Err.new.heart (into g e)
   leaves_err = leaves_stopped (m g e) (deeds g e) (ready g e) (was g e) (new g e) (there g e) (given g e) stops.0 stops.1 c.add-in-Err.new.self (us g e)
       (wear g e) c.stopped.new.self (into g e) (placed_more (v g e) (into g e) (deeds g e) (were g e)) last_err (units_are g e) c.stopped.ensures.beats
       (rests_offered c.self.inside.heart.core c.place.new.self.core c.stopped.new.self.core (into g e).stripe.unit (m g e).resting c.place.ensures.rows
       c.stopped.ensures.rows c.stopped.ensures.offered) (c.place.ensures.shape ∙ (m g e).stripe) (same_wear g e)
       (le_trans c.place.ensures.granted (same_least (sym c.stopped.ensures.granted))) (c.stopped.ensures.pad ∙ c.place.ensures.pad)
+      c.free_lines-in-Err.new.heart c.free_lines-in-Err.new.deeds c.free_lines-in-Err.ensures
 
 pub invariant_of-self-in-Err : goal.invariant_of-self-in-Err
 invariant_of-self-in-Err g c = (leaves_err g c).mount
@@ -213,7 +238,7 @@ pub returns-in-Err-clause-same : goal.returns-in-Err-clause-same
 returns-in-Err-clause-same g c = same_from c.self.view_is (leaves_err g c).same
 
 pub returns-in-Err-clause-pad : goal.returns-in-Err-clause-pad
-returns-in-Err-clause-pad g c = c.stopped.ensures.pad ∙ c.place.ensures.pad ∙ ap (λ (v : MountView). v.pad) c.self.view_is
+returns-in-Err-clause-pad g c = (leaves_err g c).pad ∙ ap (λ (v : MountView). v.pad) c.self.view_is
 
 pub returns-in-Err-clause-lost : goal.returns-in-Err-clause-lost
 returns-in-Err-clause-lost g c =
@@ -226,6 +251,7 @@ returns-in-Err-clause-lost g c =
 pub returns-in-Err-clause-more : goal.returns-in-Err-clause-more
 returns-in-Err-clause-more g c =
     let d = (goal.at.returns-in-Err-clause-more g c).After-add in
-    subst (λ (old : MountView). length (engine_log old) < length (log_of (world_of (v g d).image.shape c.add-in-Err.new.self) 0)) c.self.view_is
+    subst (λ (old : MountView). length (engine_log old) < length (log_of (world_of (v g d).image.shape c.free_lines-in-Err.new.deeds) 0)) c.self.view_is
+    (longer_freed (v g d) c.add-in-Err.new.self c.free_lines-in-Err.new.deeds c.stopped.new.self c.free_lines-in-Err.new.heart c.free_lines-in-Err.ensures
     (stopped_more (m g d) (deeds g d) (ready g d) (was g d) (new g d) (there g d) (given g d) (stops g c).0 (stops g c).1 c.add-in-Err.new.self
-    (last_err g c))
+    (last_err g c)))

@@ -44,11 +44,12 @@ address-unit-requires-clause-line g c =
     let core = c.self.inside.heart.core in
     let simple = m.sound.legal in
     let st = m.heart.stands in
+    let inside : c.args.lba < v.image.shape.capacity = subst (λ (x : MountView). c.args.lba < x.image.shape.capacity) (sym c.self.view_is) c.requires.lba in
     let slot : slot_of v.image (logs_in v) c.args.lba ≡ Media c.in-Media.line c.in-Media.at c.in-Media.position =
     sym (c.look.ensures v.image (world_in v) simple.mount st) ∙ c.in-Media.is in
     let is : IsBlockOfSlot v.image (logs_in v) c.args.lba c.in-Media.line c.in-Media.at c.in-Media.position =
     on_the_drive v.image (world_in v) m.sound.beginning c.args.lba c.in-Media.line c.in-Media.at c.in-Media.position simple
-    m.sound.has_begun slot in
+    m.sound.has_begun inside slot in
     line_inside v core c.args.lba c.in-Media.line c.in-Media.at c.in-Media.position simple.mount st is
 
 pub address-unit-requires-clause-live : goal.address-unit-requires-clause-live
@@ -59,11 +60,12 @@ address-unit-requires-clause-live g c =
     let core = c.self.inside.heart.core in
     let simple = m.sound.legal in
     let st = m.heart.stands in
+    let inside : c.args.lba < v.image.shape.capacity = subst (λ (x : MountView). c.args.lba < x.image.shape.capacity) (sym c.self.view_is) c.requires.lba in
     let slot : slot_of v.image (logs_in v) c.args.lba ≡ Media c.in-Media.line c.in-Media.at c.in-Media.position =
     sym (c.look.ensures v.image (world_in v) simple.mount st) ∙ c.in-Media.is in
     let is : IsBlockOfSlot v.image (logs_in v) c.args.lba c.in-Media.line c.in-Media.at c.in-Media.position =
     on_the_drive v.image (world_in v) m.sound.beginning c.args.lba c.in-Media.line c.in-Media.at c.in-Media.position simple
-    m.sound.has_begun slot in
+    m.sound.has_begun inside slot in
     line_live v core c.args.lba c.in-Media.line c.in-Media.at c.in-Media.position simple.mount st is
 
 pub address-unit-requires-clause-inside : goal.address-unit-requires-clause-inside
@@ -74,11 +76,12 @@ address-unit-requires-clause-inside g c =
     let core = c.self.inside.heart.core in
     let simple = m.sound.legal in
     let st = m.heart.stands in
+    let inside : c.args.lba < v.image.shape.capacity = subst (λ (x : MountView). c.args.lba < x.image.shape.capacity) (sym c.self.view_is) c.requires.lba in
     let slot : slot_of v.image (logs_in v) c.args.lba ≡ Media c.in-Media.line c.in-Media.at c.in-Media.position =
     sym (c.look.ensures v.image (world_in v) simple.mount st) ∙ c.in-Media.is in
     let is : IsBlockOfSlot v.image (logs_in v) c.args.lba c.in-Media.line c.in-Media.at c.in-Media.position =
     on_the_drive v.image (world_in v) m.sound.beginning c.args.lba c.in-Media.line c.in-Media.at c.in-Media.position simple
-    m.sound.has_begun slot in
+    m.sound.has_begun inside slot in
     at_inside v core c.args.lba c.in-Media.line c.in-Media.at c.in-Media.position simple.mount st is
 
 pub fetch-requires-clause-there : goal.fetch-requires-clause-there
@@ -89,11 +92,12 @@ fetch-requires-clause-there g c =
     let core = c.self.inside.heart.core in
     let simple = m.sound.legal in
     let st = m.heart.stands in
+    let inside : c.args.lba < v.image.shape.capacity = subst (λ (x : MountView). c.args.lba < x.image.shape.capacity) (sym c.self.view_is) c.requires.lba in
     let slot : slot_of v.image (logs_in v) c.args.lba ≡ Media c.in-Media.line c.in-Media.at c.in-Media.position =
     sym (c.look.ensures v.image (world_in v) simple.mount st) ∙ c.in-Media.is in
     let is : IsBlockOfSlot v.image (logs_in v) c.args.lba c.in-Media.line c.in-Media.at c.in-Media.position =
     on_the_drive v.image (world_in v) m.sound.beginning c.args.lba c.in-Media.line c.in-Media.at c.in-Media.position simple
-    m.sound.has_begun slot in
+    m.sound.has_begun inside slot in
     let there : IsFetchable v c.address-unit.result.0 c.in-Media.line c.address-unit.result.1 is.block.sector =
     fetchable v core c.args.lba c.in-Media.line c.in-Media.at c.in-Media.position simple.mount st is c.address-unit.result c.address-unit.ensures in
     let same : IsFetchable c.args.self.now c.address-unit.result.0 c.in-Media.line c.address-unit.result.1 is.block.sector =
@@ -145,7 +149,7 @@ returns-in_ok-fetch-in-Media-clause-latest g c = λ ok.
     sym (c.look.ensures v.image (world_in v) simple.mount st) ∙ c.in-Media.is in
     let is : IsBlockOfSlot v.image (logs_in v) c.args.lba c.in-Media.line c.in-Media.at c.in-Media.position =
     on_the_drive v.image (world_in v) m.sound.beginning c.args.lba c.in-Media.line c.in-Media.at c.in-Media.position simple
-    m.sound.has_begun slot in
+    m.sound.has_begun inside slot in
     let there : IsFetchable v c.address-unit.result.0 c.in-Media.line c.address-unit.result.1 is.block.sector =
     fetchable v core c.args.lba c.in-Media.line c.in-Media.at c.in-Media.position simple.mount st is c.address-unit.result c.address-unit.ensures in
     let same : IsFetchable c.args.self.now c.address-unit.result.0 c.in-Media.line c.address-unit.result.1 is.block.sector =

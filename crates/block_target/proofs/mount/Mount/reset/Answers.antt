@@ -12,13 +12,14 @@ use Rattle.scan_recovery.specs.Lost.{IsLostAt, NoneLost}
 use Rattle.block_target.specs.Arm.{WasGiven}
 use Rattle.block_target.specs.Deeds.{Deed, NotesReset, world_of}
 use Rattle.block_target.specs.Mount.{MountView, IsMount, engine_log, logs_in, mount_view, work_in, world_in}
+use Rattle.block_target.proofs.FreedMounts.{longer_freed}
 use Rattle.block_target.proofs.GivenCommands.{was_done, was_halted}
 use Rattle.block_target.proofs.GoingOn.{Leaves, moved_on}
 use Rattle.block_target.proofs.MountLemmas.{is_named, same_from}
-use Rattle.block_target.proofs.PumpedReset.{before_of, has_line, leaves_reset, leaves_stopped, may_be_noted, reset_deeds, reset_kept, reset_longer, reset_there, stopped_lost, unit_within}
+use Rattle.block_target.proofs.PumpedReset.{beating_noted, before_of, has_line, leaves_reset, leaves_stopped, may_be_noted, reset_deeds, reset_kept, reset_longer, reset_there, stopped_lost, unit_within}
 use Rattle.block_target.proofs.UnitLists.{unit_inside_all, unit_there, units_set, wear_kept}
 use Rattle.block_target.proofs.mount.Mount.reset.Given.{Over}
-use Rattle.block_target.proofs.mount.Mount.reset.Goals.{After-add, After-reset_done}
+use Rattle.block_target.proofs.mount.Mount.reset.Goals.{After-add, After-free_lines}
 use Rattle.block_target.proofs.mount.Mount.reset.Goals as goal
 
 pub reset-answer-requires : goal.reset-answer-requires
@@ -129,7 +130,17 @@ reset_done-requires-clause-may g c =
     let state = c.state-state.ensures in
     may_be_noted (m g d) c.args.line c.args.unit (is g d) (was g d) (new g d) (there g d) (given g d) done c.state-state.result.0 state.0 state.1 state.2
 
-module _ (g : Over) (c : After-reset_done g) where
+pub free_lines-requires : goal.free_lines-requires
+free_lines-requires g c =
+    let d = (goal.at.free_lines-requires g c).After-add in
+    let done = was_done (given g d).event.outcome c.reset-answer.result c.in-Ok.field-0 c.in-Ok.is (given g d).told in
+    let state = c.state-state.ensures in
+    record {
+      beating = beating_noted (m g d) c.args.line c.args.unit (is g d) (was g d) (new g d) (there g d) (given g d) done c.state-state.result.0 state.0
+          c.reset_done.new.self state.1 state.2 c.reset_done.ensures.beats;
+    }
+
+module _ (g : Over) (c : After-free_lines g) where
   abbrev e : After-add g
   e = (goal.at.invariant_of-self-2 g c).After-add
 
@@ -140,13 +151,13 @@ module _ (g : Over) (c : After-reset_done g) where
   last = c.add-2.ensures ∙ ap (λ (ds : List Deed). ds ++ NotesReset c.args.unit ∷ []) c.add.ensures
 
   leaves_ok : Leaves (v g e)
-      (moved_on (v g e) c.add-2.new.self (us g e) (wear g e) c.reset_done.new.self.granted (pad_of c.reset_done.new.self.core))
-      c.reset_done.new.self c.self.inside.stripe
+      (moved_on (v g e) c.free_lines.new.deeds (us g e) (wear g e) c.free_lines.new.heart.granted (pad_of c.free_lines.new.heart.core))
+      c.free_lines.new.heart c.self.inside.stripe
   leaves_ok =
       let state = c.state-state.ensures in
       leaves_reset (m g e) c.args.line c.args.unit (is g e) (was g e) (new g e) (there g e) (given g e) done c.add-2.new.self (us g e) (wear g e)
       c.reset_done.new.self c.state-state.result.0 state.0 state.1 state.2 last (units_are g e) c.reset_done.ensures.beats c.reset_done.ensures.rows
-      (same_wear g e) c.reset_done.ensures.granted c.reset_done.ensures.pad
+      (same_wear g e) c.reset_done.ensures.granted c.reset_done.ensures.pad c.free_lines.new.heart c.free_lines.new.deeds c.free_lines.ensures
 
 pub invariant_of-self-2 : goal.invariant_of-self-2
 invariant_of-self-2 g c = (leaves_ok g c).mount
@@ -160,8 +171,12 @@ returns-clause-done g c = λ ok.
     subst (λ (old : MountView). NoneLost old.units (us g d)) c.self.view_is
     (reset_kept (m g d) c.args.line c.args.unit (is g d) (was g d) (new g d) (there g d) (given g d) (done g c) (us g d) (units_are g d))
 
+pub returns-clause-pad : goal.returns-clause-pad
+returns-clause-pad g c = (leaves_ok g c).pad ∙ ap (λ (x : MountView). x.pad) c.self.view_is
+
 pub returns-clause-more : goal.returns-clause-more
 returns-clause-more g c = λ ok.
     let d = (goal.at.returns-clause-more g c).After-add in
-    subst (λ (old : MountView). length (engine_log old) < length (log_of (world_of (v g d).image.shape c.add-2.new.self) 0)) c.self.view_is
-    (reset_longer (m g d) c.args.line c.args.unit (is g d) (was g d) (new g d) (there g d) (given g d) (done g c) c.add-2.new.self (last g c))
+    subst (λ (old : MountView). length (engine_log old) < length (log_of (world_of (v g d).image.shape c.free_lines.new.deeds) 0)) c.self.view_is
+    (longer_freed (v g d) c.add-2.new.self c.free_lines.new.deeds c.reset_done.new.self c.free_lines.new.heart c.free_lines.ensures
+    (reset_longer (m g d) c.args.line c.args.unit (is g d) (was g d) (new g d) (there g d) (given g d) (done g c) c.add-2.new.self (last g c)))

@@ -19,6 +19,7 @@ returns-clause-closed g c =
       sound = c.settle.ensures.sound;
       same = c.settle.ensures.same;
       pad = c.settle.ensures.pad ∙ ap (max was.mount.pad) wanted;
+      none_to_free = c.is_settled.ensures;
       between = c.ends_between.ensures;
     } in (
       v,

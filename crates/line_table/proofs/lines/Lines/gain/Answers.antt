@@ -9,7 +9,7 @@ invariant_of-self c =
     let inside : c.args.line < length c.self.inside.rows.items = omega (arith, c.requires.inside, ap (λ (t : Table). length t.rows) c.self.view_is) in
     let here : slice_get c.self.inside.rows.items c.args.line ≡ Some c.index_mut.result.now =
     slice_get_read c.self.inside.rows.items _ c.args.line c.index_mut.result.now refl inside c.index_mut.ensures.value in
-    keeps_same c.self.inside.layout c.self.inside.free.words c.self.inside.free_addresses c.self.inside.rows.items c.args.line c.index_mut.result.now _
+    keeps_same c.self.inside.layout c.self.inside.free c.self.inside.free_addresses c.self.inside.rows.items c.args.line c.index_mut.result.now _
     c.self.invariant here refl refl
 
 pub returns : goal.returns

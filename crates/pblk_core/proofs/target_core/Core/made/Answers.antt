@@ -1,14 +1,17 @@
-use Rattle.std.proofs.Common.{◌<◌, Some, length, refl, sym, subst, ap, ap₂, ◌∙◌}
-use Rattle.std.specs.Prelude.{replicate, slice_get}
+use Rattle.std.proofs.Common.{◌<◌, ◌≢◌, Some, [], length, refl, sym, subst, ap, ap₂, ◌∙◌}
+use Rattle.std.specs.Prelude.{map, replicate, slice_get}
 use Rattle.std.specs.FinMap as fin
 use Rattle.pblk_model.specs.declared.shape.Shape.{Shape}
+use Rattle.pblk_model.specs.Found.{Rise}
+use Rattle.pblk_model.specs.Shape.{units}
 use Rattle.stripe_placer.specs.Placing.{nothing_placed}
 use Rattle.world_laws.specs.MountBeginnings.{seq_after}
 use Rattle.core_laws.specs.OnlineUnits.{all_online}
 use Rattle.core_laws.specs.OpeningTables.{IsOpeningTable, slot_found}
 use Rattle.pblk_core.specs.OlderLines.{older_found}
-use Rattle.pblk_core.specs.Resets.{resets_found}
-use Rattle.pblk_core.proofs.FitFindings.{stray_inside, head_inside, small_seq, opening_table}
+use Rattle.pblk_core.specs.LineNotes.{head_start, note_found}
+use Rattle.pblk_core.specs.Resets.{resets_found, used_below}
+use Rattle.pblk_core.proofs.FitFindings.{stray_inside, stray_used, head_inside, small_seq, opening_table}
 use Rattle.pblk_core.proofs.target_core.Core.made.Goals as goal
 
 pub found_map-requires-clause-inside : goal.found_map-requires-clause-inside
@@ -18,14 +21,22 @@ pub new-requires-5-clause-lines : goal.new-requires-5-clause-lines
 new-requires-5-clause-lines c =
     λ k line there. stray_inside c.args.shape.now c.args.found.now k line c.requires.fit (ap (λ xs. slice_get xs k) (sym c.as_slice-2.ensures) ∙ there)
 
+pub new-requires-5-clause-rise : goal.new-requires-5-clause-rise
+new-requires-5-clause-rise c = subst Rise (sym c.as_slice-2.ensures) c.requires.fit.strays_rise
+
+pub new-requires-5-clause-some : goal.new-requires-5-clause-some
+new-requires-5-clause-some c =
+    λ k line there. subst (λ chunks. used_below c.args.shape.now chunks line (units c.args.shape.now) ≢ []) (sym c.as_slice-states.ensures)
+    (stray_used c.args.shape.now c.args.found.now k line c.requires.fit (ap (λ xs. slice_get xs k) (sym c.as_slice-2.ensures) ∙ there))
+
 pub next_seq-seq-requires-clause-inside : goal.next_seq-seq-requires-clause-inside
 next_seq-seq-requires-clause-inside c =
-    λ line is. subst (λ xs. line < length xs) (sym c.as_slice-3.ensures) (head_inside c.args.shape.now c.args.found.now line c.requires.fit is)
+    λ line is. subst (λ xs. line < length xs) (sym c.as_slice-4.ensures) (head_inside c.args.shape.now c.args.found.now line c.requires.fit is)
 
 pub next_seq-seq-requires-clause-small : goal.next_seq-seq-requires-clause-small
 next_seq-seq-requires-clause-small c =
     λ line seq row there is. small_seq c.args.shape.now c.args.found.now line seq row c.requires.fit
-    (ap (λ xs. slice_get xs line) (sym c.as_slice-3.ensures) ∙ there) is
+    (ap (λ xs. slice_get xs line) (sym c.as_slice-4.ensures) ∙ there) is
 
 pub returns : goal.returns
 returns c = record {
@@ -42,7 +53,12 @@ returns c = record {
         taker = c.in_ok-lines.ensures.taker;
       }));
   live = c.in_ok-live.ensures ∙ ap (λ (s : Shape). all_online s c.args.found.now s.chunks) c.new-layout.ensures;
-  resets = c.in_ok-resets.ensures ∙ ap₂ (λ chunks strays. resets_found c.args.shape.now chunks strays) c.as_slice-states.ensures c.as_slice-2.ensures;
+  resets = c.in_ok-resets.ensures.left ∙ ap₂ (λ chunks strays. resets_found c.args.shape.now chunks strays) c.as_slice-states.ensures c.as_slice-2.ensures;
+  used = λ line inside. c.in_ok-resets.ensures.used line inside
+      ∙ ap (λ chunks. used_below c.args.shape.now chunks line (units c.args.shape.now)) c.as_slice-states.ensures;
+  used_lines = c.in_ok-resets.ensures.lines;
+  notes = c.in_ok-notes.ensures.rows ∙ ap (map note_found) c.as_slice-3.ensures;
+  newest = c.in_ok-notes.ensures.newest ∙ ap (λ lines. head_start lines c.args.found.now.head c.args.found.now.front) c.as_slice-3.ensures;
   size = c.in_ok-new.ensures.size;
   freed = c.in_ok-new.ensures.first;
   entries = c.in_ok-new.ensures.empty;
@@ -58,8 +74,8 @@ returns c = record {
   left = refl;
   in_flight = refl;
   none_answered = c.in_ok-answers.ensures ∙ ap (λ n. replicate n 0) c.units.ensures;
-  seq = c.next_seq-seq.ensures ∙ ap (λ lines. seq_after lines c.args.found.now.head) c.as_slice-3.ensures;
-  first_seq = c.next_seq-seq.ensures ∙ ap (λ lines. seq_after lines c.args.found.now.head) c.as_slice-3.ensures;
+  seq = c.next_seq-seq.ensures ∙ ap (λ lines. seq_after lines c.args.found.now.head) c.as_slice-4.ensures;
+  first_seq = c.next_seq-seq.ensures ∙ ap (λ lines. seq_after lines c.args.found.now.head) c.as_slice-4.ensures;
   own_capacity = refl;
-  rows = c.in_ok-older_rows.ensures ∙ ap (older_found c.args.found.now.end) c.as_slice-4.ensures;
+  rows = c.in_ok-older_rows.ensures ∙ ap (older_found c.args.found.now.end) c.as_slice-5.ensures;
 }

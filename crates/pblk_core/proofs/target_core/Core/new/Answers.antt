@@ -8,8 +8,8 @@ use Rattle.pblk_core.proofs.target_core.Core.new.Goals as goal
 
 pub returns-clause-stands : goal.returns-clause-stands
 returns-clause-stands c = if_made c.made.result (IsMadeOn c.args.shape.now c.args.found) _
-    (λ core is i w knows same mount none found.
-    made_on i w knows c.args.shape.now c.args.found core same (simple_unbegun i w mount none) none c.requires.fit found is) c.made.ensures
+    (λ core is i w knows same mount none found closed.
+    made_on i w knows c.args.shape.now c.args.found core same (simple_unbegun i w mount none) none c.requires.fit found closed is) c.made.ensures
 
 pub returns-clause-pad : goal.returns-clause-pad
 returns-clause-pad c = if_made c.made.result (IsMadeOn c.args.shape.now c.args.found) _

@@ -9,11 +9,13 @@ use Rattle.pblk_model.specs.Image.{width}
 use Rattle.pblk_meta.specs.Records.{start_numbers}
 use Rattle.pblk_world.specs.World.{log_of}
 use Rattle.pblk_world.specs.Lines.{known_image}
+use Rattle.pblk_world.specs.Starts.{start_stripes}
 use Rattle.pblk_layout.specs.Live.{units_in}
 use Rattle.line_table.specs.declared.row.LineState.TheVariants as states
 use Rattle.line_table.specs.Rows.{Changes, turned}
 use Rattle.stripe_placer.specs.Placing.{Placing, begun as line_begun}
 use Rattle.core_laws.specs.OpenedLines.{open_lines}
+use Rattle.pblk_core.specs.LineNotes.{note_opened}
 use Rattle.pblk_core.specs.Slots.{opened_slot}
 use Rattle.pblk_core.specs.Named.{next_line, next_start}
 use Rattle.pblk_core.proofs.SimpleLogs.{its_simple, simple_in}
@@ -56,6 +58,21 @@ begin-requires-clause-width c = λ line there.
     (its_simple st) st.stands may
     (sym c.least_free.ensures.least ∙ c.in-Some.is) c.index-live.ensures c.width-width.ensures.few in
     subst (λ (s : Shape). c.width-width.result ≤ units s) (st.stands.layout ∙ sym (st.stands.open_lines.shapes c.args.self.now.open.count line there)) few
+
+-- the line has a row
+pub open-requires : goal.open-requires
+open-requires c =
+    let st = c.requires.standing in
+    let may = open_is_named c.args.self.now c.requires.named in
+    let is = next_line_is st.image st.world c.args.self.now (its_simple st) st.stands may in
+    let it = chosen st.image st.world c.args.self.now c.in-Some.line c.index-live.result.now c.index-live.result.now (its_simple st) st.stands may
+    (sym c.least_free.ensures.least ∙ c.in-Some.is) c.index-live.ensures in
+    subst (λ n. n < length c.args.self.now.notes.rows.items) it.0 (subst (λ n. next_line c.args.self.now < n) (sym st.stands.notes.count) is.least.in_range)
+
+pub overflow_add-self : goal.overflow_add-self
+overflow_add-self c =
+    let few : c.args.self.now.start.seq < 2 ^ 61 = (open_is_named c.args.self.now c.requires.named).seq in
+    search rules
 
 pub turn-requires-clause-width : goal.turn-requires-clause-width
 turn-requires-clause-width c =
@@ -188,6 +205,8 @@ returns-clause-stands c = λ i w knows mount st. let simple = simple_in i w moun
     (c.args.self.now.layout.clba / c.args.self.now.layout.ws_opt) =
     ap₂ (λ g (s : Shape). g * (s.clba / s.ws_opt)) width c.shape-shape.ensures.shape in
     let live = c.bits.ensures ∙ it.1 in
+    let starts : c.start_len.result / c.shape-shape.result.now.ws_opt ≡ start_stripes c.args.self.now.layout =
+    ap₂ (λ n (s : Shape). n / s.ws_opt) c.start_len.ensures.len c.shape-shape.ensures.shape in
     opened_stands i w knows c.args.self.now _ simple st may (record {
       layout = refl;
       map = refl;
@@ -209,6 +228,9 @@ returns-clause-stands c = λ i w knows mount st. let simple = simple_in i w moun
           }) (live j) (stripes j)));
       live = refl;
       resets = refl;
+      note_rows = c.«open».ensures.rows
+          ∙ (λ j. slice_set c.args.self.now.notes.rows.items (sym it.0 j) (note_opened c.args.self.now.start.seq (front j) (starts j)));
+      newest = c.«open».ensures.newest;
       seq = refl;
       first_seq = refl;
       own_capacity = refl;

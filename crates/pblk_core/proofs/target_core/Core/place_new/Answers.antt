@@ -5,9 +5,11 @@ use Rattle.pblk_model.specs.declared.chunk.Mark.{Mark}
 use Rattle.pblk_model.specs.Chunk.{Block}
 use Rattle.stripe_placer.specs.declared.placement.StripeKind.{StripeKind}
 use Rattle.stripe_placer.specs.declared.placement.StripeKind.TheVariants as kinds
+use Rattle.core_laws.specs.ClosedLines.{top_of}
 use Rattle.core_laws.specs.StripeFor.{IsStripeFor}
 use Rattle.pblk_core.specs.Entries.{entry_blocks, placed_lines, placed_rows}
 use Rattle.pblk_core.specs.Filling.{Filling, followed_by}
+use Rattle.pblk_core.specs.LineNotes.{note_placed}
 use Rattle.pblk_core.specs.LineRecords.{blocks_at_start, blocks_at_end, end_begins}
 use Rattle.pblk_core.specs.Slots.{IsSlot, with_marks}
 use Rattle.pblk_core.proofs.SimpleLogs.{its_simple, simple_in}
@@ -27,7 +29,7 @@ use Rattle.pblk_core.specs.declared.open_lines.OpenLine.{OpenLine as KeptLine}
 use Rattle.pblk_core.specs.declared.target_core.Core.{Core}
 use Rattle.pblk_core.proofs.PlacedStripe.{IsInPart}
 use Rattle.pblk_core.proofs.WaitingEntries.{sectors_sized}
-use Rattle.pblk_core.proofs.PlacingConditions.{offer, IsFound, found, found_there, slot_is, in_the_window, few_entries, line_inside, live_room, marks_room, marks_told, end_from, end_within, left_room, placed_short, under_way_short, told_entries, unit_inside, start_stripe_is, end_stripe_is, data_stripe_is, stripe_of, IsSettledInto, settled_same, left_back, slot_there, no_positions, padded_is, told_marks}
+use Rattle.pblk_core.proofs.PlacingConditions.{offer, IsFound, found, found_there, slot_is, in_the_window, positions_small, few_entries, line_inside, live_room, marks_room, marks_told, end_from, end_within, left_room, placed_short, under_way_short, told_entries, unit_inside, start_stripe_is, end_stripe_is, data_stripe_is, stripe_of, IsSettledInto, settled_same, left_back, slot_there, no_positions, padded_is, told_marks}
 use Rattle.stripe_placer.proofs.PlacingLemmas.{placed_has, placed_shape}
 use Rattle.pblk_core.proofs.target_core.Core.place_new.Goals as goal
 use Rattle.pblk_core.proofs.UnitRows.{placed_beside}
@@ -120,6 +122,23 @@ settle_lines-requires-clause-room c = λ row there.
     let few : of.count ≤ sd.image.shape.ws_opt = few_entries sd.image sd.world core.placer.entries.pad its.0 of its.1 in
     subst (λ n. row.live + n < 2 ^ 32) (sym (ap (λ (qs : List ℕ). length qs) told ∙ sym its.1.count))
     (live_room sd.image sd.world core of.line of.count row (its_simple sd) sd.stands there few)
+
+pub place-requires-clause-inside : goal.place-requires-clause-inside
+place-requires-clause-inside c =
+    let sd = c.requires.standing in
+    let of : Program = program c.args.self.now.placer c.args.of.now in
+    let its = offer sd.image sd.world c.args.self.now of (its_simple sd) sd.stands c.requires.next c.requires.idle in
+    subst (λ n. of.line < n) (sym sd.stands.notes.count) its.1.line
+
+pub place-requires-clause-small : goal.place-requires-clause-small
+place-requires-clause-small c = λ k q e.
+    let sd = c.requires.standing in
+    let core : Core = c.args.self.now in
+    let of : Program = program core.placer c.args.of.now in
+    let its = offer sd.image sd.world c.args.self.now of (its_simple sd) sd.stands c.requires.next c.requires.idle in
+    let told : c.positions-positions.result.now ≡ of.positions =
+    told_entries sd.image sd.world core c.placed.new.self its.0 of _ sd.stands its.1 c.placed.ensures.placed c.positions-positions.ensures in
+    positions_small sd.image sd.world core its.0 of k q (its_simple sd) sd.stands its.1 (ap (λ qs. slice_get qs k) (sym told) ∙ e)
 
 pub mark_data-requires-clause-room : goal.mark_data-requires-clause-room
 mark_data-requires-clause-room c = λ slot there.
@@ -282,6 +301,9 @@ the_rest c i v simple st f =
                 ∙ ap₂ (λ n (ms : List Mark). slice_set core.open.slots.items n (with_marks slot ms)) f.at marks ∙ sym (ap slots w.in-Data.is);
             live = ap (λ (x : Core). x.live) w.self-is;
             resets = ap (λ (x : Core). x.resets) w.self-is;
+            note_rows = λ row there. ap (λ (x : Core). x.notes.rows.items) w.self-is ∙ w.place.ensures.rows row there
+                ∙ ap (λ (qs : List ℕ). slice_set core.notes.rows.items of.line (note_placed (top_of qs) row)) told;
+            newest = ap (λ (x : Core). x.notes.newest) w.self-is ∙ w.place.ensures.newest;
             start = ap (λ (x : Core). x.start) w.self-is;
             first = ap (λ (x : Core). x.first) w.self-is;
             placed = ap (λ (x : Core). x.placed) w.self-is ∙ ap (λ n. core.placed + n) (w.from-in-Data.ensures ∙ f.now.count);
@@ -323,6 +345,8 @@ returns-clause-stands c = λ i v knows mount st. let simple = simple_in i v moun
       open_slots = rest.open_slots;
       live = rest.live;
       resets = rest.resets;
+      note_rows = rest.note_rows;
+      newest = rest.newest;
       start = rest.start;
       first = rest.first;
       placed = rest.placed;

@@ -66,7 +66,10 @@ returns-then-not-is_at-clause-stands c = λ i w event knows mount st to. let sim
       open_same = refl;
       start = refl;
       live = c.keep_unit.ensures;
-      resets = c.advance.ensures;
+      resets = c.advance.ensures.left;
+      used_lines = c.advance.ensures.lines;
+      used = c.advance.ensures.others;
+      notes = refl;
       lines_stay = λ at. let held : c.is_at.result ≡ true = c.is_at.ensures ∙ at in let gone = c.if-not-is_at.true in absurd cc;
       lines_turn = λ live off there.
           let value : c.index.result.now ≡ live = c.index.ensures ∙ get_or_from_slice_get c.keep_unit.new.live.items c.args.line live _ there in
@@ -92,7 +95,10 @@ returns-else-not-is_at-clause-stands c = λ i w event knows mount st to. let sim
       open_same = refl;
       start = refl;
       live = c.keep_unit.ensures;
-      resets = c.advance.ensures;
+      resets = c.advance.ensures.left;
+      used_lines = c.advance.ensures.lines;
+      used = c.advance.ensures.others;
+      notes = refl;
       lines_stay = λ at. refl;
       lines_turn = λ live off there. let none : c.is_at.result ≡ false = c.is_at.ensures ∙ off in let held = c.if-not-is_at.false in absurd cc;
       first = refl;

@@ -54,6 +54,7 @@ returns-clause-stands c = λ i w event knows mount st may.
       open_same = refl;
       live = refl;
       resets = refl;
+      notes = refl;
       start = refl;
       first = refl;
       placed = refl;

@@ -26,6 +26,7 @@ returns c = record {
     open_lines = refl;
     live = refl;
     resets = refl;
+    notes = refl;
     start = refl;
     first = refl;
     placed = refl;

@@ -1,0 +1,96 @@
+//! Lines that a core frees.
+
+ghost use Rattle.std.specs.Prelude.{ℕ, ◌≡◌, ◌==◌, ◌<◌, ◌↔◌, not, List, map, length, slice_index, IfSome, IfNone, OnSome, IsTrue};
+ghost use Rattle.std.specs.List.{filter};
+ghost use Rattle.pblk_model.specs.Image.{Image};
+ghost use Rattle.pblk_model.specs.StartRecord.{Row as OlderRow};
+ghost use Rattle.pblk_meta.specs.Records.{row_numbers};
+ghost use Rattle.pblk_world.specs.Events.{Free};
+ghost use Rattle.pblk_world.specs.Freeing.{MayFree};
+ghost use Rattle.pblk_world.specs.World.{World, log_of};
+ghost use Rattle.world_laws.specs.LegalMounts.{IsLegalMount};
+ghost use Rattle.core_laws.specs.Stepping.{after};
+ghost use Rattle.write_window.specs.Window as view;
+ghost use Rattle.pblk_core.specs.Freeing.{IsSpentIn, closed_count, HaveRisen};
+ghost use Rattle.pblk_core.specs.Mounts.{InItsMount};
+ghost use Rattle.pblk_core.specs.Named.{pad_of};
+ghost use Rattle.pblk_core.specs.Stands.{Stands, IsStanding};
+
+use crate::target_core::Core;
+use line_table::LineState;
+use pblk_meta::Rows;
+
+impl Core {
+    /// Frees the least line that may be freed: it is older than the newest start record that has
+    /// landed, no position in it is needed, and each of its records has a newer one below the front
+    /// synced (this project's rule "Freeing" in docs/TARGET.md). Its used chunks are to be reset
+    /// from then on. None exactly where no line may be freed; then nothing has changed.
+    pub fn free_line(&mut self) -> Option<u32>
+        requires standing { IsStanding self.old }
+        ensures may { IfSome result (λ line.
+            InItsMount self.old (λ i w. MayFree i (log_of w) line)) }
+        ensures least { IfSome result (λ line.
+            InItsMount self.old (λ i w. (m : ℕ) → m < line → ¬ MayFree i (log_of w) m)) }
+        ensures none { IfNone result (InItsMount self.old (λ i w.
+            (line : ℕ) → ¬ MayFree i (log_of w) line)) }
+        ensures stands { IfSome result (λ line. (i : Image) (w : World) (knows : List ℕ)
+            → IsLegalMount i w → Stands i (log_of w) self.old
+            → slice_index knows 0 ≡ length (log_of w 0)
+            → Stands i (after (log_of w) (Free line) knows) self.new) }
+        ensures unchanged { IfNone result (self.new ≡ self.old) }
+        ensures fewer { OnSome result (closed_count self.new < closed_count self.old) }
+        ensures window { self.new.window ≡ self.old.window }
+        ensures pad { pad_of self.new ≡ pad_of self.old }
+        ensures rows { self.new.placer.units ≡ self.old.placer.units }
+    {
+        let line = self.spent_line()?;
+        let width = self.live[line as usize].width();
+        self.lines.turn(line, LineState::Freed, width);
+        self.notes.free(line);
+        self.resets.give_up(line);
+        remove_row(&mut self.start.rows, line);
+        Some(line)
+    }
+
+    // The least line that may be freed.
+    fn spent_line(&self) -> Option<u32>
+        requires standing { IsStanding self.now }
+        ensures found { IfSome result (IsSpentIn self.now) }
+        ensures least { IfSome result (λ line. (m : ℕ) → m < line → ¬ IsSpentIn self.now m) }
+        ensures none { IfNone result ((line : ℕ) → ¬ IsSpentIn self.now line) }
+    {
+        let synced = self.window.synced().position;
+        for line in 0..self.layout.shape().chunks {
+            if self.is_spent(line, synced) {
+                return Some(line);
+            }
+        }
+        None
+    }
+
+    // Whether a line of the drive may be freed, where the front synced is this.
+    fn is_spent(&self, line: u32, synced: u64) -> bool
+        requires synced { synced ≡ (view.synced self.now.window).position }
+        requires inside { line < length self.now.lines.rows }
+        requires noted { line < length self.now.notes.rows.items }
+        ensures { IsTrue result ↔ IsSpentIn self.now line }
+    {
+        let live = self.lines.live(line);
+        let taker = self.lines.taker(line);
+        self.notes.is_spent(line, live, taker, synced)
+    }
+}
+
+// Takes out the row of a line, if there is one. The rows are of different lines.
+fn remove_row(rows: &mut Rows, line: u32)
+    requires rise { HaveRisen (map row_numbers rows.old) }
+    ensures { map row_numbers rows.new
+        ≡ filter (λ (row : OlderRow). not (row.line == line)) (map row_numbers rows.old) }
+{
+    for index in 0..rows.as_slice().len() {
+        if rows.as_slice()[index].line == line {
+            rows.remove(index);
+            return;
+        }
+    }
+}
