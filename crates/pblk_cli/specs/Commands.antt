@@ -143,7 +143,8 @@ pub record RunMade (image script : List ℕ) (options : RunOptions) (status : �
 abbrev pub RunComesTo : List ℕ → List ℕ → RunOptions → Ending → FilesView → FilesView → Type 0
 RunComesTo image script options (Gives status text) old new = RunMade image script options status text old new
 -- both files were read, and the image is refused
-RunComesTo image script options (Refuses (Image e)) old new = (bytes : List ℕ) × Holds image bytes old × IsThere script old × (image_refusal bytes ≡ Some e) × AreUntouched old new
+RunComesTo image script options (Refuses (Image e)) old new = (bytes : List ℕ) × Holds image bytes old
+    × IsThere script old × (image_refusal bytes ≡ Some e) × AreUntouched old new
 -- the image is accepted, and the script is refused
 RunComesTo image script options (Refuses (Script e)) old new = (d : Drive) × IsDriveOf image old d
     × (bytes : List ℕ) × Holds script bytes old × (read_script d.capacity bytes ≡ Err e) × AreUntouched old new

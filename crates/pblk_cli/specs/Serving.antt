@@ -64,7 +64,8 @@ pub record AreBack (s : Shape) (old new : List WornUnit) : Type 0 where
 
 -- Sessions.
 
--- a target that has begun on these units, and has done nothing else
+-- a target that has begun on these units, where each line that might be freed was freed, and that
+-- has done nothing else
 pub record IsNewTarget (s : Shape) (units : List WornUnit) (target : SerialView) : Type 0 where
   pub opened : IsOpened s (units_of units) target.mount
   pub wear : target.mount.wear ≡ wear_of units

@@ -25,7 +25,7 @@ use Rattle.pblk_laws.proofs.Runs.{start_none}
 use Rattle.pblk_world.specs.EngineLog.{Begun, begun, LineLife}
 use Rattle.pblk_world.specs.Events.{Begin}
 use Rattle.pblk_world.specs.Legal.{IsLegal}
-use Rattle.pblk_world.specs.Lines.{found_image, known_image}
+use Rattle.pblk_world.specs.Lines.{found_image}
 use Rattle.pblk_world.specs.Starts.{seq_in}
 use Rattle.pblk_world.specs.World.{World, Logs, log_of}
 use Rattle.lemmas.proofs.Maps.{filter_map_none, filter_same, made_alike}
@@ -48,7 +48,6 @@ use Rattle.pblk_core.specs.Resets.{ResetQueue, is_used_at, is_used_in, is_used_s
 use Rattle.pblk_core.specs.Stands.{AreUsed}
 use Rattle.pblk_core.specs.declared.line_notes.LineNote.{LineNote}
 use Rattle.pblk_core.specs.declared.line_notes.LineNotes.{LineNotes}
-use Rattle.pblk_core.specs.declared.line_notes.StartNote.{StartNote}
 use Rattle.core_laws.proofs.NewestStarts.{newest_begun}
 
 -- ---- the used chunks of a line

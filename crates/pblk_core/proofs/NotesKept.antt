@@ -1,6 +1,5 @@
 -- What a core notes of its lines, after an event that changes nothing of it.
 use Rattle.std.proofs.Common.{◌≡◌, ℕ, true, false, None, Some, List, sym, ap, ◌∙◌}
-use Rattle.std.specs.Prelude.{slice_get}
 use Rattle.pblk_model.specs.Image.{Image}
 use Rattle.pblk_world.specs.EngineLog.{Begun, begun, begun_by, Opening, life_of}
 use Rattle.pblk_world.specs.Events.{Decides, EngineEvent}

@@ -1,17 +1,16 @@
 -- What a core notes of its lines, after an event that changes what it notes of one: a line was
 -- opened, or a stripe of it was placed.
-use Rattle.std.proofs.Common.{◌≡◌, ◌≢◌, ◌⊎◌, inl, inr, eqb, ℕ, ◌<◌, ◌==◌, not, ◌&&◌, max, nat_lt, Bool, true, false, None, Some, Option, List, [], length, length-set, refl, sym, subst, ap, ◌∙◌, arith, if◌then◌else◌}
+use Rattle.std.proofs.Common.{◌≡◌, ◌≢◌, ◌⊎◌, inl, inr, eqb, ℕ, ◌<◌, not, max, Bool, true, false, None, Some, Option, List, length, length-set, refl, sym, subst, ap, ◌∙◌, if◌then◌else◌}
 use Rattle.std.specs.Prelude.{slice_get, slice_set}
 use Rattle.std.specs.List.{filter_map}
 use Rattle.std.specs.Option.{is_some, option_map}
 use Rattle.std.proofs.lemmas.Bool.Decides.{eqb_tells}
 use Rattle.std.proofs.lemmas.Option.{same_Some}
-use Rattle.pblk_model.specs.declared.shape.Shape.{Shape}
 use Rattle.pblk_model.specs.Image.{Image}
 use Rattle.pblk_model.specs.StartRecord.{StartRecord, start_of}
 use Rattle.pblk_world.specs.EngineLog.{AsFound, Begun, begun, Freed, is_life, LineLife, life_of, Opened, Opening}
 use Rattle.pblk_world.specs.Events.{Decides, Open, Place, Stripe}
-use Rattle.pblk_world.specs.Lines.{are_empty, found_image, has_number, is_free_line, known_image, line_data}
+use Rattle.pblk_world.specs.Lines.{are_empty, found_image, has_number, is_free_line, known_image}
 use Rattle.pblk_world.specs.Opening.{MayOpen}
 use Rattle.pblk_world.specs.Starts.{seq_in, start_stripes}
 use Rattle.pblk_world.specs.Victims.{position_in}

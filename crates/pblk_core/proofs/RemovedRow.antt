@@ -1,5 +1,5 @@
 -- Rows of rising lines, without the row of one line.
-use Rattle.std.proofs.Common.{◌≡◌, ◌≢◌, ℕ, ◌+◌, ◌<◌, ◌==◌, not, zero, suc, Bool, false, cond, Some, List, [], ◌∷◌, ◌++◌, drop, take, refl, sym, ap, ◌∙◌, arith}
+use Rattle.std.proofs.Common.{◌≡◌, ◌≢◌, ℕ, ◌<◌, ◌==◌, not, zero, suc, Bool, false, cond, Some, List, [], ◌∷◌, ◌++◌, drop, take, refl, sym, ap, ◌∙◌, arith}
 use Rattle.std.specs.Prelude.{map, slice_get}
 use Rattle.std.specs.List.{AllByRecursion, filter}
 use Rattle.std.proofs.lemmas.Option.{none-some, same_Some}

@@ -32,7 +32,7 @@ use Rattle.core_laws.proofs.OpenAddresses.{addresses_kept, failed_kept}
 use Rattle.core_laws.proofs.PlacedFront.{front_kept}
 use Rattle.core_laws.proofs.FreedMoments.{freed_before}
 use Rattle.core_laws.proofs.QuietEvents.{IsQuiet, quiet_alike, quiet_window, quiet_slot, stop_is_quiet, quiet_takes}
-use Rattle.core_laws.proofs.SimpleMounts.{engine_plain, simple_after}
+use Rattle.core_laws.proofs.SimpleMounts.{simple_after}
 use Rattle.core_laws.proofs.Steady.{AreAlike, standing_same}
 use Rattle.core_laws.proofs.Stopping.{placing_again, placing_stopped}
 use Rattle.core_laws.proofs.TakenNumbers.{first_stays}

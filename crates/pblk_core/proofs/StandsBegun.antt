@@ -1,21 +1,17 @@
 -- A core that was made of what recovery found stands for the mount's beginning.
-use Rattle.std.proofs.Common.{◌≡◌, ◌⊎◌, ℕ, ◌+◌, ◌*◌, ◌^◌, ◌<◌, ◌≤◌, ◌==◌, suc, if◌then◌else◌, Bool, true, false, Some, None, Option, List, [], ◌∷◌, ◌++◌, length, refl, sym, subst, ap, ap₂, ◌∙◌, arith, inl, inr, le_refl, add-zero, zero-add, Result, Ok, Err, cond}
+use Rattle.std.proofs.Common.{◌≡◌, ◌⊎◌, ℕ, ◌+◌, ◌^◌, ◌<◌, ◌≤◌, ◌==◌, suc, if◌then◌else◌, Bool, true, false, Some, None, Option, List, [], ◌∷◌, ◌++◌, length, refl, sym, subst, ap, ap₂, ◌∙◌, arith, inl, inr, le_refl, add-zero, zero-add, Result, Ok, Err, cond}
 use Rattle.std.specs.Prelude.{map, slice_get, IfOk}
 use Rattle.std.specs.List.{AllByRecursion, Contains, filter, filter_map, cons_option, flat_map, list_any, enumerate_from, range_with_len}
 use Rattle.std.specs.Option.{is_some, option_map, option_map_or, option_and_then}
 use Rattle.std.proofs.lemmas.Option.{none-some, same_Some}
 use Rattle.pblk_model.specs.declared.shape.Shape.{Shape}
-use Rattle.pblk_model.specs.declared.chunk.ChunkState.{ChunkState}
-use Rattle.pblk_model.specs.declared.chunk.ChunkState.TheVariants as states
 use Rattle.pblk_model.specs.declared.found.Found.{Found}
 use Rattle.pblk_model.specs.declared.found.LineRow.{LineRow}
 use Rattle.pblk_model.specs.Found.{IsFitFound, RowFits, HeadFits}
 use Rattle.pblk_model.specs.Shape.{units}
-use Rattle.pblk_model.specs.Chunk.{Chunk}
 use Rattle.pblk_model.specs.Image.{Image, IsFit}
 use Rattle.pblk_model.specs.StartRecord.{Row}
 use Rattle.pblk_meta.specs.Records.{start_numbers}
-use Rattle.pblk_laws.specs.LineBlocks.{chunk_in}
 use Rattle.pblk_world.specs.Events.{Begin, Decides, Logged}
 use Rattle.pblk_world.specs.World.{World, Logs, log_of}
 use Rattle.pblk_world.specs.EngineLog.{Opening, Taken, answers}
@@ -40,7 +36,7 @@ use Rattle.core_laws.proofs.FoundSectors.{slot_is}
 use Rattle.core_laws.proofs.FoundUnits.{lines_online}
 use Rattle.pblk_core.specs.Made.{IsMadeOn}
 use Rattle.pblk_core.specs.OlderLines.{older_found}
-use Rattle.pblk_core.specs.Resets.{is_used_state, is_used_in, is_used_at, used_units, used_below, in_line, resets_found, resets_of}
+use Rattle.pblk_core.specs.Resets.{used_units, used_below, in_line, resets_found, resets_of}
 use Rattle.pblk_core.specs.Stands.{Stands, IsOlder, left_openings}
 use Rattle.pblk_core.proofs.AnswerCounts.{counts_none}
 use Rattle.pblk_core.proofs.FoundNotes.{found_shape, notes_begun, used_begun, used_same}
@@ -48,7 +44,7 @@ use Rattle.pblk_core.specs.declared.target_core.Core.{Core}
 use Rattle.core_laws.proofs.SimpleMounts.{simple_after, simple_none}
 use Rattle.pblk_core.proofs.KeptResets.{flat_same}
 use Rattle.lemmas.proofs.Lists.{all_of}
-use Rattle.lemmas.proofs.Maps.{filter_none, filter_same}
+use Rattle.lemmas.proofs.Maps.{filter_none}
 
 -- ---- lists
 

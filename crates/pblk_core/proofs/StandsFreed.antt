@@ -1,17 +1,16 @@
 -- A core that freed a line stands for the log with that.
-use Rattle.std.proofs.Common.{◌≡◌, ◌≢◌, ℕ, ◌+◌, ◌<◌, ◌≤◌, ◌^◌, ◌==◌, not, nat_eq, Bool, true, false, Some, None, List, [], ◌∷◌, ◌++◌, length, refl, sym, subst, ap, ap₂, ◌∙◌, arith}
-use Rattle.std.specs.Prelude.{map, slice_get, slice_index, slice_set}
+use Rattle.std.proofs.Common.{◌≡◌, ℕ, ◌+◌, ◌<◌, ◌≤◌, ◌^◌, ◌==◌, not, nat_eq, Bool, true, false, Some, None, List, [], ◌∷◌, ◌++◌, length, refl, sym, subst, ap, ap₂, ◌∙◌, arith}
+use Rattle.std.specs.Prelude.{slice_get, slice_index, slice_set}
 use Rattle.std.specs.List.{AllByRecursion, filter, range_with_len, slice_index_or}
 use Rattle.std.specs.Option.{option_map}
 use Rattle.std.specs.FinMap as fin
 use Rattle.std.proofs.lemmas.Bool.{eqb-false, eqb-true}
-use Rattle.std.proofs.lemmas.List.{length-set}
-use Rattle.std.proofs.lemmas.Option.{none-some, same_Some, slice_get_within}
-use Rattle.pblk_model.specs.Image.{Image, width}
+use Rattle.std.proofs.lemmas.Option.{none-some, same_Some}
+use Rattle.pblk_model.specs.Image.{Image}
 use Rattle.pblk_model.specs.StartRecord.{Row as OlderRow}
 use Rattle.pblk_meta.specs.Records.{start_numbers}
 use Rattle.pblk_layout.specs.Live.{units_in}
-use Rattle.pblk_world.specs.EngineLog.{Opened, Opening, Taken, life_of}
+use Rattle.pblk_world.specs.EngineLog.{Taken}
 use Rattle.pblk_world.specs.Events.{Decides, Free, Logged}
 use Rattle.pblk_world.specs.Freeing.{MayFree}
 use Rattle.pblk_world.specs.Fronts.{first_position, is_users}
@@ -48,7 +47,7 @@ use Rattle.pblk_core.specs.declared.line_notes.LineNote.{LineNote}
 use Rattle.pblk_core.specs.declared.resets.LineChunk.{LineChunk}
 use Rattle.pblk_core.specs.declared.target_core.Core.{Core}
 use Rattle.pblk_core.specs.Freeing.{IsSpentIn}
-use Rattle.pblk_core.specs.LineNotes.{AreNotes, IsNoteOf, closed_by, note_freed, numbers_in}
+use Rattle.pblk_core.specs.LineNotes.{AreNotes, note_freed, numbers_in}
 use Rattle.pblk_core.specs.Resets.{GetsChunks, in_line, resets_left, resets_of, used_in, used_units}
 use Rattle.pblk_core.specs.Stands.{AreHolds, AreOpenLines, IsOlder, Stands}
 use Rattle.pblk_core.proofs.AnswerCounts.{counts_same}
@@ -56,11 +55,11 @@ use Rattle.pblk_core.proofs.FreedResets.{resets_freed}
 use Rattle.pblk_core.proofs.FullOpenings.{full_kept}
 use Rattle.pblk_core.proofs.LineBits.{bits_width}
 use Rattle.core_laws.proofs.NewestStarts.{left_kept, newest_kept, top_kept}
+use Rattle.pblk_core.proofs.NotesSet.{notes_set}
 use Rattle.pblk_core.proofs.SpentTables.{closed_where_spent, freed_where_spent, its_row}
 use Rattle.pblk_core.proofs.StandsOpened.{quiet_freed, quiet_holds}
 use Rattle.pblk_core.proofs.SteadyLines.{open_lines_left, under_way_same}
 use Rattle.lemmas.proofs.Maps.{all_filter, map_same}
-use Rattle.lemmas.proofs.Parts.{get_set_other, get_set_same}
 
 -- what a core's fields are once it freed a line
 pub record IsFreedInto (old new : Core) (line : ℕ) : Type 0 where
@@ -240,49 +239,15 @@ freed_stands i w line knows old new mount st spent own is = record {
     used_now other c closed true e = absurd (none-some c (sym (gone other e) ∙ closed))
     used_now other c closed false e =
         let was : closed_line i (log_of w) other ≡ Some c = sym (closed_beside i (log_of w) line knows other (eqb-false other line e)) ∙ closed in
-        ap (λ us. units_in (slice_index_or us other 0)) is.used ∙ st.used other c was ∙ ap (λ (j : Image). used_units j other) (sym (known_freed i (log_of w) line knows))
-
-    rows_are : new.notes.rows.items ≡ slice_set old.notes.rows.items line (note_freed spent.note)
-    rows_are = is.notes spent.note spent.is_note
-
-    row_now : slice_get new.notes.rows.items line ≡ Some (note_freed spent.note)
-    row_now = ap (λ rows. slice_get rows line) rows_are
-        ∙ get_set_same old.notes.rows.items line (note_freed spent.note) (slice_get_within old.notes.rows.items line spent.note spent.is_note)
-
-    row_was : (other : ℕ) → other ≢ line → slice_get new.notes.rows.items other ≡ slice_get old.notes.rows.items other
-    row_was other apart = ap (λ rows. slice_get rows other) rows_are ∙ get_set_other old.notes.rows.items line other (note_freed spent.note) apart
-
-    opened_now : (other : ℕ) (o : Opening) (row : LineNote) → life_of (after (log_of w) (Free line) knows 0) other ≡ Opened o
-        → slice_get new.notes.rows.items other ≡ Some row → (b : Bool) → nat_eq other line ≡ b
-        → IsNoteOf i.shape (after (log_of w) (Free line) knows 0) o row
-    opened_now other o row life there true e =
-        let its = sym (life_freed (log_of w 0) line knows) ∙ ap (life_of (new_logs 0)) (sym (eqb-true other line e)) ∙ life in absurd cc
-    opened_now other o row life there false e =
-        let apart : other ≢ line = eqb-false other line e in
-        let was : IsNoteOf i.shape (log_of w 0) o row =
-        st.notes.opened other o row (sym (life_beside (log_of w 0) line knows other apart) ∙ life) (sym (row_was other apart) ∙ there) in
-        record {
-          seq = was.seq;
-          front = was.front;
-          starts_left = was.starts_left ∙ sym (left_kept i.shape (log_of w) (Free line) knows o refl);
-          top = was.top ∙ sym (top_kept i.shape (log_of w) (Free line) knows o refl);
-        }
-
-    closed_now : (other : ℕ) (row : LineNote) → slice_get new.notes.rows.items other ≡ Some row → (b : Bool) → nat_eq other line ≡ b
-        → closed_by row ≡ closed_line i (after (log_of w) (Free line) knows) other
-    closed_now other row there true e =
-        let own : note_freed spent.note ≡ row =
-        same_Some (note_freed spent.note) row (sym row_now ∙ ap (slice_get new.notes.rows.items) (sym (eqb-true other line e)) ∙ there) in
-        ap closed_by (sym own) ∙ sym (gone other e)
-    closed_now other row there false e =
-        let apart : other ≢ line = eqb-false other line e in
-        st.notes.closed other row (sym (row_was other apart) ∙ there) ∙ sym (closed_beside i (log_of w) line knows other apart)
+        ap (λ us. units_in (slice_index_or us other 0)) is.used ∙ st.used other c was
+        ∙ ap (λ (j : Image). used_units j other) (sym (known_freed i (log_of w) line knows))
 
     notes_now : AreNotes i (after (log_of w) (Free line) knows) new.notes
-    notes_now = record {
-      count = ap length rows_are ∙ length-set old.notes.rows.items line (note_freed spent.note) ∙ st.notes.count;
-      opened = λ other o row life there. opened_now other o row life there (nat_eq other line) refl;
-      closed = λ other row there. closed_now other row there (nat_eq other line) refl;
-      newest = ap (option_map numbers_in) is.newest ∙ st.notes.newest
-          ∙ sym (newest_kept i w st.beginning (Free line) knows mount st.has_begun refl);
-    }
+    notes_now = notes_set i (log_of w) new_logs line (note_freed spent.note) old.notes new.notes inside (is.notes spent.note spent.is_note)
+        (ap (option_map numbers_in) is.newest ∙ st.notes.newest ∙ sym (newest_kept i w st.beginning (Free line) knows mount st.has_begun refl))
+        (λ o life. let its = sym (life_freed (log_of w 0) line knows) ∙ life in absurd cc)
+        (sym (closed_freed i (log_of w) line knows))
+        (λ other apart. life_beside (log_of w 0) line knows other apart)
+        (λ other apart. closed_beside i (log_of w) line knows other apart)
+        (λ other o apart life. (left_kept i.shape (log_of w) (Free line) knows o refl, top_kept i.shape (log_of w) (Free line) knows o refl))
+        st.notes

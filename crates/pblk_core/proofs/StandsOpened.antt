@@ -1,5 +1,5 @@
 -- A core that opened a line stands for the log with it.
-use Rattle.std.proofs.Common.{◌≡◌, ◌≢◌, ◌⊎◌, eqb, ℕ, ◌+◌, ◌-◌, ◌*◌, ◌/◌, ◌<◌, ◌≤◌, true, false, None, Some, List, [], ◌∷◌, ◌++◌, length, refl, sym, subst, ap, ap₂, ◌∙◌, arith, inl, inr, length-append, length-set, le_refl, take, nat_eq, Bool, if◌then◌else◌}
+use Rattle.std.proofs.Common.{◌≡◌, ◌≢◌, ◌⊎◌, ℕ, ◌+◌, ◌-◌, ◌*◌, ◌/◌, ◌<◌, ◌≤◌, true, false, None, Some, List, [], ◌∷◌, ◌++◌, length, refl, sym, subst, ap, ap₂, ◌∙◌, arith, inl, inr, length-append, length-set, le_refl, take, nat_eq, Bool, if◌then◌else◌}
 use Rattle.std.specs.Prelude.{map, slice_get, slice_set, slice_range}
 use Rattle.std.specs.List.{Contains, filter, flat_map, range_with_len}
 use Rattle.std.specs.FinMap as fin
@@ -59,7 +59,6 @@ use Rattle.pblk_core.specs.Slots.{IsSlot, opened_slot}
 use Rattle.pblk_core.specs.LineNotes.{note_opened}
 use Rattle.pblk_core.specs.Stands.{Stands, AreHolds, AreOpenLines, AreUsed, IsOpenLine, left_openings}
 use Rattle.pblk_core.specs.Named.{next_line, next_units, next_start}
-use Rattle.std.proofs.lemmas.Bool.Decides.{eqb_tells}
 use Rattle.pblk_core.proofs.OpeningFacts.{MayOpenNext, IsNextLine, next_line_is, next_may_open}
 use Rattle.core_laws.proofs.Steady.{lost_same}
 use Rattle.pblk_core.proofs.AnswerCounts.{counts_same}

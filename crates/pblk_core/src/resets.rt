@@ -23,9 +23,9 @@ pub(crate) struct LineChunk {
     pub(crate) unit: u32,
 }
 
-/// The chunks that are still to be reset. A line that was given up waits until each of its chunks is Free or
-/// Offline. The units whose chunk is neither are kept of every line, so that a line can be given up later. The
-/// next chunk is that of the least such unit of the least line that waits.
+/// The chunks that are still to be reset. A line that was given up waits until each of its chunks
+/// is Free or Offline. The units whose chunk is neither are kept of every line, so that a line can
+/// be given up later. The next chunk is that of the least such unit of the least line that waits.
 ///
 /// Each call but `new` takes the same few steps, whatever the drive, and no memory.
 ///
@@ -47,8 +47,9 @@ impl Model for Resets {
 }
 
 impl Resets {
-    /// The chunks of the strays that are neither Free nor Offline, by the states of all chunks. The strays rise,
-    /// and each has such a chunk. No other line waits. Fails only where there isn't the memory.
+    /// The chunks of the strays that are neither Free nor Offline, by the states of all chunks. The
+    /// strays rise, and each has such a chunk. No other line waits. Fails only where there isn't
+    /// the memory.
     pub(crate) fn new(
         alloc: Global,
         shape: &Shape,
@@ -132,8 +133,8 @@ impl Resets {
         self.used[line as usize] = units;
     }
 
-    /// A line waits from now on: its chunks that are neither Free nor Offline are to be reset. It has some, and
-    /// didn't wait.
+    /// A line waits from now on: its chunks that are neither Free nor Offline are to be reset. It
+    /// has some, and didn't wait.
     pub(crate) fn give_up(&mut self, line: u32)
         requires none { HasNoneOf line (resets_left self.old) }
         requires some { units_in (used_in self.old line) ≢ [] }

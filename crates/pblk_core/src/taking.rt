@@ -25,8 +25,9 @@ use pblk_model::Mark;
 use sector_pool::Entry;
 use write_window::Window;
 
-// Notes that the entry at position `by` takes over from what was the latest of its sector. The line in which
-// that was live has one live sector less. Where it has landed there, the entry took it from the line.
+// Notes that the entry at position `by` takes over from what was the latest of its sector. The line
+// in which that was live has one live sector less. Where it has landed there, the entry took it
+// from the line.
 fn supersede(slot: Slot, window: &Window, lines: &mut Lines, holds: &mut Holds, by: u64)
     requires room { 0 < length holds.old.rows.items }
     requires inside { (line : ℕ) → line_of_slot holds.old.rows.items slot ≡ Some line
@@ -77,8 +78,8 @@ fn has_landed(slot: &Slot, window: &Window) -> bool
 }
 
 impl Core {
-    /// Takes an entry of a user, which is the latest of its sector from then on. Its position is the next, and
-    /// below 2^62; its sector is below the capacity; and the window has room for it.
+    /// Takes an entry of a user, which is the latest of its sector from then on. Its position is
+    /// the next, and below 2^62; its sector is below the capacity; and the window has room for it.
     pub fn take(&mut self, entry: Entry)
         requires standing { IsStanding self.old }
         requires next { entry.position ≡ view.taken self.old.window }

@@ -81,9 +81,9 @@ pub struct Core {
 impl Core {
     /// The core of a target that opens on a drive of an accepted shape, of which recovery found
     /// this (Bjørling, González, Bonnet, FAST 2017, recovery): it begins at the end that was found.
-    /// The findings fit the shape, as those of any image of it do, and no chunk of the image is Open.
-    /// The pad target is 0. Fails only where there isn't the memory, of which it takes all that the
-    /// core uses.
+    /// The findings fit the shape, as those of any image of it do, and no chunk of the image is
+    /// Open. The pad target is 0. Fails only where there isn't the memory, of which it takes all
+    /// that the core uses.
     pub fn new(alloc: Global, shape: &Shape, found: Found) -> Result<Core, AllocError>
         requires accepted { IsAccepted shape.now }
         requires fit { IsFitFound shape.now found }

@@ -9,8 +9,8 @@ use crate::bytes::{are_zeros, put_u32, put_u64, put_zeros, u32_at, u64_at};
 use std::alloc::{AllocError, Global};
 use std::marker::Model;
 
-/// A line of an older mount: its number, its sequence number, and the position below which its records
-/// count.
+/// A line of an older mount: its number, its sequence number, and the position below which its
+/// records count.
 #[derive(Clone, Copy, Debug, PartialEq, Eq)]
 pub struct Row {
     pub line: u32,
@@ -52,8 +52,8 @@ impl Rows {
         Ok(())
     }
 
-    /// Takes out the row at an index, which is below the number of rows. The others keep their order. It takes
-    /// no memory.
+    /// Takes out the row at an index, which is below the number of rows. The others keep their
+    /// order. It takes no memory.
     pub fn remove(&mut self, index: usize)
         requires { index < length self.old }
         ensures { self.new ≡ take index self.old ++ drop (index + 1) self.old }
