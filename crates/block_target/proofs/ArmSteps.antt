@@ -12,7 +12,7 @@ use Rattle.pblk_model.specs.Chunk.{Chunk}
 use Rattle.pblk_model.specs.ChunkStep.{ChunkCommand, Read, Reset, Write, refusal}
 use Rattle.pblk_model.specs.Found.{IsUsed}
 use Rattle.pblk_model.specs.Image.{Image}
-use Rattle.pblk_model.specs.UnitLog.{Answered, Failed, Stopped, UnitEvent, UnitOutcome, IsEvent, after_event}
+use Rattle.pblk_model.specs.UnitLog.{UnitEvent, UnitOutcome, IsEvent, after_event}
 use Rattle.pblk_laws.specs.LineBlocks.{chunk_in}
 use Rattle.pblk_world.specs.Commanding.{has_stopped, is_reset, is_stopped_reset, was_stopped}
 use Rattle.pblk_world.specs.Events.{Maker, Stripe}

@@ -1,5 +1,5 @@
 -- A mount that begins with what was found of its drive.
-use Rattle.std.proofs.Common.{◌≡◌, ◌⊎◌, ℕ, ◌≤◌, Some, None, List, [], ◌∷◌, ◌++◌, drop, take, length, refl, sym, subst, ap, ap₂, ◌∙◌, arith}
+use Rattle.std.proofs.Common.{◌≡◌, ◌⊎◌, ℕ, ◌≤◌, Some, None, List, [], ◌∷◌, ◌++◌, drop, take, length, refl, sym, subst, ap, ap₂, ◌∙◌, arith, false}
 use Rattle.std.specs.Prelude.{map, slice_get}
 use Rattle.std.specs.List.{filter, flat_map}
 use Rattle.std.specs.Option.{option_map}
@@ -38,6 +38,7 @@ use Rattle.step_laws.proofs.Beginning.{mount_begins, begun_is, found_is, known_i
 use Rattle.step_laws.proofs.EngineSteps.{engine_logs, media_still}
 use Rattle.step_laws.proofs.FreedWorlds.{room_then}
 use Rattle.step_laws.proofs.Worlds.{logs_are, media_are, simple_mount, stops_there, units_quiet}
+use Rattle.pblk_core.specs.Copies.{is_copying}
 use Rattle.pblk_core.specs.Filling.{Filling}
 use Rattle.pblk_core.specs.Landing.{IsResting}
 use Rattle.pblk_core.specs.Named.{pad_of}
@@ -167,7 +168,7 @@ module _ (s : Shape) (us new : List ModelUnit) (f : Found) (accepted : IsAccepte
   -- ---- the mount
 
   abbrev first_view : List (List ℕ) → ℕ → ℕ → MountView
-  first_view wear granted pad = mount_view s (us ∷ new ∷ []) (first_deeds us new f) new wear granted pad
+  first_view wear granted pad = mount_view s (us ∷ new ∷ []) (first_deeds us new f) new wear granted pad 0
 
   unit_begins : (wear : List (List ℕ)) (granted pad number : ℕ) (u : ModelUnit) → slice_get new number ≡ Some u
       → IsUnitIn (first_view wear granted pad) number u
@@ -211,18 +212,20 @@ module _ (s : Shape) (us new : List ModelUnit) (f : Found) (accepted : IsAccepte
     frees : HaveFreed h (first_deeds us new f) end all
     frees = subst (λ (ds : List Deed). HaveFreed h ds end all) done freed
 
-    begun_mount : IsResting h.core → filling.shape ≡ s → IsMount (mount_view s (us ∷ new ∷ []) all new wear end.granted (pad_of end.core)) end filling
-    begun_mount resting stripe =
+    begun_mount : IsResting h.core → is_copying h.core ≡ false → filling.shape ≡ s
+        → IsMount (mount_view s (us ∷ new ∷ []) all new wear end.granted (pad_of end.core) 0) end filling
+    begun_mount resting idle stripe =
         let sound : IsSound (first_view wear h.granted (pad_of h.core)) = first_sound wear h.granted (pad_of h.core) in
         mount_freed sound (goes_none (first_view wear h.granted (pad_of h.core)) sound) (first_deeds us new f) wear h end filling all refl
         (has i before (knows_all s before) begins_there).0 frees (begins_level i before b legal_before.mount.legal none_before)
-        (known_is i before b legal_before.mount.legal none_before) resting stripe
+        (known_is i before b legal_before.mount.legal none_before) resting idle stripe (omega arith)
 
     -- by the lists that are kept of it
-    pub mount_opens : IsResting h.core → filling.shape ≡ s → IsMount (mount_view s drives all new wear end.granted (pad_of end.core)) end filling
-    mount_opens resting stripe =
-        subst (λ (rs : List (List ModelUnit)). IsMount (mount_view s rs all new wear end.granted (pad_of end.core)) end filling) (sym rows)
-        (begun_mount resting stripe)
+    pub mount_opens : IsResting h.core → is_copying h.core ≡ false → filling.shape ≡ s
+        → IsMount (mount_view s drives all new wear end.granted (pad_of end.core) 0) end filling
+    mount_opens resting idle stripe =
+        subst (λ (rs : List (List ModelUnit)). IsMount (mount_view s rs all new wear end.granted (pad_of end.core) 0) end filling) (sym rows)
+        (begun_mount resting idle stripe)
 
     room_now : end.granted ≡ room i (log_of (world_of s (freed_deeds (first_deeds us new f) frees.lines)))
     room_now =
@@ -232,8 +235,8 @@ module _ (s : Shape) (us new : List ModelUnit) (f : Found) (accepted : IsAccepte
         (frees.freed i first_world first_legal.mount (has i before (knows_all s before) begins_there).0).might)
 
     -- and nothing else was done
-    pub opened_view : pad_of h.core ≡ 0 → IsOpened s us (mount_view s drives all new wear end.granted (pad_of end.core))
-    opened_view none = record {
+    pub opened_view : IsOpened s us (mount_view s drives all new wear end.granted (pad_of end.core) 0)
+    opened_view = record {
       image = ap (λ (rs : List (List ModelUnit)). image_of s (drive_before rs)) rows;
       handed = ap drive_before rows;
       found_is = ap (λ (rs : List (List ModelUnit)). image_of s (drive_found rs)) rows;
@@ -246,7 +249,7 @@ module _ (s : Shape) (us new : List ModelUnit) (f : Found) (accepted : IsAccepte
           (frees.none i first_world first_legal.mount (has i before (knows_all s before) begins_there).0));
       granted = room_now
           ∙ ap₂ (λ (rs : List (List ModelUnit)) (ds : List Deed). room (image_of s (drive_before rs)) (log_of (world_of s ds))) (sym rows) (sym frees.deeds);
-      pad = frees.pad ∙ none;
+      asked = refl;
     }
 
 -- a list whose elements were all written over
@@ -292,5 +295,8 @@ new_serial s us v own faults worns is sound a c b = record {
   small = omega arith;
   faults = subst (AreNamed v) (sym c) (none_named v);
   worns = subst (λ (ws : List WornAnswer). AreRefusals v.image (logs_in v) 0 ws) (sym b) tt;
-  granted = record { each = λ k knows entry mark at users. absurd (none_taken (engine_log v) k knows entry mark (nothing_taken s us v is) at) };
+  granted = record {
+    each = λ k knows entry mark at users. absurd (none_taken (engine_log v) k knows entry mark
+        (ap (filter (λ (t : Taken). is_users t.entry.source)) (nothing_taken s us v is)) at users);
+  };
 }

@@ -1,5 +1,5 @@
 -- A port that was closed, by what its close answers.
-use Rattle.std.proofs.Common.{◌≡◌, ◌≤◌, ℕ, Ok, Err, Result, true, List, ◌++◌, length, max, refl, sym, subst, ◌∙◌, arith, append-nil}
+use Rattle.std.proofs.Common.{◌≡◌, ◌≤◌, ℕ, Ok, Err, Result, true, List, ◌++◌, length, max, sym, subst, arith, append-nil}
 use Rattle.std.specs.List.{flat_map}
 use Rattle.pblk_model.specs.Contents.{end}
 use Rattle.pblk_model.specs.Sealed.{IsSealed}
@@ -8,31 +8,29 @@ use Rattle.block_port.specs.Own.{lines_of}
 use Rattle.block_port.specs.declared.rows.WornAnswer.{WornAnswer}
 use Rattle.scan_recovery.specs.Lost.{IsLostAt, NoneLost}
 use Rattle.step_laws.specs.FreedWorlds.{NoneToFree}
-use Rattle.block_target.specs.Mount.{MountView, IsCollectionOver, IsSameMount, IsSound, IsStuckAt, front_synced, logs_in, synced_in, taken_in}
+use Rattle.block_target.specs.Mount.{MountView, IsCollectionOver, IsSameMount, IsSound, IsStuckAt, logs_in, synced_in, taken_in}
 use Rattle.block_target.specs.NothingLeft.{AreRefusals}
-use Rattle.block_target.specs.Serial.{SerialView, AreNamed, IsClosed, IsSerial, Settles, is_settled, settle_faults, settle_worns}
+use Rattle.block_target.specs.Serial.{SerialView, AreNamed, IsClosed, IsSerial, SettleAsks, Settles, is_settled, settle_faults, settle_worns}
+use Rattle.block_target.specs.Waiting.{AsksUpTo}
 use Rattle.block_target.specs.declared.opening.SettleErr.{SettleErr}
 use Rattle.block_target.specs.declared.opening.SettleErr.TheVariants as settle
+use Rattle.block_target.specs.declared.opening.WaitErr.TheVariants.{Drive, Stuck}
 use Rattle.block_target.proofs.ClosedEnd.{end_left, end_whole}
-use Rattle.block_target.proofs.DeviceFronts.{all_synced, all_taken}
+use Rattle.block_target.proofs.DeviceFronts.{all_synced}
 use Rattle.block_target.proofs.GrantedTakes.{granted_same}
 use Rattle.block_target.proofs.NamedAnswers.{all_named_later, named_with}
 use Rattle.block_target.proofs.Refusals.{flush_refused, refusals_grown, refusals_more}
-use Rattle.block_target.proofs.Written.{taken_kept, takes_later}
+use Rattle.block_target.proofs.Written.{users_later}
 
 -- what a close leaves, whatever it answers
 pub record Closes (s : SerialView) (v : MountView) : Type 0 where
   pub serial : IsSerial s
   pub sound : IsSound v
   pub same : IsSameMount s.mount v
-  pub pad : v.pad ≡ max s.mount.pad (taken_in s.mount)
   pub none_to_free : NoneToFree v.image (logs_in v)
   pub between : IsSealed v.image → (synced_in v ≤ end (media v.image (logs_in v))) × (end (media v.image (logs_in v)) ≤ taken_in v)
 
 module _ (s : SerialView) (v : MountView) (is : Closes s v) where
-  taken : taken_in v ≡ taken_in s.mount
-  taken = taken_kept s.mount v is.serial.sound is.sound is.same
-
   named : AreNamed v s.faults
   named = all_named_later s.mount v s.faults is.serial.sound is.sound is.same is.serial.faults
 
@@ -41,44 +39,48 @@ module _ (s : SerialView) (v : MountView) (is : Closes s v) where
 
   closed : (settled : Result Unit SettleErr) → Settles s.mount settled v → AreNamed v (s.faults ++ settle_faults settled)
       → AreRefusals v.image (logs_in v) 0 (s.worns ++ settle_worns (length (flat_map lines_of s.own)) settled)
+      → SettleAsks s.mount.asked (taken_in v) v.asked settled
       → (IsSealed v.image → is_settled settled ≡ true → end (media v.image (logs_in v)) ≡ synced_in v) → IsClosed s settled v
-  closed settled settles faults worns ends = record {
+  closed settled settles faults worns asked ends = record {
     same = is.same;
     sound = is.sound;
-    taken = taken;
     settles = settles;
     none_to_free = is.none_to_free;
     faults = faults;
     refusals = worns;
     granted = granted_same s.mount v is.serial.sound is.same is.serial.granted;
-    pad = is.pad;
+    asked = asked;
     from_synced = λ sealed. (is.between sealed).0;
     to_taken = λ sealed. (is.between sealed).1;
     ends = ends;
   }
 
-  pub closed_settled : (wanted : ℕ) → wanted ≡ taken_in s.mount → NoneLost s.mount.units v.units → wanted ≤ synced_in v → IsCollectionOver v
-      → IsClosed s (Ok tt) v
-  closed_settled wanted all done enough over =
-      let whole : synced_in v ≡ taken_in v = all_synced s.mount v (front_synced v) wanted is.serial.sound is.sound is.same all refl enough in
+  pub closed_settled : {x : Unit} → NoneLost s.mount.units v.units → taken_in v ≤ synced_in v → IsCollectionOver v
+      → AsksUpTo {T = Unit} s.mount v (taken_in v) (Ok x) → IsClosed s (Ok tt) v
+  closed_settled done enough over asks =
+      let whole : synced_in v ≡ taken_in v = all_synced v enough in
       closed (Ok tt) (done, whole, over) (subst (AreNamed v) (sym (append-nil s.faults)) named)
       (subst (λ (ws : List WornAnswer). AreRefusals v.image (logs_in v) 0 ws) (sym (append-nil s.worns)) refusals)
+      (asks.at_least, asks.at_most)
       (λ sealed settled. end_whole v whole (is.between sealed).0 (is.between sealed).1)
 
-  pub closed_lost : (unit event : ℕ) → IsLostAt s.mount.units v.units unit event → IsClosed s (Err (settle.Drive unit event)) v
-  closed_lost unit event lost =
+  pub closed_lost : (unit event : ℕ) → IsLostAt s.mount.units v.units unit event → AsksUpTo {T = Unit} s.mount v (taken_in v) (Err (Drive unit event))
+      → IsClosed s (Err (settle.Drive unit event)) v
+  closed_lost unit event lost asks =
       closed (Err (settle.Drive unit event)) lost
       (named_with s.mount v s.faults unit event is.serial.sound is.sound is.serial.faults is.same lost)
       (subst (λ (ws : List WornAnswer). AreRefusals v.image (logs_in v) 0 ws) (sym (append-nil s.worns)) refusals)
+      (asks.at_least, asks.at_most)
       (λ sealed settled. absurd cc)
 
-  pub closed_worn : (wanted have : ℕ) → wanted ≡ taken_in s.mount → NoneLost s.mount.units v.units → have ≡ synced_in v → IsStuckAt v wanted have
-      → IsClosed s (Err (settle.Worn wanted have)) v
-  closed_worn wanted have all done at stuck =
-      let pad : v.pad ≡ max s.mount.pad (taken_in s.mount) = is.pad in
-      let asked : wanted ≤ v.pad = omega arith in
-      let cause = flush_refused v wanted have stuck at asked (all_taken s.mount v wanted is.serial.sound is.sound is.same all) in
-      closed (Err (settle.Worn wanted have)) (done, all ∙ sym taken, at, cause) (subst (AreNamed v) (sym (append-nil s.faults)) named)
+  pub closed_worn : (wanted have : ℕ) → NoneLost s.mount.units v.units → wanted ≡ taken_in v → have ≡ synced_in v → IsStuckAt v (taken_in v) have
+      → AsksUpTo {T = Unit} s.mount v (taken_in v) (Err (Stuck wanted have)) → IsClosed s (Err (settle.Worn wanted have)) v
+  closed_worn wanted have done all at stuck asks =
+      let least : max s.mount.asked (taken_in v) ≤ v.asked = asks.all in
+      let most : v.asked ≤ max s.mount.asked (taken_in v) = asks.at_most in
+      let cause = flush_refused v wanted have (subst (λ n. IsStuckAt v n have) (sym all) stuck) at (omega arith) (omega arith) in
+      closed (Err (settle.Worn wanted have)) (done, all, at, cause) (subst (AreNamed v) (sym (append-nil s.faults)) named)
       (refusals_more v.image (logs_in v) 0 s.worns (record { written = length (flat_map lines_of s.own); count = 0; wanted = wanted; have = have })
-      (omega arith) refusals (record { written = takes_later s v is.serial.sound is.serial is.same; cause = cause }))
+      (omega arith) refusals (record { written = users_later s v is.serial is.same; cause = cause }))
+      (omega arith)
       (λ sealed settled. end_left v wanted is.sound cause.nothing_left sealed)

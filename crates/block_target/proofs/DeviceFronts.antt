@@ -1,6 +1,6 @@
--- The device that a port for one session is: what it learns where nothing more was taken, and its
--- fronts.
-use Rattle.std.proofs.Common.{◌≡◌, ℕ, ◌+◌, ◌<◌, ◌≤◌, ◌^◌, nat_lt, suc, Some, Bool, true, false, cond, List, [], ◌∷◌, length, refl, sym, ap, ap₂, subst, ◌∙◌, arith}
+-- The device that a port for one session is: what it learns where no more of a user was taken, and
+-- its fronts.
+use Rattle.std.proofs.Common.{◌≡◌, ℕ, ◌+◌, ◌<◌, ◌≤◌, ◌^◌, nat_lt, suc, Some, Bool, true, false, cond, List, [], ◌∷◌, length, refl, sym, ap, subst, ◌∙◌, arith, le_trans}
 use Rattle.std.specs.Prelude.{map, slice_get}
 use Rattle.std.proofs.lemmas.Option.{slice_get_within}
 use Rattle.std.specs.List.{filter, flat_map}
@@ -22,7 +22,7 @@ use Rattle.block_target.proofs.NamedAnswers.{all_named_later}
 use Rattle.block_target.proofs.Refusals.{refusals_grown}
 use Rattle.block_target.proofs.MountLemmas.{taken_small}
 use Rattle.lemmas.proofs.Tests.{lt_true}
-use Rattle.block_target.proofs.Written.{lines_kept, taken_kept, learns_none}
+use Rattle.block_target.proofs.Written.{lines_kept, learns_none}
 
 -- ---- the lines
 
@@ -94,6 +94,13 @@ front_synced_is s =
       users = sym (below_same (synced_in s.mount) (user_takes log)) ∙ ap (λ ps. users ps (synced_in s.mount)) (sym (positions_in s.mount));
     }
 
+-- a front stays one, where only copies are taken
+pub front_stays : (old new : SerialView) (f : Front) → IsSameMount old.mount new.mount → IsFront (device old) f → IsFront (device new) f
+front_stays old new f same is = record {
+  known = le_trans is.known same.taken;
+  users = is.users ∙ ap (λ (ls : List PlacedSector). users (positions ls) f.position) (sym (lines_kept old.mount new.mount same));
+}
+
 -- the session's own writes are the history still, where what it has seen is small
 pub same_serial : (old new : SerialView) → IsSound new.mount → IsSerial old → IsSameMount old.mount new.mount → new.own ≡ old.own
     → new.faults ≡ old.faults → new.worns ≡ old.worns → new.seen < 2 ^ 63 → IsSerial new
@@ -109,10 +116,6 @@ same_serial old new sound is same own faults worns small = record {
 
 -- ---- what a call answers
 
-pub seen_taken : (old new : SerialView) → IsSound new.mount → old.seen ≤ taken_in new.mount → new.seen ≡ taken_in new.mount
-    → IsSeen (front_taken new.mount) (device old) (device new)
-seen_taken old new sound holds seen = record { is = front_taken_is new sound; holds = holds; seen = seen }
-
 pub seen_synced : (old new : SerialView) → old.seen ≤ synced_in new.mount → new.seen ≡ synced_in new.mount
     → IsSeen (front_synced new.mount) (device old) (device new)
 seen_synced old new holds seen = record { is = front_synced_is new; holds = holds; seen = seen }
@@ -126,17 +129,14 @@ synced_small v f sound is =
     let small : taken_in v ≤ 2 ^ 62 = taken_small v sound in
     omega arith
 
-pub all_synced : (old new : MountView) (f : Front) (wanted : ℕ) → IsSound old → IsSound new → IsSameMount old new → wanted ≡ taken_in old → f ≡ front_synced new
-    → wanted ≤ f.position → synced_in new ≡ taken_in new
-all_synced old new f wanted a b same all is enough =
-    let at : f.position ≡ synced_in new = ap (λ x. x.position) is in
-    let below : synced_in new ≤ taken_in new = synced_within new.image.shape (engine_log new) in
-    let still : taken_in new ≡ taken_in old = taken_kept old new a b same in
+pub all_synced : (v : MountView) → taken_in v ≤ synced_in v → synced_in v ≡ taken_in v
+all_synced v enough =
+    let below : synced_in v ≤ taken_in v = synced_within v.image.shape (engine_log v) in
     omega arith
 
 -- all that a flush wants is taken
-pub all_taken : (old new : MountView) (wanted : ℕ) → IsSound old → IsSound new → IsSameMount old new → wanted ≡ taken_in old → wanted ≡ taken_in new
-all_taken old new wanted a b same all = all ∙ sym (taken_kept old new a b same)
+pub all_taken : (old new : MountView) (wanted : ℕ) → IsSameMount old new → wanted ≡ taken_in old → wanted ≤ taken_in new
+all_taken old new wanted same all = let more : taken_in old ≤ taken_in new = same.taken in omega arith
 
 pub flush_front : (v old new : SerialView) (f : Front) (wanted : ℕ) → v ≡ old → old.seen ≤ taken_in old.mount → wanted ≡ taken_in v.mount
     → f ≡ front_synced new.mount → wanted ≤ f.position → new.seen ≡ f.position → IsSeen f (device old) (device new)
@@ -145,15 +145,10 @@ flush_front v old new f wanted is holds all at enough seen =
     let to : f.position ≡ synced_in new.mount = ap (λ x. x.position) at in
     subst (λ x. IsSeen x (device old) (device new)) (sym at) (seen_synced old new (omega arith) (seen ∙ to))
 
-pub learns_from : (v old new : SerialView) → v ≡ old → IsSound v.mount → IsSound new.mount → IsSameMount v.mount new.mount → Learns (device old) (device new)
-learns_from v old new is a b same = subst (λ o. Learns (device o) (device new)) is (learns_none v new a b same)
+pub learns_from : (v old new : SerialView) → v ≡ old → IsSameMount v.mount new.mount → Learns (device old) (device new)
+learns_from v old new is same = subst (λ o. Learns (device o) (device new)) is (learns_none v new same)
 
 -- ---- what a read answers
-
-pub front_same : (old new : MountView) → IsSound old → IsSound new → IsSameMount old new → front_taken new ≡ front_taken old
-front_same old new a b same =
-    let front : ℕ → ℕ → Front = λ users position. record { users = users; position = position } in
-    ap₂ front (ap (λ ts. length (filter (λ t. is_users t.entry.source) ts)) same.takes) (taken_kept old new a b same)
 
 pub taken_front_small : (v : MountView) (f : Front) → IsSound v → f ≡ front_taken v → f.position < 2 ^ 63
 taken_front_small v f sound is =
@@ -161,12 +156,14 @@ taken_front_small v f sound is =
     let small : taken_in v ≤ 2 ^ 62 = taken_small v sound in
     omega arith
 
-pub read_front : (v old new : SerialView) (f : Front) → v ≡ old → old.seen ≤ taken_in old.mount → f ≡ front_taken v.mount → IsSound v.mount → IsSound new.mount
+pub read_front : (v old new : SerialView) (f : Front) → v ≡ old → old.seen ≤ taken_in old.mount → f ≡ front_taken v.mount → IsSound v.mount
     → IsSameMount v.mount new.mount → new.seen ≡ f.position
     → IsSeen f (device old) (device new)
-read_front v old new f is holds at a b same seen =
+read_front v old new f is holds at sound same seen =
     let was : taken_in old.mount ≡ taken_in v.mount = ap (λ s. taken_in s.mount) (sym is) in
-    let now : f ≡ front_taken new.mount = at ∙ sym (front_same v.mount new.mount a b same) in
-    let to : f.position ≡ taken_in new.mount = ap (λ x. x.position) now in
-    let still : taken_in new.mount ≡ taken_in v.mount = taken_kept v.mount new.mount a b same in
-    subst (λ x. IsSeen x (device old) (device new)) (sym now) (seen_taken old new b (omega arith) (seen ∙ to))
+    let to : f.position ≡ taken_in v.mount = ap (λ x. x.position) at in
+    record {
+      is = subst (IsFront (device new)) (sym at) (front_stays v new (front_taken v.mount) same (front_taken_is v sound));
+      holds = omega arith;
+      seen = seen;
+    }

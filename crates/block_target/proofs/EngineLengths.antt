@@ -1,16 +1,17 @@
 -- The logs at a length of the engine's: they stay as the world grows, and at the whole length they
 -- are those of the world as the engine's last event left it.
-use Rattle.std.proofs.Common.{◌≡◌, ℕ, ◌+◌, ◌-◌, ◌≤◌, zero, suc, Some, None, Option, List, [], ◌∷◌, ◌++◌, length, take, refl, sym, subst, ap, ap₂, ◌∙◌, arith, length-append, append_assoc}
+use Rattle.std.proofs.Common.{◌≡◌, ℕ, false, ◌+◌, ◌-◌, ◌≤◌, zero, suc, Some, None, Option, List, [], ◌∷◌, ◌++◌, length, take, refl, sym, subst, ap, ap₂, ◌∙◌, arith, length-append, append_assoc}
 use Rattle.std.specs.Prelude.{slice_get}
 use Rattle.std.specs.List.{fold}
 use Rattle.std.proofs.Math.Seq.{take-length}
 use Rattle.std.proofs.lemmas.List.{take-append-le}
+use Rattle.std.proofs.lemmas.List.Sums.{fold-append}
 use Rattle.pblk_model.specs.declared.shape.Shape.{Shape}
 use Rattle.pblk_model.specs.Image.{Image}
 use Rattle.pblk_model.specs.UnitLog.{UnitEvent}
 use Rattle.pblk_world.specs.Events.{EngineEvent, Again, Landed, ResetDone, Maker, Logged}
 use Rattle.pblk_world.specs.World.{World, log_of, known}
-use Rattle.pblk_world.specs.AtRest.{knows_last, logs_at}
+use Rattle.pblk_world.specs.AtRest.{knows_last, logs_at, pad_target}
 use Rattle.pblk_world.specs.Space.{room}
 use Rattle.pblk_world.proofs.Growing.{grows}
 use Rattle.core_laws.specs.SimpleMounts.{IsSimpleMount}
@@ -23,6 +24,7 @@ use Rattle.step_laws.proofs.UnitStays.{room_stays}
 use Rattle.step_laws.specs.Opened.{after_events, after_units}
 use Rattle.pblk_core.specs.Named.{work_of}
 use Rattle.block_target.specs.Deeds.{Deed, Readies, Decides, Does, Lands, NotesReset, Offers, after_deed, world_of, last_event}
+use Rattle.block_target.proofs.CopiesTold.{pads_beside}
 use Rattle.block_target.proofs.OnceRoom.{last_within}
 use Rattle.block_target.proofs.UnitStands.{work_beside}
 use Rattle.core_laws.proofs.SimpleMounts.{simple_before as simple_tail}
@@ -68,10 +70,16 @@ deed_later s w (Lands unit) = (engine_step s (Landed unit (last_event w unit)) w
 deed_later s w (Offers unit) = (engine_step s (Again unit (last_event w unit)) w ∷ [], refl)
 deed_later s w (NotesReset unit) = (engine_step s (ResetDone unit (last_event w unit)) w ∷ [], refl)
 
-pub deeds_later : (i : Image) (w : World) (deeds : List Deed) → (later : World) × (with_deeds i w deeds ≡ later ++ w)
+deeds_later : (i : Image) (w : World) (deeds : List Deed) → (later : World) × (with_deeds i w deeds ≡ later ++ w)
 deeds_later i w [] = ([], refl)
 deeds_later i w (d ∷ deeds) = followed w (after_deed i.shape w d) (with_deeds i w (d ∷ deeds)) (deed_later i.shape w d)
     (deeds_later i (after_deed i.shape w d) deeds)
+
+-- the world with more that is done
+pub world_grown : (i : Image) (deeds more : List Deed) → (later : World) × (world_of i.shape (deeds ++ more) ≡ later ++ world_of i.shape deeds)
+world_grown i deeds more =
+    let is : (later : World) × (with_deeds i (world_of i.shape deeds) more ≡ later ++ world_of i.shape deeds) = deeds_later i (world_of i.shape deeds) more in
+    (is.0, fold-append (after_deed i.shape) [] deeds more ∙ is.1)
 
 -- an earlier mount is as simple
 pub simple_earlier : (i : Image) (later w : World) → IsSimpleMount i (later ++ w) → IsSimpleMount i w
@@ -93,7 +101,8 @@ pub record IsLeft (i : Image) (w : World) : Type 0 where
   pub simple : IsSimpleMount i left
   pub own : log_of left 0 ≡ log_of w 0
   pub logs : logs_at (length (log_of w 0)) (log_of w) ≡ log_of left
-  pub work : (pad : ℕ) → work_of i (log_of left) pad [] ≡ work_of i (log_of w) pad []
+  pub work : (pad : ℕ) → work_of i (log_of left) pad [] false ≡ work_of i (log_of w) pad [] false
+  pub pads : (asked : ℕ) → pad_target i (log_of left) asked ≡ pad_target i (log_of w) asked
   pub room : room i (log_of left) ≡ room i (log_of w)
   pub spent : (line : ℕ) → IsSpent i (log_of left) line → IsSpent i (log_of w) line
 
@@ -104,6 +113,7 @@ none_left i simple = record {
   own = refl;
   logs = fun_same (logs_at 0 (log_of [])) (log_of []) each;
   work = λ pad. refl;
+  pads = λ asked. refl;
   room = refl;
   spent = λ line is. is;
 }
@@ -119,6 +129,7 @@ engine_left i w e simple = record {
   own = refl;
   logs = fun_same (logs_at (length (log_of next 0)) (log_of next)) (log_of next) each;
   work = λ pad. refl;
+  pads = λ asked. refl;
   room = refl;
   spent = λ line is. is;
 }
@@ -158,6 +169,7 @@ unit_left i w unit e maker simple was = record {
   logs = ap (λ n. logs_at n (log_of next)) (ap (λ (log : List Logged). length log) engine)
       ∙ fun_same (logs_at (length (log_of w 0)) (log_of next)) (logs_at (length (log_of w 0)) (log_of w)) each ∙ was.logs;
   work = λ pad. was.work pad ∙ sym (work_beside i w unit e maker pad simple);
+  pads = λ asked. was.pads asked ∙ sym (pads_beside i w unit e maker simple.mount asked);
   room = was.room ∙ sym (room_stays i w unit e maker simple.mount.legal);
   spent = λ line is. spent_stays i w unit e maker line simple.mount (was.spent line is);
 }

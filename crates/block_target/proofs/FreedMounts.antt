@@ -1,7 +1,8 @@
 -- Mounts of which lines were freed, one after another.
-use Rattle.std.proofs.Common.{◌≡◌, ◌<◌, ◌≤◌, ℕ, ◌+◌, List, [], ◌∷◌, ◌++◌, Some, length, refl, sym, subst, ap, ◌∙◌, arith, append-nil, append_assoc}
+use Rattle.std.proofs.Common.{◌≡◌, ◌≤◌, ℕ, false, List, [], ◌∷◌, ◌++◌, Some, refl, sym, subst, ap, ◌∙◌, append-nil, append_assoc, le_trans}
 use Rattle.std.specs.Prelude.{slice_get}
 use Rattle.pblk_model.specs.declared.shape.Shape.{Shape}
+use Rattle.pblk_core.specs.Copies.{is_copying}
 use Rattle.pblk_core.specs.Filling.{Filling}
 use Rattle.pblk_core.specs.Landing.{IsResting}
 use Rattle.pblk_core.specs.Named.{pad_of}
@@ -11,7 +12,7 @@ use Rattle.pblk_world.specs.World.{World, log_of}
 use Rattle.step_laws.specs.FreedWorlds.{MightFree, freed_world}
 use Rattle.step_laws.specs.Whole.{IsKnown, IsLevel, engine_step}
 use Rattle.step_laws.proofs.EngineSteps.{engine_next}
-use Rattle.step_laws.proofs.FreedWorlds.{begun_then, known_then, later_then, level_then}
+use Rattle.step_laws.proofs.FreedWorlds.{begun_then, known_then, level_then}
 use Rattle.stripe_placer.specs.Placing.{UnitRow}
 use Rattle.unit_port.specs.Unit.{ModelUnit}
 use Rattle.block_target.specs.Deeds.{Decides, Deed, world_of}
@@ -20,8 +21,7 @@ use Rattle.block_target.specs.Heart.{IsHeart}
 use Rattle.block_target.specs.declared.heart.Heart.{Heart}
 use Rattle.block_target.specs.Mount.{IsMount, IsSound, MountView, engine_log}
 use Rattle.block_target.proofs.DeedsLemmas.{world_more}
-use Rattle.block_target.proofs.EngineLengths.{no_shorter}
-use Rattle.block_target.proofs.GoingOn.{GoesOn, Leaves, begun_on, goes_decided, leaves_on, mount_on, moved_on, takes_still}
+use Rattle.block_target.proofs.GoingOn.{GoesOn, Leaves, begun_on, goes_decided, leaves_on, mount_on, moved_on, none_taken, takes_still}
 
 -- ---- what was done
 
@@ -40,22 +40,6 @@ world_freed s deeds (line ∷ lines) =
 pub takes_then : (s : Shape) (w : World) (lines : List ℕ) → takes (log_of (freed_world s w lines) 0) ≡ takes (log_of w 0)
 takes_then s w [] = refl
 takes_then s w (line ∷ lines) = takes_still s (Free line) (freed_world s w lines) refl ∙ takes_then s w lines
-
--- the engine's log is no shorter
-pub longer_then : (s : Shape) (w : World) (lines : List ℕ) → length (log_of w 0) ≤ length (log_of (freed_world s w lines) 0)
-longer_then s w lines =
-    let is = later_then s w lines in
-    subst (λ (x : World). length (log_of w 0) ≤ length (log_of x 0)) (sym is.1) (no_shorter is.0 w 0)
-
--- and longer than it was before, where it had grown already
-pub longer_freed : (v : MountView) (deeds after : List Deed) (h new : Heart) → HaveFreed h deeds new after
-    → length (engine_log v) < length (log_of (world_of v.image.shape deeds) 0)
-    → length (engine_log v) < length (log_of (world_of v.image.shape after) 0)
-longer_freed v deeds after h new frees longer =
-    let w : World = world_of v.image.shape deeds in
-    let more : length (log_of w 0) ≤ length (log_of (freed_world v.image.shape w frees.lines) 0) = longer_then v.image.shape w frees.lines in
-    subst (λ (x : World). length (engine_log v) < length (log_of x 0))
-    (sym (ap (world_of v.image.shape) frees.deeds ∙ world_freed v.image.shape deeds frees.lines)) (omega arith)
 
 -- ---- a mount that goes on
 
@@ -91,20 +75,21 @@ module _ {v : MountView} {w : World} {us : List ModelUnit} (sound : IsSound v) (
     rests_still : IsResting h.core → IsResting new.core
     rests_still rests unit of at = rests unit of (ap (λ (rows : List UnitRow). slice_get rows unit) (sym frees.rows) ∙ at)
 
-    pub mount_freed : IsLevel w → IsKnown v.image w → IsResting h.core → f.shape ≡ v.image.shape
+    pub mount_freed : IsLevel w → IsKnown v.image w → IsResting h.core → is_copying h.core ≡ false → f.shape ≡ v.image.shape → v.asked ≤ pad_of h.core
         → IsMount (moved_on v after us wear new.granted (pad_of new.core)) new f
-    mount_freed level known rests shape = mount_on sound goes_then after wear new f its_world (frees.freed v.image w goes.legal.mount stands).stands
-        (level_then v.image.shape w frees.lines level) (known_then v.image w frees.lines known) (rests_still rests)
-        (frees.none v.image w goes.legal.mount stands) shape
+    mount_freed level known rests idle shape pads =
+        mount_on sound goes_then after wear new f its_world (frees.freed v.image w goes.legal.mount stands).stands
+        (level_then v.image.shape w frees.lines level) (known_then v.image w frees.lines known) (rests_still rests) (frees.copying ∙ idle)
+        (frees.none v.image w goes.legal.mount stands) shape (le_trans pads frees.pad)
 
-    pub leaves_freed : (more : List Deed) → deeds ≡ v.deeds ++ more → IsLevel w → IsKnown v.image w → IsResting h.core → f.shape ≡ v.image.shape
-        → takes (log_of w 0) ≡ takes (engine_log v) → wear ≡ v.wear → v.granted ≤ h.granted → pad_of h.core ≡ v.pad
+    pub leaves_freed : (more : List Deed) → deeds ≡ v.deeds ++ more → IsLevel w → IsKnown v.image w → IsResting h.core → is_copying h.core ≡ false
+        → f.shape ≡ v.image.shape → takes (log_of w 0) ≡ takes (engine_log v) → wear ≡ v.wear → v.granted ≤ h.granted → v.asked ≤ pad_of h.core
         → Leaves v (moved_on v after us wear new.granted (pad_of new.core)) new f
-    leaves_freed more grown level known rests shape untaken same_wear grants pads =
+    leaves_freed more grown level known rests idle shape untaken same_wear grants pads =
         leaves_on sound goes_then after (more ++ freed_deeds [] frees.lines) wear new f
         (frees.deeds ∙ freed_more deeds frees.lines ∙ ap (λ (ds : List Deed). ds ++ freed_deeds [] frees.lines) grown
         ∙ append_assoc v.deeds more (freed_deeds [] frees.lines))
         its_world (frees.freed v.image w goes.legal.mount stands).stands
-        (level_then v.image.shape w frees.lines level) (known_then v.image w frees.lines known) (rests_still rests)
-        (frees.none v.image w goes.legal.mount stands) shape
-        (takes_then v.image.shape w frees.lines ∙ untaken) same_wear (subst (λ n. v.granted ≤ n) (sym frees.granted) grants) (frees.pad ∙ pads)
+        (level_then v.image.shape w frees.lines level) (known_then v.image w frees.lines known) (rests_still rests) (frees.copying ∙ idle)
+        (frees.none v.image w goes.legal.mount stands) shape (none_taken sound goes_then (takes_then v.image.shape w frees.lines ∙ untaken))
+        same_wear (subst (λ n. v.granted ≤ n) (sym frees.granted) grants) (le_trans pads frees.pad)

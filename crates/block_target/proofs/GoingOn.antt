@@ -1,8 +1,8 @@
 -- A world that goes on from that of a sound mount, and the units as it leaves them.
-use Rattle.std.proofs.Common.{◌≡◌, ◌≢◌, ◌<◌, ◌≤◌, ℕ, ◌+◌, suc, Option, List, [], ◌∷◌, ◌++◌, Some, None, length, refl, sym, subst, ap, ap₂, ◌∙◌, arith, append-nil, append_assoc, length-append}
+use Rattle.std.proofs.Common.{◌≡◌, ◌≢◌, ◌<◌, ◌≤◌, ℕ, suc, Option, List, [], ◌∷◌, ◌++◌, Some, None, length, refl, sym, subst, ap, ap₂, ◌∙◌, arith, append-nil, append_assoc, le_refl, false}
 use Rattle.std.proofs.lemmas.Option.{same_Some, slice_get_within}
 use native.Mathlib.Decide.{ℕ_discrete}
-use Rattle.std.specs.List.{filter_map}
+use Rattle.std.specs.List.{filter, filter_map}
 use Rattle.std.specs.Option.{option_to_list}
 use Rattle.std.specs.Prelude.{slice_get, slice_set}
 use Rattle.std.proofs.lemmas.List.Elements.{filter_map-append}
@@ -12,6 +12,7 @@ use Rattle.core_laws.specs.SimpleMounts.{IsSimpleMount}
 use Rattle.pblk_model.specs.declared.shape.Shape.{Shape}
 use Rattle.pblk_model.specs.Image.{Image}
 use Rattle.pblk_model.specs.UnitLog.{UnitEvent}
+use Rattle.pblk_core.specs.Copies.{is_copying}
 use Rattle.pblk_core.specs.Filling.{Filling}
 use Rattle.pblk_core.specs.Landing.{IsResting}
 use Rattle.pblk_core.specs.Named.{pad_of}
@@ -20,7 +21,7 @@ use Rattle.pblk_world.proofs.Growing.{grows}
 use Rattle.pblk_world.proofs.WorldLemmas.{log_here}
 use Rattle.pblk_world.specs.EngineLog.{Begun, begun, begun_by, Taken, taken_by, takes}
 use Rattle.pblk_world.specs.Events.{Decides as Event, EngineEvent, Logged, Maker}
-use Rattle.pblk_world.specs.Fronts.{synced}
+use Rattle.pblk_world.specs.Fronts.{first_position, is_users, synced, taken, user_takes}
 use Rattle.pblk_world.specs.Lines.{found_image}
 use Rattle.pblk_world.specs.World.{World, log_of, unit_event_of, unit_events}
 use Rattle.step_laws.proofs.EngineSteps.{engine_logs, events_still, media_still, stops_still}
@@ -29,6 +30,7 @@ use Rattle.step_laws.proofs.UnitSteps.{engine_log as engine_beside, events_elsew
 use Rattle.step_laws.specs.FreedWorlds.{NoneToFree}
 use Rattle.step_laws.specs.Whole.{IsKnown, IsLevel, engine_step, knows_all, unit_step}
 use Rattle.unit_port.specs.Unit.{ModelUnit}
+use Rattle.world_laws.proofs.Begun.{first_is as first_of}
 use Rattle.world_laws.proofs.Fronts.{begun_later, synced_later}
 use Rattle.block_target.specs.Arm.{IsArm}
 use Rattle.block_target.specs.Deeds.{Deed, world_of}
@@ -95,12 +97,6 @@ module _ {v : MountView} {w : World} {us : List ModelUnit} (goes : GoesOn v w us
       let is = grows goes.later (world_in v) author in
       (is.0, ap (λ (x : World). log_of x author) goes.whole ∙ is.1)
 
-  pub no_less : length (engine_log v) ≤ length (log_of w 0)
-  no_less =
-      let long : length (log_of w 0) ≡ length (engine_log v) + length (longer 0).0 =
-      ap (λ (log : List Logged). length log) (longer 0).1 ∙ length-append (engine_log v) (longer 0).0 in
-      omega arith
-
   pub begun_on : (b : Begun) → begun (engine_log v) ≡ Some b → begun (log_of w 0) ≡ Some b
   begun_on b has = ap (λ (log : List Logged). begun log) (longer 0).1 ∙ begun_later (engine_log v) (longer 0).0 b has
 
@@ -154,10 +150,6 @@ module _ {v : MountView} {w : World} {us : List ModelUnit} (goes : GoesOn v w us
 
 -- ---- the engine's log
 
-pub longer_decided : (s : Shape) (e : EngineEvent) (w : World) → length (log_of (engine_step s e w ∷ w) 0) ≡ length (log_of w 0) + 1
-longer_decided s e w = ap (λ (log : List Logged). length log) (log_here (engine_step s e w) w 0 refl)
-    ∙ length-append (log_of w 0) ((engine_step s e w).logged ∷ [])
-
 pub takes_still : (s : Shape) (e : EngineEvent) (w : World) → taken_by (Event e) ≡ None → takes (log_of (engine_step s e w ∷ w) 0) ≡ takes (log_of w 0)
 takes_still s e w none = ap (λ (log : List Logged). takes log) (log_here (engine_step s e w) w 0 refl)
     ∙ takes_more (log_of w 0) (engine_step s e w).logged
@@ -179,13 +171,19 @@ moved_on v deeds us wear granted pad = record {
   wear = wear;
   granted = granted;
   pad = pad;
+  asked = v.asked;
 }
+
+-- no more of users was taken
+pub record KeepsUsers (old new : List Logged) : Type 0 where
+  pub users : user_takes new ≡ user_takes old
+  pub taken : taken old ≤ taken new
 
 -- what a call leaves: a mount, which is the same one
 pub record Leaves (v new : MountView) (h : Heart) (f : Filling) : Type 0 where
   pub mount : IsMount new h f
   pub same : IsSameMount v new
-  pub pad : new.pad ≡ v.pad
+  pub asked : new.asked ≡ v.asked
 
 module _ {v : MountView} {w : World} {us : List ModelUnit} (sound : IsSound v) (goes : GoesOn v w us) where
   pub sound_on : (deeds : List Deed) (wear : List (List ℕ)) (granted pad : ℕ) → world_of v.image.shape deeds ≡ w
@@ -221,10 +219,22 @@ module _ {v : MountView} {w : World} {us : List ModelUnit} (sound : IsSound v) (
             ∙ ap (λ (log : List UnitEvent). log ++ filter_map (λ (l : Logged). unit_event_of l.event) more.0) (sym was.2.log),
       )
 
+  -- where nothing was taken no more of users was
+  pub none_taken : takes (log_of w 0) ≡ takes (engine_log v) → KeepsUsers (engine_log v) (log_of w 0)
+  none_taken same = record {
+    users = ap (filter (λ (t : Taken). is_users t.entry.source)) same;
+    taken =
+        let first : first_position (log_of w 0) ≡ first_position (engine_log v) =
+        first_of (log_of w 0) sound.beginning (begun_on goes sound.beginning sound.has_begun)
+        ∙ sym (first_of (engine_log v) sound.beginning sound.has_begun) in
+        let count : length (takes (log_of w 0)) ≡ length (takes (engine_log v)) = ap (λ (ts : List Taken). length ts) same in
+        omega arith;
+  }
+
   pub same_on : (more : List Deed) (wear : List (List ℕ)) (granted pad : ℕ) → world_of v.image.shape (v.deeds ++ more) ≡ w
-      → takes (log_of w 0) ≡ takes (engine_log v) → wear ≡ v.wear → v.granted ≤ granted → v.pad ≤ pad
+      → KeepsUsers (engine_log v) (log_of w 0) → wear ≡ v.wear → v.granted ≤ granted
       → IsSameMount v (moved_on v (v.deeds ++ more) us wear granted pad)
-  same_on more wear granted pad is untaken same_wear grants pads = record {
+  same_on more wear granted pad is keeps same_wear grants = record {
     image = refl;
     handed = refl;
     grown = grown_on;
@@ -232,39 +242,42 @@ module _ {v : MountView} {w : World} {us : List ModelUnit} (sound : IsSound v) (
     wear = same_wear;
     more = more;
     deeds = refl;
-    takes = ap (λ (x : World). takes (log_of x 0)) is ∙ untaken;
+    users = ap (λ (x : World). user_takes (log_of x 0)) is ∙ keeps.users;
+    taken = subst (λ (x : World). taken (engine_log v) ≤ taken (log_of x 0)) (sym is) keeps.taken;
     synced = subst (λ (x : World). synced v.image.shape (engine_log v) ≤ synced v.image.shape (log_of x 0)) (sym is)
         (subst (λ (log : List Logged). synced v.image.shape (engine_log v) ≤ synced v.image.shape log) (sym (longer goes 0).1)
         (synced_later v.image.shape (engine_log v) (longer goes 0).0));
     granted = grants;
-    pad = pads;
+    asked = le_refl v.asked;
   }
 
   -- with a heart that stands for it
   pub mount_on : (deeds : List Deed) (wear : List (List ℕ)) (h : Heart) (f : Filling) → world_of v.image.shape deeds ≡ w → IsHeart v.image (log_of w) h
-      → IsLevel w → IsKnown v.image w → IsResting h.core → NoneToFree v.image (log_of w) → f.shape ≡ v.image.shape
-      → IsMount (moved_on v deeds us wear h.granted (pad_of h.core)) h f
-  mount_on deeds wear h f is stands level known rests settled shape = record {
+      → IsLevel w → IsKnown v.image w → IsResting h.core → is_copying h.core ≡ false → NoneToFree v.image (log_of w) → f.shape ≡ v.image.shape
+      → v.asked ≤ pad_of h.core → IsMount (moved_on v deeds us wear h.granted (pad_of h.core)) h f
+  mount_on deeds wear h f is stands level known rests idle settled shape pads = record {
     sound = sound_on deeds wear h.granted (pad_of h.core) is;
     heart = subst (λ (x : World). IsHeart v.image (log_of x) h) (sym is) stands;
     pad = refl;
+    asked = pads;
     granted = refl;
     level = subst IsLevel (sym is) level;
     known = subst (IsKnown v.image) (sym is) known;
     resting = rests;
+    idle = idle;
     settled = subst (λ (x : World). NoneToFree v.image (log_of x)) (sym is) settled;
     stripe = shape;
   }
 
   pub leaves_on : (deeds more : List Deed) (wear : List (List ℕ)) (h : Heart) (f : Filling) → deeds ≡ v.deeds ++ more → world_of v.image.shape deeds ≡ w
-      → IsHeart v.image (log_of w) h → IsLevel w → IsKnown v.image w → IsResting h.core → NoneToFree v.image (log_of w) → f.shape ≡ v.image.shape
-      → takes (log_of w 0) ≡ takes (engine_log v) → wear ≡ v.wear → v.granted ≤ h.granted → pad_of h.core ≡ v.pad
+      → IsHeart v.image (log_of w) h → IsLevel w → IsKnown v.image w → IsResting h.core → is_copying h.core ≡ false → NoneToFree v.image (log_of w)
+      → f.shape ≡ v.image.shape → KeepsUsers (engine_log v) (log_of w 0) → wear ≡ v.wear → v.granted ≤ h.granted → v.asked ≤ pad_of h.core
       → Leaves v (moved_on v deeds us wear h.granted (pad_of h.core)) h f
-  leaves_on deeds more wear h f grown is stands level known rests settled shape untaken same_wear grants pads = record {
-    mount = mount_on deeds wear h f is stands level known rests settled shape;
+  leaves_on deeds more wear h f grown is stands level known rests idle settled shape keeps same_wear grants pads = record {
+    mount = mount_on deeds wear h f is stands level known rests idle settled shape pads;
     same = subst (λ (ds : List Deed). IsSameMount v (moved_on v ds us wear h.granted (pad_of h.core))) (sym grown)
-        (same_on more wear h.granted (pad_of h.core) (sym (ap (world_of v.image.shape) grown) ∙ is) untaken same_wear grants (omega arith));
-    pad = pads;
+        (same_on more wear h.granted (pad_of h.core) (sym (ap (world_of v.image.shape) grown) ∙ is) keeps same_wear grants);
+    asked = refl;
   }
 
 -- ---- what a unit was given is its last event

@@ -1,5 +1,5 @@
 -- What was granted there was room for once, and that stays so as the world grows.
-use Rattle.std.proofs.Common.{◌≡◌, ℕ, ◌+◌, ◌≤◌, Some, List, ◌++◌, length, length-append, sym, subst, ap, ap₂, ◌∙◌, arith, le_refl}
+use Rattle.std.proofs.Common.{◌≡◌, ℕ, ◌≤◌, Some, List, ◌++◌, length, sym, subst, ap, ap₂, ◌∙◌, arith, le_refl}
 use Rattle.pblk_model.specs.Image.{Image}
 use Rattle.pblk_world.specs.Events.{Logged}
 use Rattle.pblk_world.specs.World.{World, log_of}
@@ -13,8 +13,7 @@ use Rattle.step_laws.proofs.UnitSteps.{engine_longer}
 use Rattle.block_target.specs.Deeds.{Deed, world_of}
 use Rattle.block_target.specs.Granted.{WasRoom}
 use Rattle.block_target.specs.Mount.{MountView, world_in, logs_in, engine_log}
-use Rattle.block_target.proofs.Beginnings.{world_grown}
-use Rattle.block_target.proofs.EngineLengths.{IsLeft, deeds_left}
+use Rattle.block_target.proofs.EngineLengths.{IsLeft, deeds_left, world_grown}
 use Rattle.block_target.proofs.OnceRoom.{room_later, room_less}
 
 -- there is room now
@@ -51,11 +50,3 @@ room_at old new more upto n less legal image deeds long low was =
   where
     grown : (later : World) × (world_of old.image.shape (old.deeds ++ more) ≡ later ++ world_in old)
     grown = world_grown old.image old.deeds more
-
-pub room_grown : (old new : MountView) (more : List Deed) (upto : ℕ) → IsLegal old.image (world_in old) → new.image ≡ old.image → new.deeds ≡ old.deeds ++ more
-    → WasRoom old.image (logs_in old) (length (engine_log old)) upto → WasRoom new.image (logs_in new) (length (engine_log new)) upto
-room_grown old new more upto legal image deeds was =
-    let longer : (later : List Logged) × (engine_log new ≡ engine_log old ++ later) = log_longer old new more image deeds in
-    let long : length (engine_log new) ≡ length (engine_log old) + length longer.0 = ap (λ (log : List Logged). length log) longer.1
-    ∙ length-append (engine_log old) longer.0 in
-    room_at old new more upto (length (engine_log new)) upto legal image deeds (omega arith) (le_refl upto) was

@@ -1,65 +1,68 @@
 -- What was taken was granted before, and that stays so as more is done.
-use Rattle.std.proofs.Common.{◌≡◌, ◌⊎◌, inl, inr, ℕ, zero, suc, ◌+◌, ◌-◌, ◌<◌, ◌≤◌, Some, None, Option, List, [], ◌∷◌, ◌++◌, length, refl, sym, subst, ap, ap₂, ◌∙◌, arith, le_refl, length-append, append_assoc, append-nil}
+use Rattle.std.proofs.Common.{◌≡◌, ◌⊎◌, inl, inr, ℕ, zero, suc, ◌+◌, ◌-◌, ◌<◌, ◌≤◌, Some, None, List, [], ◌∷◌, ◌++◌, length, refl, sym, subst, ap, ap₂, ◌∙◌, arith, le_refl, length-append, append_assoc, append-nil}
 use Rattle.std.specs.Prelude.{slice_get}
-use Rattle.std.specs.List.{cons_option}
+use Rattle.std.specs.List.{filter}
 use Rattle.std.proofs.lemmas.Bool.{cases_order}
 use Rattle.std.proofs.lemmas.List.{append_cancel_left}
-use Rattle.std.proofs.lemmas.List.Elements.{filter_map-append}
-use Rattle.std.proofs.lemmas.Option.{same_Some}
+use Rattle.std.proofs.lemmas.List.Elements.{filter-append, filter_map-append}
+use Rattle.std.proofs.lemmas.Option.{none-some, same_Some}
 use Rattle.pblk_model.specs.declared.chunk.Mark.{Mark}
 use Rattle.pblk_model.specs.Image.{Image}
 use Rattle.pblk_model.specs.Marks.{sector_mark}
+use Rattle.lemmas.proofs.Lists.{IsAmong}
+use Rattle.lemmas.proofs.Maps.{given_at, in_filter}
 use Rattle.lemmas.proofs.Parts.{get_first, get_rest}
 use Rattle.pblk_world.specs.Events.{Entry, Take, Logged, Decides as Did}
 use Rattle.pblk_world.specs.World.{World, log_of}
 use Rattle.pblk_world.specs.EngineLog.{Taken, takes, taken_by}
+use Rattle.pblk_world.specs.Fronts.{is_users, user_takes}
 use Rattle.pblk_world.specs.Legal.{IsLegal}
 use Rattle.step_laws.specs.Whole.{knows_all}
 use Rattle.step_laws.proofs.UnitSteps.{engine_longer}
 use Rattle.block_port.specs.Own.{sectors_of}
 use Rattle.block_target.specs.Deeds.{Deed, world_of}
 use Rattle.block_target.specs.Granted.{WasRoom, AreGranted}
-use Rattle.block_target.specs.Mount.{MountView, IsSound, IsSameMount, world_in, logs_in, engine_log, taken_in, next_entry, with_entry, with_entries}
+use Rattle.block_target.specs.Mount.{MountView, IsSound, IsSameMount, world_in, logs_in, engine_log, taken_in, next_entry, with_entry, with_entries, with_pad}
 use Rattle.block_target.specs.Serial.{SerialView, IsSerial}
-use Rattle.block_target.proofs.Beginnings.{world_grown}
+use Rattle.block_target.proofs.EngineLengths.{world_grown}
 use Rattle.block_target.proofs.GrantedRoom.{room_at, log_longer}
 use Rattle.block_target.proofs.OnceRoom.{room_later, room_less}
 use Rattle.block_target.proofs.Refusals.{entries_more}
 use Rattle.block_target.proofs.TakenSectors.{log_taken, taken_more}
-use Rattle.block_target.proofs.Written.{IsWrite, image_all, taken_kept}
+use Rattle.block_target.proofs.Written.{IsWrite, image_all}
 use Rattle.block_port.proofs.OwnLemmas.{length_sectors}
 
 -- ---- a longer log
 
--- each of these events takes nothing, or an entry below a position
+-- each of these events takes nothing of a user, or an entry below a position
 abbrev pub TakeBelow : ℕ → List Logged → Type 0
 TakeBelow upto more = (j : ℕ) (knows : List ℕ) (entry : Entry) (mark : Mark) → slice_get more j ≡ Some (record { event = Did (Take entry mark); knows = knows })
-    → entry.position < upto
+    → entry.source ≡ None → entry.position < upto
 
 module _ (i : Image) (later w : World) (more : List Logged) (upto : ℕ) (legal : IsLegal i w) (longer : log_of (later ++ w) 0 ≡ log_of w 0 ++ more) where
   pub granted_later : AreGranted i (log_of w) → WasRoom i (log_of w) (length (log_of w 0)) upto → TakeBelow upto more → AreGranted i (log_of (later ++ w))
   granted_later were once below = record { each = λ k knows entry mark at users. go k knows entry mark at users (cases_order k (length (log_of w 0))) }
     where
       new_one : (k : ℕ) (knows : List ℕ) (entry : Entry) (mark : Mark)
-          → slice_get (log_of (later ++ w) 0) k ≡ Some (record { event = Did (Take entry mark); knows = knows }) → length (log_of w 0) ≤ k
-          → WasRoom i (log_of (later ++ w)) k (entry.position + 1)
-      new_one k knows entry mark at long =
+          → slice_get (log_of (later ++ w) 0) k ≡ Some (record { event = Did (Take entry mark); knows = knows }) → entry.source ≡ None
+          → length (log_of w 0) ≤ k → WasRoom i (log_of (later ++ w)) k (entry.position + 1)
+      new_one k knows entry mark at users long =
           let sum : length (log_of w 0) + (k - length (log_of w 0)) ≡ k = omega arith in
           let there : slice_get more (k - length (log_of w 0)) ≡ Some (record { event = Did (Take entry mark); knows = knows }) =
           sym (get_rest (log_of w 0) more (length (log_of w 0)) (k - length (log_of w 0)) refl)
           ∙ ap₂ (λ (log : List Logged) n. slice_get log n) (sym longer) sum ∙ at in
-          let low : entry.position < upto = below (k - length (log_of w 0)) knows entry mark there in
+          let low : entry.position < upto = below (k - length (log_of w 0)) knows entry mark there users in
           room_less i (log_of (later ++ w)) (length (log_of w 0)) k upto (entry.position + 1)
           (room_later i later w (length (log_of w 0)) upto legal (le_refl (length (log_of w 0))) once) long (omega arith)
 
       go : (k : ℕ) (knows : List ℕ) (entry : Entry) (mark : Mark)
           → slice_get (log_of (later ++ w) 0) k ≡ Some (record { event = Did (Take entry mark); knows = knows }) → entry.source ≡ None
           → (k ≡ length (log_of w 0)) ⊎ ((k < length (log_of w 0)) ⊎ (length (log_of w 0) < k)) → WasRoom i (log_of (later ++ w)) k (entry.position + 1)
-      go k knows entry mark at users (inl same) = new_one k knows entry mark at (omega (arith, same))
+      go k knows entry mark at users (inl same) = new_one k knows entry mark at users (omega (arith, same))
       go k knows entry mark at users (inr (inl less)) =
           room_later i later w k (entry.position + 1) legal (omega arith)
           (were.each k knows entry mark (sym (get_first (log_of w 0) more k less) ∙ ap (λ (log : List Logged). slice_get log k) (sym longer) ∙ at) users)
-      go k knows entry mark at users (inr (inr far)) = new_one k knows entry mark at (omega arith)
+      go k knows entry mark at users (inr (inr far)) = new_one k knows entry mark at users (omega arith)
 
 -- of mounts, by what was done since
 pub granted_grown : (old new : MountView) (deeds : List Deed) (more : List Logged) (upto : ℕ) → IsSound old → new.image ≡ old.image
@@ -81,36 +84,33 @@ granted_grown old new deeds more upto sound image done longer were once below =
         ∙ sym (ap₂ (λ (i : Image) (ds : List Deed). log_of (world_of i.shape ds) 0) image done)
         ∙ longer
 
--- ---- nothing more is taken
+-- ---- no more of users is taken
 
-none_here : (o : Option Taken) (rest : List Taken) (t : Taken) → cons_option o rest ≡ [] → o ≡ Some t → ⊥
-none_here None rest t none is = cc
-none_here (Some u) rest t none is = cc
+pub none_taken : (more : List Logged) (j : ℕ) (knows : List ℕ) (entry : Entry) (mark : Mark) → user_takes more ≡ []
+    → slice_get more j ≡ Some (record { event = Did (Take entry mark); knows = knows }) → entry.source ≡ None → ⊥
+none_taken more j knows entry mark none at users =
+    none-some (record { entry = entry; mark = mark }) (ap (λ (ts : List Taken). slice_get ts among.0) (sym none) ∙ among.1)
+  where
+    taken_here : IsAmong (takes more) (record { entry = entry; mark = mark })
+    taken_here = given_at (λ (l : Logged). taken_by l.event) more (record { event = Did (Take entry mark); knows = knows })
+        (record { entry = entry; mark = mark }) j at refl
 
-none_further : (o : Option Taken) (rest : List Taken) → cons_option o rest ≡ [] → rest ≡ []
-none_further None rest none = none
-none_further (Some u) rest none = absurd cc
-
-pub none_taken : (more : List Logged) (j : ℕ) (knows : List ℕ) (entry : Entry) (mark : Mark) → takes more ≡ []
-    → slice_get more j ≡ Some (record { event = Did (Take entry mark); knows = knows }) → ⊥
-none_taken [] j knows entry mark none at = cc
-none_taken (l ∷ more) zero knows entry mark none at =
-    none_here (taken_by l.event) (takes more) (record { entry = entry; mark = mark }) none
-    (ap (λ (x : Logged). taken_by x.event) (same_Some l (record { event = Did (Take entry mark); knows = knows }) at))
-none_taken (l ∷ more) (suc j) knows entry mark none at = none_taken more j knows entry mark (none_further (taken_by l.event) (takes more) none) at
+    among : IsAmong (user_takes more) (record { entry = entry; mark = mark })
+    among = in_filter (λ (t : Taken). is_users t.entry.source) (takes more) (record { entry = entry; mark = mark }) taken_here (ap is_users users)
 
 pub granted_same : (old new : MountView) → IsSound old → IsSameMount old new → AreGranted old.image (logs_in old) → AreGranted new.image (logs_in new)
 granted_same old new sound same were =
     granted_grown old new same.more longer.0 0 sound same.image same.deeds longer.1 were nothing
-    (λ j knows entry mark at. absurd (none_taken longer.0 j knows entry mark none at))
+    (λ j knows entry mark at users. absurd (none_taken longer.0 j knows entry mark none at users))
   where
     longer : (more : List Logged) × (engine_log new ≡ engine_log old ++ more)
     longer = log_longer old new same.more same.image same.deeds
 
-    none : takes longer.0 ≡ []
-    none = append_cancel_left (takes (engine_log old)) (takes longer.0) []
-        (sym (filter_map-append (λ (l : Logged). taken_by l.event) (engine_log old) longer.0) ∙ ap takes (sym longer.1) ∙ same.takes
-        ∙ sym (append-nil (takes (engine_log old))))
+    none : user_takes longer.0 ≡ []
+    none = append_cancel_left (user_takes (engine_log old)) (user_takes longer.0) []
+        (sym (filter-append (λ (t : Taken). is_users t.entry.source) (takes (engine_log old)) (takes longer.0))
+        ∙ ap (filter (λ (t : Taken). is_users t.entry.source)) (sym (filter_map-append (λ (l : Logged). taken_by l.event) (engine_log old) longer.0))
+        ∙ ap (λ (log : List Logged). user_takes log) (sym longer.1) ∙ same.users ∙ sym (append-nil (user_takes (engine_log old))))
 
     nothing : WasRoom old.image (logs_in old) (length (engine_log old)) 0
     nothing = record {
@@ -127,19 +127,19 @@ entry_logged v lba sector = record { event = Did (Take (next_entry v lba sector)
 
 below_more : (v : MountView) (lba upto : ℕ) (sector : List ℕ) (more : List Logged) → taken_in v < upto → TakeBelow upto more
     → TakeBelow upto (entry_logged v lba sector ∷ more)
-below_more v lba upto sector more low rest zero knows entry mark at =
+below_more v lba upto sector more low rest zero knows entry mark at users =
     let here : entry_logged v lba sector ≡ record { event = Did (Take entry mark); knows = knows } =
     same_Some (entry_logged v lba sector) (record { event = Did (Take entry mark); knows = knows }) at in
     let events : Did (Take (next_entry v lba sector) (sector_mark lba (taken_in v))) ≡ Did (Take entry mark) = ap (λ (x : Logged). x.event) here in
     let same : next_entry v lba sector ≡ entry = cc in
     let position : taken_in v ≡ entry.position = ap (λ (e : Entry). e.position) same in
     omega (arith, position)
-below_more v lba upto sector more low rest (suc j) knows entry mark at = rest j knows entry mark at
+below_more v lba upto sector more low rest (suc j) knows entry mark at users = rest j knows entry mark at users
 
 -- the log after them
 entries_log : (v : MountView) (lba upto : ℕ) (sectors : List (List ℕ)) → taken_in v + length sectors ≤ upto
     → (more : List Logged) × (engine_log (with_entries v lba sectors) ≡ engine_log v ++ more) × (length more ≡ length sectors) × TakeBelow upto more
-entries_log v lba upto [] room = ([], sym (append-nil (engine_log v)), refl, λ j knows entry mark at. absurd cc)
+entries_log v lba upto [] room = ([], sym (append-nil (engine_log v)), refl, λ j knows entry mark at users. absurd cc)
 entries_log v lba upto (sector ∷ sectors) room =
     let one : taken_in (with_entry v lba sector) ≡ taken_in v + 1 = taken_more v lba sector in
     let rest : (more : List Logged) × (engine_log (with_entries (with_entry v lba sector) (lba + 1) sectors) ≡ engine_log (with_entry v lba sector) ++ more)
@@ -152,7 +152,7 @@ entries_log v lba upto (sector ∷ sectors) room =
     )
 
 -- where there was room for them
-pub granted_entries : (v new : MountView) (lba : ℕ) (sectors : List (List ℕ)) → IsSound v → new ≡ with_entries v lba sectors
+pub granted_entries : (v new : MountView) (lba : ℕ) (sectors : List (List ℕ)) → IsSound v → new ≡ with_pad (with_entries v lba sectors) new.pad
     → taken_in v + length sectors ≤ v.granted
     → WasRoom v.image (logs_in v) (length (engine_log v)) v.granted → AreGranted v.image (logs_in v) → AreGranted new.image (logs_in new)
 granted_entries v new lba sectors sound is room once were =
@@ -162,7 +162,8 @@ granted_entries v new lba sectors sound is room once were =
     (granted_grown v (with_entries v lba sectors) deeds.0 log.0 v.granted sound (image_all v lba sectors) deeds.1 log.1 were once log.3)
 
 -- and so there was before the first of them
-pub place_granted : (v new : MountView) (lba first : ℕ) (sectors : List (List ℕ)) → IsSound v → new ≡ with_entries v lba sectors → first ≡ taken_in v
+pub place_granted : (v new : MountView) (lba first : ℕ) (sectors : List (List ℕ)) → IsSound v → new ≡ with_pad (with_entries v lba sectors) new.pad
+    → first ≡ taken_in v
     → taken_in v + length sectors ≤ v.granted
     → WasRoom v.image (logs_in v) (length (engine_log v)) v.granted
     → WasRoom new.image (logs_in new) (length (engine_log new) - length sectors) (first + length sectors)
@@ -190,8 +191,8 @@ module _ (old new : SerialView) (mid : MountView) (lba size n : ℕ) (bytes : Li
       granted_entries mid new.mount lba (sectors_of size n bytes) is.between is.mount (subst (λ k. taken_in mid + k ≤ mid.granted) (sym many) room) once
       (granted_same old.mount mid is.was is.same serial.granted)
 
-  pub granted_place : (first : ℕ) → first ≡ taken_in old.mount → WasRoom new.mount.image (logs_in new.mount) (length (engine_log new.mount) - n) (first + n)
+  pub granted_place : (first : ℕ) → first ≡ taken_in mid → WasRoom new.mount.image (logs_in new.mount) (length (engine_log new.mount) - n) (first + n)
   granted_place first from =
       subst (λ k. WasRoom new.mount.image (logs_in new.mount) (length (engine_log new.mount) - k) (first + k)) many
-      (place_granted mid new.mount lba first (sectors_of size n bytes) is.between is.mount (from ∙ sym (taken_kept old.mount mid is.was is.between is.same))
+      (place_granted mid new.mount lba first (sectors_of size n bytes) is.between is.mount from
       (subst (λ k. taken_in mid + k ≤ mid.granted) (sym many) room) once)

@@ -21,6 +21,7 @@ use Rattle.core_laws.specs.Stepping.{after}
 use Rattle.core_laws.specs.WindowOf.{HeldSectors, held_of, without_frame}
 use Rattle.write_window.specs.declared.held.Held.{Held}
 use Rattle.write_window.specs.Window as window
+use Rattle.pblk_core.specs.Collecting.{Collects}
 use Rattle.pblk_core.specs.Mounts.{InItsMount}
 use Rattle.pblk_core.specs.Stands.{Stands, IsStanding}
 use Rattle.pblk_core.specs.declared.target_core.Core.{Core}
@@ -39,6 +40,13 @@ HasBegunWith s f c = (i : Image) (w : World) (knows : List ℕ) → i.shape ≡ 
     → IsFoundOf (found_image i (after (log_of w) (Begin (beginning_of f)) knows)) f
     → NoneOpen (found_image i (after (log_of w) (Begin (beginning_of f)) knows))
     → Stands i (after (log_of w) (Begin (beginning_of f)) knows) c
+
+-- and that collects what it says
+abbrev pub CollectsWith : Shape → Found → Core → Type 0
+CollectsWith s f c = (i : Image) (w : World) (knows : List ℕ) → i.shape ≡ s → IsLegalMount i w → log_of w 0 ≡ []
+    → IsFoundOf (found_image i (after (log_of w) (Begin (beginning_of f)) knows)) f
+    → NoneOpen (found_image i (after (log_of w) (Begin (beginning_of f)) knows))
+    → Collects i (after (log_of w) (Begin (beginning_of f)) knows) c
 
 -- the log of an engine that began
 abbrev first_log : Beginning → List ℕ → List Logged
@@ -67,7 +75,7 @@ all_granted granted free is = omega arith
 no_less : (granted free : ℕ) → granted ≡ free → free ≤ granted
 no_less granted free is = omega arith
 
-module _ (s : Shape) (f : Found) (core : Core) (has : HasBegunWith s f core) where
+module _ (s : Shape) (f : Found) (core : Core) (has : HasBegunWith s f core) (collects : CollectsWith s f core) where
   module _ (i : Image) (w : World) (knows : List ℕ) (is : Begins s f i w knows) where
     abbrev event : EngineEvent
     event = Begin (beginning_of f)
@@ -78,13 +86,23 @@ module _ (s : Shape) (f : Found) (core : Core) (has : HasBegunWith s f core) whe
     its_log : log_of later 0 ≡ first_log (beginning_of f) knows
     its_log = log_is i w event knows ∙ ap (λ (log : List Logged). log ++ first_log (beginning_of f) knows) is.nothing
 
+    same_logs : log_of later ≡ after (log_of w) event knows
+    same_logs = logs_are i w event knows
+
+    its_found : IsFoundOf (found_image i (after (log_of w) event knows)) f
+    its_found = subst (λ (logs : Logs). IsFoundOf (found_image i logs) f) same_logs is.found
+
+    none_open : NoneOpen (found_image i (after (log_of w) event knows))
+    none_open = subst (λ (logs : Logs). NoneOpen (found_image i logs)) same_logs
+        (none_found_open i later (record { beginning = beginning_of f; knows = knows }) is.legal.legal (ap begun its_log))
+
     stands_first : Stands i (log_of later) core
-    stands_first =
-        let same : log_of later ≡ after (log_of w) event knows = logs_are i w event knows in
-        subst (λ (logs : Logs). Stands i logs core) (sym same)
-        (has i w knows is.shape is.before is.nothing (subst (λ (logs : Logs). IsFoundOf (found_image i logs) f) same is.found)
-        (subst (λ (logs : Logs). NoneOpen (found_image i logs)) same
-        (none_found_open i later (record { beginning = beginning_of f; knows = knows }) is.legal.legal (ap begun its_log))))
+    stands_first = subst (λ (logs : Logs). Stands i logs core) (sym same_logs)
+        (has i w knows is.shape is.before is.nothing its_found none_open)
+
+    collects_first : Collects i (log_of later) core
+    collects_first = subst (λ (logs : Logs). Collects i logs core) (sym same_logs)
+        (collects i w knows is.shape is.before is.nothing its_found none_open)
 
     first_freed : core.window.freed ≡ freed i.shape (log_of later 0)
     first_freed =
@@ -110,6 +128,7 @@ module _ (s : Shape) (f : Found) (core : Core) (has : HasBegunWith s f core) whe
         let same : max 0 (room i (log_of later)) ≡ granted = all_granted granted (room i (log_of later)) grants in
         record {
           stands = stands_first;
+          collects = collects_first;
           drained = first_freed;
           own = subst (λ (hs : List Held). window.AreOf pool.region hs) (sym no_entries) tt;
           out = out ∙ ap (λ (hs : List Held). length hs) (sym no_entries);

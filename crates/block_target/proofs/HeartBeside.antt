@@ -13,6 +13,7 @@ use Rattle.world_laws.specs.LegalMounts.{IsLegalMount}
 use Rattle.block_target.specs.Granted.{WasRoom}
 use Rattle.block_target.specs.Heart.{IsHeart}
 use Rattle.block_target.specs.declared.heart.Heart.{Heart}
+use Rattle.block_target.proofs.CopiesTold.{collects_beside}
 use Rattle.block_target.proofs.OnceRoom.{room_later}
 use Rattle.block_target.proofs.UnitStands.{stands_beside}
 
@@ -26,6 +27,7 @@ module _ (i : Image) (w : World) (unit : ℕ) (e : UnitEvent) (maker : Maker) wh
   pub heart_beside : (h : Heart) → IsLegalMount i w → IsHeart i (log_of w) h → IsHeart i (log_of (unit_step i.shape unit e maker w ∷ w)) h
   heart_beside h mount is = record {
     stands = stands_beside i w unit e maker h.core mount is.stands;
+    collects = collects_beside i w unit e maker mount h.core is.collects;
     drained = is.drained ∙ ap (freed i.shape) (sym engine);
     own = is.own;
     out = is.out;

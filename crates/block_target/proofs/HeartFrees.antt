@@ -1,5 +1,5 @@
 -- What a heart stands for once its core freed a line, and once it freed one line after another.
-use Rattle.std.proofs.Common.{◌≡◌, ℕ, None, Some, Option, List, [], ◌∷◌, length, refl, sym, subst, ap, ◌∙◌}
+use Rattle.std.proofs.Common.{◌≡◌, ◌≤◌, ℕ, None, Some, Option, List, [], ◌∷◌, length, refl, sym, subst, ap, ◌∙◌}
 use Rattle.std.specs.Prelude.{slice_index, IfSome, IfNone}
 use Rattle.pblk_model.specs.Image.{Image}
 use Rattle.pblk_world.specs.Events.{Free}
@@ -15,6 +15,8 @@ use Rattle.step_laws.specs.Whole.{knows_all}
 use Rattle.step_laws.proofs.FreedWorlds.{legal_then}
 use Rattle.step_laws.proofs.Knowing.{known_whole}
 use Rattle.write_window.specs.Window as window
+use Rattle.pblk_core.specs.Collecting.{Collects}
+use Rattle.pblk_core.specs.Copies.{is_copying}
 use Rattle.pblk_core.specs.Mounts.{InItsMount}
 use Rattle.pblk_core.specs.Named.{pad_of}
 use Rattle.pblk_core.specs.Stands.{Stands}
@@ -32,9 +34,10 @@ with_core h core = record { core = core; pool = h.pool; granted = h.granted }
 -- The front freed, the window and the room are as they were.
 beats_freed : (i : Image) (w : World) (line : ℕ) (knows : List ℕ) (old : Heart) (core : Core) → IsLegalMount i w → IsHeart i (log_of w) old
     → IsLegalMount i (decided (Free line) knows w) → MayFree i (log_of w) line → Stands i (after (log_of w) (Free line) knows) core
-    → core.window ≡ old.core.window → IsHeart i (log_of (decided (Free line) knows w)) (with_core old core)
-beats_freed i w line knows old core mount was legal may stands same =
-    beats_kept i w (Free line) knows old (with_core old core) mount was legal stands
+    → Collects i (after (log_of w) (Free line) knows) core → core.window ≡ old.core.window
+    → IsHeart i (log_of (decided (Free line) knows w)) (with_core old core)
+beats_freed i w line knows old core mount was legal may stands collects same =
+    beats_kept i w (Free line) knows old (with_core old core) mount was legal stands collects
     (quiet_freed i.shape (log_of w 0) (Free line) knows (free_is_quiet (log_of w 0) line knows))
     (room_freed i w mount line knows may.over was.stands.beginning was.stands.has_begun may.seq may.has_seq)
     (ap (λ (x : window.WindowView). x.freed) same)
@@ -56,13 +59,16 @@ frees_none (Some x) h none = tt
 pub frees_beats : (line : Option ℕ) (old : Heart) (core : Core) → IfSome line (λ x. InItsMount old.core (λ i w. MayFree i (log_of w) x))
     → IfSome line (λ x. (i : Image) (w : World) (knows : List ℕ) → IsLegalMount i w → Stands i (log_of w) old.core → slice_index knows 0 ≡ length (log_of w 0)
     → Stands i (after (log_of w) (Free x) knows) core)
+    → IfSome line (λ x. (i : Image) (w : World) (knows : List ℕ) → IsLegalMount i w → Stands i (log_of w) old.core → Collects i (log_of w) old.core
+    → slice_index knows 0 ≡ length (log_of w 0) → Collects i (after (log_of w) (Free x) knows) core)
     → core.window ≡ old.core.window
     → IfSome line (λ x. (i : Image) (w : World) (knows : List ℕ) → IsLegalMount i w → IsHeart i (log_of w) old → slice_index knows 0 ≡ length (log_of w 0)
     → IsLegalMount i (decided (Free x) knows w)
     → IsHeart i (log_of (decided (Free x) knows w)) (record { core = core; pool = old.pool; granted = old.granted }))
-frees_beats None old core may stands same = tt
-frees_beats (Some x) old core may stands same = λ i w knows mount was own legal.
-    beats_freed i w x knows old core mount was legal (may i w mount was.stands) (stands i w knows mount was.stands own) same
+frees_beats None old core may stands collects same = tt
+frees_beats (Some x) old core may stands collects same = λ i w knows mount was own legal.
+    beats_freed i w x knows old core mount was legal (may i w mount was.stands) (stands i w knows mount was.stands own)
+    (collects i w knows mount was.stands was.collects own) same
 
 pub frees_unchanged : (line : Option ℕ) (old : Heart) (core : Core) → IfNone line (core ≡ old.core)
     → IfNone line (record { core = core; pool = old.pool; granted = old.granted } ≡ old)
@@ -103,13 +109,15 @@ module _ (h mid : Heart) (lines : List ℕ) (freed : OfItsMount h (λ i w. IsFre
 
   -- once no other may be freed
   pub all_freed : (deeds after : List Deed) → after ≡ freed_deeds deeds lines → OfItsMount mid (λ i w. NoneToFree i (log_of w))
-      → mid.core.placer.units ≡ h.core.placer.units → pad_of mid.core ≡ pad_of h.core → mid.granted ≡ h.granted → HaveFreed h deeds mid after
-  all_freed deeds after done none rows pad granted = record {
+      → mid.core.placer.units ≡ h.core.placer.units → is_copying mid.core ≡ is_copying h.core → pad_of h.core ≤ pad_of mid.core → mid.granted ≡ h.granted
+      → HaveFreed h deeds mid after
+  all_freed deeds after done none rows copying pad granted = record {
     lines = lines;
     deeds = done;
     freed = freed;
     none = λ i w mount is. none i (freed_world i.shape w lines) (legal i w mount is) (freed i w mount is).stands;
     rows = rows;
+    copying = copying;
     pad = pad;
     granted = granted;
   }

@@ -29,6 +29,7 @@ use Rattle.core_laws.proofs.TakenNumbers.{first_stays}
 use Rattle.step_laws.specs.Whole.{knows_all}
 use Rattle.step_laws.proofs.EngineSteps.{decided_legal}
 use Rattle.write_window.specs.Window as window
+use Rattle.pblk_core.specs.Collecting.{Collects, IsCollecting}
 use Rattle.pblk_core.specs.Landing.{WasStopped}
 use Rattle.pblk_core.specs.Mounts.{InItsMount, StandsAfter}
 use Rattle.pblk_core.specs.Stands.{Stands, IsStanding}
@@ -47,6 +48,7 @@ use Rattle.lemmas.proofs.Parts.{get_first, get_last, is_in}
 -- What a heart is once its frames and its grant are renewed: it was this one, with this core.
 pub record IsRenewed (old : Heart) (core : Core) (new : Heart) : Type 0 where
   pub stands : InItsMount core (λ i w. Stands i (log_of w) new.core)
+  pub collects : (i : Image) (logs : Logs) → Collects i logs core → Collects i logs new.core
   pub drained : InItsMount core (λ i w. new.core.window.freed ≡ freed i.shape (log_of w 0))
   pub granted : InItsMount core (λ i w. new.granted ≡ max old.granted (room i (log_of w)))
   pub own : window.AreOf new.pool.region new.core.window.entries
@@ -162,7 +164,7 @@ module _ (i : Image) (w : World) (e : EngineEvent) (knows : List ℕ) where
 
   -- the heart
   pub heart_later : (old new : Heart) → IsLegalMount i w → IsHeart i (log_of w) old → IsLegalMount i later
-      → Stands i (log_of later) new.core
+      → Stands i (log_of later) new.core → Collects i (log_of later) new.core
       → new.core.window.freed ≡ freed i.shape (log_of later 0)
       → freed i.shape (log_of w 0) ≤ freed i.shape (log_of later 0)
       → window.AreOf new.pool.region new.core.window.entries
@@ -170,7 +172,7 @@ module _ (i : Image) (w : World) (e : EngineEvent) (knows : List ℕ) where
       → new.pool.region ≡ old.pool.region
       → new.granted ≡ max old.granted (room i (log_of later))
       → IsHeart i (log_of later) new
-  heart_later old new mount was legal stands drained rises own out region is =
+  heart_later old new mount was legal stands collects drained rises own out region is =
       let first : first_position (log_of later 0) ≡ first_position (log_of w 0) =
       ap first_position log_is ∙ first_stays (log_of w 0) last was.stands.beginning was.stands.has_begun in
       let low : old.granted + units i.shape * i.shape.ws_opt ≤ new.core.window.freed + i.shape.ring =
@@ -179,6 +181,7 @@ module _ (i : Image) (w : World) (e : EngineEvent) (knows : List ℕ) where
       let kept = grant_kept i later old.granted new.core.window.freed (first_position (log_of w 0)) mount.accepted drained first low was.last in
       record {
         stands = stands;
+        collects = collects;
         drained = drained;
         own = own;
         out = out;
@@ -202,11 +205,12 @@ module _ (i : Image) (w : World) (e : EngineEvent) (knows : List ℕ) where
 
   -- by a core that stands for the logs with the event, once its frames and its grant are renewed
   pub beats_later : (old : Heart) (core : Core) (new : Heart) → IsLegalMount i w → IsHeart i (log_of w) old → IsLegalMount i later
-      → Stands i (after (log_of w) e knows) core → is_plain_decision e ≡ true → length core.window.entries ≡ length old.core.window.entries
-      → IsRenewed old core new
+      → Stands i (after (log_of w) e knows) core → Collects i (after (log_of w) e knows) core → is_plain_decision e ≡ true
+      → length core.window.entries ≡ length old.core.window.entries → IsRenewed old core new
       → IsHeart i (log_of later) new
-  beats_later old core new mount was legal stands plain count is =
-      heart_later old new mount was legal (is.stands i later legal now) (is.drained i later legal now)
+  beats_later old core new mount was legal stands collects plain count is =
+      heart_later old new mount was legal (is.stands i later legal now)
+      (is.collects i (log_of later) (subst (λ (logs : Logs). Collects i logs core) (sym logs_are) collects)) (is.drained i later legal now)
       (freed_later was.stands.beginning was.stands.has_begun plain old.core mount was.stands legal.legal)
       is.own (out_renewed _ _ _ _ _ is.out was.out count) is.region (is.granted i later legal now)
     where
@@ -215,13 +219,14 @@ module _ (i : Image) (w : World) (e : EngineEvent) (knows : List ℕ) where
 
   -- by a core whose window holds as much, where the front freed and the room stay
   pub beats_kept : (old new : Heart) → IsLegalMount i w → IsHeart i (log_of w) old → IsLegalMount i later
-      → Stands i (after (log_of w) e knows) new.core
+      → Stands i (after (log_of w) e knows) new.core → Collects i (after (log_of w) e knows) new.core
       → freed i.shape (after (log_of w) e knows 0) ≡ freed i.shape (log_of w 0) → room i (after (log_of w) e knows) ≡ room i (log_of w)
       → new.core.window.freed ≡ old.core.window.freed → window.AreOf new.pool.region new.core.window.entries
       → count_out new.pool.left ≡ length new.core.window.entries → new.pool.region ≡ old.pool.region → new.granted ≡ old.granted
       → IsHeart i (log_of later) new
-  beats_kept old new mount was legal stands front same window own out region granted =
+  beats_kept old new mount was legal stands collects front same window own out region granted =
       heart_later old new mount was legal (subst (λ (logs : Logs). Stands i logs new.core) (sym logs_are) stands)
+      (subst (λ (logs : Logs). Collects i logs new.core) (sym logs_are) collects)
       (window ∙ was.drained ∙ sym front_is) (subst (λ n. freed i.shape (log_of w 0) ≤ n) (sym front_is) (le_refl (freed i.shape (log_of w 0)))) own out region
       (no_more new.granted old.granted (room i (log_of later)) granted (subst (λ n. n ≤ old.granted) (sym room_is) was.room))
     where
@@ -233,6 +238,13 @@ module _ (i : Image) (w : World) (e : EngineEvent) (knows : List ℕ) where
 
       no_more : (a b c : ℕ) → a ≡ b → c ≤ b → a ≡ max b c
       no_more a b c is less = omega arith
+
+-- The core of a heart stands for the logs of a legal mount, and collects what they say.
+pub collecting_at : (i : Image) (w : World) (h : Heart) → IsLegalMount i w → IsHeart i (log_of w) h → IsCollecting h.core
+collecting_at i w h mount is = record { image = i; world = w; legal = mount; stands = is.stands; collects = is.collects }
+
+pub collecting_in : (h : Heart) → IsBeating h → IsCollecting h.core
+collecting_in h b = collecting_at b.image b.world h b.legal b.stands
 
 -- A core that stands for the logs with an event that the engine may decide stands for those of a
 -- legal mount.
@@ -257,10 +269,11 @@ standing_after h e core b may stands =
 -- Where the engine did nothing, a heart stands for the same logs once its frames and its grant are
 -- renewed.
 pub beats_still : (i : Image) (w : World) (old : Heart) (core : Core) (new : Heart) → IsLegalMount i w → IsHeart i (log_of w) old
-    → Stands i (log_of w) core → length core.window.entries ≡ length old.core.window.entries → IsRenewed old core new
+    → Stands i (log_of w) core → Collects i (log_of w) core → length core.window.entries ≡ length old.core.window.entries → IsRenewed old core new
     → IsHeart i (log_of w) new
-beats_still i w old core new mount was stands count is = record {
+beats_still i w old core new mount was stands collects count is = record {
   stands = is.stands i w mount stands;
+  collects = is.collects i (log_of w) collects;
   drained = is.drained i w mount stands;
   own = is.own;
   out = out_renewed _ _ _ _ _ is.out was.out count;

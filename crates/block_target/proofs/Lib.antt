@@ -1,8 +1,9 @@
 pub mod AskedMounts
-pub mod Beginnings
 pub mod Begun
 pub mod ClosedEnd
 pub mod ClosedPorts
+pub mod CopiedMount
+pub mod CopiesTold
 pub mod DeviceFronts
 pub mod EngineLengths
 pub mod GrantedRoom
@@ -20,6 +21,7 @@ pub mod Readied
 pub mod ReadLook
 pub mod ReadSectors
 pub mod Refusals
+pub mod Settled
 pub mod SameMounts
 pub mod Spent
 pub mod TakenMount

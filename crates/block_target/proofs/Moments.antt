@@ -51,7 +51,7 @@ pub record IsRefusedThen (i : Image) (w : World) (b : Begun) (n wanted have : �
   pub simple : IsSimpleMount i past
   pub begins : begun (log_of past 0) ≡ Some b
   pub answered : (p : Placed) → Contains (placements (log_of past 0)) p → is_answered (log_of past 0) p ≡ true
-  pub all_taken : taken (log_of past 0) ≡ wanted
+  pub all_taken : wanted ≤ taken (log_of past 0)
   pub is_synced : have ≡ synced i.shape (log_of past 0)
 
 pub refused_then : (i : Image) (w : World) (b : Begun) (n wanted have : ℕ) → IsSimpleMount i w → begun (log_of w 0) ≡ Some b
@@ -65,7 +65,7 @@ refused_then i w b n wanted have simple begins is =
         simple = simple_earlier i m.1.later m.0 (subst (IsSimpleMount i) m.1.whole simple);
         begins = sym (ap begun log) ∙ begun_taken n (log_of w 0) is.nothing_left.has_begun ∙ begins;
         answered = subst (λ ls. (p : Placed) → Contains (placements ls) p → is_answered ls p ≡ true) log is.nothing_left.nothing_left.stripes;
-        all_taken = sym (is.all_taken ∙ ap taken log);
+        all_taken = subst (λ ls. wanted ≤ taken ls) log is.all_taken;
         is_synced = is.is_synced ∙ ap (synced i.shape) log;
       },
     )

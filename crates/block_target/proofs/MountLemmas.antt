@@ -1,12 +1,14 @@
 -- Lemmas on the words of Mount.
-use Rattle.std.proofs.Common.{List, [], ap, append-nil, append_assoc, le_refl, le_trans, refl, subst, sym, ◌++◌, ◌^◌, ◌∙◌, ◌≡◌, ◌≤◌}
+use Rattle.std.proofs.Common.{ℕ, List, [], ap, ap₂, append-nil, arith, append_assoc, le_refl, le_trans, refl, subst, sym, ◌++◌, ◌^◌, ◌∙◌, ◌≡◌, ◌≤◌}
 use Rattle.block_target.specs.Heart.{IsBeating}
 use Rattle.block_target.specs.Mount.{HaveGrown, IsMount, IsSameMount, IsSound, MountView, engine_log, logs_in, taken_in, work_in, world_in}
 use Rattle.block_target.specs.declared.heart.Heart.{Heart}
+use Rattle.block_target.proofs.HeartSteps.{collecting_in}
 use Rattle.block_target.proofs.RestingCores.{work_rests}
+use Rattle.pblk_core.specs.Collecting.{IsCollecting}
+use Rattle.pblk_core.specs.Copies.{is_copying}
 use Rattle.pblk_core.specs.Filling.{Filling}
 use Rattle.pblk_core.specs.Named.{named, pad_of, work_of}
-use Rattle.pblk_core.specs.Stands.{IsStanding}
 use Rattle.pblk_core.specs.declared.work.Work.{Work}
 use Rattle.pblk_core.proofs.SmallPositions.{taken_bounded}
 use Rattle.pblk_core.proofs.WorkOf.{work_is}
@@ -38,10 +40,11 @@ same_mount v = record {
   wear = refl;
   more = [];
   deeds = sym (append-nil v.deeds);
-  takes = refl;
+  users = refl;
+  taken = le_refl _;
   synced = le_refl _;
   granted = le_refl v.granted;
-  pad = le_refl v.pad;
+  asked = le_refl v.asked;
 }
 
 pub same_then : (a b c : MountView) → IsSameMount a b → IsSameMount b c → IsSameMount a c
@@ -53,10 +56,11 @@ same_then a b c x y = record {
   wear = y.wear ∙ x.wear;
   more = x.more ++ y.more;
   deeds = y.deeds ∙ ap (λ ds. ds ++ y.more) x.deeds ∙ append_assoc a.deeds x.more y.more;
-  takes = y.takes ∙ x.takes;
+  users = y.users ∙ x.users;
+  taken = le_trans x.taken y.taken;
   synced = le_trans x.synced y.synced;
   granted = le_trans x.granted y.granted;
-  pad = le_trans x.pad y.pad;
+  asked = le_trans x.asked y.asked;
 }
 
 pub same_from : {old v new : MountView} → v ≡ old → IsSameMount v new → IsSameMount old new
@@ -72,13 +76,20 @@ module _ {v : MountView} {h : Heart} {f : Filling} (m : IsMount v h f) where
   pub beating_in : IsBeating h
   beating_in = record { image = v.image; world = world_in v; legal = m.sound.legal.mount; stands = m.heart }
 
-  pub standing_in : IsStanding h.core
-  standing_in = record { image = v.image; world = world_in v; legal = m.sound.legal.mount; stands = m.heart.stands }
+  pub collecting : IsCollecting h.core
+  collecting = collecting_in h beating_in
+
+  -- a pad target that is no less than the heart's holds what was asked for
+  pub asked_within : (pad : ℕ) → pad_of h.core ≤ pad → v.asked ≤ pad
+  asked_within pad more =
+      let asked : v.asked ≤ v.pad = m.asked in
+      let same : v.pad ≡ pad_of h.core = m.pad in
+      omega arith
 
   -- what the core names is what comes next
-  pub named_work : work_of v.image (logs_in v) (pad_of h.core) m.heart.stands.again ≡ work_in v
-  named_work = work_rests v.image (logs_in v) h.core m.heart.stands m.resting (pad_of h.core)
-      ∙ ap (λ pad. work_of v.image (logs_in v) pad []) (sym m.pad)
+  pub named_work : work_of v.image (logs_in v) (pad_of h.core) m.heart.stands.again (is_copying h.core) ≡ work_in v
+  named_work = work_rests v.image (logs_in v) h.core m.heart.stands m.resting (pad_of h.core) (is_copying h.core)
+      ∙ ap₂ (λ pad copying. work_of v.image (logs_in v) pad [] copying) (sym m.pad) m.idle
 
   pub is_named : (work : Work) → work_in v ≡ work → named h.core ≡ work
-  is_named work is = work_is v.image (world_in v) h.core m.sound.legal m.heart.stands ∙ named_work ∙ is
+  is_named work is = work_is v.image (world_in v) h.core m.sound.legal.mount m.heart.stands m.heart.collects ∙ named_work ∙ is

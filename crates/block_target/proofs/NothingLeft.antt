@@ -1,5 +1,5 @@
 -- Where the logs name no work, and no stripe is under way, there is nothing left to do.
-use Rattle.std.proofs.Common.{◌≡◌, ◌⊎◌, inl, inr, ℕ, ◌+◌, ◌<◌, ◌≤◌, ◌^◌, ◌==◌, ◌&&◌, not, nat_lt, Bool, true, false, Some, None, Option, List, [], ◌∷◌, length, refl, sym, ap, ap₂, ◌∙◌, arith}
+use Rattle.std.proofs.Common.{◌≡◌, ◌≢◌, ◌⊎◌, inl, inr, ℕ, ◌+◌, ◌<◌, ◌≤◌, ◌^◌, ◌==◌, ◌&&◌, ◌||◌, not, nat_lt, Bool, true, false, Some, None, Option, List, [], ◌∷◌, length, refl, sym, ap, ap₂, ◌∙◌, arith}
 use Rattle.std.specs.Prelude.{nat_eq, slice_get, position}
 use Rattle.std.specs.List.{Contains, filter_map}
 use Rattle.std.proofs.lemmas.Nat.Bits.{bit_at-zero}
@@ -16,7 +16,7 @@ use Rattle.pblk_world.specs.Fronts.{synced, waiting}
 use Rattle.pblk_world.specs.Lines.{known_image, are_empty, is_free_line, is_given_up, has_stripe_left}
 use Rattle.pblk_world.specs.Opening.{MayOpen}
 use Rattle.pblk_world.specs.Space.{open_addresses}
-use Rattle.pblk_world.specs.AtRest.{IsDue}
+use Rattle.pblk_world.specs.AtRest.{IsCopyDue, IsDue, pad_target}
 use Rattle.line_table.specs.Rows.{is_free}
 use Rattle.stripe_placer.specs.OpenLines.{has_left}
 use Rattle.stripe_placer.specs.Placing.{Placing, Program, UnitRow, is_ready, is_under_way, next_in, next_stripe, offers, stopped_in}
@@ -35,10 +35,12 @@ use Rattle.core_laws.proofs.Followed.{follow}
 use Rattle.core_laws.proofs.IdleRows.{its_row, row_there}
 use Rattle.core_laws.proofs.PlainOpenings.{opened_lines}
 use Rattle.step_laws.specs.FreedWorlds.{NoneToFree}
+use Rattle.pblk_core.specs.Copies.{is_copy_due}
 use Rattle.pblk_core.specs.Named.{choice, reset_or, work_of, first_seq_of}
 use Rattle.pblk_core.specs.Resets.{resets_of}
 use Rattle.pblk_core.specs.Stands.{under_way}
 use Rattle.pblk_core.specs.declared.work.Work.{Work}
+use Rattle.pblk_core.proofs.CopiesDue.{copy_by_test, test_of_copy}
 use Rattle.pblk_core.proofs.Laws.{reset_empty}
 use Rattle.pblk_core.specs.declared.work.Work.TheVariants as works
 use Rattle.pblk_core.specs.declared.work.Why.{Why}
@@ -48,23 +50,32 @@ use Rattle.lemmas.proofs.Lists.{IsAmong}
 use Rattle.lemmas.proofs.Maps.{given_at}
 use Rattle.lemmas.proofs.Options.{none_there}
 use Rattle.lemmas.proofs.Parts.{all_at, get_more, got_within}
-use Rattle.lemmas.proofs.Tests.{lt_true, not_both}
+use Rattle.lemmas.proofs.Tests.{both, lt_true, not_both}
 
 -- ---- what is chosen
 
-not_chosen : (has_stripe asks_line has_free may_open in_flight : Bool) (reason : Why)
-    → choice has_stripe asks_line has_free may_open in_flight ≡ works.Nothing reason
-    → (has_stripe ≡ false) × (asks_line ≡ true → (has_free ≡ false) ⊎ (may_open ≡ false))
-not_chosen true a h m f reason e = absurd cc
-not_chosen false false h m f reason e = (refl, λ asks. absurd cc)
-not_chosen false true false m f reason e = (refl, λ asks. inl refl)
-not_chosen false true true false f reason e = (refl, λ asks. inr refl)
-not_chosen false true true true f reason e = absurd cc
+not_chosen : (has_stripe asks_line has_free may_open has_copy in_flight : Bool) (reason : Why)
+    → choice has_stripe asks_line has_free may_open has_copy in_flight ≡ works.Nothing reason
+    → (has_stripe ≡ false) × (asks_line ≡ true → (has_free ≡ false) ⊎ (may_open ≡ false)) × (has_copy ≡ false)
+not_chosen true a h m k f reason e = absurd cc
+not_chosen false false h m true f reason e = absurd cc
+not_chosen false false h m false f reason e = (refl, λ asks. absurd cc, refl)
+not_chosen false true false m true f reason e = absurd cc
+not_chosen false true false m false f reason e = (refl, λ asks. inl refl, refl)
+not_chosen false true true false true f reason e = absurd cc
+not_chosen false true true false false f reason e = (refl, λ asks. inr refl, refl)
+not_chosen false true true true k f reason e = absurd cc
 
-no_reset_named : (o : Option _) (otherwise : Work) (reason : Why) → reset_or o otherwise ≡ works.Nothing reason
-    → (o ≡ None) × (otherwise ≡ works.Nothing reason)
-no_reset_named None otherwise reason e = (refl, e)
-no_reset_named (Some chunk) otherwise reason e = absurd cc
+-- with no copy under way
+not_due : (due : Bool) → (due && not false) ≡ false → due ≡ false
+not_due true e = absurd cc
+not_due false e = refl
+
+-- where no reset is named
+pub no_reset_named : (o : Option _) (otherwise work : Work) → ((line unit : ℕ) → works.Reset line unit ≢ work) → reset_or o otherwise ≡ work
+    → (o ≡ None) × (otherwise ≡ work)
+no_reset_named None otherwise work apart e = (refl, e)
+no_reset_named (Some chunk) otherwise work apart e = absurd (apart chunk.line chunk.unit e)
 
 none_first : {X : Type 0} (xs : List X) → slice_get xs 0 ≡ None → xs ≡ []
 none_first [] e = refl
@@ -75,20 +86,50 @@ idle_of Idle rests none = refl
 idle_of (UnderWay of) rests none = absurd cc
 idle_of (Stopped of) rests none = absurd cc
 
+-- what is named where no chunk is to be reset
+abbrev beside : Image → World → ℕ → Work
+beside i w pad = choice
+    (is_some (next_stripe (placing_of i (log_of w) pad []) 0))
+    (nat_lt 0 (length (waiting i.shape (log_of w 0))) && (open_addresses i (log_of w) == 0))
+    (is_some (position is_free (rows_of i (log_of w)).rows))
+    (nat_lt (length (open_lines i (log_of w))) 2 &&
+    (nat_lt (first_seq_of (log_of w) + length (openings (log_of w 0))) (2 ^ 61) && nat_lt (synced i.shape (log_of w 0)) (2 ^ 61)))
+    (is_copy_due i (log_of w) && not false)
+    (nat_lt 0 (under_way i.shape (log_of w 0)) || false)
+
+-- where a copy is named one is due
+has_copy : (has_stripe asks_line has_free may_open has_copy in_flight : Bool)
+    → choice has_stripe asks_line has_free may_open has_copy in_flight ≡ works.Copy → has_copy ≡ true
+has_copy true a h m k f e = absurd cc
+has_copy false false h m true f e = refl
+has_copy false false h m false f e = absurd cc
+has_copy false true false m true f e = refl
+has_copy false true false m false f e = absurd cc
+has_copy false true true false true f e = refl
+has_copy false true true false false f e = absurd cc
+has_copy false true true true k f e = absurd cc
+
+pub copy_named : (i : Image) (w : World) (pad : ℕ) → work_of i (log_of w) pad [] false ≡ works.Copy → IsCopyDue i (log_of w)
+copy_named i w pad is = copy_by_test i (log_of w) (both (is_copy_due i (log_of w)) true (has_copy
+    (is_some (next_stripe (placing_of i (log_of w) pad []) 0))
+    (nat_lt 0 (length (waiting i.shape (log_of w 0))) && (open_addresses i (log_of w) == 0))
+    (is_some (position is_free (rows_of i (log_of w)).rows))
+    (nat_lt (length (open_lines i (log_of w))) 2 &&
+    (nat_lt (first_seq_of (log_of w) + length (openings (log_of w 0))) (2 ^ 61) && nat_lt (synced i.shape (log_of w 0)) (2 ^ 61)))
+    (is_copy_due i (log_of w) && not false)
+    (nat_lt 0 (under_way i.shape (log_of w 0)) || false) named)).0
+  where
+    named : beside i w pad ≡ works.Copy
+    named = (no_reset_named (slice_get (resets_of i (log_of w)) 0) (beside i w pad) works.Copy (λ line unit e. absurd cc) is).1
+
 module _ (i : Image) (w : World) (pad : ℕ) (reason : Why) (simple : IsSimpleMount i w)
     (rests : (unit : ℕ) → unit < units i.shape → is_way_on (log_of w 0) unit ≡ false)
-    (none : work_of i (log_of w) pad [] ≡ works.Nothing reason) where
+    (none : work_of i (log_of w) pad [] false ≡ works.Nothing reason) where
   abbrev otherwise : Work
-  otherwise = choice
-      (is_some (next_stripe (placing_of i (log_of w) pad []) 0))
-      (nat_lt 0 (length (waiting i.shape (log_of w 0))) && (open_addresses i (log_of w) == 0))
-      (is_some (position is_free (rows_of i (log_of w)).rows))
-      (nat_lt (length (open_lines i (log_of w))) 2 &&
-      (nat_lt (first_seq_of (log_of w) + length (openings (log_of w 0))) (2 ^ 61) && nat_lt (synced i.shape (log_of w 0)) (2 ^ 61)))
-      (nat_lt 0 (under_way i.shape (log_of w 0)))
+  otherwise = beside i w pad
 
   named : (slice_get (resets_of i (log_of w)) 0 ≡ None) × (otherwise ≡ works.Nothing reason)
-  named = no_reset_named (slice_get (resets_of i (log_of w)) 0) otherwise reason none
+  named = no_reset_named (slice_get (resets_of i (log_of w)) 0) otherwise (works.Nothing reason) (λ line unit e. absurd cc) none
 
   none_reset : (line : ℕ) → line < i.shape.chunks → is_given_up (log_of w 0) line ≡ true → are_empty (known_image i (log_of w)) line ≡ true
   none_reset line range given = reset_empty i w line simple.mount (none_first (resets_of i (log_of w)) named.0) range given
@@ -98,7 +139,11 @@ module _ (i : Image) (w : World) (pad : ℕ) (reason : Why) (simple : IsSimpleMo
       → (is_some (position is_free (rows_of i (log_of w)).rows) ≡ false)
       ⊎ ((nat_lt (length (open_lines i (log_of w))) 2 &&
       (nat_lt (first_seq_of (log_of w) + length (openings (log_of w 0))) (2 ^ 61) && nat_lt (synced i.shape (log_of w 0)) (2 ^ 61))) ≡ false))
-  chosen = not_chosen _ _ _ _ _ reason named.1
+      × ((is_copy_due i (log_of w) && not false) ≡ false)
+  chosen = not_chosen _ _ _ _ _ _ reason named.1
+
+  pub none_copied : ¬ IsCopyDue i (log_of w)
+  none_copied due = not_both (is_copy_due i (log_of w)) (test_of_copy i (log_of w) due) (not_due (is_copy_due i (log_of w)) chosen.2)
 
   abbrev row : ℕ → UnitRow
   row unit = row_of i (log_of w) [] unit
@@ -205,11 +250,12 @@ module _ (i : Image) (w : World) (pad : ℕ) (reason : Why) (simple : IsSimpleMo
           (none_free i (log_of w) line (none_there (position is_free (rows_of i (log_of w)).rows) no_free) may.in_range)
       go (inr not_open) = not_both _ opens not_open
 
-  pub nothing_left : (asked : ℕ) → asked ≤ pad → NoneToFree i (log_of w) → HasNothingLeft i (log_of w) asked
+  pub nothing_left : (asked : ℕ) → pad_target i (log_of w) asked ≤ pad → NoneToFree i (log_of w) → HasNothingLeft i (log_of w) asked
   nothing_left asked within settled = record {
     stripes = answered;
     no_reset = none_reset;
-    no_program = λ stripe. none_due_now asked stripe within;
+    no_program = λ stripe. none_due_now (pad_target i (log_of w) asked) stripe within;
     no_opening = none_opened;
+    no_copy = none_copied;
     none_to_free = settled;
   }

@@ -1,6 +1,7 @@
 -- A mount whose heart opened the line that it names.
-use Rattle.std.proofs.Common.{◌≡◌, ℕ, ◌+◌, ◌<◌, ◌≤◌, List, [], ◌∷◌, ◌++◌, length, Some, refl, sym, subst, ap, ◌∙◌, arith}
+use Rattle.std.proofs.Common.{◌≡◌, ℕ, ◌≤◌, List, [], ◌∷◌, ◌++◌, Some, refl, sym, ap, ◌∙◌}
 use Rattle.std.specs.Prelude.{slice_get}
+use Rattle.pblk_core.specs.Copies.{is_copying}
 use Rattle.pblk_core.specs.Filling.{Filling}
 use Rattle.pblk_core.specs.Named.{pad_of}
 use Rattle.pblk_model.specs.StartRecord.{StartRecord}
@@ -21,7 +22,8 @@ use Rattle.block_target.specs.Mount.{IsMount, MountView, engine_log, logs_in, wo
 use Rattle.block_target.specs.declared.heart.Heart.{Heart}
 use Rattle.block_target.proofs.DeedsLemmas.{world_more}
 use Rattle.block_target.proofs.FreedMounts.{leaves_freed}
-use Rattle.block_target.proofs.GoingOn.{GoesOn, Leaves, goes_decided, goes_none, longer_decided, moved_on, takes_still}
+use Rattle.block_target.proofs.GoingOn.{GoesOn, Leaves, goes_decided, goes_none, moved_on, takes_still}
+use Rattle.block_target.proofs.MountLemmas.{asked_within}
 
 module _ {v : MountView} {h : Heart} {f : Filling} (m : IsMount v h f) (line : ℕ) (start : StartRecord)
     (may : (b : Begun) → begun (engine_log v) ≡ Some b → MayOpen v.image (logs_in v) b line start) where
@@ -49,16 +51,12 @@ module _ {v : MountView} {h : Heart} {f : Filling} (m : IsMount v h f) (line : �
 
   -- once lines were freed after that
   pub leaves_opened : (mid new : Heart) (last : List Deed) → BeatsAfter h (Open line start) mid → mid.core.placer.units ≡ h.core.placer.units
-      → v.granted ≤ mid.granted → pad_of mid.core ≡ v.pad → HaveFreed mid (v.deeds ++ Decides (Open line start) ∷ []) new last
+      → is_copying mid.core ≡ is_copying h.core → v.granted ≤ mid.granted → pad_of h.core ≤ pad_of mid.core
+      → HaveFreed mid (v.deeds ++ Decides (Open line start) ∷ []) new last
       → Leaves v (moved_on v last v.units v.wear new.granted (pad_of new.core)) new f
-  leaves_opened mid new last beats rows grants pads frees =
+  leaves_opened mid new last beats rows copying grants pads frees =
       leaves_freed m.sound goes done v.wear mid new f last its_world (stands mid beats) frees (Decides (Open line start) ∷ []) refl
       (level_by v.image.shape (Open line start) (world_in v) (λ unit. refl) m.level)
       (known_still v.image (world_in v) (Open line start) refl (λ unit. refl) m.known)
-      (λ unit of is. m.resting unit of (ap (λ (us : List UnitRow). slice_get us unit) (sym rows) ∙ is)) m.stripe
-      (takes_still v.image.shape (Open line start) (world_in v) refl) refl grants pads
-
-  pub more_opened : length (engine_log v) < length (log_of (world_of v.image.shape done) 0)
-  more_opened =
-      let long : length (log_of next 0) ≡ length (engine_log v) + 1 = longer_decided v.image.shape (Open line start) (world_in v) in
-      subst (λ (w : World). length (engine_log v) < length (log_of w 0)) (sym its_world) (omega arith)
+      (λ unit of is. m.resting unit of (ap (λ (us : List UnitRow). slice_get us unit) (sym rows) ∙ is)) (copying ∙ m.idle) m.stripe
+      (takes_still v.image.shape (Open line start) (world_in v) refl) refl grants (asked_within m (pad_of mid.core) pads)

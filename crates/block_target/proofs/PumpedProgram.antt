@@ -1,5 +1,5 @@
 -- A mount that has a stripe programmed: what it asks of the unit, and the mount that this leaves.
-use Rattle.std.proofs.Common.{◌≡◌, ◌≢◌, Bool, ℕ, ◌+◌, ◌-◌, ◌<◌, ◌≤◌, ◌^◌, ◌&&◌, ◌||◌, min, true, false, Some, Option, List, [], ◌∷◌, ◌++◌, length, refl, sym, subst, ap, ap₂, ◌∙◌, arith, append-nil, append_assoc}
+use Rattle.std.proofs.Common.{◌≡◌, ◌≢◌, Bool, ℕ, ◌-◌, ◌<◌, ◌≤◌, ◌^◌, ◌&&◌, ◌||◌, min, true, false, Some, Option, List, [], ◌∷◌, ◌++◌, length, refl, sym, subst, ap, ap₂, ◌∙◌, arith, append-nil, append_assoc}
 use native.Mathlib.Decide.{ℕ_discrete}
 use Rattle.std.specs.Prelude.{slice_get, slice_set}
 use Rattle.pblk_model.specs.ChunkStep.{Done, Write}
@@ -29,6 +29,7 @@ use Rattle.stripe_placer.specs.Placing.{Program}
 use Rattle.stripe_placer.specs.Placing.UnitRow.{UnderWay}
 use Rattle.unit_port.specs.Armed.{is_fail, is_stop}
 use Rattle.unit_port.specs.Unit.{ModelUnit}
+use Rattle.pblk_core.specs.Copies.{is_copying}
 use Rattle.pblk_core.specs.Filling.{Filling}
 use Rattle.pblk_core.specs.Landing.{AreKeptBeside, IsIdleOn, IsOfferedOn, IsResting, WasStopped}
 use Rattle.pblk_core.specs.Named.{pad_of}
@@ -43,8 +44,9 @@ use Rattle.block_target.specs.declared.heart.Heart.{Heart}
 use Rattle.block_target.proofs.DeedsLemmas.{landed_world, stopped_world, world_more}
 use Rattle.block_target.proofs.FreedMounts.{leaves_freed}
 use Rattle.block_target.proofs.GivenCommands.{can_program}
-use Rattle.block_target.proofs.GoingOn.{GoesOn, Leaves, goes_decided, goes_given, goes_none, longer_decided, moved_on, no_less, one_more, takes_beside, takes_still}
+use Rattle.block_target.proofs.GoingOn.{GoesOn, Leaves, goes_decided, goes_given, goes_none, moved_on, one_more, takes_beside, takes_still}
 use Rattle.block_target.proofs.HeartBeside.{heart_beside}
+use Rattle.block_target.proofs.MountLemmas.{asked_within}
 use Rattle.block_target.proofs.LostCommands.{is_lost_one, none_lost_one}
 use Rattle.lemmas.proofs.Tests.{same_number}
 
@@ -274,10 +276,11 @@ module _ {v : MountView} {h : Heart} {f : Filling} (m : IsMount v h f) {mid : He
           → us ≡ slice_set v.units stripe.unit new
           → ((i : Image) (w : World) (event : ℕ) (knows : List ℕ) → IsLegalMount i w → IsHeart i (log_of w) mid → MayLand (log_of w) stripe.unit event
           → IsLegalMount i (decided (Landed stripe.unit event) knows w) → IsHeart i (log_of (decided (Landed stripe.unit event) knows w)) after)
-          → IsResting after.core → into.shape ≡ v.image.shape → wear ≡ v.wear → v.granted ≤ after.granted → pad_of after.core ≡ v.pad
+          → IsResting after.core → is_copying after.core ≡ is_copying h.core → into.shape ≡ v.image.shape → wear ≡ v.wear → v.granted ≤ after.granted
+          → pad_of h.core ≤ pad_of after.core
           → (end : Heart) (all : List Deed) → HaveFreed after last end all
           → Leaves v (moved_on v all us wear end.granted (pad_of end.core)) end into
-      leaves_landed last us wear after into grown is units_are beats rests shape same_wear grants pads end all frees =
+      leaves_landed last us wear after into grown is units_are beats rests copying shape same_wear grants pads end all frees =
           let more = answer_more v deeds stripe.unit (last_of new) (Lands stripe.unit) grown in
           subst (λ (xs : List ModelUnit). Leaves v (moved_on v all xs wear end.granted (pad_of end.core)) end into) (sym units_are)
           (leaves_freed m.sound goes_landed last wear after end into all
@@ -286,16 +289,7 @@ module _ {v : MountView} {h : Heart} {f : Filling} (m : IsMount v h f) {mid : He
           frees more.0 (is ∙ more.1)
           (landing_level v.image w stripe.unit ready.placed e (next_maker w) ready.goes.legal can done ready.level)
           (landing_known v.image w stripe.unit ready.placed e (next_maker w) ready.goes.legal can done ready.known)
-          rests shape takes_landed same_wear grants pads)
-
-      pub landed_more : (last : List Deed) → last ≡ with_answer deeds stripe.unit (last_of new) (Lands stripe.unit)
-          → length (engine_log v) < length (log_of (world_of v.image.shape last) 0)
-      landed_more last is =
-          let long : length (log_of (noted v.image.shape note programmed) 0) ≡ length (log_of programmed 0) + 1 =
-          longer_decided v.image.shape note programmed in
-          let before : length (engine_log v) ≤ length (log_of programmed 0) = no_less goes in
-          subst (λ (x : World). length (engine_log v) < length (log_of x 0))
-          (sym (ap (world_of v.image.shape) is ∙ landed_world v.image.shape deeds stripe.unit (last_of new) e given.last)) (omega arith)
+          rests (copying ∙ m.idle) shape takes_landed same_wear grants (asked_within m (pad_of after.core) pads))
 
       pub landed_done : (us : List ModelUnit) → us ≡ slice_set v.units stripe.unit new → NoneLost v.units us
       landed_done us is = subst (NoneLost v.units) (sym is)
@@ -336,10 +330,11 @@ module _ {v : MountView} {h : Heart} {f : Filling} (m : IsMount v h f) {mid : He
           → ((i : Image) (w : World) (event : ℕ) (knows : List ℕ) → IsLegalMount i w → IsHeart i (log_of w) mid
           → MayOfferAgain (log_of w) stripe.unit event
           → IsLegalMount i (decided (Again stripe.unit event) knows w) → IsHeart i (log_of (decided (Again stripe.unit event) knows w)) after)
-          → IsResting after.core → into.shape ≡ v.image.shape → wear ≡ v.wear → v.granted ≤ after.granted → pad_of after.core ≡ v.pad
+          → IsResting after.core → is_copying after.core ≡ is_copying h.core → into.shape ≡ v.image.shape → wear ≡ v.wear → v.granted ≤ after.granted
+          → pad_of h.core ≤ pad_of after.core
           → (end : Heart) (all : List Deed) → HaveFreed after last end all
           → Leaves v (moved_on v all us wear end.granted (pad_of end.core)) end into
-      leaves_stopped last us wear after into grown is units_are beats rests shape same_wear grants pads end all frees =
+      leaves_stopped last us wear after into grown is units_are beats rests copying shape same_wear grants pads end all frees =
           let more = answer_more v deeds stripe.unit (last_of new) (Offers stripe.unit) grown in
           subst (λ (xs : List ModelUnit). Leaves v (moved_on v all xs wear end.granted (pad_of end.core)) end into) (sym units_are)
           (leaves_freed m.sound goes_stopped last wear after end into all
@@ -348,16 +343,7 @@ module _ {v : MountView} {h : Heart} {f : Filling} (m : IsMount v h f) {mid : He
           frees more.0 (is ∙ more.1)
           (stopping_level v.image w stripe.unit ready.placed e (next_maker w) ready.goes.legal can k stops ready.level)
           (stopping_known v.image w stripe.unit ready.placed e (next_maker w) ready.goes.legal can k stops ready.known)
-          rests shape takes_stopped same_wear grants pads)
-
-      pub stopped_more : (last : List Deed) → last ≡ with_answer deeds stripe.unit (last_of new) (Offers stripe.unit)
-          → length (engine_log v) < length (log_of (world_of v.image.shape last) 0)
-      stopped_more last is =
-          let long : length (log_of (noted v.image.shape again programmed) 0) ≡ length (log_of programmed 0) + 1 =
-          longer_decided v.image.shape again programmed in
-          let before : length (engine_log v) ≤ length (log_of programmed 0) = no_less goes in
-          subst (λ (x : World). length (engine_log v) < length (log_of x 0))
-          (sym (ap (world_of v.image.shape) is ∙ stopped_world v.image.shape deeds stripe.unit (last_of new) e given.last)) (omega arith)
+          rests (copying ∙ m.idle) shape takes_stopped same_wear grants (asked_within m (pad_of after.core) pads))
 
       pub stopped_lost : (us : List ModelUnit) (n : ℕ) → us ≡ slice_set v.units stripe.unit new → n ≡ min (length new.log) (2 ^ 64 - 1)
           → IsLostAt v.units us stripe.unit n

@@ -1,5 +1,5 @@
 -- A mount that has a chunk reset: what it asks of the unit, and the mount that this leaves.
-use Rattle.std.proofs.Common.{◌≡◌, ◌⊎◌, ℕ, ◌+◌, ◌-◌, ◌<◌, ◌≤◌, ◌^◌, ◌&&◌, ◌||◌, min, true, false, Some, List, [], ◌∷◌, ◌++◌, length, refl, sym, subst, ap, ap₂, ◌∙◌, arith, append_assoc}
+use Rattle.std.proofs.Common.{◌≡◌, ◌⊎◌, ℕ, ◌-◌, ◌<◌, ◌≤◌, ◌^◌, ◌&&◌, ◌||◌, min, true, false, Some, List, [], ◌∷◌, ◌++◌, length, refl, sym, subst, ap, ap₂, ◌∙◌, arith, append_assoc, le_refl}
 use Rattle.std.specs.Prelude.{slice_get, slice_set}
 use Rattle.std.specs.List.{list_any}
 use Rattle.std.specs.Option.{option_and_then, option_map}
@@ -29,6 +29,7 @@ use Rattle.step_laws.specs.Whole.{after_unit, knows_all, next_event, next_maker,
 use Rattle.stripe_placer.specs.Placing.{UnitRow}
 use Rattle.unit_port.specs.Armed.{is_fail, is_stop}
 use Rattle.unit_port.specs.Unit.{ModelUnit}
+use Rattle.pblk_core.specs.Copies.{is_copying}
 use Rattle.pblk_core.specs.Filling.{Filling}
 use Rattle.pblk_core.specs.Named.{pad_of}
 use Rattle.pblk_core.specs.Resets.{IsResetTo, IsToReset, is_used_state}
@@ -42,8 +43,9 @@ use Rattle.block_target.specs.declared.heart.Heart.{Heart}
 use Rattle.block_target.proofs.DeedsLemmas.{given_world, reset_world}
 use Rattle.block_target.proofs.FreedMounts.{leaves_freed}
 use Rattle.block_target.proofs.GivenCommands.{can_reset}
-use Rattle.block_target.proofs.GoingOn.{GoesOn, Leaves, goes_decided, goes_given, goes_none, leaves_on, longer_decided, moved_on, no_less, one_more, takes_beside, takes_still}
+use Rattle.block_target.proofs.GoingOn.{GoesOn, Leaves, goes_decided, goes_given, goes_none, leaves_on, moved_on, none_taken, one_more, takes_beside, takes_still}
 use Rattle.block_target.proofs.HeartBeside.{heart_beside}
+use Rattle.block_target.proofs.MountLemmas.{asked_within}
 use Rattle.block_target.proofs.LostCommands.{is_lost_one, none_lost_one}
 
 is_used : (state : ChunkState) → is_used_state state ≡ true → IsUsed state
@@ -137,8 +139,8 @@ module _ {v : MountView} {h : Heart} {f : Filling} (m : IsMount v h f) (line uni
           (ap (world_of i.shape) done ∙ given_world i.shape v.deeds unit (last_of new) e given.last) heart_left
           (reset_level i w unit e (next_maker w) can m.level)
           (reset_stopped i w unit e (next_maker w) can (ap was_stopped stops) m.sound.legal.mount.legal m.known)
-          m.resting (none_beside i w m.sound.beginning unit e (next_maker w) m.sound.legal.mount given.legal.mount m.sound.has_begun m.heart.stands.full
-          m.settled) m.stripe takes_left same_wear low (sym m.pad))
+          m.resting m.idle (none_beside i w m.sound.beginning unit e (next_maker w) m.sound.legal.mount given.legal.mount m.sound.has_begun m.heart.stands.full
+          m.settled) m.stripe (none_taken m.sound goes takes_left) same_wear low (asked_within m (pad_of h.core) (le_refl (pad_of h.core))))
 
       pub stopped_lost : (us : List ModelUnit) (n : ℕ) → us ≡ slice_set v.units unit new → n ≡ min (length new.log) (2 ^ 64 - 1)
           → IsLostAt v.units us unit n
@@ -203,10 +205,11 @@ module _ {v : MountView} {h : Heart} {f : Filling} (m : IsMount v h f) (line uni
           → slice_get new.media line ≡ Some c → state ≡ c.state → last ≡ reset_deeds → us ≡ slice_set v.units unit new
           → ((i : Image) (w : World) (event : ℕ) (knows : List ℕ) → IsLegalMount i w → IsHeart i (log_of w) h → IsResetTo i (log_of w) unit event line state
           → IsLegalMount i (decided (ResetDone unit event) knows w) → IsHeart i (log_of (decided (ResetDone unit event) knows w)) after)
-          → after.core.placer.units ≡ h.core.placer.units → wear ≡ v.wear → v.granted ≤ after.granted → pad_of after.core ≡ v.pad
+          → after.core.placer.units ≡ h.core.placer.units → is_copying after.core ≡ is_copying h.core → wear ≡ v.wear → v.granted ≤ after.granted
+          → pad_of h.core ≤ pad_of after.core
           → (end : Heart) (all : List Deed) → HaveFreed after last end all
           → Leaves v (moved_on v all us wear end.granted (pad_of end.core)) end f
-      leaves_reset last us wear after state c at is_state lasts units_are beats rows same_wear grants pads end all frees =
+      leaves_reset last us wear after state c at is_state lasts units_are beats rows copying same_wear grants pads end all frees =
           subst (λ (xs : List ModelUnit). Leaves v (moved_on v all xs wear end.granted (pad_of end.core)) end f) (sym units_are)
           (leaves_freed m.sound goes_noted last wear after end f all
           (ap (world_of i.shape) lasts ∙ reset_world i.shape v.deeds unit (last_of new) e given.last)
@@ -215,15 +218,8 @@ module _ {v : MountView} {h : Heart} {f : Filling} (m : IsMount v h f) (line uni
           (lasts ∙ append_assoc v.deeds (Does unit (last_of new) ∷ []) (NotesReset unit ∷ []))
           (noted_level i w unit e (next_maker w) can m.level)
           (noted_known i w unit e (next_maker w) can ends m.sound.legal m.known)
-          (λ other of there. m.resting other of (ap (λ (us : List UnitRow). slice_get us other) (sym rows) ∙ there)) m.stripe takes_noted
-          same_wear grants pads)
-
-      pub reset_longer : (last : List Deed) → last ≡ reset_deeds → length (engine_log v) < length (log_of (world_of v.image.shape last) 0)
-      reset_longer last lasts =
-          let long : length (log_of (noted i.shape note left) 0) ≡ length (log_of left 0) + 1 = longer_decided i.shape note left in
-          let before : length (engine_log v) ≤ length (log_of left 0) = no_less goes in
-          subst (λ (x : World). length (engine_log v) < length (log_of x 0))
-          (sym (ap (world_of i.shape) lasts ∙ reset_world i.shape v.deeds unit (last_of new) e given.last)) (omega arith)
+          (λ other of there. m.resting other of (ap (λ (us : List UnitRow). slice_get us other) (sym rows) ∙ there)) (copying ∙ m.idle) m.stripe takes_noted
+          same_wear grants (asked_within m (pad_of after.core) pads))
 
       pub reset_kept : (us : List ModelUnit) → us ≡ slice_set v.units unit new → NoneLost v.units us
       reset_kept us units_are = subst (NoneLost v.units) (sym units_are)

@@ -103,7 +103,7 @@ module _ (v : MountView) (c : Core) (lba line at q : ℕ) (mount : IsLegalMount 
       (subst (λ n. at < length (units_in n) * v.image.shape.clba) (its_live live there) is.within)
 
   pub fetchable : (r : ℕ × ℕ) → ((live : ℕ) → slice_get c.live.items line ≡ Some live → slice_get (line_order c.layout (units_in live)) at ≡ Some r)
-      → IsFetchable v r.0 line r.1 is.block.sector
+      → IsFetchable v r.0 line r.1 is.block
   fetchable r named =
       let place : slice_get (line_order v.image.shape (units_in (live_now v.image (logs_in v) line))) at ≡ Some r =
       subst (λ (s : Shape). slice_get (line_order s (units_in (live_now v.image (logs_in v) line))) at ≡ Some r) st.layout

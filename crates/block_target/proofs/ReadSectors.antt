@@ -1,7 +1,6 @@
 -- Sectors that are read one after another, as the loop reads them.
 use Rattle.std.proofs.Common.{◌≡◌, ℕ, zero, suc, ◌+◌, ◌-◌, ◌*◌, ◌/◌, ◌<◌, ◌≤◌, Some, List, [], ◌∷◌, ◌++◌, length, take, drop, slice_range, refl, sym, subst, ap, ap₂, ◌∙◌, arith, append-nil}
 use Rattle.std.specs.Prelude.{slice_get, map}
-use Rattle.std.specs.List.{filter}
 use Rattle.std.proofs.Math.Nat.{mul-le-mul_right}
 use Rattle.std.proofs.Math.Seq.{take-append_seam}
 use Rattle.std.proofs.lemmas.List.{length-take-le, take-append-drop}
@@ -12,7 +11,7 @@ use Rattle.pblk_model.specs.declared.run.Front.{Front}
 use Rattle.pblk_model.specs.Contents.{contents}
 use Rattle.pblk_model.specs.History.{SectorWrite, after as after_history}
 use Rattle.pblk_world.specs.EngineLog.{Taken}
-use Rattle.pblk_world.specs.Fronts.{is_users, user_takes}
+use Rattle.pblk_world.specs.Fronts.{user_takes}
 use Rattle.scan_recovery.specs.Lost.{NoneLost}
 use Rattle.block_port.specs.Own.{PlacedSector, sectors_of}
 use Rattle.block_port.specs.Port.{contents_after, count_in, sectors_at}
@@ -66,20 +65,20 @@ range_next xs at n x there =
     let short : at + n - at ≡ n = omega arith in
     ap (λ k. take k (drop at xs)) long ∙ take_next n (drop at xs) x (get_dropped at xs n ∙ there) ∙ ap (λ k. take k (drop at xs) ++ x ∷ []) (sym short)
 
--- ---- mounts of which nothing more was taken
+-- ---- mounts of which no more of a user was taken
 
 -- all sectors are as they were
 pub latest_stays : (a b : MountView) → IsSameMount a b → latest b ≡ latest a
 latest_stays a b same =
     ap₂ (λ (found : Image) (ts : List Taken). after_history (contents found)
-    (map (λ t. record { lba = t.entry.lba; sector = t.entry.sector }) (filter (λ t. is_users t.entry.source) ts))) same.found same.takes
+    (map (λ t. record { lba = t.entry.lba; sector = t.entry.sector }) ts)) same.found same.users
 
 -- ---- the loop
 
 -- those below the index are read
 pub record IsReading (old now : MountView) (lba size count index : ℕ) (out : List ℕ) : Type 0 where
   pub same : IsSameMount old now
-  pub pad : now.pad ≡ old.pad
+  pub asked : now.asked ≡ old.asked
   pub sound : IsSound now
   pub done : NoneLost old.units now.units
   pub read : sectors_of size index out ≡ slice_range (latest old) lba (lba + index)
@@ -88,7 +87,7 @@ pub reading_begins : (v : MountView) (lba size count : ℕ) (out : List ℕ) →
 reading_begins v lba size count out sound =
     record {
       same = same_mount v;
-      pad = refl;
+      asked = refl;
       sound = sound;
       done = none_lost_there v.units;
       read = cut_none size out ∙ sym (range_none (latest v) lba);
@@ -102,17 +101,17 @@ part_inside index count size less =
 
 pub reading_more : (old now new : MountView) (lba size count index n : ℕ) (out sector : List ℕ) → IsReading old now lba size count index out → index < count
     → length out ≡ count * size
-    → IsSameMount now new → new.pad ≡ now.pad → IsSound new → NoneLost now.units new.units → slice_get (latest now) (lba + index) ≡ Some sector
+    → IsSameMount now new → new.asked ≡ now.asked → IsSound new → NoneLost now.units new.units → slice_get (latest now) (lba + index) ≡ Some sector
     → length sector ≡ length (slice_range out (index * size) (index * size + size)) → n ≡ size
     → IsReading old new lba size count (index + 1) (put_mid (index * size) n out sector)
-reading_more old now new lba size count index n out sector is less whole same padded sound done there kept wide =
+reading_more old now new lba size count index n out sector is less whole same asked sound done there kept wide =
     let inside : index * size + size ≤ count * size = part_inside index count size less in
     let long : length sector ≡ size = kept ∙ part_length (index * size) size out (omega arith) in
     let at : slice_get (latest old) (lba + index) ≡ Some sector = ap (λ (xs : List (List ℕ)). slice_get xs (lba + index)) (sym (latest_stays old now is.same))
     ∙ there in
     record {
       same = same_then old now new is.same same;
-      pad = padded ∙ is.pad;
+      asked = asked ∙ is.asked;
       sound = sound;
       done = none_lost_then old.units now.units new.units is.same.grown same.grown is.done done;
       read =
@@ -144,7 +143,7 @@ pub told_words : (old new : SerialView) (front : Front) (lba count : ℕ) (out :
     → sectors_of (device old).sector count out ≡ sectors_at (device new) front lba count
 told_words old new front lba count out same at read =
     let users : front.users ≡ length (user_takes (engine_log new.mount)) =
-    ap (λ (f : Front). f.users) at ∙ ap (λ (ts : List Taken). length (filter (λ t. is_users t.entry.source) ts)) (sym same.takes) in
+    ap (λ (f : Front). f.users) at ∙ ap (λ (ts : List Taken). length ts) (sym same.users) in
     read ∙ ap (λ (xs : List (List ℕ)). slice_range xs lba (lba + count)) (sym (latest_stays old.mount new.mount same))
     ∙ words_at new front.users lba count users
 

@@ -1,22 +1,20 @@
 -- What is refused where there is nothing left to do, and that it stays so as the world grows.
 use Rattle.std.proofs.Common.{◌≡◌, ℕ, ◌+◌, ◌<◌, ◌≤◌, zero, suc, List, [], ◌∷◌, ◌++◌, length, sym, subst, ap, ◌∙◌, arith, le_trans, append-nil, append_assoc}
-use Rattle.std.proofs.lemmas.List.Sums.{fold-append}
 use Rattle.std.proofs.Math.Seq.{take-length}
 use Rattle.pblk_model.specs.Image.{Image}
 use Rattle.pblk_model.specs.Marks.{sector_mark}
 use Rattle.pblk_world.specs.Events.{Take, Logged}
 use Rattle.pblk_world.specs.World.{World, Logs, log_of}
-use Rattle.pblk_world.specs.EngineLog.{takes}
-use Rattle.pblk_world.specs.Fronts.{taken, synced}
+use Rattle.pblk_world.specs.Fronts.{taken, synced, user_takes}
 use Rattle.pblk_world.specs.Legal.{IsLegal}
 use Rattle.pblk_world.specs.Space.{room}
 use Rattle.pblk_world.specs.AtRest.{logs_at}
 use Rattle.block_port.specs.declared.rows.WornAnswer.{WornAnswer}
-use Rattle.block_target.specs.Deeds.{Deed, Decides, after_deed, world_of}
+use Rattle.block_target.specs.Deeds.{Deed, Decides, world_of}
 use Rattle.block_target.specs.Granted.{WasRoom}
 use Rattle.block_target.specs.NothingLeft.{HasNothingLeft, HasNothingLeftAt, IsFlushRefusal, IsWriteRefusal, IsRefusal, IsRefusedAt, AreRefusals}
 use Rattle.block_target.specs.Mount.{MountView, IsSound, IsStuckAt, logs_in, engine_log, taken_in, synced_in, next_entry, with_entry, with_entries}
-use Rattle.block_target.proofs.EngineLengths.{no_shorter, with_deeds, deeds_later}
+use Rattle.block_target.proofs.EngineLengths.{no_shorter, world_grown}
 use Rattle.block_target.proofs.OnceRoom.{room_later, same_lengths}
 
 -- ---- one refusal
@@ -41,7 +39,7 @@ module _ (i : Image) (later w : World) (n : ℕ) (legal : IsLegal i w) where
     nothing_left = nothing_left_later wanted is.nothing_left;
     above = is.above;
     is_synced = is.is_synced ∙ ap (λ (logs : Logs). synced i.shape (logs 0)) (sym (same wanted is.nothing_left));
-    all_taken = is.all_taken ∙ ap (λ (logs : Logs). taken (logs 0)) (sym (same wanted is.nothing_left));
+    all_taken = subst (λ (logs : Logs). wanted ≤ taken (logs 0)) (sym (same wanted is.nothing_left)) is.all_taken;
   }
 
   write_later : (count wanted have : ℕ) → IsWriteRefusal i (log_of w) n count wanted have → IsWriteRefusal i (log_of (later ++ w)) n count wanted have
@@ -59,7 +57,7 @@ module _ (i : Image) (later w : World) (n : ℕ) (legal : IsLegal i w) where
 
   refused_later : (a : WornAnswer) → IsRefusedAt i (log_of w) n a → IsRefusedAt i (log_of (later ++ w)) n a
   refused_later a is = record {
-    written = ap (λ (logs : Logs). length (takes (logs 0))) (same_lengths i later w n legal at.0 at.1) ∙ is.written;
+    written = ap (λ (logs : Logs). length (user_takes (logs 0))) (same_lengths i later w n legal at.0 at.1) ∙ is.written;
     cause =
         refusal_later a.count a.wanted a.have is.cause;
   }
@@ -79,10 +77,8 @@ refusals_with : (i : Image) (deeds more : List Deed) (from : ℕ) (worns : List 
     → AreRefusals i (log_of (world_of i.shape deeds)) from worns
     → AreRefusals i (log_of (world_of i.shape (deeds ++ more))) from worns
 refusals_with i deeds more from worns legal are =
-    let later : (later : World) × (with_deeds i (world_of i.shape deeds) more ≡ later ++ world_of i.shape deeds) =
-    deeds_later i (world_of i.shape deeds) more in
-    subst (λ (w : World). AreRefusals i (log_of w) from worns)
-    (sym (fold-append (after_deed i.shape) [] deeds more ∙ later.1))
+    let later : (later : World) × (world_of i.shape (deeds ++ more) ≡ later ++ world_of i.shape deeds) = world_grown i deeds more in
+    subst (λ (w : World). AreRefusals i (log_of w) from worns) (sym later.1)
     (refusals_later i later.0 (world_of i.shape deeds) from worns legal are)
 
 -- by what was done since
@@ -113,21 +109,21 @@ entries_more v lba (sector ∷ sectors) =
 
 -- ---- what is refused
 
-pub flush_refused : (v : MountView) (wanted have : ℕ) → IsStuckAt v wanted have → have ≡ synced_in v → wanted ≤ v.pad → wanted ≡ taken_in v
+pub flush_refused : (v : MountView) (wanted have : ℕ) → IsStuckAt v wanted have → have ≡ synced_in v → wanted ≤ v.asked → wanted ≤ taken_in v
     → IsFlushRefusal v.image (logs_in v) (length (engine_log v)) wanted have
-flush_refused v wanted have stuck at padded low = record {
-  nothing_left = stuck.spent.nothing_left wanted padded;
+flush_refused v wanted have stuck at asked low = record {
+  nothing_left = stuck.spent.nothing_left wanted asked;
   above = stuck.short;
   is_synced = at ∙ ap (synced v.image.shape) (sym (take-length (engine_log v)));
-  all_taken = low ∙ ap taken (sym (take-length (engine_log v)));
+  all_taken = subst (λ (log : List Logged). wanted ≤ taken log) (sym (take-length (engine_log v))) low;
 }
 
-pub write_refused : (v : MountView) (count wanted have : ℕ) → IsStuckAt v wanted have → have ≡ v.granted
+pub write_refused : (v : MountView) (count wanted have : ℕ) → IsStuckAt v (taken_in v + count) have → have ≡ v.granted
     → WasRoom v.image (logs_in v) (length (engine_log v)) v.granted → wanted ≡ taken_in v + count
     → IsWriteRefusal v.image (logs_in v) (length (engine_log v)) count wanted have
 write_refused v count wanted have stuck at once own = record {
   nothing_left = stuck.spent.nothing_left 0 (omega arith);
-  above = stuck.short;
+  above = subst (λ n. have < n) (sym own) stuck.short;
   room = subst (λ n. room v.image (logs_at (length (engine_log v)) (logs_in v)) ≤ n) (sym at) stuck.spent.no_room;
   granted = subst (λ n. WasRoom v.image (logs_in v) (length (engine_log v)) n) (sym at) once;
   own_count = own ∙ ap (λ (log : List Logged). taken log + count) (sym (take-length (engine_log v)));

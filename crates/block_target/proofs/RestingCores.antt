@@ -86,5 +86,5 @@ module _ (i : Image) (logs : Logs) (c : Core) (stands : Stands i logs c) (rests 
   pub placing_rests : (pad : ℕ) → placing_of i logs pad stands.again ≡ placing_of i logs pad []
   placing_rests pad = λ k. record { shape = i.shape; entries = entries_of i.shape (logs 0) pad; units = rows_rest k; lines = open_lines i logs }
 
-  pub work_rests : (pad : ℕ) → work_of i logs pad stands.again ≡ work_of i logs pad []
-  work_rests pad = ap (λ (p : Placing). reset_or (slice_get (resets_of i logs) 0) (work_by i logs p)) (placing_rests pad)
+  pub work_rests : (pad : ℕ) (copying : Bool) → work_of i logs pad stands.again copying ≡ work_of i logs pad [] copying
+  work_rests pad copying = ap (λ (p : Placing). reset_or (slice_get (resets_of i logs) 0) (work_by i logs p copying)) (placing_rests pad)

@@ -1,9 +1,9 @@
--- Mounts of which nothing more was taken.
-use Rattle.std.proofs.Common.{◌≡◌, ℕ, ◌<◌, ◌≤◌, IfErr, IsErrAnd, Ok, Err, List, Result, max, [], refl, sym, subst, ap, ◌∙◌, arith, append-nil, le_refl}
+-- Mounts of which no more of users was taken.
+use Rattle.std.proofs.Common.{◌≡◌, ℕ, ◌+◌, ◌<◌, ◌≤◌, IfErr, IsErrAnd, Ok, Err, List, Result, max, [], refl, sym, subst, ap, ◌∙◌, arith, append-nil, le_refl}
 use Rattle.unit_port.specs.Unit.{ModelUnit}
 use Rattle.scan_recovery.specs.Lost.{IsLostAt, NoneLost}
-use Rattle.block_target.specs.Mount.{MountView, IsSameMount, IsStuckAt, IsSpent, synced_in, with_pad}
-use Rattle.block_target.specs.Waiting.{Waits}
+use Rattle.block_target.specs.Mount.{HasAsked, MountView, IsSameMount, IsStuckAt, IsSpent, synced_in, taken_in, with_asked}
+use Rattle.block_target.specs.Waiting.{AsksAll, Waits}
 use Rattle.block_target.specs.declared.opening.DriveErr.{DriveErr}
 use Rattle.block_target.specs.declared.opening.WaitErr.{WaitErr}
 use Rattle.block_target.specs.declared.opening.WaitErr.TheVariants.{Drive}
@@ -11,8 +11,8 @@ use Rattle.block_target.proofs.LostCommands.{lost_later, none_lost_then}
 use Rattle.block_target.proofs.MountLemmas.{grown_none, same_mount, same_then}
 use Rattle.scan_recovery.proofs.HandedBack.{none_lost_there}
 
-pub same_padded : (v : MountView) (pad : ℕ) → v.pad ≤ pad → IsSameMount v (with_pad v pad)
-same_padded v pad more = record {
+same_asked : (v : MountView) (pad asked : ℕ) → v.asked ≤ asked → IsSameMount v (with_asked v pad asked)
+same_asked v pad asked more = record {
   image = refl;
   handed = refl;
   grown = grown_none v.units;
@@ -20,48 +20,52 @@ same_padded v pad more = record {
   wear = refl;
   more = [];
   deeds = sym (append-nil v.deeds);
-  takes = refl;
+  users = refl;
+  taken = le_refl _;
   synced = le_refl _;
   granted = le_refl v.granted;
-  pad = more;
+  asked = more;
 }
 
--- ---- work that is done with a pad target
+-- ---- work that is done, and pads that are asked for
 
--- work was done that takes nothing, no command of it was lost, and this is the pad target now
-pub record IsWorked (old new : MountView) (to : ℕ) : Type 0 where
+-- Work was done, no command of it was lost, and pads were asked for up to this position.
+pub record IsWorked (old new : MountView) (upto : ℕ) : Type 0 where
   pub same : IsSameMount old new
-  pub pad : new.pad ≡ to
+  pub at_most : new.asked ≤ max old.asked upto
   pub done : NoneLost old.units new.units
 
-pub worked_none : (v : MountView) → IsWorked v v v.pad
-worked_none v = record { same = same_mount v; pad = refl; done = none_lost_there v.units }
+pub worked_none : (v : MountView) (upto : ℕ) → IsWorked v v upto
+worked_none v upto = record { same = same_mount v; at_most = omega arith; done = none_lost_there v.units }
 
-pub worked_asked : (v p : MountView) (to : ℕ) → p ≡ with_pad v (max v.pad to) → IsWorked v p (max v.pad to)
-worked_asked v p to is = record {
-  same = subst (IsSameMount v) (sym is) (same_padded v (max v.pad to) (omega arith));
-  pad = ap (λ (x : MountView). x.pad) is;
-  done = subst (λ (x : MountView). NoneLost v.units x.units) (sym is) (none_lost_there v.units);
+pub worked_asked : (a v p : MountView) (upto : ℕ) → IsWorked a v upto → p ≡ with_asked v p.pad p.asked → HasAsked v upto p.asked → IsWorked a p upto
+worked_asked a v p upto was is asked = record {
+  same = same_then a v p was.same (subst (IsSameMount v) (sym is) (same_asked v p.pad p.asked asked.at_least));
+  at_most =
+      let before : v.asked ≤ max a.asked upto = was.at_most in
+      let now : p.asked ≤ max v.asked upto = asked.at_most in
+      omega arith;
+  done = subst (λ (x : MountView). NoneLost a.units x.units) (sym is) was.done;
 }
 
-pub worked_more : (a v new : MountView) (pad : ℕ) → IsWorked a v pad → IsSameMount v new → new.pad ≡ v.pad → NoneLost v.units new.units
-    → IsWorked a new pad
-worked_more a v new pad is same still done = record {
+pub worked_more : (a v new : MountView) (upto to : ℕ) → IsWorked a v upto → IsSameMount v new → new.asked ≡ v.asked → NoneLost v.units new.units
+    → upto ≤ to → IsWorked a new to
+worked_more a v new upto to is same still done further = record {
   same = same_then a v new is.same same;
-  pad = still ∙ is.pad;
+  at_most = let before : v.asked ≤ max a.asked upto = is.at_most in omega arith;
   done = none_lost_then a.units v.units new.units is.same.grown same.grown is.done done;
 }
 
 -- the command that was lost came after
-pub worked_lost : (a v new : MountView) (pad unit event : ℕ) → IsWorked a v pad → IsLostAt v.units new.units unit event
+pub worked_lost : (a v new : MountView) (upto unit event : ℕ) → IsWorked a v upto → IsLostAt v.units new.units unit event
     → IsLostAt a.units new.units unit event
-worked_lost a v new pad unit event is lost = lost_later a.units v.units new.units unit event is.same.grown lost
+worked_lost a v new upto unit event is lost = lost_later a.units v.units new.units unit event is.same.grown lost
 
 -- what leaves by a `?`, by the error that it is made of
-pub waits_lost : {T : Type 0} (r : Result T WaitErr) (a v new : MountView) (wanted at pad : ℕ) (e : DriveErr)
-    → IsErrAnd r (λ w. w ≡ Drive e.unit e.event) → IsWorked a v pad → IsLostAt v.units new.units e.unit e.event → IfErr r (Waits a new wanted at)
-waits_lost (Ok x) a v new wanted at pad e made is lost = absurd made
-waits_lost (Err w) a v new wanted at pad e made is lost = subst (Waits a new wanted at) (sym made) (worked_lost a v new pad e.unit e.event is lost)
+pub waits_lost : {T : Type 0} (r : Result T WaitErr) (a v new : MountView) (wanted at upto : ℕ) (e : DriveErr)
+    → IsErrAnd r (λ w. w ≡ Drive e.unit e.event) → IsWorked a v upto → IsLostAt v.units new.units e.unit e.event → IfErr r (Waits a new wanted at)
+waits_lost (Ok x) a v new wanted at upto e made is lost = absurd made
+waits_lost (Err w) a v new wanted at upto e made is lost = subst (Waits a new wanted at) (sym made) (worked_lost a v new upto e.unit e.event is lost)
 
 -- the same of a call that answers the error as it is
 pub tells_lost : {T : Type 0} (r : Result T DriveErr) (old new : List ModelUnit) (e : DriveErr) → IsErrAnd r (λ told. told ≡ e)
@@ -69,19 +73,37 @@ pub tells_lost : {T : Type 0} (r : Result T DriveErr) (old new : List ModelUnit)
 tells_lost (Ok x) old new e same lost = absurd same
 tells_lost (Err told) old new e same lost = subst (λ (x : DriveErr). IsLostAt old new x.unit x.event) (sym same) lost
 
+-- an error of a command that was lost tells nothing of what is asked for
+pub none_stuck : {T : Type 0} (a new : MountView) (wanted unit event : ℕ) (r : Result T WaitErr) → IsErrAnd r (λ w. w ≡ Drive unit event)
+    → AsksAll a new wanted r
+none_stuck {T} a new wanted unit event (Ok x) made = absurd made
+none_stuck {T} a new wanted unit event (Err w) made = subst (λ (x : WaitErr). AsksAll {T = T} a new wanted (Err x)) (sym made) tt
+
 -- ---- work that comes to an end
 
-pub stuck_synced : (a v new : MountView) (to have pad : ℕ) → IsWorked a v pad → have ≡ synced_in v → have < to → (new ≡ v) × IsSpent v
-    → NoneLost a.units new.units × (have ≡ synced_in new) × IsStuckAt new to have
-stuck_synced a v new to have pad is at short rest =
-    subst (λ (n : MountView). NoneLost a.units n.units × (have ≡ synced_in n) × IsStuckAt n to have) (sym rest.0)
-    (is.done, at, record { spent = rest.1; short = short })
+-- as much was asked for as is wanted
+pub all_asked : (a v p new : MountView) (wanted upto : ℕ) → IsWorked a v upto → p ≡ with_asked v p.pad p.asked → HasAsked v wanted p.asked
+    → (new ≡ p) × IsSpent p → max a.asked wanted ≤ new.asked
+all_asked a v p new wanted upto was is asked rest =
+    let none : max v.asked wanted ≤ p.asked = asked.all (λ due. (subst (λ (x : MountView). IsSpent x) is rest.1).no_copy due) in
+    let before : a.asked ≤ v.asked = was.same.asked in
+    let same : new.asked ≡ p.asked = ap (λ (x : MountView). x.asked) rest.0 in
+    omega arith
 
-pub stuck_claimed : (a v new : MountView) (before have wanted pad : ℕ) → IsWorked a v pad → before ≡ v.granted → have ≡ new.granted → before < wanted
-    → (new ≡ v) × IsSpent v → NoneLost a.units new.units × (have ≡ new.granted) × IsStuckAt new wanted have
-stuck_claimed a v new before have wanted pad is was at short rest =
-    let same : new.granted ≡ v.granted = ap (λ (x : MountView). x.granted) rest.0 in (
+pub stuck_synced : (a v new : MountView) (to have upto : ℕ) → IsWorked a v upto → have ≡ synced_in v → have < to → (new ≡ v) × IsSpent v
+    → NoneLost a.units new.units × (to ≡ to) × (have ≡ synced_in new) × IsStuckAt new to have
+stuck_synced a v new to have upto is at short rest =
+    subst (λ (n : MountView). NoneLost a.units n.units × (to ≡ to) × (have ≡ synced_in n) × IsStuckAt n to have) (sym rest.0)
+    (is.done, refl, at, record { spent = rest.1; short = short })
+
+pub stuck_claimed : (a v new : MountView) (count before have wanted upto : ℕ) → IsWorked a v upto → wanted ≡ taken_in v + count → before ≡ v.granted
+    → have ≡ new.granted → before < wanted → (new ≡ v) × IsSpent v
+    → NoneLost a.units new.units × (wanted ≡ taken_in new + count) × (have ≡ new.granted) × IsStuckAt new (taken_in new + count) have
+stuck_claimed a v new count before have wanted upto is asks was at short rest =
+    let same : new.granted ≡ v.granted = ap (λ (x : MountView). x.granted) rest.0 in
+    let taken : taken_in new ≡ taken_in v = ap taken_in rest.0 in (
       subst (λ (n : MountView). NoneLost a.units n.units) (sym rest.0) is.done,
+      asks ∙ ap (λ n. n + count) (sym taken),
       at,
       record { spent = subst IsSpent (sym rest.0) rest.1; short = omega arith },
     )

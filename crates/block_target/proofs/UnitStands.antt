@@ -1,5 +1,5 @@
 -- A core that stands for a world stands for it with a step more of a unit.
-use Rattle.std.proofs.Common.{◌≡◌, ℕ, ◌+◌, ◌≤◌, ◌^◌, ◌==◌, ◌&&◌, nat_lt, Some, List, [], ◌∷◌, if◌then◌else◌, length, sym, subst, ap, ap₂, ◌∙◌}
+use Rattle.std.proofs.Common.{◌≡◌, ℕ, ◌+◌, ◌≤◌, ◌^◌, ◌==◌, ◌&&◌, ◌||◌, not, nat_lt, false, Some, List, [], ◌∷◌, if◌then◌else◌, length, sym, subst, ap, ap₂, ◌∙◌}
 use Rattle.std.specs.Prelude.{slice_get, position}
 use Rattle.std.specs.List.{flat_map, range_with_len, Contains}
 use Rattle.std.specs.Option.{is_some, option_map, option_map_or}
@@ -31,6 +31,7 @@ use Rattle.pblk_core.proofs.NotesKept.{notes_kept, used_kept}
 use Rattle.pblk_core.specs.declared.open_lines.OpenLine.{OpenLine}
 use Rattle.pblk_core.specs.declared.open_lines.OpenLines.{OpenLines}
 use Rattle.pblk_core.specs.declared.target_core.Core.{Core}
+use Rattle.block_target.proofs.CopiesTold.{copies_beside}
 use Rattle.lemmas.proofs.Maps.{map_same}
 use Rattle.pblk_world.specs.Victims.{engine_prefix}
 
@@ -113,7 +114,7 @@ module _ (i : Image) (w : World) (unit : ℕ) (e : UnitEvent) (maker : Maker) wh
   }
 
   -- what is to be done next is the same
-  pub work_beside : (pad : ℕ) → IsSimpleMount i w → work_of i after_ pad [] ≡ work_of i (log_of w) pad []
+  pub work_beside : (pad : ℕ) → IsSimpleMount i w → work_of i after_ pad [] false ≡ work_of i (log_of w) pad [] false
   work_beside pad simple = λ j. reset_or (slice_get (resets_stay simple.mount.legal j) 0) (choice
       (is_some (next_stripe (placing_stays i w unit e maker pad [] simple.mount.legal j) 0))
       (nat_lt 0 (length (waiting i.shape (engine j))) && (addresses_stay i w unit e maker j == 0))
@@ -121,4 +122,5 @@ module _ (i : Image) (w : World) (unit : ℕ) (e : UnitEvent) (maker : Maker) wh
       (nat_lt (length (lines_stay i w unit e maker simple.mount.legal j)) 2
       && (nat_lt (option_map_or (λ (b : Begun). b.beginning.seq) (begun (engine j)) 0 + length (openings (engine j))) (2 ^ 61) && nat_lt
       (synced i.shape (engine j)) (2 ^ 61)))
-      (nat_lt 0 (under_way i.shape (engine j))))
+      (copies_beside i w unit e maker simple.mount j && not false)
+      (nat_lt 0 (under_way i.shape (engine j)) || false))

@@ -13,79 +13,62 @@ use Rattle.pblk_model.specs.Contents.{contents}
 use Rattle.pblk_model.specs.Image.{Image}
 use Rattle.pblk_model.specs.Marks.{sector_mark}
 use Rattle.pblk_world.specs.Events.{Take, Logged, Decides as Did}
-use Rattle.pblk_world.specs.World.{World, log_of}
 use Rattle.pblk_world.specs.EngineLog.{Taken, takes}
 use Rattle.pblk_world.specs.Fronts.{synced, is_users, user_takes}
-use Rattle.world_laws.proofs.HeldSectors.{all_pass}
 use Rattle.core_laws.proofs.Taking.{filter_last}
 use Rattle.core_laws.proofs.Growing.{synced_grown}
 use Rattle.step_laws.specs.Whole.{knows_all}
 use Rattle.block_port.specs.declared.rows.WornAnswer.{WornAnswer}
 use Rattle.block_port.specs.Own.{PlacedSector, OwnWrite, placed_from, lines_of}
 use Rattle.block_port.specs.Port.{AreSectors, Learns, IsSameTarget, Rise}
-use Rattle.core_laws.specs.SimpleMounts.{IsSimpleMount}
-use Rattle.lemmas.proofs.Lists.{all_imply}
-use Rattle.core_laws.proofs.UsersEntries.{IsUsers, users_entries}
 use Rattle.scan_recovery.specs.Lost.{NoneLost}
 use Rattle.block_target.specs.Deeds.{Deed}
-use Rattle.block_target.specs.Mount.{MountView, IsSound, IsSameMount, IsStuckAt, logs_in, world_in, engine_log, taken_in, synced_in, front_taken, next_entry, with_entry, with_entries}
-use Rattle.block_target.specs.Granted.{WasRoom}
-use Rattle.block_target.specs.NothingLeft.{IsWriteRefusal, IsRefusal, IsRefusedAt, AreRefusals}
+use Rattle.block_target.specs.Mount.{MountView, IsSound, IsSameMount, logs_in, world_in, engine_log, taken_in, synced_in, front_taken, next_entry, with_entry, with_entries, with_pad}
+use Rattle.block_target.specs.NothingLeft.{IsRefusal, IsRefusedAt, AreRefusals}
 use Rattle.block_target.specs.Serial.{SerialView, AreNamed, IsSerial, lines_in, device}
-use Rattle.block_target.proofs.Beginnings.{first_same}
 use Rattle.block_target.proofs.NamedAnswers.{all_named_by, all_named_later}
-use Rattle.block_target.proofs.Refusals.{refusals_grown, entries_more, write_refused}
+use Rattle.block_target.proofs.Refusals.{refusals_grown, entries_more}
 use Rattle.block_target.proofs.TakenSectors.{log_taken, taken_more}
-use Rattle.block_port.proofs.PortLemmas.{rise_placed}
+use Rattle.block_port.proofs.PortLemmas.{rise_append, rise_placed}
 use Rattle.block_target.proofs.MountLemmas.{taken_small}
 use Rattle.pblk_world.proofs.EngineLogLemmas.{takes_more}
 
--- ---- work that takes nothing
+-- ---- work that takes no user's entry
 
 abbrev pub line_of_take : Taken → PlacedSector
 line_of_take t = record { position = t.entry.position; write = record { lba = t.entry.lba; sector = t.entry.sector } }
 
 pub lines_kept : (old new : MountView) → IsSameMount old new → lines_in new ≡ lines_in old
-lines_kept old new same = ap (λ (ts : List Taken). map line_of_take (filter (λ (t : Taken). is_users t.entry.source) ts)) same.takes
+lines_kept old new same = ap (λ (ts : List Taken). map line_of_take ts) same.users
 
-pub taken_kept : (old new : MountView) → IsSound old → IsSound new → IsSameMount old new → taken_in new ≡ taken_in old
-taken_kept old new was is same = ap₂ (λ a (ts : List Taken). a + length ts) (first_same old new was same) same.takes
-
-pub learns_none : (old new : SerialView) → IsSound old.mount → IsSound new.mount → IsSameMount old.mount new.mount → Learns (device old) (device new)
-learns_none old new was is same = record {
+pub learns_none : (old new : SerialView) → IsSameMount old.mount new.mount → Learns (device old) (device new)
+learns_none old new same = record {
   more = [];
   known = lines_kept old.mount new.mount same ∙ sym (append-nil (lines_in old.mount));
-  rise = let e : taken_in new.mount ≡ taken_in old.mount = taken_kept old.mount new.mount was is same in omega arith;
+  rise = same.taken;
   flushed = same.synced;
 }
 
--- ---- what a port has written: all that was taken, since none is copied
+-- ---- what a port has written: all that users' writes took
+
+users_count : (s : SerialView) → IsSerial s → length (user_takes (engine_log s.mount)) ≡ length (flat_map lines_of s.own)
+users_count s is = sym (length-map (user_takes (engine_log s.mount)) line_of_take) ∙ ap (λ (ls : List PlacedSector). length ls) is.alone
 
 pub users_written : (s : SerialView) (front : Front) → IsSerial s → front ≡ front_taken s.mount → front.users ≡ length (flat_map lines_of s.own)
-users_written s front is at = ap (λ (f : Front). f.users) at ∙ sym (length-map (user_takes (engine_log s.mount)) line_of_take)
-    ∙ ap (λ (ls : List PlacedSector). length ls) is.alone
-
-users_all : (i : Image) (w : World) → IsSimpleMount i w → user_takes (log_of w 0) ≡ takes (log_of w 0)
-users_all i w simple = all_pass (λ t. is_users t.entry.source) (takes (log_of w 0))
-    (all_imply (IsUsers i.shape) (λ t. is_users t.entry.source ≡ true) (λ t is. is.users) (takes (log_of w 0)) (users_entries i w simple))
-
-pub takes_written : (s : SerialView) → IsSound s.mount → IsSerial s → length (takes (engine_log s.mount)) ≡ length (flat_map lines_of s.own)
-takes_written s sound is =
-    ap (λ (ts : List Taken). length ts) (sym (users_all s.mount.image (world_in s.mount) sound.legal))
-    ∙ sym (length-map (user_takes (engine_log s.mount)) line_of_take) ∙ ap (λ (ls : List PlacedSector). length ls) is.alone
+users_written s front is at = ap (λ (f : Front). f.users) at ∙ users_count s is
 
 -- and so it stays
-pub takes_later : (s : SerialView) (v : MountView) → IsSound s.mount → IsSerial s → IsSameMount s.mount v
-    → length (takes (take (length (engine_log v)) (engine_log v))) ≡ length (flat_map lines_of s.own)
-takes_later s v sound is same = ap (λ (log : List Logged). length (takes log)) (take-length (engine_log v)) ∙ ap (λ (ts : List Taken). length ts) same.takes
-    ∙ takes_written s sound is
+pub users_later : (s : SerialView) (v : MountView) → IsSerial s → IsSameMount s.mount v
+    → length (user_takes (take (length (engine_log v)) (engine_log v))) ≡ length (flat_map lines_of s.own)
+users_later s v is same = ap (λ (log : List Logged). length (user_takes log)) (take-length (engine_log v))
+    ∙ ap (λ (ts : List Taken). length ts) same.users ∙ users_count s is
 
 -- a refusal now
-pub refused_now : (s : SerialView) (a : WornAnswer) → IsSound s.mount → IsSerial s → a.written ≡ length (flat_map lines_of s.own)
+pub refused_now : (s : SerialView) (a : WornAnswer) → IsSerial s → a.written ≡ length (flat_map lines_of s.own)
     → IsRefusal s.mount.image (logs_in s.mount) (length (engine_log s.mount)) a.count a.wanted a.have
     → IsRefusedAt s.mount.image (logs_in s.mount) (length (engine_log s.mount)) a
-refused_now s a sound is written cause = record {
-  written = ap (λ (log : List Logged). length (takes log)) (take-length (engine_log s.mount)) ∙ takes_written s sound is ∙ sym written;
+refused_now s a is written cause = record {
+  written = ap (λ (log : List Logged). length (user_takes log)) (take-length (engine_log s.mount)) ∙ users_count s is ∙ sym written;
   cause = cause;
 }
 
@@ -155,26 +138,26 @@ pub record IsWrite (old new : SerialView) (mid : MountView) (lba : ℕ) (sectors
   pub was : IsSound old.mount
   pub between : IsSound mid
   pub same : IsSameMount old.mount mid
-  pub mount : new.mount ≡ with_entries mid lba sectors
+  pub mount : new.mount ≡ with_pad (with_entries mid lba sectors) new.mount.pad
 
 pub learns_write : (old new : SerialView) (mid : MountView) (lba : ℕ) (sectors : List (List ℕ)) → IsWrite old new mid lba sectors
     → Learns (device old) (device new)
 learns_write old new mid lba sectors is = record {
-  more = placed_from (taken_in old.mount) lba sectors;
+  more = placed_from (taken_in mid) lba sectors;
   known = ap lines_in is.mount ∙ lines_all mid lba sectors
-      ∙ ap₂ (λ (ls : List PlacedSector) n. ls ++ placed_from n lba sectors) (lines_kept old.mount mid is.same) stays;
-  rise = subst (λ n. Rise (taken_in old.mount) n (placed_from (taken_in old.mount) lba sectors)) (sym ends) (rise_placed (taken_in old.mount) lba sectors);
+      ∙ ap (λ (ls : List PlacedSector). ls ++ placed_from (taken_in mid) lba sectors) (lines_kept old.mount mid is.same);
+  -- copies may stand between
+  rise = subst (λ n. Rise (taken_in old.mount) n (placed_from (taken_in mid) lba sectors)) (sym ends)
+      (rise_append (taken_in old.mount) (taken_in mid) (taken_in mid + length sectors) [] (placed_from (taken_in mid) lba sectors) is.same.taken
+      (rise_placed (taken_in mid) lba sectors));
   flushed =
       let a : synced_in old.mount ≤ synced_in mid = is.same.synced in
       let b : synced_in mid ≤ synced_in (with_entries mid lba sectors) = synced_all mid lba sectors in
       subst (λ (v : MountView). synced_in old.mount ≤ synced_in v) (sym is.mount) (le_trans a b);
 }
   where
-    stays : taken_in mid ≡ taken_in old.mount
-    stays = taken_kept old.mount mid is.was is.between is.same
-
-    ends : taken_in new.mount ≡ taken_in old.mount + length sectors
-    ends = ap taken_in is.mount ∙ taken_all mid lba sectors ∙ ap (λ n. n + length sectors) stays
+    ends : taken_in new.mount ≡ taken_in mid + length sectors
+    ends = ap taken_in is.mount ∙ taken_all mid lba sectors
 
 pub target_write : (old new : SerialView) (mid : MountView) (lba : ℕ) (sectors : List (List ℕ)) → IsWrite old new mid lba sectors
     → IsSameTarget (device old) (device new)
@@ -198,12 +181,11 @@ target_write old new mid lba sectors is = record {
     wear = ap (λ (v : MountView). v.wear) is.mount ∙ wear_all mid lba sectors ∙ is.same.wear
 
 pub alone_write : (old new : SerialView) (mid : MountView) (lba : ℕ) (sectors : List (List ℕ)) (place : Place) → IsWrite old new mid lba sectors → IsSerial old
-    → place.first ≡ taken_in old.mount
+    → place.first ≡ taken_in mid
     → new.own ≡ old.own ++ record { place = place; lba = lba; sectors = sectors } ∷ [] → lines_in new.mount ≡ flat_map lines_of new.own
 alone_write old new mid lba sectors place is serial first own =
     ap lines_in is.mount ∙ lines_all mid lba sectors
-    ∙ ap₂ (λ (ls : List PlacedSector) n. ls ++ placed_from n lba sectors) (lines_kept old.mount mid is.same ∙ serial.alone)
-    (taken_kept old.mount mid is.was is.between is.same ∙ sym first)
+    ∙ ap₂ (λ (ls : List PlacedSector) n. ls ++ placed_from n lba sectors) (lines_kept old.mount mid is.same ∙ serial.alone) (sym first)
     ∙ sym (ap (λ (ws : List OwnWrite). flat_map lines_of ws) own ∙ flat_map-append lines_of old.own (w ∷ [])
     ∙ ap (λ (ls : List PlacedSector). flat_map lines_of old.own ++ ls) (append-nil (lines_of w)))
   where
@@ -235,10 +217,10 @@ pub none_lost_write : (old new : SerialView) (mid : MountView) (lba : ℕ) (sect
 none_lost_write old new mid lba sectors is done =
     subst (NoneLost old.mount.units) (sym (ap (λ (v : MountView). v.units) is.mount ∙ units_all mid lba sectors)) done
 
--- the pad target stays
-pub pad_all : (v : MountView) (lba : ℕ) (sectors : List (List ℕ)) → (with_entries v lba sectors).pad ≡ v.pad
-pad_all v lba [] = refl
-pad_all v lba (sector ∷ sectors) = pad_all (with_entry v lba sector) (lba + 1) sectors
+-- no pads are asked for
+pub asked_all : (v : MountView) (lba : ℕ) (sectors : List (List ℕ)) → (with_entries v lba sectors).asked ≡ v.asked
+asked_all v lba [] = refl
+asked_all v lba (sector ∷ sectors) = asked_all (with_entry v lba sector) (lba + 1) sectors
 
 -- ---- numbers
 
@@ -255,12 +237,12 @@ sector_some v sound = go sound.legal.mount.accepted.target.sector
     go (inr e) = omega arith
 
 -- a write's end is far below the last position
-pub end_low : (v : MountView) (s : Shape) (first count len : ℕ) → IsSound v → first ≡ taken_in v → s ≡ v.image.shape → count ≡ len / s.sector
-    → AreSectors v.image.shape.sector len → first + count < 2 ^ 63
-end_low v s first count len sound from same is sectors =
+pub end_low : (v mid : MountView) (s : Shape) (first count len : ℕ) → IsSound v → IsSound mid → first ≡ taken_in mid → s ≡ v.image.shape
+    → count ≡ len / s.sector → AreSectors v.image.shape.sector len → first + count < 2 ^ 63
+end_low v mid s first count len sound between from same is sectors =
     let n : len / v.image.shape.sector ≡ sectors.count = count_is sectors.count v.image.shape.sector len (sector_some v sound) sectors.whole in
     let here : count ≡ sectors.count = is ∙ ap (λ (s : Shape). len / s.sector) same ∙ n in
-    let low : taken_in v ≤ 2 ^ 62 = taken_small v sound in
+    let low : taken_in mid ≤ 2 ^ 62 = taken_small mid between in
     let few : sectors.count ≤ 16 = sectors.few in
     omega arith
 
@@ -271,12 +253,6 @@ whole_sectors v s len sound same sectors =
     let n : len / v.image.shape.sector ≡ sectors.count = count_is sectors.count v.image.shape.sector len (sector_some v sound) sectors.whole in
     subst (λ (t : Shape). len ≡ len / t.sector * t.sector) (sym same) (sectors.whole ∙ ap (λ k. k * v.image.shape.sector) (sym n))
 
-pub granted_room : (old mid : MountView) (first count n : ℕ) → IsSound old → IsSound mid → IsSameMount old mid → first ≡ taken_in old → count ≡ n
-    → first + count ≤ mid.granted → taken_in mid + n ≤ mid.granted
-granted_room old mid first count n was is same from long granted =
-    let stays : taken_in mid ≡ taken_in old = taken_kept old mid was is same in
-    omega arith
-
 -- ---- a write that is refused
 
 pub some_sectors : (v : MountView) (s : Shape) (len : ℕ) → IsSound v → s ≡ v.image.shape → AreSectors v.image.shape.sector len → 1 ≤ len / s.sector
@@ -285,14 +261,6 @@ some_sectors v s len sound same sectors =
     let here : len / s.sector ≡ len / v.image.shape.sector = ap (λ (s : Shape). len / s.sector) same in
     let some : 1 ≤ sectors.count = sectors.some in
     omega arith
-
-pub write_cause : (old mid : MountView) (first count n have : ℕ) → IsSound old → IsSound mid → IsSameMount old mid → first ≡ taken_in old → count ≡ n
-    → have ≡ mid.granted → WasRoom mid.image (logs_in mid) (length (engine_log mid)) mid.granted → IsStuckAt mid (first + count) have
-    → IsWriteRefusal mid.image (logs_in mid) (length (engine_log mid)) n (first + count) have
-write_cause old mid first count n have was is same from long at once stuck =
-    let stays : taken_in mid ≡ taken_in old = taken_kept old mid was is same in
-    let own : first + count ≡ taken_in mid + n = omega arith in
-    write_refused mid n (first + count) have stuck at once own
 
 -- the same of equal views
 pub learns_at : (a b c d : SerialView) → a ≡ b → d ≡ c → Learns (device a) (device c) → Learns (device b) (device d)

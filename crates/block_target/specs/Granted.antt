@@ -1,5 +1,5 @@
--- That nothing is taken beyond what was granted: by the rule for grants there was room for it, at some earlier
--- length of the engine's log.
+-- That no user's entry is taken beyond what was granted: by the rule for grants there was room for it, at some
+-- earlier length of the engine's log.
 use Rattle.std.specs.Prelude.{ℕ, ◌+◌, ◌<◌, ◌≤◌, ◌≡◌, List, slice_get, Some, None}
 use Rattle.pblk_model.specs.declared.chunk.Mark.{Mark}
 use Rattle.pblk_model.specs.Image.{Image}

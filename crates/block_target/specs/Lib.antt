@@ -1,4 +1,5 @@
 pub mod Deeds
+pub mod Fetched
 pub mod Freed
 pub mod Granted
 pub mod Moments

@@ -1,26 +1,28 @@
 -- What contracts see of a mount for one session.
-use Rattle.std.specs.Prelude.{ℕ, ◌+◌, ◌^◌, ◌<◌, ◌≤◌, ◌≡◌, List, [], ◌∷◌, ◌++◌, length, slice_get, Some, ◌⊎◌, false}
+use Rattle.std.specs.Prelude.{ℕ, ◌+◌, ◌^◌, ◌<◌, ◌≤◌, ◌≡◌, List, [], ◌∷◌, ◌++◌, max, length, slice_get, Some, ◌⊎◌, false}
 use Rattle.pblk_model.specs.declared.run.Front.{Front}
 use Rattle.pblk_model.specs.declared.shape.Shape.{Shape}
 use Rattle.pblk_model.specs.Shape.{units}
 use Rattle.pblk_model.specs.Contents.{contents}
 use Rattle.pblk_model.specs.History.{after as after_history}
+use Rattle.pblk_model.specs.Chunk.{Block}
 use Rattle.pblk_model.specs.Image.{Image}
 use Rattle.pblk_model.specs.Marks.{sector_mark}
 use Rattle.pblk_model.specs.UnitLog.{UnitEvent}
 use Rattle.unit_port.specs.Unit.{ModelUnit}
 use Rattle.pblk_world.specs.Events.{Logged, Entry, Take}
 use Rattle.pblk_world.specs.World.{World, Logs, log_of}
-use Rattle.pblk_world.specs.EngineLog.{Begun, begun, takes}
+use Rattle.pblk_world.specs.EngineLog.{Begun, begun}
 use Rattle.pblk_world.specs.Fronts.{taken, synced, user_takes, history}
 use Rattle.pblk_world.specs.Lines.{found_image}
 use Rattle.pblk_world.specs.Space.{is_due, room}
-use Rattle.pblk_world.specs.AtRest.{logs_at}
+use Rattle.pblk_world.specs.AtRest.{IsCopyDue, logs_at}
 use Rattle.core_laws.specs.SimpleMounts.{IsSimpleMount}
 use Rattle.core_laws.specs.WindowOf.{users_below}
 use Rattle.step_laws.specs.FreedWorlds.{NoneToFree}
 use Rattle.step_laws.specs.Whole.{IsLevel, IsKnown}
 use Rattle.scan_recovery.specs.Units.{image_of}
+use Rattle.pblk_core.specs.Copies.{is_copying}
 use Rattle.pblk_core.specs.Filling.{Filling}
 use Rattle.pblk_core.specs.Landing.{IsResting}
 use Rattle.pblk_core.specs.Named.{pad_of, work_of}
@@ -48,11 +50,13 @@ pub record MountView : Type 0 where
   pub granted : ℕ
   -- the pad target
   pub pad : ℕ
+  -- up to which position flushes asked for pads
+  pub asked : ℕ
 
 -- by what a mount keeps: the drive's shape, its units as they were and as they were found, what was
--- done, the units with the wear of their chunks, the grant and the pad target
-abbrev pub mount_view : Shape → List (List ModelUnit) → List Deed → List ModelUnit → List (List ℕ) → ℕ → ℕ → MountView
-mount_view s drives deeds units wear granted pad = record {
+-- done, the units with the wear of their chunks, the grant, the pad target and what was asked for
+abbrev pub mount_view : Shape → List (List ModelUnit) → List Deed → List ModelUnit → List (List ℕ) → ℕ → ℕ → ℕ → MountView
+mount_view s drives deeds units wear granted pad asked = record {
   image = image_of s (drive_before drives);
   handed = drive_before drives;
   found = image_of s (drive_found drives);
@@ -61,6 +65,7 @@ mount_view s drives deeds units wear granted pad = record {
   wear = wear;
   granted = granted;
   pad = pad;
+  asked = asked;
 }
 
 abbrev pub world_in : MountView → World
@@ -105,18 +110,26 @@ pub record IsSound (v : MountView) : Type 0 where
   pub count : length v.units ≡ units v.image.shape
   pub each : (number : ℕ) (u : ModelUnit) → slice_get v.units number ≡ Some u → IsUnitIn v number u
 
--- Besides, the heart stands for what was done. No program is in flight, and the engine has noted
--- all that the units did but resets that were stopped. No line is left that may be freed.
+-- Besides, the heart stands for what was done. No program is in flight, no copy is begun, and the
+-- engine has noted all that the units did but resets that were stopped. No line is left that may be
+-- freed. The pad target holds what was asked for.
 pub record IsMount (v : MountView) (h : Heart) (filling : Filling) : Type 0 where
   pub sound : IsSound v
   pub heart : IsHeart v.image (logs_in v) h
   pub pad : v.pad ≡ pad_of h.core
+  pub asked : v.asked ≤ v.pad
   pub granted : v.granted ≡ h.granted
   pub level : IsLevel (world_in v)
   pub known : IsKnown v.image (world_in v)
   pub resting : IsResting h.core
+  pub idle : is_copying h.core ≡ false
   pub settled : NoneToFree v.image (logs_in v)
   pub stripe : filling.shape ≡ v.image.shape
+
+-- It has a buffer for a sector.
+pub record IsKept (v : MountView) (h : Heart) (filling : Filling) (buffer : List ℕ) : Type 0 where
+  pub mount : IsMount v h filling
+  pub buffer_size : length buffer ≡ v.image.shape.sector
 
 -- What calls leave.
 
@@ -125,8 +138,9 @@ abbrev pub HaveGrown : List ModelUnit → List ModelUnit → Type 0
 HaveGrown old new = (number : ℕ) (v : ModelUnit) → slice_get new number ≡ Some v
     → (u : ModelUnit) × (slice_get old number ≡ Some u) × (more : List UnitEvent) × (v.log ≡ u.log ++ more)
 
--- Nothing more was taken. What was done stays done, what was on the drive is still there, no
--- chunk's wear level index has changed, and no grant is taken back.
+-- No more of a user was taken; copies may have been. What was done stays done, what was on the
+-- drive is still there, no chunk's wear level index has changed, and no grant is taken back. No less
+-- is asked for.
 pub record IsSameMount (old new : MountView) : Type 0 where
   pub image : new.image ≡ old.image
   pub handed : new.handed ≡ old.handed
@@ -135,10 +149,11 @@ pub record IsSameMount (old new : MountView) : Type 0 where
   pub wear : new.wear ≡ old.wear
   pub more : List Deed
   pub deeds : new.deeds ≡ old.deeds ++ more
-  pub takes : takes (engine_log new) ≡ takes (engine_log old)
+  pub users : user_takes (engine_log new) ≡ user_takes (engine_log old)
+  pub taken : taken_in old ≤ taken_in new
   pub synced : synced_in old ≤ synced_in new
   pub granted : old.granted ≤ new.granted
-  pub pad : old.pad ≤ new.pad
+  pub asked : old.asked ≤ new.asked
 
 -- the entry of a user's sector that is taken next
 abbrev pub next_entry : MountView → ℕ → List ℕ → Entry
@@ -154,27 +169,51 @@ with_entry v lba sector = record {
   wear = v.wear;
   granted = v.granted;
   pad = v.pad;
+  asked = v.asked;
 }
 
--- the same with this pad target
+-- the same with this pad target, and where this was asked for
+abbrev pub with_asked : MountView → ℕ → ℕ → MountView
+with_asked v pad asked = record {
+  image = v.image;
+  handed = v.handed;
+  found = v.found;
+  deeds = v.deeds;
+  units = v.units;
+  wear = v.wear;
+  granted = v.granted;
+  pad = pad;
+  asked = asked;
+}
+
 abbrev pub with_pad : MountView → ℕ → MountView
-with_pad v pad = record { image = v.image; handed = v.handed; found = v.found; deeds = v.deeds; units = v.units; wear = v.wear; granted = v.granted; pad = pad }
+with_pad v pad = with_asked v pad v.asked
+
+-- Pads are asked for up to a position, unless a sector is to be copied first: then nothing is asked
+-- for.
+pub record HasAsked (old : MountView) (to asked : ℕ) : Type 0 where
+  pub at_least : old.asked ≤ asked
+  pub at_most : asked ≤ max old.asked to
+  pub all : ¬ IsCopyDue old.image (logs_in old) → max old.asked to ≤ asked
+  pub kept : IsCopyDue old.image (logs_in old) → asked ≡ old.asked
 
 -- after entries of these sectors, one after another
 abbrev pub with_entries : MountView → ℕ → List (List ℕ) → MountView
 with_entries v lba [] = v
 with_entries v lba (sector ∷ sectors) = with_entries (with_entry v lba sector) (lba + 1) sectors
 
--- what comes next, where no program is in flight
+-- what comes next, where no program is in flight and no copy is begun
 abbrev pub work_in : MountView → Work
-work_in v = work_of v.image (logs_in v) v.pad []
+work_in v = work_of v.image (logs_in v) v.pad [] false
 
--- There is nothing left to do with any pad target up to the mount's own, and no room that isn't
+-- There is nothing left to do where as much is asked for as is here, or less, and no room that isn't
 -- granted.
 pub record IsSpent (v : MountView) : Type 0 where
-  pub nothing_left : (asked : ℕ) → asked ≤ v.pad
+  pub nothing_left : (asked : ℕ) → asked ≤ v.asked
       → HasNothingLeftAt v.image (logs_in v) asked (length (engine_log v))
   pub no_room : room v.image (logs_at (length (engine_log v)) (logs_in v)) ≤ v.granted
+  -- no sector is to be copied
+  pub no_copy : ¬ IsCopyDue v.image (logs_in v)
 
 -- Collection isn't due, or nothing is left to do.
 abbrev pub IsCollectionOver : MountView → Type 0
@@ -186,12 +225,12 @@ pub record IsStuckAt (v : MountView) (wanted have : ℕ) : Type 0 where
   pub spent : IsSpent v
   pub short : have < wanted
 
--- a block that a sector's slot names, with what stands there as the engine knows it
-pub record IsFetchable (v : MountView) (unit chunk number : ℕ) (sector : List ℕ) : Type 0 where
+-- a block that a sector's slot names, with what stands there
+pub record IsFetchable (v : MountView) (unit chunk number : ℕ) (block : Block) : Type 0 where
   pub lba : ℕ
   pub at : ℕ
   pub position : ℕ
   pub slot : IsBlockOfSlot v.image (logs_in v) lba chunk at position
   pub of_unit : slot.unit ≡ unit
   pub of_number : slot.number ≡ number
-  pub has : slot.block.sector ≡ sector
+  pub has : slot.block ≡ block

@@ -34,7 +34,7 @@ pub record IsReady (s : Shape) (old new : List ModelUnit) (ready : Ready) : Type
   pub deeds : ready.deeds ≡ first_deeds old new ready.found
 
 -- A mount of these units has begun, each line that might be freed was freed, and that is all. It
--- found the drive as that now is. It is granted what there is room for, and asks for no pads.
+-- found the drive as that now is. It is granted what there is room for, and no flush asked for pads.
 pub record IsOpened (s : Shape) (us : List ModelUnit) (v : MountView) : Type 0 where
   pub image : v.image ≡ image_of s us
   pub handed : v.handed ≡ us
@@ -45,7 +45,7 @@ pub record IsOpened (s : Shape) (us : List ModelUnit) (v : MountView) : Type 0 w
   pub deeds : v.deeds ≡ freed_deeds (first_deeds us v.units found) freed
   pub none_to_free : NoneToFree v.image (logs_in v)
   pub granted : v.granted ≡ room v.image (logs_in v)
-  pub pad : v.pad ≡ 0
+  pub asked : v.asked ≡ 0
 
 abbrev pub open_error : ScanErr → OpenErr
 open_error (scan.Drive unit event) = Drive unit event

@@ -39,7 +39,7 @@ pub record SerialView : Type 0 where
 abbrev pub serial_view : MountView → ℕ → List OwnWrite → List DriveAnswer → List WornAnswer → SerialView
 serial_view mount seen own faults worns = record { mount = mount; seen = seen; own = own; faults = faults; worns = worns }
 
--- the history with its positions: all entries are users'
+-- the history with its positions: the users' entries
 abbrev pub lines_in : MountView → List PlacedSector
 lines_in v = map (λ t. record { position = t.entry.position; write = record { lba = t.entry.lba; sector = t.entry.sector } }) (user_takes (engine_log v))
 
@@ -128,8 +128,21 @@ FlushCause old v (Err (flush.Drive unit event)) = IsLostAt old.units v.units uni
 FlushCause old v (Err (flush.Worn wanted have)) = NoneLost old.units v.units
     × IsFlushRefusal v.image (logs_in v) (length (engine_log v)) wanted have
 
+-- Up to where a flush asks for pads: at most to what was taken before it. Where it answers Worn it
+-- wanted just that, and asked for it.
+abbrev pub FlushAsks : ℕ → ℕ → ℕ → Result Front FlushErr → Type 0
+FlushAsks before wanted asked (Ok front) = (before ≤ asked) × (asked ≤ max before wanted)
+FlushAsks before wanted asked (Err (flush.Drive unit event)) = (before ≤ asked) × (asked ≤ max before wanted)
+FlushAsks before wanted asked (Err (flush.Worn upto have)) = (upto ≡ wanted) × (asked ≡ max before wanted)
+
+-- the same of a close, by all that was taken
+abbrev pub SettleAsks : ℕ → ℕ → ℕ → Result Unit SettleErr → Type 0
+SettleAsks before wanted asked (Ok x) = (before ≤ asked) × (asked ≤ max before wanted)
+SettleAsks before wanted asked (Err (settle.Drive unit event)) = (before ≤ asked) × (asked ≤ max before wanted)
+SettleAsks before wanted asked (Err (settle.Worn upto have)) = asked ≡ max before wanted
+
 -- All that was taken is on the drive, and collection isn't due or there is nothing left to do; or
--- not all is there, where there is nothing left to do; or a command was stopped.
+-- not all is there, where there is nothing left to do; or a command was stopped, or a fetch failed.
 abbrev pub Settles : MountView → Result Unit SettleErr → MountView → Type 0
 Settles old (Ok x) v = NoneLost old.units v.units × (synced_in v ≡ taken_in v) × IsCollectionOver v
 Settles old (Err (settle.Worn wanted have)) v = NoneLost old.units v.units × (wanted ≡ taken_in v)
@@ -159,7 +172,6 @@ settle_worns written (Err (settle.Worn wanted have)) =
 pub record IsClosed (target : SerialView) (settled : Result Unit SettleErr) (v : MountView) : Type 0 where
   pub same : IsSameMount target.mount v
   pub sound : IsSound v
-  pub taken : taken_in v ≡ taken_in target.mount
   pub settles : Settles target.mount settled v
   -- no line is left that may be freed
   pub none_to_free : NoneToFree v.image (logs_in v)
@@ -168,10 +180,10 @@ pub record IsClosed (target : SerialView) (settled : Result Unit SettleErr) (v :
   -- each Worn had its cause, this call's the last of them
   pub refusals : AreRefusals v.image (logs_in v) 0
       (target.worns ++ settle_worns (length (flat_map lines_of target.own)) settled)
-  -- all that was taken was granted before
+  -- all that users' writes took was granted before
   pub granted : AreGranted v.image (logs_in v)
-  -- pads were asked for up to what is wanted here, or by an earlier call
-  pub pad : v.pad ≡ max target.mount.pad (taken_in target.mount)
+  -- pads were asked for up to what was taken, or by an earlier call
+  pub asked : SettleAsks target.mount.asked (taken_in v) v.asked settled
   -- What is now found on a drive that was sealed ends between the front synced and the front taken.
   -- It ends at the front synced where no command of the close was stopped.
   pub from_synced : IsSealed v.image → synced_in v ≤ end (media v.image (logs_in v))

@@ -1,12 +1,22 @@
 -- Why a mount doesn't come to what it works for.
-use Rattle.std.specs.Prelude.{ℕ, ◌≡◌}
+use Rattle.std.specs.Prelude.{ℕ, ◌≡◌, ◌≤◌, ⊤, max, Result, Ok, Err}
 use Rattle.scan_recovery.specs.Lost.{IsLostAt, NoneLost}
 use Rattle.block_target.specs.Mount.{MountView, IsStuckAt}
 use Rattle.block_target.specs.declared.opening.WaitErr.{WaitErr}
 use Rattle.block_target.specs.declared.opening.WaitErr.TheVariants.{Drive, Stuck}
 
--- A command of the call was stopped; or nothing is left to do with any pad target up to the mount's
--- own, and what is wanted isn't reached.
+-- A command of the call was stopped; or nothing is left to do, and what is wanted isn't reached.
 abbrev pub Waits : MountView → MountView → ℕ → ℕ → WaitErr → Type 0
 Waits old new wanted at (Drive unit event) = IsLostAt old.units new.units unit event
-Waits old new wanted at (Stuck have) = NoneLost old.units new.units × (have ≡ at) × IsStuckAt new wanted have
+Waits old new wanted at (Stuck asked have) = NoneLost old.units new.units × (asked ≡ wanted) × (have ≡ at) × IsStuckAt new wanted have
+
+-- What is asked for rises, at most to this position, and to just that where nothing is left to do.
+abbrev pub AsksAll : {T : Type 0} → MountView → MountView → ℕ → Result T WaitErr → Type 0
+AsksAll old new wanted (Ok x) = ⊤
+AsksAll old new wanted (Err (Drive unit event)) = ⊤
+AsksAll old new wanted (Err (Stuck asked have)) = max old.asked wanted ≤ new.asked
+
+pub record AsksUpTo {T : Type 0} (old new : MountView) (wanted : ℕ) (r : Result T WaitErr) : Type 0 where
+  pub at_least : old.asked ≤ new.asked
+  pub at_most : new.asked ≤ max old.asked wanted
+  pub all : AsksAll old new wanted r

@@ -8,9 +8,9 @@ ghost use Rattle.pblk_core.specs.Named.{next_start};
 ghost use Rattle.block_target.specs.Arm.{last_of};
 ghost use Rattle.block_target.specs.Deeds.{Decides, Does, Lands, Offers, drive_before};
 ghost use Rattle.block_target.specs.Deeds as deeds;
-ghost use Rattle.block_target.specs.Heart.{user_entry};
+ghost use Rattle.block_target.specs.Heart.{copy_entry, user_entry};
 
-use pblk_core::{Core, Stripe};
+use pblk_core::{CopyJob, Core, Stripe};
 use pblk_model::{Found, Shows};
 use std::marker::Model;
 use unit_port::{Log, Unit};
@@ -98,6 +98,21 @@ impl Shows for Takes<'_> {
 
     ghost shown = { λ t. Decides (Take (user_entry t.position t.lba t.sector.now)
         (sector_mark t.lba t.position)) };
+}
+
+/// Shows that a copy of a sector is taken, at this position.
+#[derive(Drop)]
+pub(crate) struct Copies<'a> {
+    pub(crate) position: u64,
+    pub(crate) job: CopyJob,
+    pub(crate) sector: &'a [u8],
+}
+
+impl Shows for Copies<'_> {
+    type Event = Deed;
+
+    ghost shown = { λ c. Decides (Take (copy_entry c.position c.job c.sector.now)
+        (sector_mark c.job.lba c.position)) };
 }
 
 /// Shows that the engine opens the line that the core names.

@@ -1,6 +1,7 @@
 //! What decides for a target: its core, its frames and what is granted.
 
-ghost use Rattle.std.specs.Prelude.{ℕ, List, ◌≡◌, ◌≤◌, ◌<◌, ◌+◌, true, false, length, max, slice_index, IfOk, IfSome, IfNone, OnSome};
+ghost use Rattle.std.specs.Prelude.{ℕ, List, ◌≡◌, ◌≤◌, ◌<◌, ◌+◌, ◌^◌, true, false, length, max, slice_index, IfOk, IfSome, IfNone, IsTrue, OnSome};
+ghost use Rattle.std.specs.FinMap as fin;
 ghost use Rattle.pblk_model.specs.Frames.{count_out};
 ghost use Rattle.pblk_model.specs.Accepted.{IsAccepted};
 ghost use Rattle.pblk_model.specs.Found.{IsFitFound};
@@ -14,23 +15,27 @@ ghost use Rattle.pblk_world.specs.Opening.{MayOpen};
 ghost use Rattle.pblk_world.specs.Placing.{MayPlace};
 ghost use Rattle.pblk_world.specs.Space.{freed, room};
 ghost use Rattle.pblk_world.specs.Taking.{MayTake};
-ghost use Rattle.pblk_world.specs.World.{World, log_of};
+ghost use Rattle.pblk_world.specs.World.{World, Logs, log_of};
 ghost use Rattle.world_laws.specs.LegalMounts.{IsLegalMount};
 ghost use Rattle.core_laws.specs.Stepping.{after};
 ghost use Rattle.step_laws.specs.FreedWorlds.{NoneToFree};
+ghost use Rattle.sector_pool.specs.declared.entry.Class.TheVariants as classes;
 ghost use Rattle.write_window.specs.Window as window;
+ghost use Rattle.pblk_core.specs.Collecting.{Collects, IsReady};
+ghost use Rattle.pblk_core.specs.Copies.{is_copying};
 ghost use Rattle.pblk_core.specs.Landing.{AreKeptBeside, IsResting, IsIdleOn, IsOfferedOn, IsUnderWayOn, WasStopped};
 ghost use Rattle.pblk_core.specs.Mounts.{InItsMount};
 ghost use Rattle.pblk_core.specs.Named.{named, next_start, pad_of};
 ghost use Rattle.pblk_core.specs.Resets.{IsResetTo};
 ghost use Rattle.pblk_core.specs.Stands.{Stands, IsStanding};
+ghost use Rattle.pblk_core.specs.Taken.{HasItsSector};
 ghost use Rattle.pblk_core.specs.declared.work.Work.TheVariants as works;
 ghost use Rattle.pblk_core.specs.Freeing.{closed_count};
-ghost use Rattle.block_target.specs.Heart.{IsHeart, IsBeating, OfItsMount, BeatsAfter, CanBegin, HasBegun, decided, user_entry};
+ghost use Rattle.block_target.specs.Heart.{IsHeart, IsBeating, IsOfClass, OfItsMount, BeatsAfter, CanBegin, HasBegun, copy_entry, decided, taken_entry, taken_mark, user_entry};
 
-use pblk_core::{Core, Stripe};
+use pblk_core::{CopyJob, Core, Stripe};
 use pblk_model::{ChunkState, Found, Shape};
-use sector_pool::{Class, Entry, Pool};
+use sector_pool::{Class, Entry, Pool, Source};
 use std::alloc::{AllocError, Global};
 
 /// What decides for a target: the core, the pool of frames, and the position below which users may
@@ -49,6 +54,8 @@ fn free_frames(core: &mut Core, pool: &mut Pool)
     requires { window.AreOf pool.old.region core.old.window.entries }
     ensures stands { (i : Image) (w : World) → IsLegalMount i w → Stands i (log_of w) core.old
         → Stands i (log_of w) core.new }
+    ensures collects { (i : Image) (logs : Logs)
+        → Collects i logs core.old → Collects i logs core.new }
     ensures drained { (i : Image) (w : World) → IsLegalMount i w → Stands i (log_of w) core.old
         → core.new.window.freed ≡ freed i.shape (log_of w 0) }
     ensures unread { window.is_readable_at core.new.window core.new.window.freed ≡ false }
@@ -56,6 +63,7 @@ fn free_frames(core: &mut Core, pool: &mut Pool)
     ensures out { count_out pool.old.left + length core.new.window.entries
         ≡ count_out pool.new.left + length core.old.window.entries }
     ensures region { pool.new.region ≡ pool.old.region }
+    ensures copying { is_copying core.new ≡ is_copying core.old }
     ensures pad { pad_of core.new ≡ pad_of core.old }
     ensures rows { core.new.placer.units ≡ core.old.placer.units }
 {
@@ -66,14 +74,14 @@ fn free_frames(core: &mut Core, pool: &mut Pool)
 
 impl Heart {
     /// The heart of a target that opens on a drive of an accepted shape, of which recovery found
-    /// this. It is granted what there is room for, and the pad target is 0. Fails only where there
-    /// isn't the memory, of which it takes all that the heart uses.
+    /// this. It is granted what there is room for. Fails only where there isn't the memory, of
+    /// which it takes all that the heart uses.
     pub(crate) fn new(alloc: Global, shape: &Shape, found: Found) -> Result<Heart, AllocError>
         requires accepted { IsAccepted shape.now }
         requires fit { IsFitFound shape.now found }
         requires can { CanBegin shape.now found }
         ensures begun { IfOk result (HasBegun shape.now found) }
-        ensures pad { IfOk result (λ heart. pad_of heart.core ≡ 0) }
+        ensures idle { IfOk result (λ heart. is_copying heart.core ≡ false) }
         ensures resting { IfOk result (λ heart. IsResting heart.core) }
     {
         let pool = Pool::new(alloc, shape.ring, shape.sector)?;
@@ -99,6 +107,8 @@ impl Heart {
         requires standing { IsStanding self.old.core }
         requires own { window.AreOf self.old.pool.region self.old.core.window.entries }
         ensures stands { InItsMount self.old.core (λ i w. Stands i (log_of w) self.new.core) }
+        ensures collects { (i : Image) (logs : Logs)
+            → Collects i logs self.old.core → Collects i logs self.new.core }
         ensures drained { InItsMount self.old.core (λ i w.
             self.new.core.window.freed ≡ freed i.shape (log_of w 0)) }
         ensures granted { InItsMount self.old.core (λ i w.
@@ -107,6 +117,7 @@ impl Heart {
         ensures out { count_out self.old.pool.left + length self.new.core.window.entries
             ≡ count_out self.new.pool.left + length self.old.core.window.entries }
         ensures region { self.new.pool.region ≡ self.old.pool.region }
+        ensures copying { is_copying self.new.core ≡ is_copying self.old.core }
         ensures pad { pad_of self.new.core ≡ pad_of self.old.core }
         ensures rows { self.new.core.placer.units ≡ self.old.core.placer.units }
     {
@@ -124,7 +135,8 @@ impl Heart {
         ensures beats { let start = next_start self.old.core
             in BeatsAfter self.old (Open start.line start) self.new }
         ensures rows { self.new.core.placer.units ≡ self.old.core.placer.units }
-        ensures pad { pad_of self.new.core ≡ pad_of self.old.core }
+        ensures copying { is_copying self.new.core ≡ is_copying self.old.core }
+        ensures pad { pad_of self.old.core ≤ pad_of self.new.core }
         ensures granted { self.old.granted ≤ self.new.granted }
     {
         self.core.open_line();
@@ -146,7 +158,8 @@ impl Heart {
         ensures unchanged { IfNone result (self.new ≡ self.old) }
         ensures fewer { OnSome result (closed_count self.new.core < closed_count self.old.core) }
         ensures rows { self.new.core.placer.units ≡ self.old.core.placer.units }
-        ensures pad { pad_of self.new.core ≡ pad_of self.old.core }
+        ensures copying { is_copying self.new.core ≡ is_copying self.old.core }
+        ensures pad { pad_of self.old.core ≤ pad_of self.new.core }
         ensures granted { self.new.granted ≡ self.old.granted }
     {
         self.core.free_line()
@@ -166,7 +179,8 @@ impl Heart {
             WasStopped (log_of w 0) into.new.stripe × IsHeart i (log_of w) self.new) }
         ensures under_way { IsUnderWayOn self.new.core into.new.stripe.unit }
         ensures rows { AreKeptBeside into.new.stripe.unit self.old.core self.new.core }
-        ensures pad { pad_of self.new.core ≡ pad_of self.old.core }
+        ensures copying { is_copying self.new.core ≡ is_copying self.old.core }
+        ensures pad { pad_of self.old.core ≤ pad_of self.new.core }
         ensures granted { self.old.granted ≤ self.new.granted }
         ensures shape { into.new.shape ≡ into.old.shape }
     {
@@ -186,7 +200,8 @@ impl Heart {
             → IsHeart i (log_of (decided (Landed stripe.now.stripe.unit event) knows w)) self.new }
         ensures idle { IsIdleOn self.new.core stripe.now.stripe.unit }
         ensures rows { AreKeptBeside stripe.now.stripe.unit self.old.core self.new.core }
-        ensures pad { pad_of self.new.core ≡ pad_of self.old.core }
+        ensures copying { is_copying self.new.core ≡ is_copying self.old.core }
+        ensures pad { pad_of self.old.core ≤ pad_of self.new.core }
         ensures granted { self.old.granted ≤ self.new.granted }
     {
         self.core.landed(stripe);
@@ -204,7 +219,8 @@ impl Heart {
             → IsHeart i (log_of (decided (Again stripe.now.stripe.unit event) knows w)) self.new }
         ensures offered { IsOfferedOn self.new.core stripe.now.stripe.unit }
         ensures rows { AreKeptBeside stripe.now.stripe.unit self.old.core self.new.core }
-        ensures pad { pad_of self.new.core ≡ pad_of self.old.core }
+        ensures copying { is_copying self.new.core ≡ is_copying self.old.core }
+        ensures pad { pad_of self.old.core ≤ pad_of self.new.core }
         ensures granted { self.new.granted ≡ self.old.granted }
     {
         self.core.stopped(stripe);
@@ -220,7 +236,8 @@ impl Heart {
             → IsLegalMount i (decided (ResetDone unit event) knows w)
             → IsHeart i (log_of (decided (ResetDone unit event) knows w)) self.new }
         ensures rows { self.new.core.placer.units ≡ self.old.core.placer.units }
-        ensures pad { pad_of self.new.core ≡ pad_of self.old.core }
+        ensures copying { is_copying self.new.core ≡ is_copying self.old.core }
+        ensures pad { pad_of self.old.core ≤ pad_of self.new.core }
         ensures granted { self.old.granted ≤ self.new.granted }
     {
         self.core.reset_done(line, unit, state);
@@ -241,7 +258,71 @@ impl Heart {
             BeatsAfter self.old
             (Take (user_entry position lba sector.now) (sector_mark lba position)) self.new }
         ensures rows { self.new.core.placer.units ≡ self.old.core.placer.units }
-        ensures pad { pad_of self.new.core ≡ pad_of self.old.core }
+        ensures copying { is_copying self.new.core ≡ is_copying self.old.core }
+        ensures pad { pad_of self.old.core ≤ pad_of self.new.core }
+        ensures granted { self.new.granted ≡ self.old.granted }
+    {
+        self.take_entry(Class::User, lba, None, sector);
+    }
+
+    /// Whether a frame is left.
+    pub(crate) fn has_frame(&self) -> bool
+        requires beating { IsBeating self.now }
+        ensures { IsTrue result
+            → length self.now.core.window.entries < self.now.core.window.size }
+    {
+        0 < self.pool.left()
+    }
+
+    /// Takes a copy of the sector that the core names, at the next position. It has the sector of
+    /// the block that the core names.
+    pub(crate) fn take_copy(&mut self, job: &CopyJob, sector: &[u8])
+        requires beating { IsBeating self.old }
+        requires ready { IsReady self.old.core job.now }
+        requires size { length sector.now ≡ self.old.pool.region.size }
+        requires room { length self.old.core.window.entries < self.old.core.window.size }
+        ensures legal { let entry = copy_entry (window.taken self.old.core.window) job.now
+            sector.now in OfItsMount self.old (λ i w. HasItsSector i (log_of w) entry entry.source
+            → MayTake i (log_of w) entry (sector_mark entry.lba entry.position)) }
+        ensures beats { let entry = copy_entry (window.taken self.old.core.window) job.now
+            sector.now in BeatsAfter self.old (Take entry (sector_mark entry.lba entry.position))
+            self.new }
+        ensures rows { self.new.core.placer.units ≡ self.old.core.placer.units }
+        ensures idle { is_copying self.new.core ≡ false }
+        ensures pad { pad_of self.old.core ≤ pad_of self.new.core }
+        ensures granted { self.new.granted ≡ self.old.granted }
+    {
+        self.core.copy_claimed(job);
+        let source = Source {
+            line: job.line,
+            at: job.at,
+            position: job.position,
+        };
+        self.take_entry(Class::Copy, job.lba, Some(source), sector);
+    }
+
+    // Takes an entry at the next position. Its sector is copied to a frame of the pool. A user's
+    // entry has no source, and a copy names one that isn't in the buffer.
+    fn take_entry(&mut self, class: Class, lba: u64, source: Option<Source>, sector: &[u8])
+        requires beating { IsBeating self.old }
+        requires class { IsOfClass (fin.get self.old.core.map lba) class source }
+        requires lba { lba < self.old.core.layout.capacity }
+        requires size { length sector.now ≡ self.old.pool.region.size }
+        requires room { length self.old.core.window.entries < self.old.core.window.size }
+        requires position { window.taken self.old.core.window < 2 ^ 62 }
+        ensures legal { let position = window.taken self.old.core.window in
+            let entry = taken_entry position lba source sector.now in
+            let mark = taken_mark position lba (fin.get self.old.core.map lba) source in
+            OfItsMount self.old (λ i w. HasItsSector i (log_of w) entry entry.source
+            → MayTake i (log_of w) entry mark) }
+        ensures beats { let position = window.taken self.old.core.window in
+            BeatsAfter self.old (Take (taken_entry position lba source sector.now)
+            (taken_mark position lba (fin.get self.old.core.map lba) source)) self.new }
+        ensures rows { self.new.core.placer.units ≡ self.old.core.placer.units }
+        ensures idle { class ≡ classes.Copy → is_copying self.new.core ≡ false }
+        ensures copying { class ≡ classes.User
+            → is_copying self.new.core ≡ is_copying self.old.core }
+        ensures pad { pad_of self.old.core ≤ pad_of self.new.core }
         ensures granted { self.new.granted ≡ self.old.granted }
     {
         // a frame is left, since those that are out are fewer than the ring has
@@ -253,9 +334,9 @@ impl Heart {
         frame.fill(sector);
         self.core.take(Entry {
             position: self.core.front().position,
-            class: Class::User,
+            class,
             lba,
-            source: None,
+            source,
             frame,
         });
     }
@@ -264,6 +345,7 @@ impl Heart {
     pub(crate) fn ask_pad(&mut self, to: u64)
         ensures beats { OfItsMount self.old (λ i w. IsHeart i (log_of w) self.new) }
         ensures rows { self.new.core.placer.units ≡ self.old.core.placer.units }
+        ensures copying { is_copying self.new.core ≡ is_copying self.old.core }
         ensures pad { pad_of self.new.core ≡ max (pad_of self.old.core) to }
         ensures granted { self.new.granted ≡ self.old.granted }
     {

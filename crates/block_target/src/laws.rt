@@ -1,6 +1,6 @@
 //! Laws on what a target answers: each is the contract of a function that does no work.
 
-ghost use Rattle.std.specs.Prelude.{ℕ, ◌≡◌, ◌+◌, ◌<◌, List, take, Some};
+ghost use Rattle.std.specs.Prelude.{ℕ, ◌≡◌, ◌+◌, ◌<◌, ◌≤◌, List, take, Some};
 ghost use Rattle.pblk_model.specs.declared.shape.Shape.{Shape};
 ghost use Rattle.pblk_model.specs.Accepted.{IsAccepted};
 ghost use Rattle.pblk_model.specs.Contents.{end};
@@ -36,7 +36,7 @@ pub fn a_refused_flush_tells_the_end()
     ensures { (i : Image) (w : World) (b : Begun) (n wanted have : ℕ)
         → IsSimpleMount i w → IsSealed i → begun (log_of w 0) ≡ Some b
         → IsFlushRefusal i (log_of w) n wanted have
-        → (past : World) × IsMoment w n past × (taken (log_of past 0) ≡ wanted)
+        → (past : World) × IsMoment w n past × (wanted ≤ taken (log_of past 0))
         × (end (media i (log_of past)) ≡ have) }
 {
     the_end_is_the_front_synced();

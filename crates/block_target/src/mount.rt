@@ -1,9 +1,11 @@
 //! A mount of a drive for one session: the heart, and the drive's units.
-ghost use Rattle.std.specs.Prelude.{◌≡◌, ◌<◌, ◌≤◌, map, length, slice_get, true, false, Some, IfOk, IfErr, IsOk};
+ghost use Rattle.std.specs.Prelude.{◌≡◌, ◌<◌, ◌≤◌, ◌^◌, map, max, length, slice_get, true, false, Some, IfOk, IfErr, IsOk};
 ghost use Rattle.pblk_model.specs.Accepted.{IsAccepted};
+ghost use Rattle.pblk_model.specs.Chunk.{Block};
 ghost use Rattle.pblk_model.specs.Contents.{end};
+ghost use Rattle.pblk_model.specs.Image.{Image};
 ghost use Rattle.pblk_model.specs.Sealed.{IsSealed};
-ghost use Rattle.pblk_world.specs.World.{media};
+ghost use Rattle.pblk_world.specs.World.{World, media};
 ghost use Rattle.pblk_core.specs.Resets.{IsToReset};
 ghost use Rattle.pblk_core.specs.declared.work.Work.TheVariants as works;
 ghost use Rattle.step_laws.specs.FreedWorlds.{NoneToFree};
@@ -11,14 +13,16 @@ ghost use Rattle.scan_recovery.specs.Units.{AreFit};
 ghost use Rattle.scan_recovery.specs.Readying.{AreHandedBack};
 ghost use Rattle.scan_recovery.specs.MayStop.{AllMayStop};
 ghost use Rattle.scan_recovery.specs.Lost.{IsLostAt, NoneLost};
+ghost use Rattle.unit_port.specs.Unit.{ModelUnit};
+ghost use Rattle.block_target.specs.Fetched.{IsReadableThere, WasFetched};
 ghost use Rattle.block_target.specs.Freed.{HaveFreed};
 ghost use Rattle.block_target.specs.Heart.{IsBeating};
-ghost use Rattle.block_target.specs.Mount.{MountView, IsMount, IsSound, IsSameMount, IsSpent, IsFetchable, engine_log, logs_in, with_entry, work_in, taken_in, synced_in, front_taken, latest};
+ghost use Rattle.block_target.specs.Mount.{IsSound, IsSameMount, IsSpent, IsFetchable, HasAsked, logs_in, with_asked, with_entry, with_pad, work_in, taken_in, synced_in, front_taken, latest};
 ghost use Rattle.block_target.specs.Opened.{IsOpened, OpenCause};
 
 use crate::arm;
 use crate::deeds::{
-    Commands, Deed, DriveRow, Frees, Landing, NotesReset, Opens, Stops, Takes, add_placed,
+    Commands, Copies, Deed, DriveRow, Frees, Landing, NotesReset, Opens, Stops, Takes, add_placed,
 };
 use crate::heart::Heart;
 use crate::opening::{DriveErr, OpenErr, Refused};
@@ -26,18 +30,22 @@ use crate::readying::{Ready, cause_of, ready_drive};
 use l2p_map::Slot;
 use pblk_core::{Stripe, Work};
 use pblk_model::{Front, Got, Shape};
-use std::alloc::Global;
+use std::alloc::{AllocError, Global};
 use std::marker::Model;
 use unit_port::{Log, Unit};
 
 /// A mount for one session. It does all work in its own calls: an entry is taken as it is claimed,
-/// and a stripe is programmed as it is placed. A stripe whose program was stopped is offered again.
-/// Each call leaves no line that may be freed.
+/// a stripe is programmed as it is placed, and a copy is taken as its block is fetched. A stripe
+/// whose program was stopped is offered again. Each call leaves no line that may be freed.
 pub(crate) struct Mount<U: Unit> {
     shape: Shape,
     pub(crate) heart: Heart,
     units: Vec<U>,
     stripe: Stripe,
+    // the sector that is copied
+    sector: Vec<u8>,
+    // up to which position flushes asked for pads
+    asked: u64,
     // the units as they were handed in, and as the mount found them
     drives: Log<DriveRow>,
     deeds: Log<Deed>,
@@ -46,16 +54,16 @@ pub(crate) struct Mount<U: Unit> {
 impl<U: Unit> Model for Mount<U> {
     ghost use Rattle.std.specs.Prelude.{map};
     ghost use Rattle.pblk_core.specs.Named.{pad_of};
-    ghost use Rattle.block_target.specs.Mount.{MountView, IsMount, mount_view};
+    ghost use Rattle.block_target.specs.Mount.{MountView, IsKept, mount_view};
 
     ghost Value = { MountView };
 
     ghost view = { λ m. mount_view m.shape m.drives m.deeds (map U.model m.units.items)
-        (map U.wear m.units.items) m.heart.granted (pad_of m.heart.core) };
+        (map U.wear m.units.items) m.heart.granted (pad_of m.heart.core) m.asked };
 
-    ghost invariant = { λ m. IsMount (mount_view m.shape m.drives m.deeds
+    ghost invariant = { λ m. IsKept (mount_view m.shape m.drives m.deeds
         (map U.model m.units.items) (map U.wear m.units.items) m.heart.granted
-        (pad_of m.heart.core)) m.heart m.stripe };
+        (pad_of m.heart.core) m.asked) m.heart m.stripe m.sector.items };
 }
 
 // Frees all lines that may be freed, one after another, and notes that.
@@ -68,10 +76,72 @@ fn free_lines(heart: &mut Heart, deeds: &mut Log<Deed>)
     }
 }
 
+// What a mount fills again and again.
+#[derive(Drop)]
+struct Buffers {
+    stripe: Stripe,
+    sector: Vec<u8>,
+}
+
+fn make_buffers(alloc: Global, shape: &Shape) -> Result<Buffers, AllocError>
+    requires { IsAccepted shape.now }
+    ensures stripe { IfOk result (λ b. b.stripe.shape ≡ shape.now) }
+    ensures sector { IfOk result (λ b. length b.sector.items ≡ shape.now.sector) }
+{
+    Ok(Buffers {
+        stripe: Stripe::new(alloc, shape)?,
+        sector: vec![in alloc; 0u8; shape.sector as usize]?,
+    })
+}
+
+// Has a unit fetch a block, which it can read, and notes that. `Err` names the fetch, which failed
+// or was stopped.
+fn fetch_block<U: Unit>(
+    units: &mut Vec<U>,
+    deeds: &mut Log<Deed>,
+    unit: u32,
+    chunk: u32,
+    block: u32,
+    out: &mut [u8],
+) -> Result<(), DriveErr>
+    requires size { (u : ModelUnit) → slice_get (map U.model units.old.items) unit ≡ Some u
+        → length out.old ≡ u.shape.sector }
+    requires there { (i : Image) × (w : World) × (handed : ModelUnit)
+        × IsReadableThere i w unit chunk block handed (map U.model units.old.items) }
+    ensures fetched { WasFetched unit chunk block (map U.model units.old.items) deeds.old
+        (map U.model units.new.items) deeds.new result }
+    ensures sector { IsOk result → (i : Image) (w : World) (handed : ModelUnit)
+        → (there : IsReadableThere i w unit chunk block handed (map U.model units.old.items))
+        → out.new ≡ there.block.sector }
+    ensures size { length out.new ≡ length out.old }
+    ensures wear { map U.wear units.new.items ≡ map U.wear units.old.items }
+{
+    let from = &mut units[unit as usize];
+    let answer = arm::fetch(from, chunk, block, out);
+    deeds.add(&Commands {
+        number: unit,
+        unit: &*from,
+    });
+    let got = match answer {
+        Ok(got) => got,
+        // it failed or was stopped
+        Err(_) => {
+            return Err(DriveErr {
+                unit,
+                event: from.events(),
+            });
+        }
+    };
+    match got {
+        Got::Sector(_) => Ok(()),
+        Got::Empty => unreachable!(),
+    }
+}
+
 impl<U: Unit> Mount<U> {
     /// Opens a mount on the units of a drive. No plan has a command of them fail, and a fuse may
     /// stop them. The drive is made ready, and the mount begins with what is found on it. Each line
-    /// that may be freed is freed. It is granted what there is room for, and its pad target is 0.
+    /// that may be freed is freed. It is granted what there is room for, and no pads are asked for.
     pub(crate) fn open(
         alloc: Global,
         mut units: Vec<U>,
@@ -104,7 +174,7 @@ impl<U: Unit> Mount<U> {
                 });
             }
         };
-        let Ok(stripe) = Stripe::new(alloc, shape) else {
+        let Ok(Buffers { stripe, sector }) = make_buffers(alloc, shape) else {
             return Err(Refused {
                 units,
                 cause: OpenErr::Memory,
@@ -122,6 +192,8 @@ impl<U: Unit> Mount<U> {
                     heart,
                     units,
                     stripe,
+                    sector,
+                    asked: 0,
                     drives,
                     deeds,
                 })
@@ -155,27 +227,27 @@ impl<U: Unit> Mount<U> {
 
     /// The front taken.
     pub(crate) fn front(&self) -> Front
-        ensures { result ≡ front_taken self.now }
+        ensures front { result ≡ front_taken self.now }
+        ensures small { result.position ≤ 2 ^ 62 }
     {
         self.heart.core.front()
     }
 
-    /// Does what comes next, so that the engine's log grows, and frees each line that may then be
-    /// freed. It answers false where there is nothing to do. `Err` names the command that it gave a
-    /// unit and that was stopped: then the engine's log may be as it was.
+    /// Does what comes next, and frees each line that may then be freed. It answers false where
+    /// there is nothing to do. `Err` names the command that it gave a unit and that was stopped, or
+    /// the fetch that failed.
     pub(crate) fn pump(&mut self) -> Result<bool, DriveErr>
         ensures same { IsSameMount self.old self.new }
-        ensures pad { self.new.pad ≡ self.old.pad }
+        ensures asked { self.new.asked ≡ self.old.asked }
         ensures done { IsOk result → NoneLost self.old.units self.new.units }
         ensures lost { IfErr result (λ e. IsLostAt self.old.units self.new.units e.unit e.event) }
-        ensures more { IfOk result (λ did. did ≡ true
-            → length (engine_log self.old) < length (engine_log self.new)) }
         ensures rest { IfOk result (λ did. did ≡ false → (self.new ≡ self.old) × IsSpent self.old) }
     {
         match self.heart.core.next_work() {
             Work::Reset { line, unit } => self.reset(line, unit)?,
             Work::Program => self.program()?,
             Work::Open => self.open_line(),
+            Work::Copy => self.copy()?,
             Work::Nothing(_) => return Ok(false),
         }
         Ok(true)
@@ -187,11 +259,9 @@ impl<U: Unit> Mount<U> {
         requires named { work_in self.old ≡ works.Reset line unit }
         requires given_up { IsToReset self.old.image (logs_in self.old) line unit }
         ensures same { IsSameMount self.old self.new }
-        ensures pad { self.new.pad ≡ self.old.pad }
+        ensures asked { self.new.asked ≡ self.old.asked }
         ensures done { IsOk result → NoneLost self.old.units self.new.units }
         ensures lost { IfErr result (λ e. IsLostAt self.old.units self.new.units e.unit e.event) }
-        ensures more { IsOk result
-            → length (engine_log self.old) < length (engine_log self.new) }
     {
         let of = &mut self.units[unit as usize];
         let answer = arm::reset(of, line);
@@ -220,9 +290,8 @@ impl<U: Unit> Mount<U> {
     fn open_line(&mut self)
         requires { work_in self.old ≡ works.Open }
         ensures same { IsSameMount self.old self.new }
-        ensures pad { self.new.pad ≡ self.old.pad }
+        ensures asked { self.new.asked ≡ self.old.asked }
         ensures units { self.new.units ≡ self.old.units }
-        ensures more { length (engine_log self.old) < length (engine_log self.new) }
     {
         self.deeds.add(&Opens {
             core: &self.heart.core,
@@ -236,10 +305,9 @@ impl<U: Unit> Mount<U> {
     fn program(&mut self) -> Result<(), DriveErr>
         requires { work_in self.old ≡ works.Program }
         ensures same { IsSameMount self.old self.new }
-        ensures pad { self.new.pad ≡ self.old.pad }
+        ensures asked { self.new.asked ≡ self.old.asked }
         ensures done { IsOk result → NoneLost self.old.units self.new.units }
         ensures lost { IfErr result (λ e. IsLostAt self.old.units self.new.units e.unit e.event) }
-        ensures more { length (engine_log self.old) < length (engine_log self.new) }
     {
         self.heart.place(&mut self.stripe);
         add_placed(&mut self.deeds, &self.stripe);
@@ -271,12 +339,61 @@ impl<U: Unit> Mount<U> {
         }
     }
 
+    // Copies the sector that the core names: its block is fetched, and the sector is taken at the
+    // next position. Where no frame is left for it nothing is done. A copy makes no line one that
+    // may be freed.
+    fn copy(&mut self) -> Result<(), DriveErr>
+        requires named { work_in self.old ≡ works.Copy }
+        ensures same { IsSameMount self.old self.new }
+        ensures asked { self.new.asked ≡ self.old.asked }
+        ensures done { IsOk result → NoneLost self.old.units self.new.units }
+        ensures lost { IfErr result (λ e. IsLostAt self.old.units self.new.units e.unit e.event) }
+    {
+        let job = match self.heart.core.copy_ready() {
+            Some(job) => job,
+            None => unreachable!(),
+        };
+        if !self.heart.has_frame() {
+            return Ok(());
+        }
+        let (unit, block) = self.heart.core.address(job.line, job.at);
+        let sector = self.sector.as_mut_slice();
+        fetch_block(
+            &mut self.units,
+            &mut self.deeds,
+            unit,
+            job.line,
+            block,
+            sector,
+        )?;
+        self.deeds.add(&Copies {
+            position: self.heart.core.front().position,
+            job,
+            sector: &self.sector,
+        });
+        self.heart.take_copy(&job, &self.sector);
+        Ok(())
+    }
+
+    /// Asks for pads up to a position, unless a sector is to be copied first (this project's rule
+    /// "A flush sets the pad target" in docs/TARGET.md).
+    pub(crate) fn ask_pad(&mut self, to: u64)
+        ensures same { self.new ≡ with_asked self.old self.new.pad self.new.asked }
+        ensures asked { HasAsked self.old to self.new.asked }
+        ensures sound { IsSound self.new }
+    {
+        if self.heart.core.may_pad() {
+            self.heart.ask_pad(to);
+            self.asked = self.asked.max(to);
+        }
+    }
+
     /// Takes a sector at the next position, which was granted.
     pub(crate) fn take(&mut self, lba: u64, sector: &[u8])
         requires lba { lba < self.old.image.shape.capacity }
         requires size { length sector.now ≡ self.old.image.shape.sector }
         requires room { taken_in self.old < self.old.granted }
-        ensures taken { self.new ≡ with_entry self.old lba sector.now }
+        ensures taken { self.new ≡ with_pad (with_entry self.old lba sector.now) self.new.pad }
         ensures sound { IsSound self.new }
     {
         self.deeds.add(&Takes {
@@ -293,7 +410,7 @@ impl<U: Unit> Mount<U> {
         requires lba { lba < self.old.image.shape.capacity }
         requires size { length out.old ≡ self.old.image.shape.sector }
         ensures same { IsSameMount self.old self.new }
-        ensures pad { self.new.pad ≡ self.old.pad }
+        ensures asked { self.new.asked ≡ self.old.asked }
         ensures sound { IsSound self.new }
         ensures size { length out.new ≡ length out.old }
         ensures done { IsOk result → NoneLost self.old.units self.new.units }
@@ -317,36 +434,17 @@ impl<U: Unit> Mount<U> {
     // Fetches the block to which a sector's slot leads. It can be read.
     fn fetch(&mut self, unit: u32, chunk: u32, block: u32, out: &mut [u8]) -> Result<(), DriveErr>
         requires size { length out.old ≡ self.old.image.shape.sector }
-        requires there { (sector : _) × IsFetchable self.old unit chunk block sector }
+        requires there { (b : Block) × IsFetchable self.old unit chunk block b }
         ensures same { IsSameMount self.old self.new }
-        ensures pad { self.new.pad ≡ self.old.pad }
+        ensures asked { self.new.asked ≡ self.old.asked }
         ensures sound { IsSound self.new }
         ensures size { length out.new ≡ length out.old }
         ensures done { IsOk result → NoneLost self.old.units self.new.units }
         ensures lost { IfErr result (λ e. IsLostAt self.old.units self.new.units e.unit e.event) }
-        ensures sector { IsOk result → (sector : _) → IsFetchable self.old unit chunk block sector
-            → out.new ≡ sector }
+        ensures sector { IsOk result → (b : Block) → IsFetchable self.old unit chunk block b
+            → out.new ≡ b.sector }
     {
-        let from = &mut self.units[unit as usize];
-        let answer = arm::fetch(from, chunk, block, out);
-        self.deeds.add(&Commands {
-            number: unit,
-            unit: &*from,
-        });
-        let got = match answer {
-            Ok(got) => got,
-            // it failed or was stopped
-            Err(_) => {
-                return Err(DriveErr {
-                    unit,
-                    event: from.events(),
-                });
-            }
-        };
-        match got {
-            Got::Sector(_) => Ok(()),
-            Got::Empty => unreachable!(),
-        }
+        fetch_block(&mut self.units, &mut self.deeds, unit, chunk, block, out)
     }
 
     /// Ends the mount, and hands back the units as they are.
@@ -359,6 +457,8 @@ impl<U: Unit> Mount<U> {
             heart,
             units,
             stripe: _,
+            sector: _,
+            asked: _,
             drives: _,
             deeds: _,
         } = self;

@@ -28,10 +28,10 @@ pub(crate) struct DriveErr {
 /// Why a mount doesn't come to what it works for.
 #[derive(Clone, Copy, Debug, PartialEq, Eq)]
 pub(crate) enum WaitErr {
-    /// This event of this unit, made in this call, was a stopped command.
+    /// This event of this unit, made in this call, was a stopped command or a fetch that failed.
     Drive { unit: u32, event: u64 },
-    /// Nothing is left to do, and there is this.
-    Stuck { have: u64 },
+    /// All below `wanted` is waited for, there is what is below `have`, and nothing is left to do.
+    Stuck { wanted: u64, have: u64 },
 }
 
 impl From<DriveErr> for WaitErr {
@@ -57,8 +57,8 @@ pub struct Refused<U> {
 /// Why not all that was written is on the drive as a target closes.
 #[derive(Clone, Copy, Debug, PartialEq, Eq, Error)]
 pub enum SettleErr {
-    /// This event of this unit, made in this call, was a stopped command. Units are numbered from
-    /// 0, and the events of a unit's log from 1.
+    /// This event of this unit, made in this call, was a stopped command or a fetch that failed.
+    /// Units are numbered from 0, and the events of a unit's log from 1.
     #[error("event {event} of unit {unit} failed or was stopped")]
     Drive { unit: u32, event: u64 },
     /// All positions below `wanted` were asked for, those below `have` are on the drive, and

@@ -1,5 +1,5 @@
 //! A target for one session.
-ghost use Rattle.std.specs.Prelude.{OnErr, IsErrOf, ◌≡◌, ◌<◌, ◌≤◌, [], ◌∷◌, ◌++◌, map, length, max, slice_range, ◌↔◌, IsTrue, IfOk, IfErr, IsOk, ◌+◌, ◌*◌, ◌^◌};
+ghost use Rattle.std.specs.Prelude.{OnErr, IsErrOf, ◌≡◌, ◌<◌, ◌≤◌, [], ◌∷◌, ◌++◌, map, length, slice_range, ◌↔◌, IsTrue, IfOk, IfErr, IsOk, ◌+◌, ◌*◌, ◌^◌};
 ghost use Rattle.std.specs.List.{flat_map};
 ghost use Rattle.pblk_model.specs.Accepted.{IsAccepted};
 ghost use Rattle.block_port.specs.Own.{lines_of, sectors_of};
@@ -11,8 +11,8 @@ ghost use Rattle.scan_recovery.specs.MayStop.{AllMayStop};
 ghost use Rattle.scan_recovery.specs.Lost.{IsLostAt, NoneLost};
 ghost use Rattle.scan_recovery.specs.Readying.{AreHandedBack};
 ghost use Rattle.block_target.specs.Opened.{IsOpened, OpenCause};
-ghost use Rattle.block_target.specs.Mount.{MountView, IsSameMount, IsSound, engine_log, front_taken, latest, logs_in, taken_in, with_entries};
-ghost use Rattle.block_target.specs.Serial.{SerialView, IsClosed, IsLostSince, WriteCause, ReadCause, FlushCause, IsGrantedPlace, device, lines_in};
+ghost use Rattle.block_target.specs.Mount.{MountView, IsSameMount, IsSound, engine_log, front_taken, latest, logs_in, taken_in, with_entries, with_pad};
+ghost use Rattle.block_target.specs.Serial.{SerialView, IsClosed, IsLostSince, WriteCause, ReadCause, FlushAsks, FlushCause, IsGrantedPlace, device, lines_in};
 
 use crate::mount::Mount;
 use crate::opening::{DriveErr, OpenErr, Refused, SettleErr, WaitErr};
@@ -77,8 +77,8 @@ impl<U: Unit> Serial<U> {
     /// it has, and no plan has a command of them fail; a fuse may stop them. Chunks that were left
     /// Open are padded to their ends. Then the drive is scanned, and the mount begins with what is
     /// found (Bjørling, González, Bonnet, FAST 2017, recovery). Lines that may be freed are freed.
-    /// It is granted what there is room for, and its pad target is 0. The call takes all memory of
-    /// the mount.
+    /// It is granted what there is room for, and no pads are asked for. The call takes all memory
+    /// of the mount.
     ///
     /// `Drive` comes where a program of the padding was stopped, or where a fetch of a written
     /// block failed or was stopped; it names that event. `Memory` comes where there isn't the
@@ -125,26 +125,26 @@ impl<U: Unit> Serial<U> {
         self.mount.front()
     }
 
-    /// Brings all that was taken to the drive, and then, while the Free lines are few, does what is
-    /// left to do. No line is left that may be freed. It hands the units back. What is then found
-    /// on a drive that was sealed ends between the front synced and the front taken; where the
-    /// answer is `Ok` or `Worn` it ends at the front synced. All that was taken are the session's
-    /// own writes, and each was granted before it was taken.
+    /// Brings all that was taken to the drive, and, while the Free lines are few, does what is left
+    /// to do. No line is left that may be freed. It hands the units back. What is then found on a
+    /// drive that was sealed ends between the front synced and the front taken; where the answer is
+    /// `Ok` or `Worn` it ends at the front synced. All that was taken but copies are the session's
+    /// own writes, and each of these was granted before it was taken.
     ///
-    /// `Drive` comes where a command of this call was stopped, and names it. `Worn` comes where not
-    /// all of it is there and nothing is left to do: `wanted` is the front taken, and `have` is the
-    /// front synced. Each call that answered `Drive` names an event of its own. Each that answered
-    /// `Worn` had its cause at a length of the engine's log, and these lengths rise with the calls.
+    /// `Drive` comes where a command of this call was stopped, or a fetch failed, and names it.
+    /// `Worn` comes where not all of it is there and nothing is left to do: `wanted` is the front
+    /// taken, and `have` is the front synced. Each call that answered `Drive` names an event of its
+    /// own. Each that answered `Worn` had its cause at a length of the engine's log, and these
+    /// lengths never fall from one call to the next.
     pub fn close<R: Wait>(mut self, rt: &R) -> (Vec<U>, Result<(), SettleErr>)
         ensures closed { (v : MountView) × IsClosed self result.1 v
             × (map U.model result.0.items ≡ v.units) × (map U.wear result.0.items ≡ v.wear) }
         ensures alone { lines_in self.mount ≡ flat_map lines_of self.own }
     {
-        let wanted = self.mount.front().position;
-        let settled = match self.mount.settle(rt, wanted) {
+        let settled = match self.mount.settle(rt) {
             Ok(()) => Ok(()),
             Err(WaitErr::Drive { unit, event }) => Err(SettleErr::Drive { unit, event }),
-            Err(WaitErr::Stuck { have }) => Err(SettleErr::Worn { wanted, have }),
+            Err(WaitErr::Stuck { wanted, have }) => Err(SettleErr::Worn { wanted, have }),
         };
         self.mount.ends_between();
         self.mount.is_settled();
@@ -223,7 +223,8 @@ fn take_all<U: Unit>(mount: &mut Mount<U>, lba: u64, bytes: &[u8], count: u32, s
     requires small { lba + count < 2 ^ 64 }
     requires room { taken_in mount.old + count ≤ mount.old.granted }
     requires sound { IsSound mount.old }
-    ensures taken { mount.new ≡ with_entries mount.old lba (sectors_of size count bytes.now) }
+    ensures taken { mount.new
+        ≡ with_pad (with_entries mount.old lba (sectors_of size count bytes.now)) mount.new.pad }
     ensures sound { IsSound mount.new }
 {
     for index in 0..count {
@@ -246,7 +247,7 @@ fn read_all<U: Unit>(
     requires end { lba + count < 2 ^ 64 }
     requires sound { IsSound mount.old }
     ensures same { IsSameMount mount.old mount.new }
-    ensures pad { mount.new.pad ≡ mount.old.pad }
+    ensures asked { mount.new.asked ≡ mount.old.asked }
     ensures sound { IsSound mount.new }
     ensures done { IsOk result → NoneLost mount.old.units mount.new.units }
     ensures lost { IfErr result (λ e. IsLostAt mount.old.units mount.new.units e.unit e.event) }
@@ -268,7 +269,7 @@ impl<U: Unit> Port for Serial<U> {
         ensures cause { let count = count_in (device self.old) (length bytes.now) in
             WriteCause self.old.mount self.new.mount count result }
         ensures granted { IfOk result (IsGrantedPlace self.new.mount) }
-        ensures pad { self.new.mount.pad ≡ self.old.mount.pad }
+        ensures asked { self.new.mount.asked ≡ self.old.mount.asked }
 
         // What each `Port` ensures.
         ensures range { IsErrOf result WriteErr.Range
@@ -294,19 +295,18 @@ impl<U: Unit> Port for Serial<U> {
         self.catch_up(rt);
         let size = self.mount.shape().sector as usize;
         let count = (bytes.len() / size) as u32;
-        let first = self.mount.front().position;
-        let wanted = first + u64::from(count);
-        match self.mount.claim(rt, wanted) {
+        match self.mount.claim(rt, count) {
             Ok(()) => (),
             Err(WaitErr::Drive { unit, event }) => {
                 self.add_fault(unit, event);
                 return Err(WriteErr::Drive { unit, event });
             }
-            Err(WaitErr::Stuck { have }) => {
+            Err(WaitErr::Stuck { wanted, have }) => {
                 self.add_worn(count, wanted, have);
                 return Err(WriteErr::Worn { wanted, have });
             }
         }
+        let first = self.mount.front().position;
         take_all(&mut self.mount, lba, bytes, count, size);
         let place = Place { first, count };
         self.own.add(&Written {
@@ -315,14 +315,14 @@ impl<U: Unit> Port for Serial<U> {
             size: size as u32,
             bytes,
         });
-        self.seen = wanted;
+        self.seen = first + u64::from(count);
         Ok(place)
     }
 
     fn read<R: Wait>(&mut self, rt: &R, lba: u64, out: &mut [u8]) -> Result<Front, ReadErr>
         requires sectors { AreSectors (device self.old).sector (length out.old) }
         ensures cause { ReadCause self.old.mount self.new.mount result }
-        ensures pad { self.new.mount.pad ≡ self.old.mount.pad }
+        ensures asked { self.new.mount.asked ≡ self.old.mount.asked }
 
         // What each `Port` ensures.
         ensures range { IsErrOf result ReadErr.Range
@@ -360,7 +360,8 @@ impl<U: Unit> Port for Serial<U> {
 
     fn flush<R: Wait>(&mut self, rt: &R) -> Result<Front, FlushErr>
         ensures cause { FlushCause self.old.mount self.new.mount result }
-        ensures pad { self.new.mount.pad ≡ max self.old.mount.pad (taken_in self.old.mount) }
+        ensures asked { FlushAsks self.old.mount.asked (taken_in self.old.mount)
+            self.new.mount.asked result }
 
         // What each `Port` ensures.
         ensures front { IfOk result (λ front. IsSeen front (device self.old) (device self.new)) }
@@ -386,7 +387,7 @@ impl<U: Unit> Port for Serial<U> {
                 self.add_fault(unit, event);
                 Err(FlushErr::Drive { unit, event })
             }
-            Err(WaitErr::Stuck { have }) => {
+            Err(WaitErr::Stuck { have, .. }) => {
                 self.add_worn(0, wanted, have);
                 Err(FlushErr::Worn { wanted, have })
             }

@@ -1,10 +1,10 @@
 //! What a mount works for: room to claim, entries on the drive, and rest.
 
-ghost use Rattle.std.specs.Prelude.{◌≡◌, ◌≤◌, false, max, length, IfOk, IfErr, IsOk};
+ghost use Rattle.std.specs.Prelude.{◌≡◌, ◌≤◌, ◌+◌, false, length, IfOk, IfErr, IsOk};
 ghost use Rattle.block_target.specs.Granted.{WasRoom};
 ghost use Rattle.scan_recovery.specs.Lost.{IsLostAt, NoneLost};
-ghost use Rattle.block_target.specs.Mount.{IsSound, IsSameMount, IsSpent, IsCollectionOver, engine_log, logs_in, with_pad, synced_in, front_synced};
-ghost use Rattle.block_target.specs.Waiting.{Waits};
+ghost use Rattle.block_target.specs.Mount.{IsSound, IsSameMount, IsSpent, IsCollectionOver, engine_log, logs_in, synced_in, taken_in, front_synced};
+ghost use Rattle.block_target.specs.Waiting.{AsksUpTo, Waits};
 
 use crate::mount::Mount;
 use crate::opening::{DriveErr, WaitErr};
@@ -17,7 +17,7 @@ impl<U: Unit> Mount<U> {
     // room for.
     fn go_on(&mut self) -> Result<bool, DriveErr>
         ensures same { IsSameMount self.old self.new }
-        ensures pad { self.new.pad ≡ self.old.pad }
+        ensures asked { self.new.asked ≡ self.old.asked }
         ensures sound { IsSound self.new }
         ensures once { let length_now = length (engine_log self.new) in
             WasRoom self.new.image (logs_in self.new) length_now self.new.granted }
@@ -30,25 +30,30 @@ impl<U: Unit> Mount<U> {
         did
     }
 
-    /// Works until all positions below `wanted` are granted. `Stuck` comes where there is nothing
-    /// left to do, and tells up to which position they are granted. `Drive` comes where a command
-    /// of this call was stopped. No more is granted than there once was room for.
-    pub(crate) fn claim<R: Wait>(&mut self, rt: &R, wanted: u64) -> Result<(), WaitErr>
+    /// Works until so many positions behind the front taken are granted. `Stuck` comes where there
+    /// is nothing left to do, and tells which of them are wanted then, and up to which position
+    /// they are granted. `Drive` comes where a command of this call was stopped, or a fetch failed.
+    /// No more is granted than there once was room for.
+    pub(crate) fn claim<R: Wait>(&mut self, rt: &R, count: u32) -> Result<(), WaitErr>
         ensures same { IsSameMount self.old self.new }
-        ensures pad { self.new.pad ≡ self.old.pad }
+        ensures asked { self.new.asked ≡ self.old.asked }
         ensures sound { IsSound self.new }
         ensures done { IsOk result → NoneLost self.old.units self.new.units }
-        ensures granted { IsOk result → wanted ≤ self.new.granted }
+        ensures granted { IsOk result → taken_in self.new + count ≤ self.new.granted }
         ensures once { let length_now = length (engine_log self.new) in
             WasRoom self.new.image (logs_in self.new) length_now self.new.granted }
-        ensures refused { IfErr result (Waits self.old self.new wanted self.new.granted) }
+        ensures refused { IfErr result
+            (Waits self.old self.new (taken_in self.new + count) self.new.granted) }
     {
         for _ in rt.forever() {
+            // copies may have been taken meanwhile
+            let wanted = self.front().position + u64::from(count);
             if wanted <= self.heart.granted {
                 return Ok(());
             }
             if !self.go_on()? {
                 return Err(WaitErr::Stuck {
+                    wanted,
                     have: self.heart.granted,
                 });
             }
@@ -56,33 +61,28 @@ impl<U: Unit> Mount<U> {
         unreachable!()
     }
 
-    // Raises the pad target.
-    fn ask_pad(&mut self, to: u64)
-        ensures { self.new ≡ with_pad self.old (max self.old.pad to) }
-    {
-        self.heart.ask_pad(to);
-    }
-
-    /// Asks for pads up to a position, works until all below it is on the drive, and gives the
-    /// front synced. `Stuck` comes where there is nothing left to do, and tells up to which
-    /// position all is there. `Drive` comes where a command of this call was stopped.
+    /// Asks for pads up to a position as soon as no sector is to be copied, works until all below
+    /// it is on the drive, and gives the front synced. `Stuck` comes where there is nothing left to
+    /// do, and tells up to which position all is there. `Drive` comes where a command of this call
+    /// was stopped, or a fetch failed.
     pub(crate) fn sync<R: Wait>(&mut self, rt: &R, wanted: u64) -> Result<Front, WaitErr>
         ensures same { IsSameMount self.old self.new }
-        ensures pad { self.new.pad ≡ max self.old.pad wanted }
+        ensures asked { AsksUpTo self.old self.new wanted result }
         ensures sound { IsSound self.new }
         ensures done { IsOk result → NoneLost self.old.units self.new.units }
         ensures synced { IfOk result (λ front.
             (front ≡ front_synced self.new) × (wanted ≤ front.position)) }
         ensures refused { IfErr result (Waits self.old self.new wanted (synced_in self.new)) }
     {
-        self.ask_pad(wanted);
         for _ in rt.forever() {
+            self.ask_pad(wanted);
             let synced = self.heart.core.synced();
             if wanted <= synced.position {
                 return Ok(synced);
             }
             if !self.go_on()? {
                 return Err(WaitErr::Stuck {
+                    wanted,
                     have: synced.position,
                 });
             }
@@ -90,41 +90,35 @@ impl<U: Unit> Mount<U> {
         unreachable!()
     }
 
-    /// Works until collection isn't due or nothing is left to do.
-    fn rest<R: Wait>(&mut self, rt: &R) -> Result<(), DriveErr>
+    /// Works until all that was taken is on the drive, and collection isn't due or nothing is left
+    /// to do. As soon as no sector is to be copied it asks for pads up to all that was taken.
+    /// `Stuck` comes where not all of it is there and nothing is left to do, and tells up to which
+    /// position it was taken, and up to which all is there. `Drive` comes where a command of this
+    /// call was stopped, or a fetch failed.
+    pub(crate) fn settle<R: Wait>(&mut self, rt: &R) -> Result<(), WaitErr>
         ensures same { IsSameMount self.old self.new }
-        ensures pad { self.new.pad ≡ self.old.pad }
+        ensures asked { AsksUpTo self.old self.new (taken_in self.new) result }
         ensures sound { IsSound self.new }
         ensures done { IsOk result → NoneLost self.old.units self.new.units }
+        ensures synced { IsOk result → taken_in self.new ≤ synced_in self.new }
         ensures resting { IsOk result → IsCollectionOver self.new }
-        ensures lost { IfErr result (λ e. IsLostAt self.old.units self.new.units e.unit e.event) }
+        ensures refused { IfErr result
+            (Waits self.old self.new (taken_in self.new) (synced_in self.new)) }
     {
         for _ in rt.forever() {
-            if !self.heart.core.is_due() {
+            let wanted = self.front().position;
+            self.ask_pad(wanted);
+            let have = self.heart.core.synced().position;
+            if wanted <= have && !self.heart.core.is_due() {
                 return Ok(());
             }
             if !self.go_on()? {
-                return Ok(());
+                if wanted <= have {
+                    return Ok(());
+                }
+                return Err(WaitErr::Stuck { wanted, have });
             }
         }
         unreachable!()
-    }
-
-    /// Asks for pads up to a position, and works until all below it is on the drive; then it works
-    /// until collection isn't due or nothing is left to do. `Stuck` comes where not all of it is
-    /// there and nothing is left to do, and tells up to which position all is there. `Drive` comes
-    /// where a command of this call was stopped.
-    pub(crate) fn settle<R: Wait>(&mut self, rt: &R, wanted: u64) -> Result<(), WaitErr>
-        ensures same { IsSameMount self.old self.new }
-        ensures pad { self.new.pad ≡ max self.old.pad wanted }
-        ensures sound { IsSound self.new }
-        ensures done { IsOk result → NoneLost self.old.units self.new.units }
-        ensures synced { IsOk result → wanted ≤ synced_in self.new }
-        ensures resting { IsOk result → IsCollectionOver self.new }
-        ensures refused { IfErr result (Waits self.old self.new wanted (synced_in self.new)) }
-    {
-        self.sync(rt, wanted)?;
-        self.rest(rt)?;
-        Ok(())
     }
 }

@@ -1,12 +1,12 @@
 -- An opened line of which no stripe was lost is closed once all its stripes have landed. The
 -- positions that count in it are then those that were placed there.
-use Rattle.std.proofs.Common.{◌≡◌, ℕ, ◌+◌, ◌/◌, ◌==◌, zero, suc, Bool, true, false, Some, None, Option, List, [], ◌∷◌, ◌++◌, length, refl, sym, subst, ap, ◌∙◌, if◌then◌else◌, append-nil}
+use Rattle.std.proofs.Common.{◌≡◌, ℕ, ◌/◌, ◌==◌, Bool, true, false, Some, None, Option, List, [], ◌∷◌, ◌++◌, refl, sym, subst, ap, ◌∙◌, if◌then◌else◌, append-nil}
 use Rattle.std.specs.Prelude.{map, slice_get}
 use Rattle.std.specs.List.{AllByRecursion, Contains, enumerate_from, filter, filter_map, find, flat_map, list_all}
 use Rattle.std.specs.Option.{IfSome, is_some, option_and_then, option_map}
 use Rattle.std.proofs.lemmas.Bool.{eqb-true}
 use Rattle.std.proofs.lemmas.List.Elements.{filter_map-append}
-use Rattle.std.proofs.lemmas.Option.{same_Some, slice_get_within}
+use Rattle.std.proofs.lemmas.Option.{slice_get_within}
 use Rattle.pblk_model.specs.declared.shape.Shape.{Shape}
 use Rattle.pblk_model.specs.Chunk.{Block, Chunk}
 use Rattle.pblk_model.specs.UnitLog.{after_log}
@@ -28,7 +28,7 @@ use Rattle.lemmas.proofs.Lists.{IsAmong, among_all, among_contained, with_last}
 use Rattle.lemmas.proofs.Maps.{all_filter_map, any_found, found_passes, given_at, map_same}
 use Rattle.lemmas.proofs.Numbers.{fun_same}
 use Rattle.lemmas.proofs.Options.{some_value}
-use Rattle.lemmas.proofs.Parts.{all_by_get, contained_among, get_more, get_right}
+use Rattle.lemmas.proofs.Parts.{all_by_get, contained_among}
 use Rattle.lemmas.proofs.Tests.{both}
 use Rattle.world_laws.specs.LegalMounts.{decides, is_losing, IsLegalMount, NoneLost}
 use Rattle.world_laws.proofs.LifePlaces.{began, place_of_block}
@@ -43,35 +43,15 @@ use Rattle.core_laws.proofs.LandedNow.{opened_now}
 use Rattle.core_laws.proofs.LandedOver.{landed_unless_lost, not_lost, over_is}
 use Rattle.core_laws.proofs.NextWorlds.{lengths_of, next_legal, next_logs, next_step}
 use Rattle.core_laws.proofs.OverAnswered.{over_answered}
-use Rattle.core_laws.proofs.OverLines.{IsOfStripe, of_stripe, positions_written, written_counts}
+use Rattle.core_laws.proofs.OverLines.{IsOfStripe, flat_at, of_stripe, position_of_block, positions_written, written_counts}
 use Rattle.core_laws.proofs.Steady.{AreAlike}
 use Rattle.core_laws.proofs.SteppingLemmas.{found_kept}
 use Rattle.core_laws.proofs.TopPositions.{same_top}
-
--- ---- lists
-
-among_flat : {X Y : Type 0} (f : X → List Y) (xs : List X) (n m : ℕ) (x : X) (y : Y) → slice_get xs n ≡ Some x → slice_get (f x) m ≡ Some y
-    → IsAmong (flat_map f xs) y
-among_flat f [] n m x y at its = absurd cc
-among_flat f (z ∷ xs) zero m x y at its =
-    (m, get_more (f z) (flat_map f xs) m y (ap (λ v. slice_get (f v) m) (same_Some z x at) ∙ its))
-among_flat f (z ∷ xs) (suc n) m x y at its =
-    let rest = among_flat f xs n m x y at its in (length (f z) + rest.0, get_right (f z) (flat_map f xs) rest.0 ∙ rest.1)
 
 -- ---- positions
 
 abbrev placed_positions : Shape → List Logged → Opening → List ℕ
 placed_positions s log o = flat_map (λ (p : Placed). filter_map (position_in s) p.stripe.blocks) (stripes_of log o)
-
--- the name of a block that bears a position
-named_at : (s : Shape) (b : Block) (position : ℕ) → position_in s b ≡ Some position
-    → (lba : Option ℕ) × (named s b.mark ≡ Some lba) × (b.mark.position ≡ position)
-named_at s b position e = go (is_some (named s b.mark)) refl e
-  where
-    go : (t : Bool) → is_some (named s b.mark) ≡ t → (if t then Some b.mark.position else None) ≡ Some position
-        → (lba : Option ℕ) × (named s b.mark ≡ Some lba) × (b.mark.position ≡ position)
-    go true some e = let name = some_value (named s b.mark) some in (name.0, name.1, same_Some b.mark.position position e)
-    go false some e = absurd cc
 
 -- a block that bears a position has it
 bears_it : (s : Shape) (b : Block) (position : ℕ) → bears_position s position b ≡ true → position_in s b ≡ Some position
@@ -100,7 +80,7 @@ module _ (i : Image) (w : World) (mount : IsLegalMount i w) (o : Opening) (is_op
           let at = given_at (position_in i.shape) s.placed.stripe.blocks found.0 r.position passes.1.0 passes.1.1
           (bears_it i.shape found.0 r.position passes.0) in
           let mine = among_contained (stripes_of log o) s.placed s.of_opening in
-          among_flat (λ (p : Placed). filter_map (position_in i.shape) p.stripe.blocks) (stripes_of log o) mine.0 at.0 s.placed r.position mine.1 at.1
+          flat_at (λ (p : Placed). filter_map (position_in i.shape) p.stripe.blocks) (stripes_of log o) mine.0 at.0 s.placed r.position mine.1 at.1
 
   -- where nothing more is written, those of its stripes count
   placed_counted : are_over i (log_of w) o.line ≡ true
@@ -119,7 +99,7 @@ module _ (i : Image) (w : World) (mount : IsLegalMount i w) (o : Opening) (is_op
           → position_in i.shape block ≡ x → IfSome x (IsAmong (positions_in i (log_of w) (Opened o) o.line))
       by_position p its block among None e = tt
       by_position p its block among (Some position) e =
-          let name = named_at i.shape block position e in
+          let name = position_of_block i.shape block position e in
           let landed : has_landed log p ≡ true =
           landed_unless_lost log p (over_answered i w mount o is_open over p its) (not_lost i w mount o is_open none p) in
           let place = place_of_block i w mount o is_open p among.0 its (slice_get_within p.stripe.blocks among.0 block among.1) in

@@ -1,16 +1,16 @@
 -- What keeps a mount faultless.
-use Rattle.std.proofs.Common.{◌≡◌, ℕ, zero, suc, Bool, true, false, not, ◌==◌, Option, None, Some, List, [], ◌∷◌, ◌++◌, if◌then◌else◌, refl, sym, subst, ap, ◌∙◌}
+use Rattle.std.proofs.Common.{◌≡◌, ℕ, zero, suc, Bool, true, false, ◌==◌, Option, None, Some, List, [], ◌∷◌, ◌++◌, if◌then◌else◌, refl, sym, subst, ap, ◌∙◌}
 use Rattle.std.specs.Prelude.{slice_get, slice_index}
 use Rattle.std.specs.List.{cons_option, filter_map}
 use Rattle.std.specs.Option.{option_to_list}
 use Rattle.std.proofs.lemmas.Option.{none-some, same_Some}
 use Rattle.pblk_model.specs.Image.{Image}
 use Rattle.pblk_model.specs.UnitLog.{UnitEvent}
-use Rattle.pblk_world.specs.Events.{Take, Lost, Again, Event, Decides, Does, Logged, Step}
+use Rattle.pblk_world.specs.Events.{Lost, Again, Event, Decides, Does, Logged, Step}
 use Rattle.pblk_world.specs.World.{World, log_of, prefixes, unit_event_of}
 use Rattle.pblk_world.specs.Answering.{MayOfferAgain}
 use Rattle.pblk_world.specs.Legal.{IsAllowed, IsLegal, IsLegalStep}
-use Rattle.world_laws.specs.LegalMounts.{decides, is_copying, is_losing}
+use Rattle.world_laws.specs.LegalMounts.{decides, is_losing}
 use Rattle.core_laws.specs.FaultlessMounts.{AreAnswered, IsFaultlessMount, is_answered}
 use Rattle.core_laws.specs.PlainEvents.{is_plain_event}
 use Rattle.core_laws.specs.SimpleMounts.{IsSimpleLog, NoneAgain, is_stopping}
@@ -20,12 +20,7 @@ use Rattle.lemmas.proofs.Lists.{all_append}
 use Rattle.lemmas.proofs.Maps.{more}
 use Rattle.lemmas.proofs.Parts.{all_by_get, get_whole}
 
--- ---- a plain event is neither
-
-not_copying : (e : Event) → is_plain_event e ≡ true → decides is_copying e ≡ false
-not_copying (Decides (Take entry mark)) plain = ap not plain
-not_copying (Decides e) plain = refl
-not_copying (Does e maker) plain = refl
+-- ---- a plain event tells of no lost stripe
 
 not_losing : (e : Event) → is_plain_event e ≡ true → decides is_losing e ≡ false
 not_losing (Decides (Lost unit event)) plain = absurd cc
@@ -36,7 +31,7 @@ not_losing (Does e maker) plain = refl
 
 simple_then : (s : Step) (log : List Logged) (b : Bool) → is_plain_event s.logged.event ≡ true → IsSimpleLog log
     → IsSimpleLog (if b then log ++ s.logged ∷ [] else log)
-simple_then s log true plain was = simple_after log s.logged was (not_copying s.logged.event plain) (not_losing s.logged.event plain)
+simple_then s log true plain was = simple_after log s.logged was (not_losing s.logged.event plain)
 simple_then s log false plain was = was
 
 abbrev events_of : List Logged → List UnitEvent

@@ -4,19 +4,14 @@ use Rattle.std.specs.Prelude.{slice_get}
 use Rattle.std.specs.List.{AllByRecursion, filter, list_all}
 use Rattle.std.proofs.lemmas.Option.{none-some, same_Some}
 use Rattle.pblk_world.specs.EngineLog.{Placed}
-use Rattle.world_laws.proofs.FoundEmpty.{all_pass as each_passes}
-use Rattle.world_laws.proofs.HeldSectors.{all_pass as all_kept}
 use Rattle.world_laws.proofs.UnitTurns.{Rises}
-use Rattle.core_laws.proofs.LandedCounts.{count_all}
+use Rattle.core_laws.proofs.LandedCounts.{all_count, count_all}
 use Rattle.lemmas.proofs.Lists.{all_imply}
 use Rattle.lemmas.proofs.Maps.{filter_agree, filter_none, filter_short}
-use Rattle.lemmas.proofs.Parts.{all_at, all_by_get, all_taken}
+use Rattle.lemmas.proofs.Parts.{all_at, all_taken}
 use Rattle.lemmas.proofs.Tests.{no_both, other_number}
 
 -- ---- all of them
-
-all_count : {X : Type 0} (f : X → Bool) (xs : List X) → list_all f xs ≡ true → length (filter f xs) ≡ length xs
-all_count f xs e = ap length (all_kept f xs (all_by_get (λ x. f x ≡ true) xs (λ k x at. each_passes f xs k x e at)))
 
 -- there are so many, and all of them pass, exactly where none is left
 pub all_by_left : {X : Type 0} (f : X → Bool) (n : ℕ) (xs : List X)

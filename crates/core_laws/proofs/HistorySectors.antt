@@ -13,11 +13,10 @@ use Rattle.pblk_world.specs.World.{World, log_of}
 use Rattle.pblk_world.specs.EngineLog.{begun, Taken, takes}
 use Rattle.pblk_world.specs.Fronts.{first_position, taken, is_users, user_takes, history, user_positions, last_take}
 use Rattle.pblk_world.specs.Lines.{found_image}
-use Rattle.world_laws.specs.LegalMounts.{IsLegalMount}
+use Rattle.world_laws.specs.LegalMounts.{IsLegalMount, NoneCopied}
 use Rattle.world_laws.proofs.Copies.{entries_follow}
 use Rattle.world_laws.proofs.HeldSectors.{all_pass, fold_holds, held_by}
 use Rattle.world_laws.proofs.SectorValues.{found_capacity}
-use Rattle.core_laws.specs.SimpleMounts.{IsSimpleMount}
 use Rattle.core_laws.proofs.PlacedPositions.{numbered_below}
 use Rattle.core_laws.proofs.UsersEntries.{AreInOrder, IsUsers, in_order, users_entries}
 use Rattle.lemmas.proofs.Lists.{all_imply}
@@ -97,25 +96,26 @@ all_users : (s : Shape) (log : List Logged) → AllByRecursion (IsUsers s) (take
 all_users s log all = all_pass (λ (t : Taken). is_users t.entry.source) (takes log)
     (all_imply (IsUsers s) (λ (t : Taken). is_users t.entry.source ≡ true) (λ t is. is.users) (takes log) all)
 
-users_hold : (i : Image) (w : World) (before : List (List ℕ)) (lba : ℕ) → IsSimpleMount i w → lba < length before
+users_hold : (i : Image) (w : World) (before : List (List ℕ)) (lba : ℕ) → IsLegalMount i w → NoneCopied (log_of w 0) → lba < length before
     → Holds (slice_get before lba) (histories.after before (history (log_of w 0))) lba (last_take (log_of w 0) lba)
-users_hold i w before lba simple inside =
+users_hold i w before lba mount none inside =
     let log : List Logged = log_of w 0 in
-    let all : AllByRecursion (IsUsers i.shape) (takes log) = users_entries i w simple in
+    let all : AllByRecursion (IsUsers i.shape) (takes log) = users_entries i w mount.legal none in
     subst (λ (ts : List Taken). Holds (slice_get before lba) (fold after_write before (map write_of ts)) lba (last_take (log_of w 0) lba))
     (sym (all_users i.shape log all))
     (latest_holds i.shape (slice_get before lba) (takes log) before lba None all inside refl)
 
-pub written_sector : (i : Image) (w : World) (before : List (List ℕ)) (lba : ℕ) (t : Taken) → IsSimpleMount i w → lba < length before
+pub written_sector : (i : Image) (w : World) (before : List (List ℕ)) (lba : ℕ) (t : Taken) → IsLegalMount i w → NoneCopied (log_of w 0) → lba < length before
     → last_take (log_of w 0) lba ≡ Some t
     → slice_get (histories.after before (history (log_of w 0))) lba ≡ Some t.entry.sector
-written_sector i w before lba t simple inside last =
-    subst (Holds (slice_get before lba) (histories.after before (history (log_of w 0))) lba) last (users_hold i w before lba simple inside)
+written_sector i w before lba t mount none inside last =
+    subst (Holds (slice_get before lba) (histories.after before (history (log_of w 0))) lba) last (users_hold i w before lba mount none inside)
 
-pub unwritten_sector : (i : Image) (w : World) (before : List (List ℕ)) (lba : ℕ) → IsSimpleMount i w → lba < length before → last_take (log_of w 0) lba ≡ None
+pub unwritten_sector : (i : Image) (w : World) (before : List (List ℕ)) (lba : ℕ) → IsLegalMount i w → NoneCopied (log_of w 0) → lba < length before
+    → last_take (log_of w 0) lba ≡ None
     → slice_get (histories.after before (history (log_of w 0))) lba ≡ slice_get before lba
-unwritten_sector i w before lba simple inside last =
-    subst (Holds (slice_get before lba) (histories.after before (history (log_of w 0))) lba) last (users_hold i w before lba simple inside)
+unwritten_sector i w before lba mount none inside last =
+    subst (Holds (slice_get before lba) (histories.after before (history (log_of w 0))) lba) last (users_hold i w before lba mount none inside)
 
 -- ---- how many there are
 

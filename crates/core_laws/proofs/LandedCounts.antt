@@ -35,7 +35,7 @@ use Rattle.lemmas.proofs.Tests.{other_number, same_number}
 
 -- ---- lists all of which pass
 
-all_count : {X : Type 0} (f : X → Bool) (xs : List X) → list_all f xs ≡ true → length (filter f xs) ≡ length xs
+pub all_count : {X : Type 0} (f : X → Bool) (xs : List X) → list_all f xs ≡ true → length (filter f xs) ≡ length xs
 all_count f [] e = refl
 all_count {X} f (x ∷ xs) e = go (f x) e (λ h. all_count f xs h)
   where

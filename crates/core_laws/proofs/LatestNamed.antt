@@ -1,9 +1,9 @@
 -- What is the latest of a sector is what the map names: a source that is its place has the line and
 -- the address of the slot.
-use Rattle.std.proofs.Common.{◌≡◌, ◌≢◌, ℕ, ◌+◌, ◌-◌, ◌*◌, ◌/◌, ◌%◌, ◌<◌, ◌≤◌, ◌==◌, zero, suc, Bool, true, false, cond, Some, None, Option, List, [], ◌∷◌, length, refl, sym, subst, ap, ap₂, ◌∙◌, arith, div-add-mod'}
+use Rattle.std.proofs.Common.{◌≡◌, ℕ, ◌+◌, ◌-◌, ◌*◌, ◌/◌, ◌%◌, ◌<◌, ◌≤◌, ◌==◌, zero, suc, Bool, true, false, cond, Some, None, Option, List, [], ◌∷◌, length, refl, sym, subst, ap, ap₂, ◌∙◌, arith, div-add-mod'}
 use Rattle.std.specs.Prelude.{slice_get}
-use Rattle.std.specs.List.{Contains, filter, find}
-use Rattle.std.specs.Option.{is_some, option_map, option_map_or}
+use Rattle.std.specs.List.{Contains, filter}
+use Rattle.std.specs.Option.{is_some, option_map}
 use Rattle.std.proofs.lemmas.Nat.{div-mul-add, mod-mul-add}
 use Rattle.std.proofs.lemmas.Option.{none-some, same_Some, slice_get_within}
 use Rattle.std.proofs.Math.Nat.{lt_of_mul-lt-mul_right, mul-le-mul_right}
@@ -14,14 +14,12 @@ use Rattle.pblk_model.specs.LineOrder.{block_of, column_of}
 use Rattle.pblk_model.specs.Records.{Record, named}
 use Rattle.pblk_laws.proofs.LineUnits.{line_units_count}
 use Rattle.pblk_world.specs.Events.{Source, Logged}
-use Rattle.pblk_world.specs.World.{World, Logs, log_of, media}
+use Rattle.pblk_world.specs.World.{World, log_of, media}
 use Rattle.pblk_world.specs.EngineLog.{Opened, Opening, openings, life_of, is_life, Taken, takes, block_of_taken, Placed, placements, stripes_of, stripes_on, bears_position}
 use Rattle.pblk_world.specs.Fronts.{last_take}
 use Rattle.pblk_world.specs.Lines.{found_image, known_image, place_of}
-use Rattle.pblk_world.specs.Space.{gives_back}
-use Rattle.pblk_world.specs.Taking.{IsPlaceOf, IsPlaceOfLatest, IsLatest}
-use Rattle.l2p_map.specs.declared.slot.Slot.{Slot}
-use Rattle.l2p_map.specs.declared.slot.Slot.TheVariants.{Unwritten, Cached, Media}
+use Rattle.pblk_world.specs.Taking.{IsPlaceOf, IsPlaceOfLatest}
+use Rattle.l2p_map.specs.declared.slot.Slot.TheVariants.{Media}
 use Rattle.world_laws.specs.LegalMounts.{IsLegalMount}
 use Rattle.world_laws.proofs.LifePlaces.{place_of_block, units_now}
 use Rattle.world_laws.proofs.LineBlocks.{one_address}
@@ -29,7 +27,7 @@ use Rattle.world_laws.proofs.LineStripes.{stripe_count}
 use Rattle.world_laws.proofs.StripePlaces.{kth_place}
 use Rattle.world_laws.proofs.Stripes.{life_of_stripe, opening_then, stripe_is}
 use Rattle.core_laws.specs.OpenedLines.{opened_units}
-use Rattle.core_laws.specs.SlotOf.{address_in, media_of, slot_by, slot_of, slot_of_winner}
+use Rattle.core_laws.specs.SlotOf.{address_in, slot_by, slot_of}
 use Rattle.core_laws.specs.StripeTurns.{IsAtTurn}
 use Rattle.core_laws.proofs.BorneOnce.{BearsOnce, borne_once, times}
 use Rattle.core_laws.proofs.KeptLines.{keeps_units}

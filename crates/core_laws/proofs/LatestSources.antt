@@ -20,7 +20,7 @@ use Rattle.pblk_world.specs.Events.{Logged, Source}
 use Rattle.pblk_world.specs.Fronts.{last_take}
 use Rattle.pblk_world.specs.Lines.{found_image, known_image, place_of}
 use Rattle.pblk_world.specs.Space.{gives_back}
-use Rattle.pblk_world.specs.Taking.{IsLatest, IsPlaceOf, IsPlaceOfLatest, IsPlaceOfWinner}
+use Rattle.pblk_world.specs.Taking.{BearsIt, IsLatest, IsPlaceOf, IsPlaceOfLatest, IsPlaceOfWinner}
 use Rattle.pblk_world.specs.World.{World, Logs, log_of, media}
 use Rattle.l2p_map.specs.declared.slot.Slot.TheVariants.{Cached, Media}
 use Rattle.lemmas.proofs.Lists.{IsAmong, among_contained}
@@ -46,7 +46,8 @@ use Rattle.core_laws.proofs.DoneLines.{at_place, count, on_its_unit, some_unit, 
 use Rattle.core_laws.proofs.StripeEnds.{below_end}
 use Rattle.core_laws.proofs.StripesByPlace.{find_only, not_at}
 use Rattle.core_laws.proofs.LastTakes.{last_is, last_none}
-use Rattle.core_laws.proofs.LiveSlots.{IsGivenBy, column, entry_stands, given_by, same_address, same_line, same_position}
+use Rattle.core_laws.proofs.LiveSlots.{IsGivenBy, column, entry_stands, given_by}
+use Rattle.core_laws.proofs.ReadBlocks.{same_address, same_line, same_position}
 use Rattle.core_laws.proofs.StandingLines.{IsStanding}
 
 -- ---- the map names the position of the latest
@@ -254,7 +255,8 @@ module _ (i : Image) (w : World) (mount : IsLegalMount i w) where
     entry_is_latest = record {
       place = subst (IsPlaceOfLatest i (log_of w) lba (record { line = line; at = at; position = q })) (sym last) entry_place;
       there = entry_there;
-      bears = ap₂ (λ m n. sector_mark m n) is_last.1 (own_mark t is_last.0 ∙ given.of_position);
+      bears = subst (BearsIt lba (record { line = line; at = at; position = q }) (block_of_taken t)) (sym last)
+          (ap₂ (λ m n. sector_mark m n) is_last.1 (own_mark t is_last.0 ∙ given.of_position));
     }
 
   -- ---- the place of a sector by its slot

@@ -49,19 +49,11 @@ use Rattle.core_laws.proofs.LandedOver.{landed_unless_lost}
 use Rattle.core_laws.proofs.LastTakes.{last_is, last_none}
 use Rattle.core_laws.proofs.OverAnswered.{over_answered}
 use Rattle.core_laws.proofs.PlacedAnew.{landed_not_lost, one_kept}
+use Rattle.core_laws.proofs.ReadBlocks.{same_address, same_line, same_position}
 use Rattle.core_laws.proofs.StripeEnds.{below_end, of_unit}
 use Rattle.core_laws.proofs.StandingLines.{IsStanding, line_stands, stands_in_line}
 
 -- ---- slots
-
-pub same_line : (l m a b p q : ℕ) → Media l a p ≡ Media m b q → l ≡ m
-same_line l m a b p q e = cc
-
-pub same_address : (l m a b p q : ℕ) → Media l a p ≡ Media m b q → a ≡ b
-same_address l m a b p q e = cc
-
-pub same_position : (l m a b p q : ℕ) → Media l a p ≡ Media m b q → p ≡ q
-same_position l m a b p q e = cc
 
 -- what gives a position back has landed and holds it, and this is the first of its blocks that can
 -- be read

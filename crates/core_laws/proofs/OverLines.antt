@@ -33,7 +33,7 @@ use Rattle.core_laws.proofs.OverChunks.{known_stands, known_there, over_stands}
 
 -- ---- lists
 
-flat_at : {X Y : Type 0} (f : X → List Y) (xs : List X) (n m : ℕ) (x : X) (y : Y) → slice_get xs n ≡ Some x → slice_get (f x) m ≡ Some y
+pub flat_at : {X Y : Type 0} (f : X → List Y) (xs : List X) (n m : ℕ) (x : X) (y : Y) → slice_get xs n ≡ Some x → slice_get (f x) m ≡ Some y
     → IsAmong (flat_map f xs) y
 flat_at f [] n m x y at its = absurd cc
 flat_at f (z ∷ xs) zero m x y at its =
@@ -42,7 +42,7 @@ flat_at f (z ∷ xs) (suc n) m x y at its =
     let rest = flat_at f xs n m x y at its in (length (f z) + rest.0, get_right (f z) (flat_map f xs) rest.0 ∙ rest.1)
 
 -- the position of a block that names one
-position_of_block : (s : Shape) (b : Block) (position : ℕ) → position_in s b ≡ Some position
+pub position_of_block : (s : Shape) (b : Block) (position : ℕ) → position_in s b ≡ Some position
     → (lba : Option ℕ) × (named s b.mark ≡ Some lba) × (b.mark.position ≡ position)
 position_of_block s b position e = go (is_some (named s b.mark)) refl e
   where

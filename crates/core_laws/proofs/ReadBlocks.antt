@@ -68,13 +68,13 @@ pub record IsEntryOnDrive (i : Image) (logs : Logs) (t : Taken) (line at q : ℕ
   pub of_line : stripe.stripe.line ≡ line
   pub address : address_in i logs stripe.life stripe (stripe.stripe.at + read.number) ≡ at
 
-same_line : (l m a b p q : ℕ) → Media l a p ≡ Media m b q → l ≡ m
+pub same_line : (l m a b p q : ℕ) → Media l a p ≡ Media m b q → l ≡ m
 same_line l m a b p q e = cc
 
-same_address : (l m a b p q : ℕ) → Media l a p ≡ Media m b q → a ≡ b
+pub same_address : (l m a b p q : ℕ) → Media l a p ≡ Media m b q → a ≡ b
 same_address l m a b p q e = cc
 
-same_position : (l m a b p q : ℕ) → Media l a p ≡ Media m b q → p ≡ q
+pub same_position : (l m a b p q : ℕ) → Media l a p ≡ Media m b q → p ≡ q
 same_position l m a b p q e = cc
 
 pub entry_on_drive : (i : Image) (logs : Logs) (t : Taken) (line at q : ℕ) → slot_of_entry i logs t.entry.position ≡ Media line at q

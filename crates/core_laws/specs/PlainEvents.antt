@@ -1,14 +1,13 @@
--- The events of a log in which nothing fails or is copied.
+-- The events of a log in which nothing fails.
 use Rattle.std.specs.Prelude.{◌≡◌, Bool, true, false, List}
 use Rattle.std.specs.List.{AllByRecursion}
 use Rattle.pblk_world.specs.Events.{EngineEvent, Begin, Take, Open, Place, Landed, Lost, Again, ResetDone, Free, Event, Decides, Does, Logged}
-use Rattle.pblk_world.specs.Fronts.{is_users}
 use Rattle.core_laws.specs.FaultlessMounts.{is_answered}
 
--- the engine copied nothing, and heard of no failure
+-- the engine heard of no failure
 abbrev pub is_plain_decision : EngineEvent → Bool
 is_plain_decision (Begin b) = true
-is_plain_decision (Take entry mark) = is_users entry.source
+is_plain_decision (Take entry mark) = true
 is_plain_decision (Open line start) = true
 is_plain_decision (Place stripe) = true
 is_plain_decision (Landed unit event) = true

@@ -3,7 +3,7 @@ use Rattle.std.specs.Prelude.{Bool, true, false, List}
 use Rattle.pblk_model.specs.Image.{Image}
 use Rattle.pblk_world.specs.Events.{EngineEvent, Again, Logged}
 use Rattle.pblk_world.specs.World.{World, log_of}
-use Rattle.world_laws.specs.LegalMounts.{HasNone, IsLegalMount, NoneCopied, NoneLost}
+use Rattle.world_laws.specs.LegalMounts.{HasNone, IsLegalMount, NoneLost}
 
 -- the engine heard that a program was stopped, so that it is offered again
 abbrev pub is_stopping : EngineEvent → Bool
@@ -14,10 +14,9 @@ is_stopping e = false
 abbrev pub NoneAgain : List Logged → Type 0
 NoneAgain log = HasNone is_stopping log
 
--- The engine took no copy, and heard of no lost stripe: a core's steps append none of these events
--- so far. Lines may be freed, and stripes may be stopped and placed again.
+-- The engine heard of no lost stripe: a core's steps append no such event so far. Lines may be
+-- freed, sectors may be copied, stripes may be stopped and placed again.
 pub record IsSimpleLog (log : List Logged) : Type 0 where
-  pub copied : NoneCopied log
   pub lost : NoneLost log
 
 -- A legal mount whose engine's log is such a one. What units did may be anything: of what isn't

@@ -16,15 +16,14 @@ ghost use Rattle.pblk_world.specs.Fronts.{history, user_positions, last_take};
 ghost use Rattle.pblk_world.specs.Lines.{found_image};
 ghost use Rattle.pblk_world.specs.Space.{freed};
 ghost use Rattle.pblk_world.specs.Freeing.{MayFree};
-ghost use Rattle.world_laws.specs.LegalMounts.{IsLegalMount};
-ghost use Rattle.core_laws.specs.SimpleMounts.{IsSimpleMount};
+ghost use Rattle.world_laws.specs.LegalMounts.{IsLegalMount, NoneCopied};
 ghost use Rattle.core_laws.specs.Stepping.{after};
 ghost use Rattle.core_laws.specs.Spent.{IsSpent, OpensWhenFull};
 
 /// What a sector holds after the history. In every legal mount it is what the sector's latest
 /// entry has, a user's or a copy's that isn't Void; a sector without such an entry holds what the
-/// mount found. In a simple mount, whose entries are users', the same holds over any contents
-/// before. The history has as many lines as users' writes were taken.
+/// mount found. Where no entry is a copy, the same holds over any contents before. The history has
+/// as many lines as users' writes were taken.
 pub fn the_history_is_the_latest()
     ensures latest { (i : Image) (w : World) (lba : ℕ) (t : Taken)
         → IsLegalMount i w → lba < i.shape.capacity → last_take (log_of w 0) lba ≡ Some t
@@ -35,10 +34,12 @@ pub fn the_history_is_the_latest()
         → slice_get (after_history (contents (found_image i (log_of w))) (history (log_of w 0))) lba
         ≡ slice_get (contents (found_image i (log_of w))) lba }
     ensures written { (i : Image) (w : World) (before : List (List ℕ)) (lba : ℕ) (t : Taken)
-        → IsSimpleMount i w → lba < length before → last_take (log_of w 0) lba ≡ Some t
+        → IsLegalMount i w → NoneCopied (log_of w 0)
+        → lba < length before → last_take (log_of w 0) lba ≡ Some t
         → slice_get (after_history before (history (log_of w 0))) lba ≡ Some t.entry.sector }
     ensures unwritten { (i : Image) (w : World) (before : List (List ℕ)) (lba : ℕ)
-        → IsSimpleMount i w → lba < length before → last_take (log_of w 0) lba ≡ None
+        → IsLegalMount i w → NoneCopied (log_of w 0)
+        → lba < length before → last_take (log_of w 0) lba ≡ None
         → slice_get (after_history before (history (log_of w 0))) lba ≡ slice_get before lba }
     ensures count { (i : Image) (w : World) → IsLegalMount i w
         → users (user_positions (log_of w 0)) (taken (log_of w 0))

@@ -87,14 +87,14 @@ pub record SameNumbers (old new : Drive) : Type 0 where
   pub ring : new.ring ≡ old.ring
   pub wear : map (map (λ k. k.wear)) new.units ≡ map (map (λ k. k.wear)) old.units
 
--- What was done on a drive: a legal world over the image found, in which nothing was copied, freed
--- or lost. Where opening answered an event no mount has begun in it. The media are the image left,
--- and the history is the printed one. The outcomes of the units' commands are those that the named
--- stop gives, and no others. Each `e` line names an event of its own in it: a command that was
--- stopped, or a fetch that failed. Each answer for want of room was given at a length of the
--- engine's log at which nothing was left to do: the lengths rise with the answers, and what was
--- taken by then is what the thread had written. And no sector was taken but where there had been
--- room for it.
+-- What was done on a drive: a legal world over the image found, in which no stripe was lost. Sectors
+-- may have been copied in it, and lines freed. Where opening answered an event no mount has begun in
+-- it. The media are the image left, and the history is the printed one. The outcomes of the units'
+-- commands are those that the named stop gives, and no others. Each `e` line names an event of its
+-- own in it: a command that was stopped, or a fetch that failed. Each answer for want of room was
+-- given at a length of the engine's log at which nothing was left to do. These lengths never fall
+-- from one answer to the next, and the users' sectors that were taken by then are those that the
+-- thread had written. And no user's sector was taken but where there had been room for it.
 pub record IsWorldBetween (found left : Drive) (stop : Option Fuse) (commands : List (List Command)) (t : Transcript) : Type 0 where
   pub world : World
   pub legal : IsSimpleMount (image_of found) world

@@ -1,6 +1,6 @@
 //! Laws on runs: each is the contract of a function that does no work.
 
-ghost use Rattle.std.specs.Prelude.{ℕ, ◌≡◌, [], List, Option, None, Some};
+ghost use Rattle.std.specs.Prelude.{ℕ, ◌≡◌, ◌≤◌, [], List, Option, None, Some};
 ghost use Rattle.std.specs.List.{Contains};
 ghost use Rattle.block_port.specs.declared.rows.WornAnswer.{WornAnswer};
 ghost use Rattle.block_target.specs.Moments.{IsMoment};
@@ -83,7 +83,7 @@ pub fn a_worn_flush_tells_the_end()
         (t : Transcript) (a : WornAnswer) → (run : IsWorldBetween found left stop commands t)
         → IsSealed (image_of found) → Contains (worns_of commands t) a → a.count ≡ 0
         → (n : ℕ) × (past : World) × IsMoment run.world n past
-        × (taken (log_of past 0) ≡ a.wanted)
+        × (a.wanted ≤ taken (log_of past 0))
         × (end (media (image_of found) (log_of past)) ≡ a.have) }
 {
     a_refused_flush_tells_the_end();

@@ -145,18 +145,21 @@ line_within i w c unit of st is =
     ∙ length-range_with_len 0 i.shape.chunks in
     subst (λ t. is.row.opening.line < length t.rows) (sym st.table) (omega arith)
 
-pub may_fill : (i : Image) (w : World) (c : Core) (unit : ℕ) (of : Program) (row : Row) (addresses : ℕ) → IsSimpleMount i w → Stands i (log_of w) c
-    → (is : IsOnWay i w unit of) → IsRow c.lines is.row.opening.line row → IsChange row.state Full addresses
-may_fill i w c unit of row addresses simple st is there =
-    let ln : ℕ = is.row.opening.line in
+-- its line is Open
+pub row_is_open : (i : Image) (w : World) (c : Core) (unit : ℕ) (of : Program) (row : Row) → IsSimpleMount i w → Stands i (log_of w) c
+    → (is : IsOnWay i w unit of) → IsRow c.lines is.row.opening.line row → row.state ≡ Open
+row_is_open i w c unit of row simple st is there =
     let at = row_at (row_of_line i (log_of w)) i.shape.chunks 0 is.row.opening.line row
     (ap (λ t. slice_get t.rows is.row.opening.line) (sym st.table) ∙ there) in
     let from : 0 + is.row.opening.line ≡ is.row.stripe.stripe.line = (let z : 0 + is.row.opening.line ≡ is.row.opening.line = omega arith in z) ∙ is.its_line in
-    let state : Open ≡ row.state =
-    sym (state_open i (log_of w) unit is.row.stripe is.row.opening is.line_is.striped.some (in_order i w simple).failed is.row.waits is.row.life is.stands
-    (has_room i w is.row.stripe.stripe.line is.row.opening simple is.stands))
-    ∙ ap (λ n. (row_of_line i (log_of w) n).state) (sym from) ∙ ap (λ (r : Row). r.state) at.1 in
-    subst (λ s. IsChange s Full addresses) state (inl refl)
+    ap (λ (r : Row). r.state) (sym at.1) ∙ ap (λ n. (row_of_line i (log_of w) n).state) from
+    ∙ state_open i (log_of w) unit is.row.stripe is.row.opening is.line_is.striped.some (in_order i w simple).failed is.row.waits is.row.life is.stands
+    (has_room i w is.row.stripe.stripe.line is.row.opening simple is.stands)
+
+pub may_fill : (i : Image) (w : World) (c : Core) (unit : ℕ) (of : Program) (row : Row) (addresses : ℕ) → IsSimpleMount i w → Stands i (log_of w) c
+    → (is : IsOnWay i w unit of) → IsRow c.lines is.row.opening.line row → IsChange row.state Full addresses
+may_fill i w c unit of row addresses simple st is there =
+    subst (λ s. IsChange s Full addresses) (sym (row_is_open i w c unit of row simple st is there)) (inl refl)
 
 -- the slot that is found is its line's
 pub record IsGot (i : Image) (w : World) (c : Core) (unit : ℕ) (of : Program) (result : ℕ) (found : OpenLine) (its : IsOfCore i w c unit of) : Type 0 where

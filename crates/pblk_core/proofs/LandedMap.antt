@@ -3,7 +3,7 @@ use Rattle.std.proofs.Common.{◌≡◌, ◌≢◌, ℕ, ◌+◌, ◌<◌, ◌==
 use Rattle.std.specs.Prelude.{slice_get, is_some}
 use Rattle.std.specs.List.{cons_option, enumerate_from, filter_map, find}
 use Rattle.std.specs.Option.{option_map, option_map_or}
-use Rattle.std.specs.Ordering.{nat_cmp}
+use Rattle.std.specs.Ordering.{eq_by_cmp, nat_cmp}
 use Rattle.std.specs.FinMap.{FinMap, get-insert}
 use Rattle.std.specs.FinMap as fin
 use Rattle.std.specs.Cmp.{nat_cmp_total}
@@ -125,3 +125,26 @@ move_all s address capacity line lba q (b ∷ bs) n m at below own =
         ∙ sym (ap (λ (x : Bool). Some (option_map_or (λ k. Media line (address k) q)
         (option_map (λ (z : ℕ × Block). z.0)
         (cond (x && (b.mark.position == q)) (Some (n, b)) (find (λ (z : ℕ × Block). bears_position s q z.1) (enumerate_from (n + 1) bs)))) (Cached q))) e)
+
+-- what is in another line was there before
+moved_elsewhere : (capacity into line lba at position : ℕ) (m : FinMap nat_cmp Slot) (b : ReadBlock) → line ≢ into
+    → fin.get (moved capacity into m b) lba ≡ Some (Media line at position) → fin.get m lba ≡ Some (Media line at position)
+moved_elsewhere capacity into line lba at position m b other = go (nat_lt b.mark.lba capacity && is_cached (fin.get m b.mark.lba) b.mark.position)
+  where
+    by : (same : Bool) → cond same (Some (Media into b.at b.mark.position)) (fin.get m lba) ≡ Some (Media line at position)
+        → fin.get m lba ≡ Some (Media line at position)
+    by false e = e
+    by true e = absurd (other (let here : into ≡ line = cc in sym here))
+
+    go : (c : Bool) → fin.get (if c then fin.insert m b.mark.lba (Media into b.at b.mark.position) else m) lba ≡ Some (Media line at position)
+        → fin.get m lba ≡ Some (Media line at position)
+    go false e = e
+    go true e =
+        by (eq_by_cmp nat_cmp lba b.mark.lba) (sym (get-insert nat_cmp_total m b.mark.lba (Media into b.at b.mark.position) lba) ∙ e)
+
+pub from_elsewhere : (capacity into line lba at position : ℕ) (bs : List ReadBlock) (m : FinMap nat_cmp Slot) → line ≢ into
+    → fin.get (all_moved capacity into m bs) lba ≡ Some (Media line at position) → fin.get m lba ≡ Some (Media line at position)
+from_elsewhere capacity into line lba at position [] m other e = e
+from_elsewhere capacity into line lba at position (b ∷ bs) m other e =
+    moved_elsewhere capacity into line lba at position m b other
+    (from_elsewhere capacity into line lba at position bs (moved capacity into m b) other e)

@@ -32,6 +32,7 @@ pub mod NotedEntries
 pub mod HeldPositions
 pub mod TakenHolds
 pub mod StandsTaken
+pub mod StandsStale
 pub mod UnitRows
 pub mod SmallCalls
 pub mod SmallPositions
@@ -43,6 +44,7 @@ pub mod WaitingEntries
 pub mod PlacedMarks
 pub mod StandsPlaced
 pub mod PlacingConditions
+pub mod CopiesDue
 pub mod WorkOf
 pub mod OpeningFacts
 pub mod OpeningNumbers
@@ -77,6 +79,10 @@ pub mod RemovedRow
 pub mod LeftOut
 pub mod FreedConditions
 pub mod SpentTables
+pub mod WeighedLines
+pub mod TabledLines
+pub mod MadeLines
+pub mod Collected
 pub mod StandsFreed
 pub mod LandedNotes
 pub mod StartKinds

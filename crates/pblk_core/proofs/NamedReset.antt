@@ -1,5 +1,5 @@
 -- The chunk that a core names to be reset.
-use Rattle.std.proofs.Common.{◌≡◌, ◌⊎◌, inl, inr, ℕ, ◌<◌, nat_lt, if◌then◌else◌, Bool, true, false, Some, None, Option, List, [], ◌∷◌, refl, sym, ap, ◌∙◌, arith, ◌+◌, ◌==◌}
+use Rattle.std.proofs.Common.{◌≡◌, ◌⊎◌, inl, inr, ℕ, ◌<◌, if◌then◌else◌, Bool, true, false, Some, None, Option, List, [], ◌∷◌, refl, sym, ap, ◌∙◌, arith, ◌+◌, ◌==◌}
 use Rattle.std.specs.Prelude.{slice_get}
 use Rattle.std.specs.List.{filter, list_any, range_with_len}
 use Rattle.std.specs.Option.{is_some, option_map_or}
@@ -20,7 +20,7 @@ use Rattle.core_laws.proofs.MadeLists.{any_passed}
 use Rattle.stripe_placer.specs.Placing.{next_stripe}
 use Rattle.lemmas.proofs.Options.{none_there}
 use Rattle.lemmas.proofs.Tests.{not_true}
-use Rattle.pblk_core.specs.Named.{reset_or, choice, asks_line, has_free, may_open, named}
+use Rattle.pblk_core.specs.Named.{reset_or, choice, asks_line, has_free, may_open, may_copy, is_busy, named}
 use Rattle.pblk_core.specs.Resets.{is_used_state, is_used_in, used_units, units_to_reset, resets_of, resets_left, IsToReset}
 use Rattle.pblk_core.specs.declared.resets.LineChunk.{LineChunk}
 use Rattle.pblk_core.specs.declared.target_core.Core.{Core}
@@ -43,24 +43,28 @@ abbrev is_reset : Work → Bool
 is_reset (Reset line unit) = true
 is_reset other = false
 
-never_reset : (a b c d e : Bool) → is_reset (choice a b c d e) ≡ false
-never_reset true b c d e = refl
-never_reset false true true true e = refl
-never_reset false true true false e = refl
-never_reset false true false d e = refl
-never_reset false false c d e = refl
+never_reset : (a b c d e f : Bool) → is_reset (choice a b c d e f) ≡ false
+never_reset true b c d e f = refl
+never_reset false true true true e f = refl
+never_reset false true true false true f = refl
+never_reset false true true false false f = refl
+never_reset false true false d true f = refl
+never_reset false true false d false f = refl
+never_reset false false c d true f = refl
+never_reset false false c d false f = refl
 
 same_chunk : (r : LineChunk) (line unit : ℕ) → r.line ≡ line → r.unit ≡ unit → r ≡ chunk_of line unit
 same_chunk r line unit a b = λ k. chunk_of (a k) (b k)
 
-pub first_named : (o : Option LineChunk) (a b c d e : Bool) (line unit : ℕ) → reset_or o (choice a b c d e) ≡ Reset line unit → o ≡ Some (chunk_of line unit)
-first_named None a b c d e line unit is = let its : is_reset (choice a b c d e) ≡ true = ap is_reset is in let none : is_reset (choice a b c d e) ≡ false =
-    never_reset a b c d e in absurd cc
-first_named (Some r) a b c d e line unit is = ap Some (same_chunk r line unit (ap reset_line is) (ap reset_unit is))
+pub first_named : (o : Option LineChunk) (a b c d e f : Bool) (line unit : ℕ) → reset_or o (choice a b c d e f) ≡ Reset line unit
+    → o ≡ Some (chunk_of line unit)
+first_named None a b c d e f line unit is = let its : is_reset (choice a b c d e f) ≡ true = ap is_reset is in
+    let none : is_reset (choice a b c d e f) ≡ false = never_reset a b c d e f in absurd cc
+first_named (Some r) a b c d e f line unit is = ap Some (same_chunk r line unit (ap reset_line is) (ap reset_unit is))
 
 pub named_first : (c : Core) (line unit : ℕ) → named c ≡ Reset line unit → slice_get (resets_left c.resets) 0 ≡ Some (chunk_of line unit)
 named_first c line unit is = first_named (slice_get (resets_left c.resets) 0) (is_some (next_stripe c.placer 0)) (asks_line c) (has_free c) (may_open c)
-    (nat_lt 0 c.under_way) line unit is
+    (may_copy c) (is_busy c) line unit is
 
 -- ---- by the logs
 

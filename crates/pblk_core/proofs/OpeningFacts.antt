@@ -49,12 +49,15 @@ use Rattle.pblk_world.proofs.LinesLemmas.{free_unopened}
 
 -- ---- what its next work tells
 
-opens : (a b c d e : Bool) → choice a b c d e ≡ Open → (b ≡ true) × (c ≡ true) × (d ≡ true)
-opens true b c d e h = absurd cc
-opens false true true true e h = (refl, refl, refl)
-opens false true true false e h = absurd cc
-opens false true false d e h = absurd cc
-opens false false c d e h = absurd cc
+opens : (a b c d e f : Bool) → choice a b c d e f ≡ Open → (b ≡ true) × (c ≡ true) × (d ≡ true)
+opens true b c d e f h = absurd cc
+opens false true true true e f h = (refl, refl, refl)
+opens false true true false true f h = absurd cc
+opens false true true false false f h = absurd cc
+opens false true false d true f h = absurd cc
+opens false true false d false f h = absurd cc
+opens false false c d true f h = absurd cc
+opens false false c d false f h = absurd cc
 
 zero_is : (n : ℕ) → (n == 0) ≡ true → n ≡ 0
 zero_is n e = eqb-true n 0 e
@@ -78,7 +81,7 @@ named_opens (Some chunk) otherwise e = absurd cc
 
 pub open_is_named : (c : Core) → named c ≡ Open → MayOpenNext c
 open_is_named c h =
-    let parts = opens _ _ _ _ _ (named_opens (slice_get (resets_left c.resets) 0) (named_beside c) h) in
+    let parts = opens _ _ _ _ _ _ (named_opens (slice_get (resets_left c.resets) 0) (named_beside c) h) in
     let asks = both _ _ parts.0 in
     let numbers = both _ _ parts.2 in
     let fit = both _ _ numbers.1 in

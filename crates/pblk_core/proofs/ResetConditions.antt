@@ -1,8 +1,9 @@
 -- What the parts of a core ask of the reset of a chunk that it names.
-use Rattle.std.proofs.Common.{◌≡◌, ◌⊎◌, ℕ, ◌+◌, ◌-◌, ◌^◌, ◌<◌, ◌≤◌, ◌==◌, if◌then◌else◌, Bool, true, false, Some, List, length, refl, sym, subst, ap, ◌∙◌, arith, inl, inr}
+use Rattle.std.proofs.Common.{◌≡◌, ◌⊎◌, ℕ, ◌+◌, ◌-◌, ◌^◌, ◌<◌, ◌≤◌, ◌==◌, if◌then◌else◌, Bool, true, false, Some, None, Option, List, length, refl, sym, subst, ap, ◌∙◌, arith, inl, inr}
 use Rattle.std.specs.Prelude.{slice_get, slice_set}
 use Rattle.std.specs.List.{slice_index_or}
 use Rattle.std.specs.Option.{option_map_or}
+use Rattle.std.proofs.lemmas.Bool.{cases_order}
 use Rattle.std.proofs.lemmas.Option.{get_or_from_slice_get, same_Some, slice_get_within, slice_get-get_or}
 use Rattle.pblk_model.specs.declared.shape.Shape.{Shape}
 use Rattle.pblk_model.specs.declared.chunk.ChunkState.{ChunkState}
@@ -17,9 +18,13 @@ use Rattle.line_table.specs.Rows.{Table, IsRow, IsChange}
 use Rattle.line_table.proofs.Places.{get_set_same}
 use Rattle.core_laws.specs.OpenedLines.{live_now}
 use Rattle.core_laws.specs.RowsOf.{row_of_line}
+use Rattle.core_laws.proofs.HistorySectors.{set_length}
 use Rattle.core_laws.proofs.PlacedLines.{get_row as row_there}
+use Rattle.lemmas.proofs.Parts.{get_set_other}
+use Rattle.pblk_core.specs.declared.line_notes.LineNotes.{LineNotes}
 use Rattle.pblk_core.specs.declared.target_core.Core.{Core}
 use Rattle.pblk_core.specs.declared.work.Work.TheVariants.{Reset}
+use Rattle.pblk_core.specs.Collecting.{HasEachLine}
 use Rattle.pblk_core.specs.Named.{named}
 use Rattle.pblk_core.specs.Resets.{kept_units, emptied}
 use Rattle.pblk_core.specs.Stands.{Stands, IsStanding}
@@ -28,6 +33,7 @@ use Rattle.pblk_core.proofs.NamedReset.{IsNamedReset}
 use Rattle.pblk_core.proofs.ResetRows.{state_before}
 use Rattle.pblk_core.proofs.ResetUnits.{unit_was_in}
 use Rattle.pblk_core.proofs.StandsReset.{named_in}
+use Rattle.pblk_core.proofs.TabledLines.{each_line}
 
 pub record MayReset (c : Core) (line unit : ℕ) : Type 0 where
   pub line_units : line < length c.live.items
@@ -87,6 +93,44 @@ kept_less live line unit us state there = go (is_online_in state)
           ∙ get_set_same live line line (us - 2 ^ unit) refl (slice_get_within live line us there),
       omega arith,
     )
+
+-- each line has as many units as before, or one less
+kept_below : (live : List ℕ) (line unit n : ℕ) (state : ChunkState) → ((k us : ℕ) → slice_get live k ≡ Some us → us < n)
+    → (length (kept_units live line unit state) ≡ length live) × ((k us : ℕ) → slice_get (kept_units live line unit state) k ≡ Some us → us < n)
+kept_below live line unit n state low = go (is_online_in state) (slice_get live line) refl
+  where
+    less : (us : ℕ) → slice_get live line ≡ Some us → (k x : ℕ) → slice_get (slice_set live line (us - 2 ^ unit)) k ≡ Some x
+        → (k ≡ line) ⊎ ((k < line) ⊎ (line < k)) → x < n
+    less us there k x at (inl here) =
+        let few : us < n = low line us there in
+        let same : us - 2 ^ unit ≡ x = same_Some (us - 2 ^ unit) x
+        (sym (get_set_same live line line (us - 2 ^ unit) refl (slice_get_within live line us there))
+        ∙ ap (slice_get (slice_set live line (us - 2 ^ unit))) (sym here) ∙ at) in
+        omega arith
+    less us there k x at (inr (inl below)) =
+        low k x (sym (get_set_other live line k (us - 2 ^ unit) (λ e. absurd (omega arith))) ∙ at)
+    less us there k x at (inr (inr above)) =
+        low k x (sym (get_set_other live line k (us - 2 ^ unit) (λ e. absurd (omega arith))) ∙ at)
+
+    go : (b : Bool) (o : Option ℕ) → slice_get live line ≡ o
+        → (length (if b then live else option_map_or (λ units. slice_set live line (units - 2 ^ unit)) o live) ≡ length live)
+        × ((k us : ℕ) → slice_get (if b then live else option_map_or (λ units. slice_set live line (units - 2 ^ unit)) o live) k ≡ Some us → us < n)
+    go true o there = (refl, low)
+    go false None there = (refl, low)
+    go false (Some us) there = (set_length live line (us - 2 ^ unit), λ k x at. less us there k x at (cases_order k line))
+
+pub each_reset : (c new : Core) (line unit : ℕ) (state : ChunkState) → IsStanding c → new.layout ≡ c.layout → new.notes ≡ c.notes
+    → length new.lines.rows ≡ length c.lines.rows → new.live.items ≡ kept_units c.live.items line unit state → HasEachLine new
+each_reset c new line unit state standing layout notes rows live =
+    let each = each_line standing.image standing.world (log_of standing.world) standing.legal standing.stands in
+    let kept = kept_below c.live.items line unit (2 ^ units c.layout) state each.few in
+    let chunks = ap (λ (s : Shape). s.chunks) (sym layout) in
+    record {
+      rows = rows ∙ each.rows ∙ chunks;
+      noted = ap (λ (n : LineNotes). length n.rows.items) notes ∙ each.noted ∙ chunks;
+      online = ap (λ (us : List ℕ). length us) live ∙ kept.0 ∙ each.online ∙ chunks;
+      few = λ k us there. subst (λ (s : Shape). us < 2 ^ units s) (sym layout) (kept.1 k us (ap (λ xs. slice_get xs k) (sym live) ∙ there));
+    }
 
 -- a line of which no used chunk is left turns
 pub emptied_change : (s : Shape) (width : ℕ) → IsChange Freed (emptied s width) (data_len s width)

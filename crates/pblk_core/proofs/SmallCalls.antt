@@ -27,6 +27,7 @@ use Rattle.core_laws.proofs.UsersEntries.{in_order}
 use Rattle.core_laws.proofs.CachedEntries.{numbered_at}
 use Rattle.core_laws.proofs.FreedFront.{freed_past}
 use Rattle.core_laws.proofs.SyncedWindow.{numbered_above}
+use Rattle.pblk_core.specs.declared.collecting.Collection.{Collection}
 use Rattle.pblk_core.specs.declared.target_core.Core.{Core}
 use Rattle.pblk_core.specs.Stands.{Stands}
 use Rattle.lemmas.proofs.Lists.{all_imply}
@@ -266,6 +267,45 @@ padded_stands i logs c new to st is = record {
   holds = st.holds;
   again = st.again;
   placing = is ∙ ap (λ (p : Placing). padded_to p to) st.placing ∙ ap (λ n. placing_of i logs n st.again) (sym (ap (λ (p : Placing). p.entries.pad) is));
+  open_lines = st.open_lines;
+  full = st.full;
+  next_seq = st.next_seq;
+  first_seq = st.first_seq;
+  own_capacity = st.own_capacity;
+  older = st.older;
+  fits = record { first = st.fits.first; rows = st.fits.rows };
+  first = st.first;
+  placed = st.placed;
+  left = st.left;
+  in_flight = st.in_flight;
+  answers = st.answers;
+  users = st.users;
+}
+
+-- ---- the victim
+
+-- what is collected is no part of the tables
+pub collecting_stands : (i : Image) (logs : Logs) (c : Core) (new : Collection) → Stands i logs c → Stands i logs (record c { collection = new })
+collecting_stands i logs c new st = record {
+  simple = st.simple;
+  layout = st.layout;
+  beginning = st.beginning;
+  has_begun = st.has_begun;
+  capacity = st.capacity;
+  slots = st.slots;
+  table = st.table;
+  units = st.units;
+  resets = st.resets;
+  used_lines = st.used_lines;
+  used = st.used;
+  notes = st.notes;
+  size = st.size;
+  window = st.window;
+  from_first = st.from_first;
+  to_freed = st.to_freed;
+  holds = st.holds;
+  again = st.again;
+  placing = st.placing;
   open_lines = st.open_lines;
   full = st.full;
   next_seq = st.next_seq;

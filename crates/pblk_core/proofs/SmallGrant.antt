@@ -1,20 +1,21 @@
 -- What a core grants.
-use Rattle.std.proofs.Common.{◌≡◌, ℕ, ◌+◌, ◌-◌, ◌*◌, ◌/◌, ◌^◌, ◌<◌, ◌≤◌, min, max, sym, subst, ap, ap₂, ◌∙◌, arith}
+use Rattle.std.proofs.Common.{◌≡◌, ℕ, ◌+◌, ◌-◌, ◌*◌, ◌/◌, ◌^◌, ◌<◌, ◌≤◌, min, max, nat_le, sym, subst, ap, ap₂, ◌∙◌, arith}
 use Rattle.std.proofs.Math.Nat.{mul-le-mul_left, div-le_self}
 use Rattle.pblk_model.specs.declared.shape.Shape.{Shape}
 use Rattle.pblk_model.specs.Accepted.{IsAccepted}
 use Rattle.pblk_model.specs.Shape.{units}
 use Rattle.pblk_model.specs.LineOrder.{data_len}
 use Rattle.pblk_model.specs.Image.{Image}
-use Rattle.pblk_world.specs.World.{World, log_of}
+use Rattle.pblk_world.specs.World.{World, Logs, log_of}
 use Rattle.pblk_world.specs.Fronts.{first_position, taken}
-use Rattle.pblk_world.specs.Space.{freed, placed_front, room}
+use Rattle.pblk_world.specs.Space.{freed, is_due, placed_front, room}
 use Rattle.pblk_world.specs.Space as space
 use Rattle.line_table.specs.Rows.{free_addresses}
 use Rattle.core_laws.specs.SimpleMounts.{IsSimpleMount}
 use Rattle.core_laws.proofs.FreeRows.{addresses_free}
 use Rattle.core_laws.proofs.PlacedInOrder.{ordered, front_within}
 use Rattle.pblk_core.specs.declared.target_core.Core.{Core}
+use Rattle.pblk_core.specs.Copies.{is_due_in}
 use Rattle.pblk_core.specs.Stands.{Stands}
 use Rattle.pblk_core.proofs.StandsFacts.{freed_taken_within}
 use Rattle.pblk_core.proofs.SmallPositions.{taken_bounded, open_few, free_few}
@@ -36,6 +37,11 @@ ring_kept s accepted =
 
 pub free_is : (i : Image) (w : World) (c : Core) → Stands i (log_of w) c → free_addresses c.lines ≡ space.free_addresses i (log_of w)
 free_is i w c st = ap free_addresses st.table ∙ addresses_free i (log_of w)
+
+-- whether collection is due
+pub due_is : (i : Image) (logs : Logs) (c : Core) → Stands i logs c → is_due_in c ≡ is_due i logs
+due_is i logs c st =
+    ap₂ nat_le (ap free_addresses st.table ∙ addresses_free i logs) (ap (λ (s : Shape). 3 * data_len s (units s)) st.layout)
 
 pub small : (i : Image) (w : World) (c : Core) → IsSimpleMount i w → Stands i (log_of w) c → IsSmall c
 small i w c simple st =

@@ -11,7 +11,6 @@ use Rattle.pblk_model.specs.Image.{Image}
 use Rattle.pblk_world.specs.EngineLog.{AsFound, Freed, LineLife, life_of, Opened, Taken, takes}
 use Rattle.pblk_world.specs.Freeing.{MayFree}
 use Rattle.pblk_world.specs.Fronts.{synced}
-use Rattle.pblk_world.specs.Lines.{are_over}
 use Rattle.pblk_world.specs.Starts.{seq_in, seq_of}
 use Rattle.pblk_world.specs.Victims.{live, taken_up_to, took_from}
 use Rattle.pblk_world.specs.World.{World, Logs, log_of}
@@ -19,10 +18,11 @@ use Rattle.line_table.specs.declared.row.Row.{Row}
 use Rattle.line_table.specs.Rows.{IsRow, Table}
 use Rattle.world_laws.specs.LegalMounts.{IsLegalMount}
 use Rattle.write_window.specs.Window as view
-use Rattle.core_laws.specs.ClosedLines.{ClosedLine, IsSpentBy, StartNumbers, closed_line, closed_with}
+use Rattle.core_laws.specs.ClosedLines.{ClosedLine, IsSpentBy, StartNumbers, closed_line}
 use Rattle.core_laws.specs.RowsOf.{row_of_line, taker_by, taker_in}
 use Rattle.core_laws.proofs.FreeLines.{may_free}
 use Rattle.core_laws.proofs.PlacedLines.{get_row as row_there}
+use Rattle.core_laws.proofs.VictimsAtWork.{over_where_closed}
 use Rattle.core_laws.proofs.SpentLines.{is_spent as spent_may}
 use Rattle.pblk_core.specs.declared.line_notes.LineNote.{LineNote}
 use Rattle.pblk_core.specs.declared.line_notes.StartNote.{StartNote}
@@ -32,6 +32,7 @@ use Rattle.pblk_core.specs.LineNotes.{IsSpentNote, IsTakenBelow, closed_by, numb
 use Rattle.pblk_core.specs.Stands.{IsStanding, Stands}
 use Rattle.pblk_core.proofs.SimpleLogs.{simple_in}
 use Rattle.core_laws.proofs.SpentBy.{is_spent, spent_by}
+use Rattle.core_laws.proofs.VictimsAtWork.{over_where_closed}
 use Rattle.pblk_core.proofs.StandsLemmas.{synced_stands}
 use Rattle.lemmas.proofs.Parts.{got_within}
 
@@ -69,21 +70,6 @@ note_closed_by row e = ap (λ b. if b then Some (record { seq = row.seq; top = r
 start_note : (o : Option StartNote) (n : StartNumbers) → option_map numbers_in o ≡ Some n → (start : StartNote) × (o ≡ Some start) × (numbers_in start ≡ n)
 start_note None n is = absurd (none-some n is)
 start_note (Some start) n is = (start, refl, same_Some (numbers_in start) n is)
-
--- ---- a closed line has a sequence number
-
-pub closed_numbered : (i : Image) (logs : Logs) (line : ℕ) (c : ClosedLine) → closed_line i logs line ≡ Some c
-    → (are_over i logs line ≡ true) × (seq_of i logs line ≡ Some c.seq)
-closed_numbered i logs line c is = go (are_over i logs line) refl is
-  where
-    by : (o : Option ℕ) → seq_of i logs line ≡ o → option_map (closed_with i logs line) o ≡ Some c → seq_of i logs line ≡ Some c.seq
-    by None e f = absurd (none-some c f)
-    by (Some seq) e f = e ∙ ap (λ (x : ClosedLine). Some x.seq) (same_Some (closed_with i logs line seq) c f)
-
-    go : (b : Bool) → are_over i logs line ≡ b → (if b then option_map (closed_with i logs line) (seq_of i logs line) else None) ≡ Some c
-        → (are_over i logs line ≡ true) × (seq_of i logs line ≡ Some c.seq)
-    go true e f = (e, by (seq_of i logs line) refl f)
-    go false e f = absurd (none-some c f)
 
 -- ---- what a core tells of a line
 
@@ -135,26 +121,29 @@ spent_told c line told live taker front synced inside noted lives takers tells =
           (sym (lives spent.row spent.is_row)) (sym (takers spent.row spent.is_row)) (sym synced) spent.spent),
     )
 
+-- the row of a line
+pub row_stands : {c : Core} (i : Image) (logs : Logs) → Stands i logs c → (line : ℕ) → line < i.shape.chunks → IsRow c.lines line (row_of_line i logs line)
+row_stands i logs st line inside =
+    let from : 0 + line ≡ line = omega arith in
+    ap (λ (t : Table). slice_get t.rows line) st.table ∙ row_there (row_of_line i logs) i.shape.chunks 0 line inside
+    ∙ ap (λ n. Some (row_of_line i logs n)) from
+
+-- a line with a sequence number wasn't freed
+pub taker_numbered : (i : Image) (logs : Logs) (line seq : ℕ) → seq_of i logs line ≡ Some seq
+    → taker_in i logs line (life_of (logs 0) line) ≡ taker_by i logs line
+taker_numbered i logs line seq has = go (life_of (logs 0) line) has
+  where
+    go : (life : LineLife) → seq_in i logs life line ≡ Some seq → taker_in i logs line life ≡ taker_by i logs line
+    go AsFound e = refl
+    go (Opened o) e = refl
+    go (Freed was knows) e = absurd (none-some seq e)
+
 module _ {c : Core} (i : Image) (w : World) (mount : IsLegalMount i w) (st : Stands i (log_of w) c) (line : ℕ) where
   front_is : (view.synced c.window).position ≡ synced i.shape (log_of w 0)
   front_is = ap (λ f. f.position) (synced_stands i w c (simple_in i w mount st) st)
 
-  -- it wasn't freed
-  taker_now : (seq : ℕ) → seq_of i (log_of w) line ≡ Some seq
-      → taker_in i (log_of w) line (life_of (log_of w 0) line) ≡ taker_by i (log_of w) line
-  taker_now seq has = go (life_of (log_of w 0) line) has
-    where
-      go : (life : LineLife) → seq_in i (log_of w) life line ≡ Some seq → taker_in i (log_of w) line life ≡ taker_by i (log_of w) line
-      go AsFound e = refl
-      go (Opened o) e = refl
-      go (Freed was knows) e = absurd (none-some seq e)
-
-  from : 0 + line ≡ line
-  from = omega arith
-
   pub its_row : line < i.shape.chunks → IsRow c.lines line (row_of_line i (log_of w) line)
-  its_row inside = ap (λ (t : Table). slice_get t.rows line) st.table ∙ row_there (row_of_line i (log_of w)) i.shape.chunks 0 line inside
-      ∙ ap (λ n. Some (row_of_line i (log_of w) n)) from
+  its_row inside = row_stands i (log_of w) st line inside
 
   spent_in : IsSpentBy i (log_of w) line → IsSpentIn c line
   spent_in by =
@@ -184,7 +173,7 @@ module _ {c : Core} (i : Image) (w : World) (mount : IsLegalMount i w) (st : Sta
               omega arith;
           none_live = by.none_live;
           taken = subst (IsTakenBelow (view.synced c.window).position)
-              (sym (taker_now by.closed.seq (closed_numbered i (log_of w) line by.closed by.is_closed).1))
+              (sym (taker_numbered i (log_of w) line by.closed.seq (over_where_closed i (log_of w) line by.closed by.is_closed).1))
               (taken_below (view.synced c.window).position (last_or None (filter (took_from i (log_of w) line) (takes (log_of w 0))))
               (subst (λ front. taken_up_to i (log_of w) line ≤ front) (sym front_is) by.takers_synced));
         };
@@ -216,7 +205,7 @@ module _ {c : Core} (i : Image) (w : World) (mount : IsLegalMount i w) (st : Sta
         none_live = ap (λ (r : Row). r.live) same ∙ s.none_live;
         takers_synced = subst (λ front. taken_up_to i (log_of w) line ≤ front) front_is
             (below_taken (view.synced c.window).position (last_or None (filter (took_from i (log_of w) line) (takes (log_of w 0))))
-            (subst (IsTakenBelow (view.synced c.window).position) (taker_now note.seq (closed_numbered i (log_of w) line _ closed).1)
+            (subst (IsTakenBelow (view.synced c.window).position) (taker_numbered i (log_of w) line note.seq (over_where_closed i (log_of w) line _ closed).1)
             (subst (λ (r : Row). IsTakenBelow (view.synced c.window).position r.taker) (sym same) s.taken)));
       }
 

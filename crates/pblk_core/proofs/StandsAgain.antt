@@ -201,7 +201,7 @@ pub record IsStoppedInto (old new : Core) (of : Program) : Type 0 where
 its_stop_stands : (i : Image) (w : World) (event : ℕ) (knows : List ℕ) (old new : Core) (of : Program) → IsSimpleMount i w → Stands i (log_of w) old
     → slice_get old.placer.units of.unit ≡ Some (UnderWay of) → IsStoppedInto old new of → Stands i (after (log_of w) (Again of.unit event) knows) new
 its_stop_stands i w event knows old new of simple st there is = record {
-  simple = simple_after (log_of w 0) l st.simple refl refl;
+  simple = simple_after (log_of w 0) l st.simple refl;
   layout = is.layout ∙ st.layout;
   beginning = st.beginning;
   has_begun = begun_kept (log_of w 0) e knows refl ∙ st.has_begun;

@@ -1,6 +1,6 @@
 -- A core that was made of what recovery found stands for the mount's beginning.
-use Rattle.std.proofs.Common.{◌≡◌, ◌⊎◌, ℕ, ◌+◌, ◌^◌, ◌<◌, ◌≤◌, ◌==◌, suc, if◌then◌else◌, Bool, true, false, Some, None, Option, List, [], ◌∷◌, ◌++◌, length, refl, sym, subst, ap, ap₂, ◌∙◌, arith, inl, inr, le_refl, add-zero, zero-add, Result, Ok, Err, cond}
-use Rattle.std.specs.Prelude.{map, slice_get, IfOk}
+use Rattle.std.proofs.Common.{◌≡◌, ◌⊎◌, ℕ, ◌+◌, ◌^◌, ◌<◌, ◌≤◌, ◌==◌, suc, if◌then◌else◌, Bool, true, false, Some, None, Option, List, [], ◌∷◌, ◌++◌, length, refl, sym, subst, ap, ap₂, ◌∙◌, arith, inl, inr, le_refl, add-zero, zero-add, cond}
+use Rattle.std.specs.Prelude.{map, slice_get}
 use Rattle.std.specs.List.{AllByRecursion, Contains, filter, filter_map, cons_option, flat_map, list_any, enumerate_from, range_with_len}
 use Rattle.std.specs.Option.{is_some, option_map, option_map_or, option_and_then}
 use Rattle.std.proofs.lemmas.Option.{none-some, same_Some}
@@ -136,7 +136,7 @@ pub made_stands : (i : Image) (w : World) (knows : List ℕ) (f : Found) (c : Co
     → NoneOpen (found_image i (after (log_of w) (Begin (beginning_of f)) knows)) → IsMadeOn i.shape f c
     → Stands i (after (log_of w) (Begin (beginning_of f)) knows) c
 made_stands i w knows f c simple none fit found closed is = record {
-  simple = simple_after (log_of w 0) (record { event = Decides (Begin (beginning_of f)); knows = knows }) (simple_none (log_of w 0) none) refl refl;
+  simple = simple_after (log_of w 0) (record { event = Decides (Begin (beginning_of f)); knows = knows }) (simple_none (log_of w 0) none) refl;
   layout = is.layout;
   beginning = record { beginning = beginning_of f; knows = begins.knows };
   has_begun = begun_is i f new begins;
@@ -221,8 +221,3 @@ pub made_on : (i : Image) (w : World) (knows : List ℕ) (s : Shape) (f : Found)
 made_on i w knows s f c same simple none fit found closed is =
     made_stands i w knows f c simple none (subst (λ (x : Shape). IsFitFound x f) (sym same) fit) found closed
     (subst (λ (x : Shape). IsMadeOn x f c) (sym same) is)
-
--- what holds of each core that was made
-pub if_made : {E : Type 0} (r : Result Core E) (P Q : Core → Type 0) → ((c : Core) → P c → Q c) → IfOk r P → IfOk r Q
-if_made (Ok c) P Q more is = more c is
-if_made (Err e) P Q more is = tt

@@ -125,7 +125,7 @@ gets_same old a b line us x y =
 pub freed_stands : (i : Image) (w : World) (line : ℕ) (knows : List ℕ) (old new : Core) → IsLegalMount i w → Stands i (log_of w) old
     → IsSpentIn old line → slice_index knows 0 ≡ length (log_of w 0) → IsFreedInto old new line → Stands i (after (log_of w) (Free line) knows) new
 freed_stands i w line knows old new mount st spent own is = record {
-  simple = simple_after (log_of w 0) l st.simple refl refl;
+  simple = simple_after (log_of w 0) l st.simple refl;
   layout = is.layout ∙ st.layout;
   beginning = st.beginning;
   has_begun = begun_kept (log_of w 0) (Free line) knows refl ∙ st.has_begun;

@@ -83,7 +83,7 @@ use Rattle.pblk_core.proofs.FoundLines.{older_kept}
 use Rattle.pblk_core.proofs.KeptResets.{resets_landed, used_beside, fits_same}
 use Rattle.pblk_core.proofs.FreedResets.{used_over}
 use Rattle.pblk_core.proofs.LandedNotes.{closed_when, notes_landed}
-use Rattle.pblk_core.proofs.SpentTables.{closed_numbered}
+use Rattle.core_laws.proofs.VictimsAtWork.{over_where_closed}
 use Rattle.pblk_core.proofs.StartKinds.{is_start}
 use Rattle.pblk_world.proofs.Appending.{life_more}
 use Rattle.pblk_core.specs.declared.line_notes.LineNote.{LineNote}
@@ -245,7 +245,7 @@ pub landed_stands : (i : Image) (w : World) (unit event : ℕ) (knows : List ℕ
     → IsLandedInto old new of has.k has.slot mid full from to → AreReadNow i w unit event knows old new
     → Stands i (after (log_of w) (Landed unit event) knows) new
 landed_stands i w unit event knows old new of mid full from to simple st is waits may has into reads = record {
-  simple = simple_after (log_of w 0) (record { event = Decides (Landed unit event); knows = knows }) st.simple refl refl;
+  simple = simple_after (log_of w 0) (record { event = Decides (Landed unit event); knows = knows }) st.simple refl;
   layout = into.layout ∙ st.layout;
   beginning = st.beginning;
   has_begun = begun_kept (log_of w 0) (Landed unit event) knows refl ∙ st.has_begun;
@@ -349,7 +349,7 @@ landed_stands i w unit event knows old new of mid full from to simple st is wait
     units_used c closed =
         let over : list_all (λ (x : Chunk). is_over_state false x.state) (chunks_of (known_image i new_logs) of.line) ≡ true =
         ap (λ l. list_all (λ (x : Chunk). is_over_state (is_as_found l) x.state) (chunks_of (known_image i new_logs) of.line)) (sym life_now)
-        ∙ (closed_numbered i new_logs of.line c closed).0 in
+        ∙ (over_where_closed i new_logs of.line c closed).0 in
         ap units_in (sym (live_landed i w unit event knows is.row.stripe st.beginning of.line simple may is.row.waits st.has_begun))
         ∙ bits_back (known_image i new_logs) of.line (few_units i w new_logs simple.mount)
         ∙ sym (used_over i w new_logs of.line simple.mount over)

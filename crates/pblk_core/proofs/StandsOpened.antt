@@ -246,7 +246,7 @@ pub opened_stands : (i : Image) (w : World) (knows : List ℕ) (old new : Core) 
     → IsOpenedInto old new
     → Stands i (after (log_of w) (Open (next_line old) (next_start old)) knows) new
 opened_stands i w knows old new simple st may is = record {
-  simple = simple_after (log_of w 0) (record { event = Decides (Open (next_line old) (next_start old)); knows = knows }) st.simple refl refl;
+  simple = simple_after (log_of w 0) (record { event = Decides (Open (next_line old) (next_start old)); knows = knows }) st.simple refl;
   layout = is.layout ∙ st.layout;
   beginning = st.beginning;
   has_begun = begun_kept (log_of w 0) e knows refl ∙ st.has_begun;

@@ -433,7 +433,7 @@ pub placed_stands : (i : Image) (w : World) (knows : List ℕ) (old new : Core) 
     → IsPlacedInto old new has.k has.slot of stripe
     → Stands i (after (log_of w) (Place stripe) knows) new
 placed_stands i w knows old new o of stripe simple st has now for count is = record {
-  simple = simple_after (log_of w 0) (record { event = Decides (Place stripe); knows = knows }) st.simple refl refl;
+  simple = simple_after (log_of w 0) (record { event = Decides (Place stripe); knows = knows }) st.simple refl;
   layout = is.layout ∙ st.layout;
   beginning = st.beginning;
   has_begun = begun_kept (log_of w 0) (Place stripe) knows refl ∙ st.has_begun;

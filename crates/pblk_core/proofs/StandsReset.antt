@@ -57,7 +57,7 @@ use Rattle.pblk_core.proofs.StandsOpened.{quiet_holds, quiet_freed}
 use Rattle.pblk_core.proofs.AnswerCounts.{counts_same}
 use Rattle.pblk_core.proofs.FullOpenings.{full_kept}
 use Rattle.pblk_core.proofs.NotesKept.{quiet_notes}
-use Rattle.pblk_core.proofs.SpentTables.{closed_numbered}
+use Rattle.core_laws.proofs.VictimsAtWork.{over_where_closed}
 use Rattle.pblk_core.proofs.SteadyLines.{open_lines_same, under_way_same}
 use Rattle.lemmas.proofs.Maps.{map_same}
 use Rattle.lemmas.proofs.Tests.{not_both, other_number}
@@ -93,7 +93,7 @@ pub reset_stands : (i : Image) (w : World) (line unit event : ℕ) (knows : List
     → Stands i (log_of w) old → named old ≡ Reset line unit
     → IsResetTo i (log_of w) unit event line state → IsResetInto old new line unit state → Stands i (after (log_of w) (ResetDone unit event) knows) new
 reset_stands i w line unit event knows state old new simple st names to is = record {
-  simple = simple_after (log_of w 0) (record { event = Decides (ResetDone unit event); knows = knows }) st.simple refl refl;
+  simple = simple_after (log_of w 0) (record { event = Decides (ResetDone unit event); knows = knows }) st.simple refl;
   layout = is.layout ∙ st.layout;
   beginning = st.beginning;
   has_begun = begun_kept (log_of w 0) e knows refl ∙ st.has_begun;
@@ -175,7 +175,7 @@ reset_stands i w line unit event knows state old new simple st names to is = rec
     apart : (other : ℕ) (c : ClosedLine) → closed_line i (log_of w) other ≡ Some c → other ≢ line
     apart other c closed same =
         let kept : is_given_up (log_of w 0) other ≡ false =
-        not_given_up i w simple.mount other st.beginning st.has_begun c.seq (closed_numbered i (log_of w) other c closed).1 in
+        not_given_up i w simple.mount other st.beginning st.has_begun c.seq (over_where_closed i (log_of w) other c closed).1 in
         not_both (is_given_up (log_of w 0) other) (ap (is_given_up (log_of w 0)) same ∙ named_is.given_up) kept
 
     used_are : AreUsed i (after (log_of w) (ResetDone unit event) knows) new.resets

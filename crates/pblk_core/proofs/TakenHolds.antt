@@ -1,4 +1,4 @@
--- The rows beside the entries once one more is taken.
+-- The rows beside the entries once one more is taken: one of a sector, or a Void one.
 use Rattle.std.proofs.Common.{◌≡◌, ◌≢◌, ◌⊎◌, inl, inr, ℕ, ◌+◌, ◌*◌, ◌/◌, ◌%◌, ◌<◌, ◌≤◌, ◌==◌, ◌&&◌, zero, suc, not, nat_lt, Bool, true, false, cond, Some, None, Option, List, [], ◌∷◌, ◌++◌, length, refl, sym, subst, ap, ap₂, ◌∙◌, arith, length-set}
 use Rattle.std.specs.Prelude.{if◌then◌else◌, slice_get, slice_set}
 use Rattle.std.specs.List.{Contains, filter, find, list_any, last_or}
@@ -43,7 +43,7 @@ use Rattle.pblk_core.proofs.HoldRows.{taker_length}
 use Rattle.lemmas.proofs.Lists.{all_imply}
 use Rattle.lemmas.proofs.Maps.{find_none}
 use Rattle.lemmas.proofs.Parts.{get_set_other, get_set_same, is_in}
-use Rattle.lemmas.proofs.Tests.{both as both_true, lt_true, not_first, other_number, same_number}
+use Rattle.lemmas.proofs.Tests.{both as both_true, lt_true, not_both, not_first, other_number, same_number}
 use Rattle.pblk_world.proofs.EngineLogLemmas.{takes_more}
 
 -- ---- numbers
@@ -180,245 +180,285 @@ rows_own q by rows h some is =
 
 -- ---- the rows
 
-pub holds_taken : (i : Image) (logs : Logs) (knows : List ℕ) (entry : Entry) (mark : Mark) (holds new : Holds) (from : ℕ)
-    → AreNumbered (logs 0) → IsUnplaced i.shape (logs 0) entry.position → AreHolds i.shape (logs 0) holds
-    → mark.lba ≡ entry.lba → mark.lba < void_lba → entry.position ≡ taken (logs 0) → from ≤ freed i.shape (logs 0) → taken (logs 0) < from + i.shape.ring
-    → new.rows.items ≡ slice_set (rows_with_taker (slot_of i logs entry.lba) entry.position holds.rows.items)
-    (entry.position % length (rows_with_taker (slot_of i logs entry.lba) entry.position holds.rows.items)) (record { mark = mark; line = None; taker = None })
-    → AreHolds i.shape (after logs (Take entry mark) knows 0) new
-holds_taken i logs knows entry mark holds new from numbered none are sector named next low room is = record {
-  room = ap length rows_are ∙ length-set rows (entry.position % i.shape.ring) fresh ∙ rows_length;
-  each = λ t there kept. each t there kept;
-}
-  where
-    log : List Logged
-    log = logs 0
+module _ (i : Image) (logs : Logs) (knows : List ℕ) (entry : Entry) (mark : Mark) (holds : Holds) (from : ℕ) (numbered : AreNumbered (logs 0))
+    (none : IsUnplaced i.shape (logs 0) entry.position) (are : AreHolds i.shape (logs 0) holds) (next : entry.position ≡ taken (logs 0))
+    (low : from ≤ freed i.shape (logs 0)) (room : taken (logs 0) < from + i.shape.ring) where
+  abbrev log : List Logged
+  log = logs 0
 
-    event : Logged
-    event = record { event = Decides (Take entry mark); knows = knows }
+  abbrev event : Logged
+  event = record { event = Decides (Take entry mark); knows = knows }
 
-    new_log : List Logged
-    new_log = log ++ event ∷ []
+  abbrev new_log : List Logged
+  new_log = after logs (Take entry mark) knows 0
 
-    t0 : Taken
-    t0 = record { entry = entry; mark = mark }
+  abbrev t0 : Taken
+  t0 = record { entry = entry; mark = mark }
 
-    fresh : Hold
-    fresh = record { mark = mark; line = None; taker = None }
+  abbrev fresh : Hold
+  fresh = record { mark = mark; line = None; taker = None }
 
-    items : List Hold
-    items = holds.rows.items
+  abbrev items : List Hold
+  items = holds.rows.items
 
-    slot : Slot
-    slot = slot_of i logs entry.lba
+  some : 0 < i.shape.ring
+  some = let high : freed i.shape log ≤ taken log = freed_taken i.shape log in omega (arith, room, low, high)
 
-    rows : List Hold
-    rows = rows_with_taker slot entry.position items
+  line_now : (q : ℕ) → placed_line i.shape (after logs (Take entry mark) knows 0) q ≡ placed_line i.shape (logs 0) q
+  line_now q = line_same i.shape log new_log (alike log entry mark knows).placements (lost_same log new_log (alike log entry mark knows)) q
 
-    rows_length : length rows ≡ i.shape.ring
-    rows_length = taker_length slot entry.position items ∙ are.room
+  back_now : (q : ℕ) → is_given_back i.shape (after logs (Take entry mark) knows 0) q ≡ is_given_back i.shape (logs 0) q
+  back_now q =
+      any_same (gives_back i.shape new_log q) (gives_back i.shape log q) (gives_back_same i.shape log new_log (alike log entry mark knows) q)
+      (placements new_log)
+      ∙ ap (list_any (gives_back i.shape log q)) (AreAlike.placements (alike log entry mark knows))
 
-    rows_are : new.rows.items ≡ slice_set rows (entry.position % i.shape.ring) fresh
-    rows_are = is ∙ ap (λ n. slice_set rows (entry.position % n) fresh) rows_length
+  -- no taker is told where there is none
+  untaken : (t : Taken) → taker_in t None ≡ None
+  untaken t = go (t.mark.lba == void_lba)
+    where
+      go : (b : Bool) → (if b then None else (option_map (λ (u : Taken). u.entry.position) None)) ≡ None
+      go true = refl
+      go false = refl
 
-    some : 0 < i.shape.ring
-    some = let high : freed i.shape log ≤ taken log = freed_taken i.shape log in omega arith
+  -- where an entry that isn't given back stands
+  place : (t : Taken) (k : ℕ) → slice_get (takes (logs 0)) k ≡ Some t → t.entry.position ≡ first_position (logs 0) + k
+  place t k at = numbered_at (first_position log) (length (takes log)) (takes log) k t numbered at
 
-    some_rows : 0 < length items
-    some_rows = subst (λ n. 0 < n) (sym are.room) some
+  below : (t : Taken) (k : ℕ) → slice_get (takes (logs 0)) k ≡ Some t → t.entry.position < entry.position
+  below t k at =
+      let a : t.entry.position ≡ first_position log + k = place t k at in
+      let b : k < length (takes log) = slice_get_within (takes log) k t at in
+      omega (arith, next)
 
-    line_now : (q : ℕ) → placed_line i.shape new_log q ≡ placed_line i.shape log q
-    line_now q = line_same i.shape log new_log (alike log entry mark knows).placements (lost_same log new_log (alike log entry mark knows)) q
+  above : (t : Taken) (k : ℕ) → slice_get (takes (logs 0)) k ≡ Some t → is_given_back i.shape (logs 0) t.entry.position ≡ false → from ≤ t.entry.position
+  above t k at kept =
+      let a : t.entry.position ≡ first_position log + k = place t k at in
+      let b : freed i.shape log ≤ t.entry.position =
+      least_below (is_given_back i.shape log) (length (takes log)) (first_position log) t.entry.position (omega arith) kept in
+      omega (arith, low)
 
-    back_now : (q : ℕ) → is_given_back i.shape new_log q ≡ is_given_back i.shape log q
-    back_now q =
-        any_same (gives_back i.shape new_log q) (gives_back i.shape log q) (gives_back_same i.shape log new_log (alike log entry mark knows) q)
-        (placements new_log)
-        ∙ ap (list_any (gives_back i.shape log q)) (AreAlike.placements (alike log entry mark knows))
+  -- the new entry's row
+  abbrev test_new : Taken → Bool
+  test_new u = nat_lt entry.position u.entry.position && (u.mark.lba == mark.lba)
 
-    -- no taker is told where there is none
-    untaken : (t : Taken) → taker_in t None ≡ None
-    untaken t = go (t.mark.lba == void_lba)
-      where
-        go : (b : Bool) → (if b then None else (option_map (λ (u : Taken). u.entry.position) None)) ≡ None
-        go true = refl
-        go false = refl
+  none_later : later_take (after logs (Take entry mark) knows 0) (record { entry = entry; mark = mark }) ≡ None
+  none_later =
+      ap (find test_new) (takes_more log event)
+      ∙ find_fails_last test_new (takes log) t0 (ap (λ b. b && (mark.lba == mark.lba)) (not_below entry.position entry.position (omega arith)))
+      ∙ none_is_later log t0 numbered (omega (arith, next))
 
-    -- and of the sector that is taken it is
-    is_told : (t u : Taken) → mark.lba ≡ t.mark.lba → taker_in t (Some u) ≡ Some u.entry.position
-    is_told t u same =
-        ap (λ b. if b then None else Some u.entry.position) (other_number t.mark.lba void_lba (λ e. absurd (omega arith)))
+  no_line : placed_line i.shape (after logs (Take entry mark) knows 0) entry.position ≡ None
+  no_line = line_now entry.position
+      ∙ ap (option_map (λ (p : Placed). p.stripe.line))
+      (find_none (λ (p : Placed). holds_position i.shape entry.position p && not (was_lost log p)) (placements log)
+      (all_imply (λ (p : Placed). holds_position i.shape entry.position p ≡ false)
+      (λ (p : Placed). (holds_position i.shape entry.position p && not (was_lost log p)) ≡ false)
+      (λ p h. not_first (holds_position i.shape entry.position p) (not (was_lost log p)) h) (placements log) none))
 
-    -- where an entry that isn't given back stands
-    place : (t : Taken) (k : ℕ) → slice_get (takes log) k ≡ Some t → t.entry.position ≡ first_position log + k
-    place t k at = numbered_at (first_position log) (length (takes log)) (takes log) k t numbered at
+  -- Rows into which the entry's is set tell of each entry, if they told of those before.
+  rows_are : (rows : List Hold) (new : Holds) → length rows ≡ i.shape.ring
+      → ((t : Taken) (k : ℕ) → slice_get (takes (logs 0)) k ≡ Some t → is_given_back i.shape (logs 0) t.entry.position ≡ false
+      → slice_get rows (t.entry.position % i.shape.ring) ≡ Some (hold_of i.shape (after logs (Take entry mark) knows 0) t))
+      → new.rows.items ≡ slice_set rows (entry.position % length rows) (record { mark = mark; line = None; taker = None })
+      → AreHolds i.shape (after logs (Take entry mark) knows 0) new
+  rows_are rows new long old is = record {
+    room = ap length set ∙ length-set rows (entry.position % i.shape.ring) fresh ∙ long;
+    each = λ t there kept. each t there kept;
+  }
+    where
+      set : new.rows.items ≡ slice_set rows (entry.position % i.shape.ring) (record { mark = mark; line = None; taker = None })
+      set = is ∙ ap (λ n. slice_set rows (entry.position % n) fresh) long
 
-    below : (t : Taken) (k : ℕ) → slice_get (takes log) k ≡ Some t → t.entry.position < entry.position
-    below t k at = let a : t.entry.position ≡ first_position log + k = place t k at in let b : k < length (takes log) =
-        slice_get_within (takes log) k t at in omega arith
+      newest : slice_get new.rows.items (entry.position % i.shape.ring)
+          ≡ Some (hold_of i.shape (after logs (Take entry mark) knows 0) (record { entry = entry; mark = mark }))
+      newest =
+          ap (λ rs. slice_get rs (entry.position % i.shape.ring)) set
+          ∙ get_set_same rows (entry.position % i.shape.ring) fresh
+          (subst (λ n. entry.position % i.shape.ring < n) (sym long) (mod_below entry.position i.shape.ring some))
+          ∙ ap Some (same_hold mark None (placed_line i.shape new_log entry.position) None (taker_in t0 (later_take new_log t0)) (sym no_line)
+          (sym (ap (taker_in t0) none_later ∙ untaken t0)))
 
-    above : (t : Taken) (k : ℕ) → slice_get (takes log) k ≡ Some t → is_given_back i.shape log t.entry.position ≡ false → from ≤ t.entry.position
-    above t k at kept =
-        let a : t.entry.position ≡ first_position log + k = place t k at in
-        let b : freed i.shape log ≤ t.entry.position =
-        least_below (is_given_back i.shape log) (length (takes log)) (first_position log) t.entry.position (omega arith) kept in
-        omega arith
+      old_row : (t : Taken) (k : ℕ) → slice_get (takes (logs 0)) k ≡ Some t → is_given_back i.shape (logs 0) t.entry.position ≡ false
+          → slice_get new.rows.items (t.entry.position % i.shape.ring) ≡ Some (hold_of i.shape (after logs (Take entry mark) knows 0) t)
+      old_row t k at kept =
+          let d : t.entry.position < entry.position = below t k at in
+          let g : from ≤ t.entry.position = above t k at kept in
+          ap (λ rs. slice_get rs (t.entry.position % i.shape.ring)) set
+          ∙ get_set_other rows (entry.position % i.shape.ring) (t.entry.position % i.shape.ring) fresh
+          (apart i.shape.ring t.entry.position entry.position d (omega (arith, next, room)))
+          ∙ old t k at kept
 
-    -- the new entry's row
-    test_new : Taken → Bool
-    test_new u = nat_lt entry.position u.entry.position && (u.mark.lba == mark.lba)
+      each : (t : Taken) → Contains (takes (after logs (Take entry mark) knows 0)) t
+          → is_given_back i.shape (after logs (Take entry mark) knows 0) t.entry.position ≡ false
+          → slice_get new.rows.items (t.entry.position % i.shape.ring) ≡ Some (hold_of i.shape (after logs (Take entry mark) knows 0) t)
+      each t there kept =
+          let at : slice_get (takes new_log) there.0 ≡ Some t = slice_get_read (takes new_log) (length (takes new_log)) there.0 t refl there.1 (sym there.2) in
+          go (at_last (takes log) t0 t there.0 (ap (λ ts. slice_get ts there.0) (sym (takes_more log event)) ∙ at))
+        where
+          go : (slice_get (takes (logs 0)) there.0 ≡ Some t) ⊎ (record { entry = entry; mark = mark } ≡ t)
+              → slice_get new.rows.items (t.entry.position % i.shape.ring) ≡ Some (hold_of i.shape (after logs (Take entry mark) knows 0) t)
+          go (inl at) = old_row t there.0 at (sym (back_now t.entry.position) ∙ kept)
+          go (inr same) =
+              subst (λ (t : Taken). slice_get new.rows.items (t.entry.position % i.shape.ring) ≡ Some (hold_of i.shape new_log t)) same newest
 
-    none_later : later_take new_log t0 ≡ None
-    none_later =
-        ap (find test_new) (takes_more log event)
-        ∙ find_fails_last test_new (takes log) t0 (ap (λ b. b && (mark.lba == mark.lba)) (not_below entry.position entry.position (omega arith)))
-        ∙ none_is_later log t0 numbered (let e : t0.entry.position ≡ taken log = next in omega arith)
+  -- ---- of an entry of a sector
 
-    no_line : placed_line i.shape new_log entry.position ≡ None
-    no_line = line_now entry.position
-        ∙ ap (option_map (λ (p : Placed). p.stripe.line))
-        (find_none (λ (p : Placed). holds_position i.shape entry.position p && not (was_lost log p)) (placements log)
-        (all_imply (λ (p : Placed). holds_position i.shape entry.position p ≡ false)
-        (λ (p : Placed). (holds_position i.shape entry.position p && not (was_lost log p)) ≡ false)
-        (λ p h. not_first (holds_position i.shape entry.position p) (not (was_lost log p)) h) (placements log) none))
+  pub holds_taken : (new : Holds) → mark.lba ≡ entry.lba → mark.lba < void_lba
+      → new.rows.items ≡ slice_set (rows_with_taker (slot_of i logs entry.lba) entry.position holds.rows.items)
+      (entry.position % length (rows_with_taker (slot_of i logs entry.lba) entry.position holds.rows.items)) (record { mark = mark; line = None; taker = None })
+      → AreHolds i.shape (after logs (Take entry mark) knows 0) new
+  holds_taken new sector named is =
+      rows_are rows new (taker_length slot entry.position items ∙ are.room) (λ t k at kept. by_sector t k at kept (mark.lba == t.mark.lba) refl) is
+    where
+      slot : Slot
+      slot = slot_of i logs entry.lba
 
-    newest : slice_get new.rows.items (entry.position % i.shape.ring) ≡ Some (hold_of i.shape new_log t0)
-    newest =
-        ap (λ rs. slice_get rs (entry.position % i.shape.ring)) rows_are
-        ∙ get_set_same rows (entry.position % i.shape.ring) fresh
-        (subst (λ n. entry.position % i.shape.ring < n) (sym rows_length) (mod_below entry.position i.shape.ring some))
-        ∙ ap Some (same_hold mark None (placed_line i.shape new_log entry.position) None (taker_in t0 (later_take new_log t0)) (sym no_line)
-        (sym (ap (taker_in t0) none_later ∙ untaken t0)))
+      rows : List Hold
+      rows = rows_with_taker slot entry.position items
 
-    -- a row that stays
-    passes : Taken → Bool
-    passes u = u.mark.lba == entry.lba
+      some_rows : 0 < length items
+      some_rows = subst (λ n. 0 < n) (sym are.room) some
 
-    another : (t : Taken) (k : ℕ) → slice_get (takes log) k ≡ Some t → is_given_back i.shape log t.entry.position ≡ false
-        → ((u : Taken) (j : ℕ) → u.mark.lba ≡ entry.lba → IsLastAt passes (takes log) u j → j ≢ k)
-        → (r : ℕ) → slot ≡ Cached r → t.entry.position % i.shape.ring ≢ r % length items
-    another t k at kept differs r e =
-        let c : (u : Taken) × IsCachedEntry i logs entry.lba r u = cached i logs entry.lba r e in
-        let u : Taken = c.0 in
-        let last : (j : ℕ) × IsLastAt passes (takes log) u j = last_at passes (takes log) u c.1.last in
-        let j : ℕ = last.0 in
-        let apart : j ≢ k = differs u j (last_is_among log entry.lba u c.1.last).1 last.1 in
-        let r_is : u.entry.position ≡ r = c.1.position in
-        let u_at : slice_get (takes log) j ≡ Some u = last.1.at in
-        let a : t.entry.position ≡ first_position log + k = place t k at in
-        let b : u.entry.position ≡ first_position log + j = place u j u_at in
-        let d : t.entry.position < entry.position = below t k at in
-        let f : u.entry.position < entry.position = below u j u_at in
-        let g : from ≤ t.entry.position = above t k at kept in
-        let h : from ≤ u.entry.position = above u j u_at (subst (λ q. is_given_back i.shape log q ≡ false) (sym r_is) c.1.kept) in
-        subst (λ n. t.entry.position % i.shape.ring ≢ r % n) (sym are.room)
-        (apart_within i.shape.ring from t.entry.position r g (omega arith) (omega arith) (omega arith) (λ same. apart (omega arith)))
+      -- of a sector the taker is told
+      is_told : (t u : Taken) → mark.lba ≡ t.mark.lba → taker_in t (Some u) ≡ Some u.entry.position
+      is_told t u same =
+          ap (λ b. if b then None else Some u.entry.position) (other_number t.mark.lba void_lba (λ e. absurd (omega arith)))
 
-    stays : (t : Taken) (k : ℕ) → slice_get (takes log) k ≡ Some t → is_given_back i.shape log t.entry.position ≡ false
-        → ((u : Taken) (j : ℕ) → u.mark.lba ≡ entry.lba → IsLastAt passes (takes log) u j → j ≢ k)
-        → later_take new_log t ≡ later_take log t → slice_get rows (t.entry.position % i.shape.ring) ≡ Some (hold_of i.shape new_log t)
-    stays t k at kept differs later =
-        rows_other slot entry.position items (t.entry.position % i.shape.ring) (another t k at kept differs)
-        ∙ are.each t (is_in (takes log) k t at) kept
-        ∙ ap Some (same_hold t.mark (placed_line i.shape log t.entry.position) (placed_line i.shape new_log t.entry.position) (taker_in t (later_take log t))
-        (taker_in t (later_take new_log t))
-        (sym (line_now t.entry.position)) (sym (ap (taker_in t) later)))
+      -- a row that stays
+      passes : Taken → Bool
+      passes u = u.mark.lba == entry.lba
 
-    -- the entry that was the last of its sector
-    is_last : (t : Taken) (k : ℕ) → slice_get (takes log) k ≡ Some t → mark.lba ≡ t.mark.lba → later_take log t ≡ None → (o : Option Taken)
-        → last_take log entry.lba ≡ o → o ≡ Some t
-    is_last t k at same later None e =
-        absurd (last_is_some passes (takes log) None k t at (ap (λ n. n == entry.lba) (sym same ∙ sector) ∙ same_number entry.lba) e)
-    is_last t k at same later (Some u) e =
-        let last : (j : ℕ) × IsLastAt passes (takes log) u j = last_at passes (takes log) u e in
-        let j : ℕ = last.0 in
-        let u_at : slice_get (takes log) j ≡ Some u = last.1.at in
-        let up : k ≤ j = last.1.greatest k t at (ap (λ n. n == entry.lba) (sym same ∙ sector) ∙ same_number entry.lba) in
-        go j u_at (cases_order k j) up
-      where
-        go : (j : ℕ) → slice_get (takes log) j ≡ Some u → (k ≡ j) ⊎ ((k < j) ⊎ (j < k)) → k ≤ j → Some u ≡ Some t
-        go j u_at (inl one) up = sym u_at ∙ ap (slice_get (takes log)) (sym one) ∙ at
-        go j u_at (inr (inr beneath)) up = absurd (omega arith)
-        go j u_at (inr (inl beyond)) up =
-            let a : t.entry.position ≡ first_position log + k = place t k at in
-            let b : u.entry.position ≡ first_position log + j = place u j u_at in
-            let lba : u.mark.lba ≡ t.mark.lba = (last_is_among log entry.lba u e).1 ∙ sym sector ∙ same in
-            let yes : (nat_lt t.entry.position u.entry.position && (u.mark.lba == t.mark.lba)) ≡ true =
-            ap₂ (λ x y. x && y) (lt_true t.entry.position u.entry.position (omega arith)) (ap (λ n. n == t.mark.lba) lba ∙ same_number t.mark.lba) in
-            let no : (nat_lt t.entry.position u.entry.position && (u.mark.lba == t.mark.lba)) ≡ false =
-            none_passes (λ (u : Taken). nat_lt t.entry.position u.entry.position && (u.mark.lba == t.mark.lba)) (takes log) j u later u_at in
-            absurd cc
+      another : (t : Taken) (k : ℕ) → slice_get (takes log) k ≡ Some t → is_given_back i.shape log t.entry.position ≡ false
+          → ((u : Taken) (j : ℕ) → u.mark.lba ≡ entry.lba → IsLastAt passes (takes log) u j → j ≢ k)
+          → (r : ℕ) → slot ≡ Cached r → t.entry.position % i.shape.ring ≢ r % length items
+      another t k at kept differs r e =
+          let c : (u : Taken) × IsCachedEntry i logs entry.lba r u = cached i logs entry.lba r e in
+          let u : Taken = c.0 in
+          let last : (j : ℕ) × IsLastAt passes (takes log) u j = last_at passes (takes log) u c.1.last in
+          let j : ℕ = last.0 in
+          let apart : j ≢ k = differs u j (last_is_among log entry.lba u c.1.last).1 last.1 in
+          let r_is : u.entry.position ≡ r = c.1.position in
+          let u_at : slice_get (takes log) j ≡ Some u = last.1.at in
+          let a : t.entry.position ≡ first_position log + k = place t k at in
+          let b : u.entry.position ≡ first_position log + j = place u j u_at in
+          let d : t.entry.position < entry.position = below t k at in
+          let f : u.entry.position < entry.position = below u j u_at in
+          let g : from ≤ t.entry.position = above t k at kept in
+          let h : from ≤ u.entry.position = above u j u_at (subst (λ q. is_given_back i.shape log q ≡ false) (sym r_is) c.1.kept) in
+          subst (λ n. t.entry.position % i.shape.ring ≢ r % n) (sym are.room)
+          (apart_within i.shape.ring from t.entry.position r g (omega arith) (omega arith) (omega arith) (λ same. apart (omega arith)))
 
-    taken_from : (t : Taken) (k : ℕ) → slice_get (takes log) k ≡ Some t → is_given_back i.shape log t.entry.position ≡ false → mark.lba ≡ t.mark.lba
-        → later_take log t ≡ None
-        → slice_get rows (t.entry.position % i.shape.ring) ≡ Some (hold_of i.shape new_log t)
-    taken_from t k at kept same later =
-        ap (λ sl. slice_get (rows_with_taker sl entry.position items) (t.entry.position % i.shape.ring)) slot_is
-        ∙ ap (λ n. slice_get (rows_with_taker (Cached t.entry.position) entry.position items) (t.entry.position % n)) (sym are.room)
-        ∙ rows_own t.entry.position entry.position items (hold_of i.shape log t) some_rows
-        (ap (λ n. slice_get items (t.entry.position % n)) are.room ∙ are.each t (is_in (takes log) k t at) kept)
-        ∙ ap Some (same_hold t.mark (placed_line i.shape log t.entry.position) (placed_line i.shape new_log t.entry.position) (Some entry.position)
-        (taker_in t (later_take new_log t))
-        (sym (line_now t.entry.position))
-        (sym (ap (taker_in t) (later_of_sector log entry mark knows t later same (below t k at)) ∙ is_told t t0 same)))
-      where
-        slot_is : slot ≡ Cached t.entry.position
-        slot_is =
-            ap (slot_by i logs entry.lba) (is_last t k at same later (last_take log entry.lba) refl)
-            ∙ ap (λ o. option_map_or (media_of i logs t.entry.position) o (Cached t.entry.position))
-            (any_none (gives_back i.shape log t.entry.position) (placements log) kept)
+      stays : (t : Taken) (k : ℕ) → slice_get (takes log) k ≡ Some t → is_given_back i.shape log t.entry.position ≡ false
+          → ((u : Taken) (j : ℕ) → u.mark.lba ≡ entry.lba → IsLastAt passes (takes log) u j → j ≢ k)
+          → later_take new_log t ≡ later_take log t → slice_get rows (t.entry.position % i.shape.ring) ≡ Some (hold_of i.shape new_log t)
+      stays t k at kept differs later =
+          rows_other slot entry.position items (t.entry.position % i.shape.ring) (another t k at kept differs)
+          ∙ are.each t (is_in (takes log) k t at) kept
+          ∙ ap Some (same_hold t.mark (placed_line i.shape log t.entry.position) (placed_line i.shape new_log t.entry.position) (taker_in t (later_take log t))
+          (taker_in t (later_take new_log t))
+          (sym (line_now t.entry.position)) (sym (ap (taker_in t) later)))
 
-    -- a later entry of the sector was taken before
-    by_later : (t : Taken) (k : ℕ) → slice_get (takes log) k ≡ Some t → is_given_back i.shape log t.entry.position ≡ false → mark.lba ≡ t.mark.lba
-        → (o : Option Taken) → later_take log t ≡ o
-        → slice_get rows (t.entry.position % i.shape.ring) ≡ Some (hold_of i.shape new_log t)
-    by_later t k at kept same None e = taken_from t k at kept same e
-    by_later t k at kept same (Some v) e = stays t k at kept differs (later_stays log event t v e ∙ sym e)
-      where
-        differs : (u : Taken) (j : ℕ) → u.mark.lba ≡ entry.lba → IsLastAt passes (takes log) u j → j ≢ k
-        differs u j of last one =
-            let is : ((nat_lt t.entry.position v.entry.position && (v.mark.lba == t.mark.lba)) ≡ true) × ((m : ℕ) × (slice_get (takes log) m ≡ Some v)) =
-            found_passes (λ (u : Taken). nat_lt t.entry.position u.entry.position && (u.mark.lba == t.mark.lba)) (takes log) v e in
-            let m : ℕ = is.1.0 in
-            let v_at : slice_get (takes log) m ≡ Some v = is.1.1 in
-            let both : (nat_lt t.entry.position v.entry.position ≡ true) × ((v.mark.lba == t.mark.lba) ≡ true) =
-            both_true (nat_lt t.entry.position v.entry.position) (v.mark.lba == t.mark.lba) is.0 in
-            let more : t.entry.position < v.entry.position = below_is t.entry.position v.entry.position both.0 in
-            let lba : v.mark.lba ≡ entry.lba = eqb-true v.mark.lba t.mark.lba both.1 ∙ sym same ∙ sector in
-            let a : t.entry.position ≡ first_position log + k = place t k at in
-            let b : v.entry.position ≡ first_position log + m = place v m v_at in
-            let up : m ≤ j = last.greatest m v v_at (ap (λ n. n == entry.lba) lba ∙ same_number entry.lba) in
-            omega arith
+      -- the entry that was the last of its sector
+      is_last : (t : Taken) (k : ℕ) → slice_get (takes log) k ≡ Some t → mark.lba ≡ t.mark.lba → later_take log t ≡ None → (o : Option Taken)
+          → last_take log entry.lba ≡ o → o ≡ Some t
+      is_last t k at same later None e =
+          absurd (last_is_some passes (takes log) None k t at (ap (λ n. n == entry.lba) (sym same ∙ sector) ∙ same_number entry.lba) e)
+      is_last t k at same later (Some u) e =
+          let last : (j : ℕ) × IsLastAt passes (takes log) u j = last_at passes (takes log) u e in
+          let j : ℕ = last.0 in
+          let u_at : slice_get (takes log) j ≡ Some u = last.1.at in
+          let up : k ≤ j = last.1.greatest k t at (ap (λ n. n == entry.lba) (sym same ∙ sector) ∙ same_number entry.lba) in
+          go j u_at (cases_order k j) up
+        where
+          go : (j : ℕ) → slice_get (takes log) j ≡ Some u → (k ≡ j) ⊎ ((k < j) ⊎ (j < k)) → k ≤ j → Some u ≡ Some t
+          go j u_at (inl one) up = sym u_at ∙ ap (slice_get (takes log)) (sym one) ∙ at
+          go j u_at (inr (inr beneath)) up = absurd (omega arith)
+          go j u_at (inr (inl beyond)) up =
+              let a : t.entry.position ≡ first_position log + k = place t k at in
+              let b : u.entry.position ≡ first_position log + j = place u j u_at in
+              let lba : u.mark.lba ≡ t.mark.lba = (last_is_among log entry.lba u e).1 ∙ sym sector ∙ same in
+              let yes : (nat_lt t.entry.position u.entry.position && (u.mark.lba == t.mark.lba)) ≡ true =
+              ap₂ (λ x y. x && y) (lt_true t.entry.position u.entry.position (omega arith)) (ap (λ n. n == t.mark.lba) lba ∙ same_number t.mark.lba) in
+              let no : (nat_lt t.entry.position u.entry.position && (u.mark.lba == t.mark.lba)) ≡ false =
+              none_passes (λ (u : Taken). nat_lt t.entry.position u.entry.position && (u.mark.lba == t.mark.lba)) (takes log) j u later u_at in
+              absurd cc
 
-    by_sector : (t : Taken) (k : ℕ) → slice_get (takes log) k ≡ Some t → is_given_back i.shape log t.entry.position ≡ false → (b : Bool)
-        → (mark.lba == t.mark.lba) ≡ b
-        → slice_get rows (t.entry.position % i.shape.ring) ≡ Some (hold_of i.shape new_log t)
-    by_sector t k at kept true e = by_later t k at kept (eqb-true mark.lba t.mark.lba e) (later_take log t) refl
-    by_sector t k at kept false e = stays t k at kept differs (later_of_others log entry mark knows t e)
-      where
-        differs : (u : Taken) (j : ℕ) → u.mark.lba ≡ entry.lba → IsLastAt passes (takes log) u j → j ≢ k
-        differs u j of last one =
-            let same : u ≡ t = same_Some u t (sym last.at ∙ ap (slice_get (takes log)) one ∙ at) in
-            let lba : mark.lba ≡ t.mark.lba = sector ∙ sym of ∙ ap (λ (x : Taken). x.mark.lba) same in
-            let yes : (mark.lba == t.mark.lba) ≡ true = ap (λ n. n == t.mark.lba) lba ∙ same_number t.mark.lba in
-            absurd cc
+      taken_from : (t : Taken) (k : ℕ) → slice_get (takes log) k ≡ Some t → is_given_back i.shape log t.entry.position ≡ false → mark.lba ≡ t.mark.lba
+          → later_take log t ≡ None
+          → slice_get rows (t.entry.position % i.shape.ring) ≡ Some (hold_of i.shape new_log t)
+      taken_from t k at kept same later =
+          ap (λ sl. slice_get (rows_with_taker sl entry.position items) (t.entry.position % i.shape.ring)) slot_is
+          ∙ ap (λ n. slice_get (rows_with_taker (Cached t.entry.position) entry.position items) (t.entry.position % n)) (sym are.room)
+          ∙ rows_own t.entry.position entry.position items (hold_of i.shape log t) some_rows
+          (ap (λ n. slice_get items (t.entry.position % n)) are.room ∙ are.each t (is_in (takes log) k t at) kept)
+          ∙ ap Some (same_hold t.mark (placed_line i.shape log t.entry.position) (placed_line i.shape new_log t.entry.position) (Some entry.position)
+          (taker_in t (later_take new_log t))
+          (sym (line_now t.entry.position))
+          (sym (ap (taker_in t) (later_of_sector log entry mark knows t later same (below t k at)) ∙ is_told t t0 same)))
+        where
+          slot_is : slot ≡ Cached t.entry.position
+          slot_is =
+              ap (slot_by i logs entry.lba) (is_last t k at same later (last_take log entry.lba) refl)
+              ∙ ap (λ o. option_map_or (media_of i logs t.entry.position) o (Cached t.entry.position))
+              (any_none (gives_back i.shape log t.entry.position) (placements log) kept)
 
-    old_row : (t : Taken) (k : ℕ) → slice_get (takes log) k ≡ Some t → is_given_back i.shape log t.entry.position ≡ false
-        → slice_get new.rows.items (t.entry.position % i.shape.ring) ≡ Some (hold_of i.shape new_log t)
-    old_row t k at kept =
-        let d : t.entry.position < entry.position = below t k at in
-        let g : from ≤ t.entry.position = above t k at kept in
-        ap (λ rs. slice_get rs (t.entry.position % i.shape.ring)) rows_are
-        ∙ get_set_other rows (entry.position % i.shape.ring) (t.entry.position % i.shape.ring) fresh
-        (apart i.shape.ring t.entry.position entry.position d (omega arith))
-        ∙ by_sector t k at kept (mark.lba == t.mark.lba) refl
+      -- a later entry of the sector was taken before
+      by_later : (t : Taken) (k : ℕ) → slice_get (takes log) k ≡ Some t → is_given_back i.shape log t.entry.position ≡ false → mark.lba ≡ t.mark.lba
+          → (o : Option Taken) → later_take log t ≡ o
+          → slice_get rows (t.entry.position % i.shape.ring) ≡ Some (hold_of i.shape new_log t)
+      by_later t k at kept same None e = taken_from t k at kept same e
+      by_later t k at kept same (Some v) e = stays t k at kept differs (later_stays log event t v e ∙ sym e)
+        where
+          differs : (u : Taken) (j : ℕ) → u.mark.lba ≡ entry.lba → IsLastAt passes (takes log) u j → j ≢ k
+          differs u j of last one =
+              let is : ((nat_lt t.entry.position v.entry.position && (v.mark.lba == t.mark.lba)) ≡ true) × ((m : ℕ) × (slice_get (takes log) m ≡ Some v)) =
+              found_passes (λ (u : Taken). nat_lt t.entry.position u.entry.position && (u.mark.lba == t.mark.lba)) (takes log) v e in
+              let m : ℕ = is.1.0 in
+              let v_at : slice_get (takes log) m ≡ Some v = is.1.1 in
+              let both : (nat_lt t.entry.position v.entry.position ≡ true) × ((v.mark.lba == t.mark.lba) ≡ true) =
+              both_true (nat_lt t.entry.position v.entry.position) (v.mark.lba == t.mark.lba) is.0 in
+              let more : t.entry.position < v.entry.position = below_is t.entry.position v.entry.position both.0 in
+              let lba : v.mark.lba ≡ entry.lba = eqb-true v.mark.lba t.mark.lba both.1 ∙ sym same ∙ sector in
+              let a : t.entry.position ≡ first_position log + k = place t k at in
+              let b : v.entry.position ≡ first_position log + m = place v m v_at in
+              let up : m ≤ j = last.greatest m v v_at (ap (λ n. n == entry.lba) lba ∙ same_number entry.lba) in
+              omega arith
 
-    each : (t : Taken) → Contains (takes new_log) t → is_given_back i.shape new_log t.entry.position ≡ false
-        → slice_get new.rows.items (t.entry.position % i.shape.ring) ≡ Some (hold_of i.shape new_log t)
-    each t there kept =
-        let at : slice_get (takes new_log) there.0 ≡ Some t = slice_get_read (takes new_log) (length (takes new_log)) there.0 t refl there.1 (sym there.2) in
-        go (at_last (takes log) t0 t there.0 (ap (λ ts. slice_get ts there.0) (sym (takes_more log event)) ∙ at))
-      where
-        go : (slice_get (takes log) there.0 ≡ Some t) ⊎ (t0 ≡ t) → slice_get new.rows.items (t.entry.position % i.shape.ring) ≡ Some (hold_of i.shape new_log t)
-        go (inl at) = old_row t there.0 at (sym (back_now t.entry.position) ∙ kept)
-        go (inr same) = subst (λ (t : Taken). slice_get new.rows.items (t.entry.position % i.shape.ring) ≡ Some (hold_of i.shape new_log t)) same newest
+      by_sector : (t : Taken) (k : ℕ) → slice_get (takes log) k ≡ Some t → is_given_back i.shape log t.entry.position ≡ false → (b : Bool)
+          → (mark.lba == t.mark.lba) ≡ b
+          → slice_get rows (t.entry.position % i.shape.ring) ≡ Some (hold_of i.shape new_log t)
+      by_sector t k at kept true e = by_later t k at kept (eqb-true mark.lba t.mark.lba e) (later_take log t) refl
+      by_sector t k at kept false e = stays t k at kept differs (later_of_others log entry mark knows t e)
+        where
+          differs : (u : Taken) (j : ℕ) → u.mark.lba ≡ entry.lba → IsLastAt passes (takes log) u j → j ≢ k
+          differs u j of last one =
+              let same : u ≡ t = same_Some u t (sym last.at ∙ ap (slice_get (takes log)) one ∙ at) in
+              let lba : mark.lba ≡ t.mark.lba = sector ∙ sym of ∙ ap (λ (x : Taken). x.mark.lba) same in
+              let yes : (mark.lba == t.mark.lba) ≡ true = ap (λ n. n == t.mark.lba) lba ∙ same_number t.mark.lba in
+              absurd cc
+
+  -- ---- of a Void one
+
+  pub holds_void : (new : Holds) → mark.lba ≡ void_lba
+      → new.rows.items ≡ slice_set holds.rows.items (entry.position % length holds.rows.items) (record { mark = mark; line = None; taker = None })
+      → AreHolds i.shape (after logs (Take entry mark) knows 0) new
+  holds_void new void is = rows_are items new are.room stays is
+    where
+      -- of an entry of a sector it is no later one, and of a Void one none is told
+      same_taker : (t : Taken) (b : Bool) → (t.mark.lba == void_lba) ≡ b
+          → taker_in t (later_take (logs 0) t) ≡ taker_in t (later_take (after logs (Take entry mark) knows 0) t)
+      same_taker t true e =
+          ap (λ b. if b then None else option_map (λ (u : Taken). u.entry.position) (later_take log t)) e
+          ∙ sym (ap (λ b. if b then None else option_map (λ (u : Taken). u.entry.position) (later_take new_log t)) e)
+      same_taker t false e = sym (ap (taker_in t) (later_of_others log entry mark knows t
+          (other_number mark.lba t.mark.lba (λ same. not_both (t.mark.lba == void_lba)
+          (ap (λ n. n == void_lba) (sym same ∙ void) ∙ same_number void_lba) e))))
+
+      stays : (t : Taken) (k : ℕ) → slice_get (takes (logs 0)) k ≡ Some t → is_given_back i.shape (logs 0) t.entry.position ≡ false
+          → slice_get holds.rows.items (t.entry.position % i.shape.ring) ≡ Some (hold_of i.shape (after logs (Take entry mark) knows 0) t)
+      stays t k at kept =
+          are.each t (is_in (takes log) k t at) kept
+          ∙ ap Some (same_hold t.mark (placed_line i.shape log t.entry.position) (placed_line i.shape new_log t.entry.position)
+          (taker_in t (later_take log t)) (taker_in t (later_take new_log t)) (sym (line_now t.entry.position))
+          (same_taker t (t.mark.lba == void_lba) refl))

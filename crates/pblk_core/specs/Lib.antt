@@ -12,7 +12,9 @@ pub mod Made
 pub mod Slots
 pub mod Entries
 pub mod Readable
+pub mod Copies
 pub mod Named
 pub mod Landing
 pub mod OlderLines
 pub mod Freeing
+pub mod Collecting

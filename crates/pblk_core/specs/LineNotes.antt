@@ -1,5 +1,5 @@
 -- What a core notes of each line to tell when it may be freed, and what that is by the logs.
-use Rattle.std.specs.Prelude.{ℕ, ◌-◌, ◌<◌, ◌≤◌, ◌≡◌, ◌==◌, if◌then◌else◌, max, nat_lt, Bool, true, false, ⊤, List, length, slice_get, Option, Some, None}
+use Rattle.std.specs.Prelude.{ℕ, ◌-◌, ◌<◌, ◌≤◌, ◌≡◌, ◌==◌, ◌&&◌, if◌then◌else◌, max, nat_lt, nat_le, Bool, true, false, ⊤, List, length, slice_get, Option, Some, None}
 use Rattle.std.specs.Option.{is_some, option_and_then, option_map, unwrap_or}
 use Rattle.pblk_model.specs.declared.found.LineRow.{LineRow}
 use Rattle.pblk_model.specs.declared.shape.Shape.{Shape}
@@ -74,6 +74,12 @@ pub record IsSpentNote (row : LineNote) (newest : Option StartNote) (live : ℕ)
   pub below_front : row.top ≤ start.front
   pub none_live : live ≡ 0
   pub taken : IsTakenBelow synced taker
+
+-- the sequence number of a line that is closed, older than the newest start record, and whose
+-- positions end at that record's front or below it
+abbrev pub outdated_seq : LineNote → Option StartNote → Option ℕ
+outdated_seq row None = None
+outdated_seq row (Some start) = if row.closed && (nat_lt row.seq start.seq && nat_le row.top start.front) then Some row.seq else None
 
 -- By the logs.
 

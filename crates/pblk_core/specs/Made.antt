@@ -1,5 +1,5 @@
 -- What a core holds that was made of what recovery found.
-use Rattle.std.specs.Prelude.{ℕ, ◌<◌, ◌≡◌, [], length, map, replicate, slice_get, Some}
+use Rattle.std.specs.Prelude.{ℕ, ◌<◌, ◌≡◌, [], length, map, replicate, slice_get, false, Some, None}
 use Rattle.std.specs.FinMap as fin
 use Rattle.pblk_model.specs.declared.shape.Shape.{Shape}
 use Rattle.pblk_model.specs.declared.found.Found.{Found}
@@ -45,6 +45,11 @@ pub record IsMadeOn (s : Shape) (f : Found) (c : Core) : Type 0 where
   pub left : c.left ≡ 0
   pub in_flight : c.under_way ≡ 0
   pub none_answered : c.answers.items ≡ replicate (units s) 0
+  -- nothing is collected
+  pub lines_held : length c.collection.lines ≡ s.chunks
+  pub none_at_work : c.collection.victim ≡ None
+  pub from_start : c.collection.cursor ≡ 0
+  pub none_copied : c.collection.under_way ≡ false
   -- what the next start record says
   pub seq : c.start.seq ≡ seq_after f.lines f.head
   pub first_seq : c.start.first_seq ≡ seq_after f.lines f.head

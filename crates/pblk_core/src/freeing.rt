@@ -1,6 +1,6 @@
 //! Lines that a core frees.
 
-ghost use Rattle.std.specs.Prelude.{ℕ, ◌≡◌, ◌==◌, ◌<◌, ◌↔◌, not, List, map, length, slice_index, IfSome, IfNone, OnSome, IsTrue};
+ghost use Rattle.std.specs.Prelude.{ℕ, ◌≡◌, ◌==◌, ◌<◌, ◌≤◌, ◌↔◌, not, List, map, length, slice_index, IfSome, IfNone, OnSome, IsTrue, max};
 ghost use Rattle.std.specs.List.{filter};
 ghost use Rattle.pblk_model.specs.Image.{Image};
 ghost use Rattle.pblk_model.specs.StartRecord.{Row as OlderRow};
@@ -11,6 +11,8 @@ ghost use Rattle.pblk_world.specs.World.{World, log_of};
 ghost use Rattle.world_laws.specs.LegalMounts.{IsLegalMount};
 ghost use Rattle.core_laws.specs.Stepping.{after};
 ghost use Rattle.write_window.specs.Window as view;
+ghost use Rattle.pblk_core.specs.Collecting.{Collects, IsCollecting};
+ghost use Rattle.pblk_core.specs.Copies.{is_copying, victim_asks};
 ghost use Rattle.pblk_core.specs.Freeing.{IsSpentIn, closed_count, HaveRisen};
 ghost use Rattle.pblk_core.specs.Mounts.{InItsMount};
 ghost use Rattle.pblk_core.specs.Named.{pad_of};
@@ -23,9 +25,42 @@ use pblk_meta::Rows;
 impl Core {
     /// Frees the least line that may be freed: it is older than the newest start record that has
     /// landed, no position in it is needed, and each of its records has a newer one below the front
-    /// synced (this project's rule "Freeing" in docs/TARGET.md). Its used chunks are to be reset
-    /// from then on. None exactly where no line may be freed; then nothing has changed.
+    /// synced (this project's rule "When a line is freed" in docs/TARGET.md). Its used chunks are
+    /// to be reset from then on. None exactly where no line may be freed; then nothing has changed.
     pub fn free_line(&mut self) -> Option<u32>
+        requires collecting { IsCollecting self.old }
+        ensures may { IfSome result (λ line.
+            InItsMount self.old (λ i w. MayFree i (log_of w) line)) }
+        ensures least { IfSome result (λ line.
+            InItsMount self.old (λ i w. (m : ℕ) → m < line → ¬ MayFree i (log_of w) m)) }
+        ensures none { IfNone result (InItsMount self.old (λ i w.
+            (line : ℕ) → ¬ MayFree i (log_of w) line)) }
+        ensures stands { IfSome result (λ line. (i : Image) (w : World) (knows : List ℕ)
+            → IsLegalMount i w → Stands i (log_of w) self.old
+            → slice_index knows 0 ≡ length (log_of w 0)
+            → Stands i (after (log_of w) (Free line) knows) self.new) }
+        ensures collects { IfSome result (λ line. (i : Image) (w : World) (knows : List ℕ)
+            → IsLegalMount i w → Stands i (log_of w) self.old → Collects i (log_of w) self.old
+            → slice_index knows 0 ≡ length (log_of w 0)
+            → Collects i (after (log_of w) (Free line) knows) self.new) }
+        ensures unchanged { IfNone result (self.new ≡ self.old) }
+        ensures fewer { OnSome result (closed_count self.new < closed_count self.old) }
+        ensures window { self.new.window ≡ self.old.window }
+        ensures copying { is_copying self.new ≡ is_copying self.old }
+        ensures pad { pad_of self.old ≤ pad_of self.new }
+        ensures pad_most { pad_of self.new ≤ max (pad_of self.old) (victim_asks self.new) }
+        ensures rows { self.new.placer.units ≡ self.old.placer.units }
+    {
+        let line = self.free_spent()?;
+        if self.collection.victim == Some(line) {
+            self.collection.victim = None;
+        }
+        self.choose();
+        Some(line)
+    }
+
+    // Frees that line in the tables.
+    fn free_spent(&mut self) -> Option<u32>
         requires standing { IsStanding self.old }
         ensures may { IfSome result (λ line.
             InItsMount self.old (λ i w. MayFree i (log_of w) line)) }
@@ -42,6 +77,8 @@ impl Core {
         ensures window { self.new.window ≡ self.old.window }
         ensures pad { pad_of self.new ≡ pad_of self.old }
         ensures rows { self.new.placer.units ≡ self.old.placer.units }
+        ensures map { self.new.map ≡ self.old.map }
+        ensures collection { self.new.collection ≡ self.old.collection }
     {
         let line = self.spent_line()?;
         let width = self.live[line as usize].width();

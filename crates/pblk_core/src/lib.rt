@@ -1,6 +1,7 @@
 //! The core of a target: the steps that one session, or an engine's lock, makes over its tables.
 #![tactic(auto)]
 
+mod collecting;
 mod filling;
 mod freeing;
 mod hold;
@@ -19,6 +20,7 @@ mod taking;
 mod target_core;
 mod work;
 
+pub use collecting::CopyJob;
 pub use records::{LineRecords, records_are_an_openings};
 pub use stripe::Stripe;
 pub use target_core::{

@@ -2,7 +2,7 @@
 
 ghost use Rattle.std.specs.Prelude.{ℕ, ◌<◌, ◌^◌, ◌≡◌, ◌↔◌, map, length, slice_get, slice_set, Some, IfOk, IsTrue, true};
 ghost use Rattle.core_laws.specs.ClosedLines.{top_of};
-ghost use Rattle.pblk_core.specs.LineNotes.{IsSpentNote, newest_landed, note_found, note_opened, note_placed, note_landed, note_closed, note_freed, head_start, newer_note, start_found};
+ghost use Rattle.pblk_core.specs.LineNotes.{IsSpentNote, newest_landed, outdated_seq, note_found, note_opened, note_placed, note_landed, note_closed, note_freed, head_start, newer_note, start_found};
 
 use pblk_model::LineRow;
 use std::alloc::{AllocError, Global};
@@ -137,6 +137,22 @@ impl LineNotes {
         ensures newest { self.new.newest ≡ self.old.newest }
     {
         self.rows[line as usize].closed = false;
+    }
+
+    /// The sequence number of a line that is closed, older than the newest start record that has
+    /// landed, and whose positions end at that record's front or below it. None of any other.
+    pub(crate) fn outdated(&self, line: u32) -> Option<u64>
+        requires { line < length self.now.rows.items }
+        ensures { (row : LineNote) → slice_get self.now.rows.items line ≡ Some row
+            → result ≡ outdated_seq row self.now.newest }
+    {
+        let row = self.rows[line as usize];
+        let newest = self.newest?;
+        if row.closed && row.seq < newest.seq && row.top <= newest.front {
+            Some(row.seq)
+        } else {
+            None
+        }
     }
 
     /// Whether a line may be freed: it is closed, older than the newest start record that has

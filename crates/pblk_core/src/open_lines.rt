@@ -19,8 +19,8 @@ use pblk_meta::StartRecord;
 use pblk_model::Mark;
 use std::alloc::{AllocError, Global};
 
-/// A line that has a stripe left: its records, a bit for each unit whose chunk of it isn't Offline, and how
-/// many of its stripes haven't landed.
+/// A line that has a stripe left: its records, a bit for each unit whose chunk of it isn't Offline,
+/// and how many of its stripes haven't landed.
 #[derive(Debug, Drop)]
 pub(crate) struct OpenLine {
     pub(crate) records: LineRecords,
@@ -104,7 +104,8 @@ impl OpenLines {
         &self.slots[index]
     }
 
-    /// Fills an empty stripe with the blocks of one line's start record, from the line address `at` on.
+    /// Fills an empty stripe with the blocks of one line's start record, from the line address `at`
+    /// on.
     pub(crate) fn start_stripe(&self, index: usize, at: u32, into: &mut Stripe)
         requires inside { index < length self.now.slots.items }
         requires shape { (slot : _) → IsSlot self.now index slot
@@ -133,7 +134,8 @@ impl OpenLines {
         slot.records.mark_data(marks);
     }
 
-    /// Fills an empty stripe with the blocks of one line's end record, from the line address `at` on.
+    /// Fills an empty stripe with the blocks of one line's end record, from the line address `at`
+    /// on.
     pub(crate) fn end_stripe(&mut self, index: usize, at: u32, into: &mut Stripe)
         requires inside { index < length self.old.slots.items }
         requires shape { (slot : _) → IsSlot self.old index slot

@@ -15,8 +15,9 @@ use pblk_layout::Layout;
 use pblk_model::Mark;
 use write_window::Window;
 
-/// Notes that the blocks `from` to before `to` of a unit's chunk of an open line can be read from now on: their
-/// entries can be given back, and their sectors, where they are still the latest, are looked up on the drive.
+/// Notes that the blocks `from` to before `to` of a unit's chunk of an open line can be read from
+/// now on: their entries can be given back, and their sectors, where they are still the latest, are
+/// looked up on the drive.
 ///
 /// The entries of these blocks are in the window and have landed.
 pub(crate) fn make_readable(

@@ -25,10 +25,10 @@ use std::marker::Model;
 
 /// What the start record and the end record of an open line are made of (formats of this project).
 ///
-/// All memory is taken when it is made, for any line of the layout, and it is used again for each line that
-/// is opened. A record's bytes are written once: the start record's when the line is opened, the end
-/// record's when its first stripe is asked for. Contracts see the line's numbers, the start record's bytes
-/// and the marks of the data so far.
+/// All memory is taken when it is made, for any line of the layout, and it is used again for each
+/// line that is opened. A record's bytes are written once: the start record's when the line is
+/// opened, the end record's when its first stripe is asked for. Contracts see the line's numbers,
+/// the start record's bytes and the marks of the data so far.
 #[derive(Debug, Drop)]
 pub struct LineRecords {
     layout: Layout,
@@ -111,7 +111,8 @@ impl LineRecords {
         self.has_end = false;
     }
 
-    /// Keeps the marks of the stripe of data that comes next in line order. The line has room for them.
+    /// Keeps the marks of the stripe of data that comes next in line order. The line has room for
+    /// them.
     pub fn mark_data(&mut self, marks: &[Mark])
         requires { length self.old.marks + length marks.now
             ≤ data_len self.old.shape self.old.width }
@@ -159,8 +160,8 @@ impl LineRecords {
 
     /// Fills an empty stripe with the end record's blocks from the line address `at` on.
     ///
-    /// The marks of all data are kept, these blocks lie in the end record, and the stripe is of a drive of the
-    /// layout's shape.
+    /// The marks of all data are kept, these blocks lie in the end record, and the stripe is of a
+    /// drive of the layout's shape.
     pub fn end_stripe(&mut self, at: u32, into: &mut Stripe)
         requires shape { into.old.shape ≡ self.old.shape }
         requires empty { into.old.stripe.blocks ≡ [] }
@@ -189,8 +190,8 @@ impl LineRecords {
     }
 }
 
-/// Records that are made of the numbers of an opening in the engine's log have the blocks that the log's
-/// records have, in each stripe.
+/// Records that are made of the numbers of an opening in the engine's log have the blocks that the
+/// log's records have, in each stripe.
 pub fn records_are_an_openings()
     ensures start { (s : Shape) (log : List Logged) (o : Opening) (r : Records) (a : ℕ)
         → AreOf s log o r
@@ -201,8 +202,8 @@ pub fn records_are_an_openings()
         ≡ stripe_at s (end_blocks s log o) (end_address s o) a }
 {}
 
-// Writes the end record of a line, of which the marks of all data are kept, to the first bytes of its blocks,
-// unless it stands there already.
+// Writes the end record of a line, of which the marks of all data are kept, to the first bytes of
+// its blocks, unless it stands there already.
 fn write_once(
     stands: bool,
     layout: Layout,
@@ -229,7 +230,8 @@ fn write_once(
     write_end(&mut out[..size], line, width, seq, marks);
 }
 
-// Fills an empty stripe with the blocks of a record of this sequence number, from the record's block `from` on.
+// Fills an empty stripe with the blocks of a record of this sequence number, from the record's
+// block `from` on.
 fn add_run(layout: Layout, seq: u64, bytes: &[u8], from: u32, into: &mut Stripe)
     requires shape { into.old.shape ≡ layout }
     requires empty { into.old.stripe.blocks ≡ [] }

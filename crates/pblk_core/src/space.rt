@@ -4,14 +4,11 @@ ghost use Rattle.std.specs.Prelude.{◌≡◌, false};
 ghost use Rattle.pblk_world.specs.Space.{is_due, room};
 ghost use Rattle.pblk_world.specs.World.{log_of};
 ghost use Rattle.write_window.specs.Window as view;
+ghost use Rattle.pblk_core.specs.Copies.{is_due_in};
 ghost use Rattle.pblk_core.specs.Mounts.{InItsMount};
 ghost use Rattle.pblk_core.specs.Stands.{IsStanding};
 
-use crate::target_core::Core;
-use pblk_model::NUMBER_LIMIT;
-
-/// Where all positions end, but for a mount that began beyond it.
-const LAST_POSITION: u64 = NUMBER_LIMIT - 2;
+use crate::target_core::{Core, LAST_POSITION};
 
 impl Core {
     /// The position below which users may claim. It is the least of three limits:
@@ -37,10 +34,11 @@ impl Core {
         ring.min(space).min(LAST_POSITION.max(self.first))
     }
 
-    /// Whether collection is due: the Free lines together have at most as many data addresses as three full
-    /// lines.
+    /// Whether collection is due: the Free lines together have at most as many data addresses as
+    /// three full lines.
     pub fn is_due(&self) -> bool
-        ensures { InItsMount self.now (λ i w. result ≡ is_due i (log_of w)) }
+        ensures due { InItsMount self.now (λ i w. result ≡ is_due i (log_of w)) }
+        ensures tables { result ≡ is_due_in self.now }
     {
         let units = self.layout.shape().units();
         let full = u64::from(self.layout.data_len(units));

@@ -1,17 +1,24 @@
 //! Stripes that a core places, stripes that have landed, and those whose programs were stopped.
 
-ghost use Rattle.std.specs.Prelude.{ℕ, true, false, ◌≡◌, ◌^◌, ◌<◌, ◌+◌, ◌-◌, ◌≤◌, ◌==◌, if◌then◌else◌, List, length, min, Some, slice_get, slice_set};
+ghost use Rattle.std.specs.Prelude.{ℕ, true, false, ◌≡◌, ◌≢◌, ◌^◌, ◌<◌, ◌+◌, ◌-◌, ◌≤◌, ◌==◌, if◌then◌else◌, List, length, min, Some, slice_get, slice_set, max};
 ghost use Rattle.pblk_model.specs.Frames.{Region};
 ghost use Rattle.pblk_model.specs.Image.{Image};
 ghost use Rattle.pblk_world.specs.Answering.{MayLand, MayOfferAgain};
 ghost use Rattle.pblk_world.specs.Events.{Again, Place, Landed};
 ghost use Rattle.pblk_world.specs.Placing.{MayPlace};
-ghost use Rattle.pblk_world.specs.World.{World, log_of};
+ghost use Rattle.pblk_world.specs.World.{World, Logs, log_of};
+ghost use Rattle.l2p_map.specs.declared.slot.Slot.TheVariants.{Media};
+ghost use Rattle.line_table.specs.Rows.{IsRow};
+ghost use Rattle.line_table.specs.declared.row.Row.{Row};
+ghost use Rattle.line_table.specs.declared.row.LineState.TheVariants as states;
+ghost use Rattle.std.specs.FinMap as fin;
 ghost use Rattle.write_window.specs.Window as view;
 ghost use Rattle.world_laws.specs.LegalMounts.{IsLegalMount};
 ghost use Rattle.core_laws.specs.Stepping.{after};
 ghost use Rattle.stripe_placer.specs.Placing.{program, next_stripe};
 ghost use Rattle.stripe_placer.specs.Placing.UnitRow.{Idle, Stopped};
+ghost use Rattle.pblk_core.specs.Collecting.{Collects, CollectsAfter, HasEachLine, IsCollecting};
+ghost use Rattle.pblk_core.specs.Copies.{is_copying, victim_asks};
 ghost use Rattle.pblk_core.specs.Landing.{AreKeptBeside, IsIdleOn, IsOfferedOn, IsUnderWayOn, WasStopped, all_landed};
 ghost use Rattle.pblk_core.specs.Named.{named, pad_of};
 ghost use Rattle.pblk_core.specs.Mounts.{InItsMount, StandsAfter};
@@ -35,17 +42,23 @@ impl Core {
     /// then the stripe as it was placed, and says that it was placed before (this project's rule
     /// "Stopped stripe" in docs/TARGET.md).
     pub fn place(&mut self, into: &mut Stripe)
-        requires standing { IsStanding self.old }
+        requires collecting { IsCollecting self.old }
         requires named { named self.old ≡ works.Program }
         requires shape { into.old.shape ≡ self.old.layout }
         ensures legal { into.new.again ≡ false
             → InItsMount self.old (λ i w. MayPlace i (log_of w) into.new.stripe) }
         ensures stands { into.new.again ≡ false
             → StandsAfter self.old (Place into.new.stripe) self.new }
+        ensures collects { into.new.again ≡ false
+            → CollectsAfter self.old (Place into.new.stripe) self.new }
         ensures again { into.new.again ≡ true → InItsMount self.old (λ i w.
             WasStopped (log_of w 0) into.new.stripe × Stands i (log_of w) self.new) }
+        ensures collects_again { into.new.again ≡ true → (i : Image) (logs : Logs)
+            → Collects i logs self.old → Collects i logs self.new }
         ensures window { self.new.window ≡ self.old.window }
-        ensures pad { pad_of self.new ≡ pad_of self.old }
+        ensures copying { is_copying self.new ≡ is_copying self.old }
+        ensures pad { pad_of self.old ≤ pad_of self.new }
+        ensures pad_most { pad_of self.new ≤ max (pad_of self.old) (victim_asks self.new) }
         ensures under_way { IsUnderWayOn self.new into.new.stripe.unit }
         ensures rows { AreKeptBeside into.new.stripe.unit self.old self.new }
         ensures shape { into.new.shape ≡ into.old.shape }
@@ -60,6 +73,7 @@ impl Core {
             self.place_again(&of, into);
         } else {
             self.place_new(&of, into);
+            self.choose();
         }
     }
 
@@ -79,6 +93,8 @@ impl Core {
         ensures shape { into.new.shape ≡ into.old.shape }
         ensures turn { InItsMount self.old (λ i w.
             into.new.turn ≡ answer_count (log_of w 0) into.new.stripe.unit) }
+        ensures map { self.new.map ≡ self.old.map }
+        ensures collection { self.new.collection ≡ self.old.collection }
     {
         self.placer.placed(of);
         let turn = self.answers[of.unit as usize];
@@ -122,6 +138,8 @@ impl Core {
         ensures shape { into.new.shape ≡ into.old.shape }
         ensures turn { InItsMount self.old (λ i w.
             into.new.turn ≡ answer_count (log_of w 0) into.new.stripe.unit) }
+        ensures map { self.new.map ≡ self.old.map }
+        ensures collection { self.new.collection ≡ self.old.collection }
     {
         let turn = self.answers[of.unit as usize];
         into.begin(of.line, of.unit, of.block, true, turn);
@@ -142,6 +160,30 @@ impl Core {
     /// Notes that all blocks of a placed stripe have landed. The stripe hasn't been answered
     /// before.
     pub fn landed(&mut self, stripe: &Stripe)
+        requires collecting { IsCollecting self.old }
+        requires under_way { IsUnderWayOn self.old stripe.now.stripe.unit }
+        ensures stands { (i : Image) (w : World) (event : ℕ) (knows : List ℕ) → IsLegalMount i w
+            → Stands i (log_of w) self.old → MayLand (log_of w) stripe.now.stripe.unit event
+            → Stands i (after (log_of w) (Landed stripe.now.stripe.unit event) knows) self.new }
+        ensures collects { (i : Image) (w : World) (event : ℕ) (knows : List ℕ) → IsLegalMount i w
+            → Stands i (log_of w) self.old → Collects i (log_of w) self.old
+            → MayLand (log_of w) stripe.now.stripe.unit event
+            → Collects i (after (log_of w) (Landed stripe.now.stripe.unit event) knows) self.new }
+        ensures own { (r : Region) → view.AreOf r self.old.window.entries
+            → view.AreOf r self.new.window.entries }
+        ensures count { length self.new.window.entries ≡ length self.old.window.entries }
+        ensures copying { is_copying self.new ≡ is_copying self.old }
+        ensures pad { pad_of self.old ≤ pad_of self.new }
+        ensures pad_most { pad_of self.new ≤ max (pad_of self.old) (victim_asks self.new) }
+        ensures idle { IsIdleOn self.new stripe.now.stripe.unit }
+        ensures rows { AreKeptBeside stripe.now.stripe.unit self.old self.new }
+    {
+        self.note_landed(stripe);
+        self.choose();
+    }
+
+    // Notes that in the tables.
+    fn note_landed(&mut self, stripe: &Stripe)
         requires standing { IsStanding self.old }
         requires under_way { IsUnderWayOn self.old stripe.now.stripe.unit }
         ensures stands { (i : Image) (w : World) (event : ℕ) (knows : List ℕ) → IsLegalMount i w
@@ -153,6 +195,12 @@ impl Core {
         ensures pad { pad_of self.new ≡ pad_of self.old }
         ensures idle { IsIdleOn self.new stripe.now.stripe.unit }
         ensures rows { AreKeptBeside stripe.now.stripe.unit self.old self.new }
+        ensures layout { self.new.layout ≡ self.old.layout }
+        ensures each { HasEachLine self.new }
+        ensures map { (lba line at position : ℕ) (row : Row) → IsRow self.old.lines line row
+            → row.state ≢ states.Open → fin.get self.new.map lba ≡ Some (Media line at position)
+            → fin.get self.old.map lba ≡ Some (Media line at position) }
+        ensures collection { self.new.collection ≡ self.old.collection }
     {
         let unit = stripe.unit();
         let of = match self.placer.under_way(unit) {
@@ -191,6 +239,29 @@ impl Core {
     /// before. It stays placed, and is offered again before all others (this project's rule
     /// "Stopped stripe" in docs/TARGET.md).
     pub fn stopped(&mut self, stripe: &Stripe)
+        requires collecting { IsCollecting self.old }
+        requires under_way { IsUnderWayOn self.old stripe.now.stripe.unit }
+        ensures stands { (i : Image) (w : World) (event : ℕ) (knows : List ℕ) → IsLegalMount i w
+            → Stands i (log_of w) self.old
+            → MayOfferAgain (log_of w) stripe.now.stripe.unit event
+            → Stands i (after (log_of w) (Again stripe.now.stripe.unit event) knows) self.new }
+        ensures collects { (i : Image) (w : World) (event : ℕ) (knows : List ℕ) → IsLegalMount i w
+            → Stands i (log_of w) self.old → Collects i (log_of w) self.old
+            → MayOfferAgain (log_of w) stripe.now.stripe.unit event
+            → Collects i (after (log_of w) (Again stripe.now.stripe.unit event) knows) self.new }
+        ensures offered { IsOfferedOn self.new stripe.now.stripe.unit }
+        ensures window { self.new.window ≡ self.old.window }
+        ensures copying { is_copying self.new ≡ is_copying self.old }
+        ensures pad { pad_of self.old ≤ pad_of self.new }
+        ensures pad_most { pad_of self.new ≤ max (pad_of self.old) (victim_asks self.new) }
+        ensures rows { AreKeptBeside stripe.now.stripe.unit self.old self.new }
+    {
+        self.note_stopped(stripe);
+        self.choose();
+    }
+
+    // Notes that in the tables.
+    fn note_stopped(&mut self, stripe: &Stripe)
         requires standing { IsStanding self.old }
         requires under_way { IsUnderWayOn self.old stripe.now.stripe.unit }
         ensures stands { (i : Image) (w : World) (event : ℕ) (knows : List ℕ) → IsLegalMount i w
@@ -201,6 +272,10 @@ impl Core {
         ensures window { self.new.window ≡ self.old.window }
         ensures pad { pad_of self.new ≡ pad_of self.old }
         ensures rows { AreKeptBeside stripe.now.stripe.unit self.old self.new }
+        ensures layout { self.new.layout ≡ self.old.layout }
+        ensures each { HasEachLine self.new }
+        ensures map { self.new.map ≡ self.old.map }
+        ensures collection { self.new.collection ≡ self.old.collection }
     {
         let of = match self.placer.under_way(stripe.unit()) {
             Some(of) => of,

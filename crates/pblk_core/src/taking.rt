@@ -1,6 +1,7 @@
 //! Entries that a core takes.
 
-ghost use Rattle.std.specs.Prelude.{ℕ, ◌≡◌, ◌+◌, ◌<◌, ◌^◌, ◌++◌, [], ◌∷◌, length, Some, None};
+ghost use Rattle.std.specs.Prelude.{ℕ, ◌≡◌, ◌+◌, ◌%◌, ◌<◌, ◌≤◌, ◌^◌, ◌++◌, true, false, [], ◌∷◌, length, slice_set, Some, None, max};
+ghost use Rattle.std.specs.List.{All, Contains};
 ghost use Rattle.line_table.specs.declared.row.Row.{Row};
 ghost use Rattle.line_table.specs.Rows.{IsRow};
 ghost use Rattle.core_laws.specs.ChangedTables.{lose_in};
@@ -8,21 +9,26 @@ ghost use Rattle.pblk_model.specs.Chunk.{IsBlock};
 ghost use Rattle.pblk_world.specs.Events.{Take};
 ghost use Rattle.pblk_world.specs.Taking.{MayTake};
 ghost use Rattle.pblk_world.specs.World.{log_of};
-ghost use Rattle.sector_pool.specs.declared.entry.Class.TheVariants.{User};
+ghost use Rattle.sector_pool.specs.declared.entry.Class.TheVariants.{User, Copy};
+ghost use Rattle.l2p_map.specs.declared.slot.Slot.TheVariants.{Cached, Media};
+ghost use Rattle.std.specs.FinMap as fin;
+ghost use Rattle.pblk_core.specs.Collecting.{CollectsAfter, HasPassed, IsCollecting};
+ghost use Rattle.pblk_core.specs.Copies.{is_copying, victim_asks};
+ghost use Rattle.stripe_placer.specs.Placing.{held, waits};
 ghost use Rattle.write_window.specs.Window as view;
 ghost use Rattle.write_window.specs.declared.held.Progress.TheVariants.{Waiting};
 ghost use Rattle.pblk_core.specs.Holds.{has_landed_in, line_of_slot, rows_with_taker};
 ghost use Rattle.pblk_core.specs.Named.{pad_of};
 ghost use Rattle.pblk_core.specs.Mounts.{InItsMount, StandsAfter};
 ghost use Rattle.pblk_core.specs.Stands.{IsStanding};
-ghost use Rattle.pblk_core.specs.Taken.{entry_of, mark_of};
+ghost use Rattle.pblk_core.specs.Taken.{HasItsSector, IsClassed, entry_of, is_latest_in, is_source, mark_of, users_in};
 
 use crate::hold::{Hold, Holds};
 use crate::target_core::Core;
 use l2p_map::Slot;
 use line_table::Lines;
 use pblk_model::Mark;
-use sector_pool::Entry;
+use sector_pool::{Class, Entry, Source};
 use write_window::Window;
 
 // Notes that the entry at position `by` takes over from what was the latest of its sector. The line
@@ -78,29 +84,127 @@ fn has_landed(slot: &Slot, window: &Window) -> bool
 }
 
 impl Core {
-    /// Takes an entry of a user, which is the latest of its sector from then on. Its position is
-    /// the next, and below 2^62; its sector is below the capacity; and the window has room for it.
+    /// Takes an entry. Its position is the next, and below 2^62; its sector is below the capacity;
+    /// and the window has room for it. A user's entry has no source. A copy names the block that
+    /// was copied, which isn't in the buffer.
+    ///
+    /// A user's entry is the latest of its sector from then on. So is a copy where the map still
+    /// names its source; else it is written with the mark Void, and the map stays as it is (this
+    /// project's rule "Newest entry wins" in docs/TARGET.md). After a copy none is under way.
     pub fn take(&mut self, entry: Entry)
+        requires collecting { IsCollecting self.old }
+        requires next { entry.position ≡ view.taken self.old.window }
+        requires position { entry.position < 2 ^ 62 }
+        requires room { length self.old.window.entries < self.old.window.size }
+        requires class { IsClassed self.old.map entry entry.class entry.source }
+        requires lba { entry.lba < self.old.layout.capacity }
+        ensures stands { let mark = mark_of self.old.map entry
+            in StandsAfter self.old (Take (entry_of entry) mark) self.new }
+        ensures collects { let mark = mark_of self.old.map entry
+            in CollectsAfter self.old (Take (entry_of entry) mark) self.new }
+        ensures legal { InItsMount self.old (λ i w. let mark = mark_of self.old.map entry
+            in IsBlock i.shape (record { sector = entry.frame.bytes; mark = mark })
+            → HasItsSector i (log_of w) (entry_of entry) (entry_of entry).source
+            → MayTake i (log_of w) (entry_of entry) mark) }
+        ensures pushed { self.new.window ≡ record self.old.window {
+          entries = self.old.window.entries
+              ++ record { entry = entry; progress = Waiting } ∷ [];
+        } }
+        ensures copying { entry.class ≡ Copy → is_copying self.new ≡ false }
+        ensures copying_still { entry.class ≡ User
+            → is_copying self.new ≡ is_copying self.old }
+        ensures pad { pad_of self.old ≤ pad_of self.new }
+        ensures pad_most { pad_of self.new ≤ max (pad_of self.old) (victim_asks self.new) }
+        ensures rows { self.new.placer.units ≡ self.old.placer.units }
+    {
+        let class = entry.class;
+        self.enter(entry);
+        self.end_copy(class);
+        self.choose();
+    }
+
+    // Takes an entry into the tables.
+    fn enter(&mut self, entry: Entry)
         requires standing { IsStanding self.old }
         requires next { entry.position ≡ view.taken self.old.window }
         requires position { entry.position < 2 ^ 62 }
         requires room { length self.old.window.entries < self.old.window.size }
-        requires user { (entry.class ≡ User) × (entry.source ≡ None) }
+        requires class { IsClassed self.old.map entry entry.class entry.source }
         requires lba { entry.lba < self.old.layout.capacity }
-        ensures stands { StandsAfter self.old (Take (entry_of entry) (mark_of entry)) self.new }
-        ensures legal { InItsMount self.old (λ i w.
-            IsBlock i.shape (record { sector = entry.frame.bytes; mark = mark_of entry })
-            → MayTake i (log_of w) (entry_of entry) (mark_of entry)) }
+        ensures legal { InItsMount self.old (λ i w. let mark = mark_of self.old.map entry
+            in IsBlock i.shape (record { sector = entry.frame.bytes; mark = mark })
+            → HasItsSector i (log_of w) (entry_of entry) (entry_of entry).source
+            → MayTake i (log_of w) (entry_of entry) mark) }
+        ensures stands { let mark = mark_of self.old.map entry
+            in StandsAfter self.old (Take (entry_of entry) mark) self.new }
         ensures pushed { self.new.window ≡ record self.old.window {
           entries = self.old.window.entries
               ++ record { entry = entry; progress = Waiting } ∷ [];
         } }
         ensures pad { pad_of self.new ≡ pad_of self.old }
         ensures rows { self.new.placer.units ≡ self.old.placer.units }
+        ensures collection { self.new.collection ≡ self.old.collection }
+        ensures passed { HasPassed self.old → HasPassed self.new }
+    {
+        if self.is_latest(&entry) {
+            self.take_latest(entry);
+        } else {
+            self.take_stale(entry);
+        }
+    }
+
+    // Notes that an entry of this class was taken: after a copy none is under way.
+    fn end_copy(&mut self, class: Class)
+        ensures copy { class ≡ Copy → is_copying self.new ≡ false }
+        ensures user { class ≡ User → is_copying self.new ≡ is_copying self.old }
+        ensures collection { self.new.collection ≡ record self.old.collection {
+          under_way = self.new.collection.under_way;
+        } }
+        ensures unchanged { self.new ≡ record self.old { collection = self.new.collection } }
+    {
+        if let Class::Copy = class {
+            self.collection.under_way = false;
+        }
+    }
+
+    // Whether an entry becomes the latest of its sector.
+    fn is_latest(&self, entry: &Entry) -> bool
+        requires lba { entry.now.lba < fin.len self.now.map }
+        ensures { result ≡ is_latest_in self.now.map entry.now }
+    {
+        match &entry.source {
+            None => true,
+            Some(source) => is_source(&self.map.get(entry.lba), source),
+        }
+    }
+
+    // Takes an entry that becomes the latest of its sector into the tables.
+    fn take_latest(&mut self, entry: Entry)
+        requires standing { IsStanding self.old }
+        requires next { entry.position ≡ view.taken self.old.window }
+        requires position { entry.position < 2 ^ 62 }
+        requires room { length self.old.window.entries < self.old.window.size }
+        requires class { IsClassed self.old.map entry entry.class entry.source }
+        requires lba { entry.lba < self.old.layout.capacity }
+        requires latest { is_latest_in self.old.map entry ≡ true }
+        ensures legal { InItsMount self.old (λ i w. let mark = mark_of self.old.map entry
+            in IsBlock i.shape (record { sector = entry.frame.bytes; mark = mark })
+            → HasItsSector i (log_of w) (entry_of entry) (entry_of entry).source
+            → MayTake i (log_of w) (entry_of entry) mark) }
+        ensures stands { let mark = mark_of self.old.map entry
+            in StandsAfter self.old (Take (entry_of entry) mark) self.new }
+        ensures pushed { self.new.window ≡ record self.old.window {
+          entries = self.old.window.entries
+              ++ record { entry = entry; progress = Waiting } ∷ [];
+        } }
+        ensures pad { pad_of self.new ≡ pad_of self.old }
+        ensures rows { self.new.placer.units ≡ self.old.placer.units }
+        ensures map { self.new.map ≡ fin.insert self.old.map entry.lba (Cached entry.position) }
+        ensures collection { self.new.collection ≡ self.old.collection }
     {
         let position = entry.position;
         let lba = entry.lba;
-        self.users += 1;
+        self.users += users_in(&entry.class);
         supersede(
             self.map.get(lba),
             &self.window,
@@ -109,15 +213,94 @@ impl Core {
             position,
         );
         self.map.set(lba, Slot::Cached(position));
+        self.keep(entry, Mark { lba, position });
+    }
+
+    // Takes a copy whose source has become stale into the tables.
+    fn take_stale(&mut self, entry: Entry)
+        requires standing { IsStanding self.old }
+        requires next { entry.position ≡ view.taken self.old.window }
+        requires position { entry.position < 2 ^ 62 }
+        requires room { length self.old.window.entries < self.old.window.size }
+        requires class { IsClassed self.old.map entry entry.class entry.source }
+        requires lba { entry.lba < self.old.layout.capacity }
+        requires stale { is_latest_in self.old.map entry ≡ false }
+        ensures legal { InItsMount self.old (λ i w. let mark = mark_of self.old.map entry
+            in IsBlock i.shape (record { sector = entry.frame.bytes; mark = mark })
+            → MayTake i (log_of w) (entry_of entry) mark) }
+        ensures stands { let mark = mark_of self.old.map entry
+            in StandsAfter self.old (Take (entry_of entry) mark) self.new }
+        ensures pushed { self.new.window ≡ record self.old.window {
+          entries = self.old.window.entries
+              ++ record { entry = entry; progress = Waiting } ∷ [];
+        } }
+        ensures pad { pad_of self.new ≡ pad_of self.old }
+        ensures rows { self.new.placer.units ≡ self.old.placer.units }
+        ensures map { self.new.map ≡ self.old.map }
+        ensures collection { self.new.collection ≡ self.old.collection }
+    {
+        let mark = Mark {
+            lba: Mark::VOID_LBA,
+            position: entry.position,
+        };
+        self.keep(entry, mark);
+    }
+
+    // Keeps an entry in the window, with the mark with which it is written. It waits.
+    fn keep(&mut self, entry: Entry, mark: Mark)
+        requires next { entry.position ≡ view.taken self.old.window }
+        requires position { entry.position < 2 ^ 63 }
+        requires room { length self.old.window.entries < self.old.window.size }
+        requires holds { 0 < length self.old.holds.rows.items }
+        requires waits_room { length (held self.old.placer) < self.old.placer.shape.ring }
+        requires another { ¬ Contains (held self.old.placer) entry.position }
+        requires rises { All (λ q. q < entry.position) self.old.placer.entries.fresh }
+        ensures window { self.new.window ≡ record self.old.window {
+          entries = self.old.window.entries
+              ++ record { entry = entry; progress = Waiting } ∷ [];
+        } }
+        ensures placer { self.new.placer ≡ waits self.old.placer entry.position false }
+        ensures holds { let rows = self.old.holds.rows.items in self.new.holds.rows.items
+            ≡ slice_set rows (entry.position % length rows)
+            (record { mark = mark; line = None; taker = None }) }
+        ensures unchanged { self.new ≡ record self.old {
+          window = self.new.window;
+          placer = self.new.placer;
+          holds = self.new.holds;
+        } }
+    {
+        let position = entry.position;
         self.holds.set(
             position,
             Hold {
-                mark: Mark { lba, position },
+                mark,
                 line: None,
                 taker: None,
             },
         );
         self.window.push(entry);
         self.placer.wait(position, false);
+    }
+}
+
+// Whether a slot is just this block.
+fn is_source(slot: &Slot, source: &Source) -> bool
+    ensures { result ≡ is_source (Some slot.now) source.now }
+{
+    match *slot {
+        Slot::Media { line, at, position } => {
+            line == source.line && at == source.at && position == source.position
+        }
+        _ => false,
+    }
+}
+
+// How many users' writes an entry of this class is.
+fn users_in(class: &Class) -> u64
+    ensures { result ≡ users_in class.now }
+{
+    match class {
+        Class::User => 1,
+        Class::Copy => 0,
     }
 }

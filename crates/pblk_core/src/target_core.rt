@@ -23,11 +23,14 @@ ghost use Rattle.pblk_layout.specs.Live.{units_in};
 ghost use Rattle.pblk_model.specs.LineOrder.{line_order};
 ghost use Rattle.pblk_model.specs.Frames.{count_out};
 ghost use Rattle.core_laws.specs.WindowOf.{users_below};
+ghost use Rattle.pblk_core.specs.Collecting.{Collects};
+ghost use Rattle.pblk_core.specs.Copies.{is_copying};
 ghost use Rattle.pblk_core.specs.Made.{IsMadeOn};
 ghost use Rattle.pblk_core.specs.Landing.{IsResting};
 ghost use Rattle.pblk_core.specs.Mounts.{InItsMount};
 ghost use Rattle.pblk_core.specs.Stands.{Stands, IsStanding, answer_count};
 
+use crate::collecting::Collection;
 use crate::hold::Holds;
 use crate::line_notes::LineNotes;
 use crate::open_lines::OpenLines;
@@ -37,11 +40,14 @@ use l2p_map::{Map, Slot};
 use line_table::Lines;
 use pblk_layout::{Layout, LineUnits};
 use pblk_meta::StartRecord;
-use pblk_model::{Found, Front, Shape};
+use pblk_model::{Found, Front, NUMBER_LIMIT, Shape};
 use sector_pool::{Frame, Pool};
 use std::alloc::{AllocError, Global};
 use stripe_placer::Placer;
 use write_window::Window;
+
+/// Where all positions end, but for a mount that began beyond it.
+pub(crate) const LAST_POSITION: u64 = NUMBER_LIMIT - 2;
 
 /// The tables of a target, and the steps that it makes over them (Bjørling, González, Bonnet, FAST
 /// 2017, write buffering and mapping; the rules of lines, placing and space are this project's).
@@ -76,6 +82,8 @@ pub struct Core {
     pub(crate) users: u64,
     // how many stripes of each unit were answered, or 2^64 - 1 where that is less
     pub(crate) answers: Vec<u64>,
+    // the victim at work, and how far its sectors were copied
+    pub(crate) collection: Collection,
 }
 
 impl Core {
@@ -92,10 +100,18 @@ impl Core {
             → IsFoundOf (found_image i (after (log_of w) (Begin (beginning_of found)) knows)) found
             → NoneOpen (found_image i (after (log_of w) (Begin (beginning_of found)) knows))
             → Stands i (after (log_of w) (Begin (beginning_of found)) knows) core) }
+        ensures collects { IfOk result (λ core. (i : Image) (w : World) (knows : List ℕ)
+            → i.shape ≡ shape.now → IsLegalMount i w → log_of w 0 ≡ []
+            → IsFoundOf (found_image i (after (log_of w) (Begin (beginning_of found)) knows)) found
+            → NoneOpen (found_image i (after (log_of w) (Begin (beginning_of found)) knows))
+            → Collects i (after (log_of w) (Begin (beginning_of found)) knows) core) }
+        ensures idle { IfOk result (λ core. is_copying core ≡ false) }
         ensures pad { IfOk result (λ core. pad_of core ≡ 0) }
         ensures resting { IfOk result IsResting }
     {
-        Core::made(alloc, shape, &found)
+        let mut core = Core::made(alloc, shape, &found)?;
+        core.choose();
+        Ok(core)
     }
 
     // A core that holds what was found, and nothing more.
@@ -115,6 +131,7 @@ impl Core {
         let resets = Resets::new(alloc, shape, states, found.strays.as_slice())?;
         let notes = LineNotes::new(alloc, found.lines.as_slice(), found.head, found.front)?;
         let answers = no_answers(alloc, shape.units())?;
+        let collection = Collection::new(alloc, shape.chunks)?;
         let seq = next_seq(found.lines.as_slice(), found.head);
         let start = StartRecord {
             line: 0,
@@ -143,6 +160,7 @@ impl Core {
             under_way: 0,
             users: 0,
             answers,
+            collection,
         })
     }
 
@@ -151,6 +169,9 @@ impl Core {
     pub fn ask_pad(&mut self, to: u64)
         ensures stands { (i : Image) (logs : Logs)
             → Stands i logs self.old → Stands i logs self.new }
+        ensures collects { (i : Image) (logs : Logs)
+            → Collects i logs self.old → Collects i logs self.new }
+        ensures copying { is_copying self.new ≡ is_copying self.old }
         ensures pad { pad_of self.new ≡ max (pad_of self.old) to }
         ensures rows { self.new.placer.units ≡ self.old.placer.units }
         ensures window { self.new.window ≡ self.old.window }
@@ -231,6 +252,9 @@ impl Core {
         ensures none { let old = self.old.window
             in IsNone result ↔ (view.is_readable_at old old.freed ≡ false) }
         ensures stands { InItsMount self.old (λ i w. Stands i (log_of w) self.new) }
+        ensures collects { (i : Image) (logs : Logs)
+            → Collects i logs self.old → Collects i logs self.new }
+        ensures copying { is_copying self.new ≡ is_copying self.old }
         ensures frame { let old = self.old.window
             in IfSome result (λ f. view.frame_at old old.freed ≡ Some f) }
         ensures freed { OnSome result (self.new.window.freed ≡ self.old.window.freed + 1) }
@@ -267,6 +291,7 @@ impl Core {
             under_way: _,
             users: _,
             answers: _,
+            collection: _,
         } = self;
         window.close(pool);
     }

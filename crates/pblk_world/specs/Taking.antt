@@ -1,6 +1,6 @@
 -- When an entry may be taken, and with which mark: which source of a copy is still the latest of
 -- its sector.
-use Rattle.std.specs.Prelude.{ℕ, ◌+◌, ◌^◌, ◌<◌, ◌≡◌, ◌⊎◌, true, slice_get, Option, Some, None}
+use Rattle.std.specs.Prelude.{ℕ, ◌+◌, ◌^◌, ◌<◌, ◌≡◌, ◌⊎◌, true, ⊤, slice_get, Option, Some, None}
 use Rattle.std.specs.List.{Contains}
 use Rattle.pblk_model.specs.declared.chunk.Mark.{Mark}
 use Rattle.pblk_model.specs.Chunk.{Block, IsBlock}
@@ -43,12 +43,18 @@ abbrev pub IsPlaceOfLatest : Image → Logs → ℕ → Source → Option Taken 
 IsPlaceOfLatest i logs lba source None = IsPlaceOfWinner i logs lba source
 IsPlaceOfLatest i logs lba source (Some t) = IsPlaceOf i logs t source
 
+-- The block bears the sector, at the source's position. Where the source is an entry's place its
+-- mark says so. The winner is a record of that very block.
+abbrev pub BearsIt : ℕ → Source → Block → Option Taken → Type 0
+BearsIt lba source block None = ⊤
+BearsIt lba source block (Some t) = block.mark ≡ sector_mark lba source.position
+
 -- The source of a copy is the latest of its sector, and this is the block that stands there by the
 -- named prefix.
 pub record IsLatest (i : Image) (logs : Logs) (lba : ℕ) (source : Source) (block : Block) : Type 0 where
   pub place : IsPlaceOfLatest i logs lba source (last_take (logs 0) lba)
   pub there : block_at (media i logs) source.line source.at ≡ Some block
-  pub bears : block.mark ≡ sector_mark lba source.position
+  pub bears : BearsIt lba source block (last_take (logs 0) lba)
 
 -- A copy becomes the latest of its sector exactly where its source is; else it is Void.
 pub record Copies (i : Image) (logs : Logs) (entry : Entry) (mark : Mark) (source : Source) : Type 0 where

@@ -128,3 +128,17 @@ fn rounds_over_all_sectors_free_lines(rt: HostRuntime) -> Result<(), Fail> {
     }
     Ok(())
 }
+
+// Drives without room, since most of their chunks are Offline: all are; two lines are left, whose
+// addresses are kept for collection; three lines are left, of which one can be filled. No line is
+// older than a start record, so none is collected.
+const WORN: &str = "
+images=drive small 8@4128 8@4160 8@4192 8@4224 8@4256 8@4288 8@4320 8@4352 8@4384 8@4416 8@4448 8@4480 8@4512 8@4544 8@4576 8@4608 ; script=thread/w 0 1 1/f/ ; text=worn 0 0 1 0/f 0 1 0/kept 0/
+images=drive small 8@4192 8@4224 8@4256 8@4288 8@4320 8@4352 8@4448 8@4480 8@4512 8@4544 8@4576 8@4608 ; script=thread/w 5 1 3/r 5 1/f/ ; text=worn 0 0 1 0/r 0 1 0 0/f 0 2 0/kept 0/
+images=drive small 8@4224 8@4256 8@4288 8@4320 8@4352 8@4480 8@4512 8@4544 8@4576 8@4608 ; script=thread/w 0 16 1/w 0 10 2/w 5 7 3/r 0 2/f/w 9 3 4/r 8 4/w 0 9 5/ ; text=h 0 0 0 2/h 1 0 1 2/h 2 0 2 2/h 3 0 3 2/h 4 0 4 2/h 5 0 5 2/h 6 0 6 2/h 7 0 7 2/h 8 0 8 2/h 9 0 9 2/h 10 0 9 4/h 11 0 10 4/h 12 0 11 4/worn 0 0 16 10/worn 0 2 17 16/r 0 3 10 2 2/f 0 4 10/r 0 6 13 2 4 4 4/worn 0 7 22 17/kept 13/ ; after=untold
+";
+
+#[test]
+fn writes_without_room_are_told(rt: HostRuntime) -> Result<(), Fail> {
+    check(&rt, rt.alloc(), "call=run|image|script ; status=6", WORN)
+}

@@ -122,8 +122,8 @@ fn status_of(told: &str) -> u8 {
     if told.starts_with("e ") { 5 } else { 0 }
 }
 
-// Makes a call: its status, and what it writes.
-fn called<R: Wait>(
+/// Makes a call: its status, and what it writes.
+pub(crate) fn called<R: Wait>(
     rt: &R,
     alloc: Global,
     files: &mut MemoryFiles,
@@ -134,8 +134,8 @@ fn called<R: Wait>(
     Ok((status, Vec::from_slice(alloc, out.taken())?))
 }
 
-// Whether a call ends with this status, and writes this text.
-fn ends<R: Wait>(
+/// Whether a call ends with this status, and writes this text.
+pub(crate) fn ends<R: Wait>(
     rt: &R,
     alloc: Global,
     files: &mut MemoryFiles,
@@ -147,8 +147,12 @@ fn ends<R: Wait>(
     Ok(found == status && written.as_slice() == text.as_bytes())
 }
 
-// Files with this image and this script.
-fn files_of(alloc: Global, image: &[u8], script: &str) -> Result<MemoryFiles, AllocError> {
+/// Files with this image and this script.
+pub(crate) fn files_of(
+    alloc: Global,
+    image: &[u8],
+    script: &str,
+) -> Result<MemoryFiles, AllocError> {
     let mut files = MemoryFiles::new(alloc, &[])?;
     files.put("image", image)?;
     files.put("script", script.as_bytes())?;

@@ -1,14 +1,14 @@
 -- The next step of an engine that knows all logs.
-use Rattle.std.proofs.Common.{◌≡◌, ℕ, zero, suc, not, true, false, Some, List, ◌∷◌, refl, sym, subst, ap, ◌∙◌, arith}
+use Rattle.std.proofs.Common.{◌≡◌, ℕ, zero, suc, true, false, Some, List, ◌∷◌, refl, sym, subst, ap, ◌∙◌, arith}
 use Rattle.std.specs.List.{filter_map}
 use Rattle.pblk_model.specs.declared.shape.Shape.{Shape}
 use Rattle.pblk_model.specs.Image.{Image}
-use Rattle.pblk_world.specs.Events.{EngineEvent, Begin, Take, Lost, Decides, Logged}
+use Rattle.pblk_world.specs.Events.{EngineEvent, Begin, Lost, Decides, Logged}
 use Rattle.pblk_world.specs.World.{World, Logs, log_of, unit_events, unit_event_of, media}
 use Rattle.pblk_world.specs.EngineLog.{Begun, begun}
 use Rattle.pblk_world.specs.Commanding.{has_stopped}
 use Rattle.pblk_world.specs.Legal.{MayDecide, IsDecision}
-use Rattle.world_laws.specs.LegalMounts.{IsLegalMount, is_copying, is_losing}
+use Rattle.world_laws.specs.LegalMounts.{IsLegalMount, is_losing}
 use Rattle.core_laws.specs.PlainEvents.{is_plain_decision}
 use Rattle.core_laws.specs.SimpleMounts.{IsSimpleLog, IsSimpleMount}
 use Rattle.core_laws.specs.Stepping.{after}
@@ -19,11 +19,7 @@ use Rattle.lemmas.proofs.Numbers.{fun_same}
 use Rattle.pblk_world.proofs.EngineLogLemmas.{begun_stays}
 use Rattle.pblk_world.proofs.WorldLemmas.{log_elsewhere, log_here}
 
--- ---- a plain decision is neither of the two that a simple mount has not
-
-not_copying : (e : EngineEvent) → is_plain_decision e ≡ true → is_copying e ≡ false
-not_copying (Take entry mark) plain = ap not plain
-not_copying e plain = refl
+-- ---- a plain decision tells of no lost stripe
 
 not_losing : (e : EngineEvent) → is_plain_decision e ≡ true → is_losing e ≡ false
 not_losing (Lost unit event) plain = absurd cc
@@ -38,7 +34,7 @@ pub decided_next : (i : Image) (w : World) (e : EngineEvent) → IsSimpleMount i
 decided_next i w e simple may plain = record {
   mount = decided_legal i w e simple.mount may;
   engine = subst IsSimpleLog (sym (log_here (engine_step i.shape e w) w 0 refl))
-      (simple_after (log_of w 0) (engine_step i.shape e w).logged simple.engine (not_copying e plain) (not_losing e plain));
+      (simple_after (log_of w 0) (engine_step i.shape e w).logged simple.engine (not_losing e plain));
 }
 
 -- in a mount that has begun

@@ -28,4 +28,4 @@ pub mod EntryBlocks
 pub mod WinnerBlocks
 pub mod SlotBlocks
 pub mod LatestSectors
-pub mod CopySources
+pub mod CopiedBlocks

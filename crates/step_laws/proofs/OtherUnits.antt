@@ -1,6 +1,6 @@
 -- What the logs say of lines, rows, the map and the placer, with other logs of units by which the
 -- engine knows as much.
-use Rattle.std.proofs.Common.{◌≡◌, ◌⊎◌, inl, inr, ℕ, ◌+◌, ◌-◌, ◌*◌, ◌<◌, ◌≤◌, zero, suc, min, Bool, Some, None, Option, List, length, take, refl, sym, ap, ap₂, ◌∙◌, arith, take_all, length-take, if◌then◌else◌}
+use Rattle.std.proofs.Common.{◌≡◌, ◌⊎◌, inl, inr, ℕ, ◌+◌, ◌-◌, ◌*◌, ◌<◌, zero, suc, min, Bool, Some, None, Option, List, length, take, refl, sym, ap, ap₂, ◌∙◌, arith, take_all, length-take, if◌then◌else◌}
 use Rattle.std.specs.List.{find, filter, range_with_len}
 use Rattle.std.specs.Option.{option_map_or, unwrap_or}
 use Rattle.std.proofs.lemmas.Bool.{cases_order}

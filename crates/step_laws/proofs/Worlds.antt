@@ -94,7 +94,7 @@ nothing_done : (s : Shape) (us : List ModelUnit) → IsAccepted s → AreFit s u
 unfolding IsLegal
 nothing_done s us accepted fit = record {
   mount = record { accepted = accepted; fit = fit_image s us fit; legal = tt };
-  engine = record { copied = tt; lost = tt };
+  engine = record { lost = tt };
 }
 
 -- ---- an opening

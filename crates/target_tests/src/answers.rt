@@ -9,7 +9,7 @@ use pblk_model::Shape;
 use std::test::Fail;
 
 // Drives, whether the marks of their blocks are told, scripts, and what is told of them.
-static ANSWERED: [(&Shape, bool, &str, &str); 22] = [
+static ANSWERED: [(&Shape, bool, &str, &str); 20] = [
     // A sector, which the write buffer answers before and after its stripe is programmed.
     (
         &SMALL,
@@ -65,39 +65,27 @@ static ANSWERED: [(&Shape, bool, &str, &str); 22] = [
         "thread\nw 0 16 1\nw 16 16 1\nw 32 8 1\nf\nr 24 16\nw 0 1 2\nf\nr 24 16\n",
         "placed 0 16\nplaced 16 16\nplaced 32 8\nsynced 40 40\nwords 40 40 1 1 1 1 1 1 1 1 1 1 1 1 1 1 1 1\nplaced 40 1\nsynced 41 41\nwords 41 41 1 1 1 1 1 1 1 1 1 1 1 1 1 1 1 1\nclosed\nevents 23 closed 24 open 4\nevents 15 closed 24 open 4\n",
     ),
-    // Each full line keeps a live sector, so none is freed. There is room for twelve writes of 16 sectors.
+    // Each full line keeps a live sector, so none is freed. There are Free lines enough.
     (
         &SMALL,
         false,
-        "thread\nw 48 16 1\nw 16 16 1\nw 16 16 1\nw 44 16 1\nw 16 16 2\nw 40 16 2\nw 16 16 2\nw 16 16 2\nw 0 16 3\nw 16 16 3\nw 16 16 3\nw 16 16 3\nf\nr 0 16\n",
-        "placed 0 16\nplaced 16 16\nplaced 32 16\nplaced 48 16\nplaced 64 16\nplaced 80 16\nplaced 96 16\nplaced 112 16\nplaced 128 16\nplaced 144 16\nplaced 160 16\nplaced 176 16\nsynced 192 192\nwords 192 192 3 3 3 3 3 3 3 3 3 3 3 3 3 3 3 3\nclosed\nevents 37 closed 24 closed 24 closed 24 closed 24 open 20\nevents 36 closed 24 closed 24 closed 24 closed 24 open 16\n",
+        "thread\nw 48 16 1\nw 16 16 1\nw 16 16 1\nw 44 16 1\nw 16 16 2\nw 40 16 2\nw 16 16 2\nw 16 16 2\nw 0 16 3\nf\nr 16 16\n",
+        "placed 0 16\nplaced 16 16\nplaced 32 16\nplaced 48 16\nplaced 64 16\nplaced 80 16\nplaced 96 16\nplaced 112 16\nplaced 128 16\nsynced 144 144\nwords 144 144 2 2 2 2 2 2 2 2 2 2 2 2 2 2 2 2\nclosed\nevents 30 closed 24 closed 24 closed 24 open 16\nevents 29 closed 24 closed 24 closed 24 open 12\n",
     ),
+    // Each full line keeps a live sector, and the first one keeps two. Of those that keep one the
+    // oldest is collected first: the sectors 2, 3, 4 and 6 are copied, each at a position of its own.
     (
         &SMALL,
         false,
-        "thread\nw 48 16 1\nw 16 16 1\nw 16 16 1\nw 44 16 1\nw 16 16 2\nw 40 16 2\nw 16 16 2\nw 16 16 2\nw 0 16 3\nw 16 16 3\nw 16 16 3\nw 16 16 3\nw 0 16 4\nw 16 16 4\nw 32 16 4\nw 48 16 4\nf\nr 0 16\n",
-        "placed 0 16\nplaced 16 16\nplaced 32 16\nplaced 48 16\nplaced 64 16\nplaced 80 16\nplaced 96 16\nplaced 112 16\nplaced 128 16\nplaced 144 16\nplaced 160 16\nplaced 176 16\nworn 208 204\nworn 208 204\nworn 208 204\nworn 208 204\nsynced 192 192\nwords 192 192 3 3 3 3 3 3 3 3 3 3 3 3 3 3 3 3\nclosed\nevents 37 closed 24 closed 24 closed 24 closed 24 open 20\nevents 36 closed 24 closed 24 closed 24 closed 24 open 16\n",
+        "thread\nw 0 2 1\nw 40 12 100\nw 40 13 101\nw 40 13 102\nw 2 1 2\nw 40 13 103\nw 40 13 104\nw 40 13 105\nw 3 1 3\nw 40 13 106\nw 40 13 107\nw 40 13 108\nw 4 1 4\nw 40 13 109\nw 40 13 110\nw 40 13 111\nw 5 1 5\nw 40 13 112\nw 40 13 113\nw 40 13 114\nw 6 1 6\nw 40 13 115\nw 40 13 116\nw 40 13 117\nw 7 1 7\nw 40 13 118\nw 40 13 119\nw 40 13 120\nf\nr 0 16\n",
+        "placed 0 2\nplaced 2 12\nplaced 14 13\nplaced 27 13\nplaced 40 1\nplaced 41 13\nplaced 54 13\nplaced 67 13\nplaced 80 1\nplaced 81 13\nplaced 94 13\nplaced 107 13\nplaced 120 1\nplaced 121 13\nplaced 134 13\nplaced 147 13\nplaced 160 1\nplaced 161 13\nplaced 174 13\nplaced 188 13\nplaced 201 1\nplaced 202 13\nplaced 215 13\nplaced 228 13\nplaced 241 1\nplaced 243 13\nplaced 256 13\nplaced 270 13\nsynced 280 283\nwords 280 283 1 1 2 3 4 5 6 7 0 0 0 0 0 0 0 0\nclosed\nevents 49 closed 24 open 8 closed 24 closed 24\nevents 59 closed 24 open 8 closed 24 closed 24\n",
     ),
-    // A line is full to its last address: a close leaves its end record where there are Free lines enough, and
-    // programs it where collection is due.
+    // A line is full to its last address: a close leaves its end record where there are Free lines enough.
     (
         &SMALL,
         false,
         "thread\nw 0 16 1\nw 16 16 1\nw 32 8 1\n",
         "placed 0 16\nplaced 16 16\nplaced 32 8\nclosed\nevents 6 closed 24\nevents 5 open 20\n",
-    ),
-    (
-        &SMALL,
-        false,
-        "thread\nw 48 16 1\nw 16 16 1\nw 16 16 1\nw 44 16 1\nw 16 16 2\nw 40 16 2\nw 16 16 2\nw 16 16 2\nw 0 16 3\nw 16 16 3\nw 16 16 3\nw 16 16 3\nw 0 8 4\n",
-        "placed 0 16\nplaced 16 16\nplaced 32 16\nplaced 48 16\nplaced 64 16\nplaced 80 16\nplaced 96 16\nplaced 112 16\nplaced 128 16\nplaced 144 16\nplaced 160 16\nplaced 176 16\nplaced 192 8\nclosed\nevents 30 closed 24 closed 24 closed 24 closed 24 closed 24\nevents 30 closed 24 closed 24 closed 24 closed 24 closed 24\n",
-    ),
-    // Writes up to the last position that is ever granted.
-    (
-        &SMALL,
-        false,
-        "thread\nw 48 16 1\nw 16 16 1\nw 16 16 1\nw 44 16 1\nw 16 16 2\nw 40 16 2\nw 16 16 2\nw 16 16 2\nw 0 16 3\nw 16 16 3\nw 16 16 3\nw 16 16 3\nw 0 16 4\nw 0 12 4\nw 0 1 5\nw 0 16 5\nw 0 8 5\nw 0 1 6\nw 1 16 7\nw 1 5 7\nw 1 4 8\nw 1 3 8\nw 1 3 9\nw 1 3 9\nw 1 3 9\nw 1 1 10\nr 0 5\nf\nw 2 2 11\nw 2 1 12\nf\nw 2 1 13\nw 2 1 14\nf\nw 2 1 15\nf\nr 0 6\n",
-        "placed 0 16\nplaced 16 16\nplaced 32 16\nplaced 48 16\nplaced 64 16\nplaced 80 16\nplaced 96 16\nplaced 112 16\nplaced 128 16\nplaced 144 16\nplaced 160 16\nplaced 176 16\nworn 208 204\nplaced 192 12\nplaced 204 1\nworn 221 213\nplaced 205 8\nplaced 213 1\nworn 230 219\nplaced 214 5\nworn 223 222\nplaced 219 3\nplaced 222 3\nplaced 225 3\nplaced 228 3\nworn 232 231\nwords 231 231 6 9 9 9 7\nsynced 231 231\nplaced 231 2\nworn 234 233\nsynced 233 233\nplaced 233 1\nworn 235 234\nsynced 234 234\nworn 235 234\nsynced 234 234\nwords 234 234 6 9 13 11 7 7\nclosed\nevents 39 closed 24 closed 24 closed 24 closed 24 closed 24 closed 24\nevents 39 closed 24 closed 24 closed 24 closed 24 closed 24 closed 24\n",
     ),
     (
         &EIGHT_UNITS,

@@ -22,7 +22,7 @@ use Rattle.pblk_world.specs.World.{World, Logs, log_of, cut_logs, prefixes, medi
 use Rattle.pblk_world.specs.EngineLog.{Begun, begun, Opening, AsFound, Opened, life_of, Placed, placements, Taken, takes}
 use Rattle.pblk_world.specs.Fronts.{last_take}
 use Rattle.pblk_world.specs.Lines.{are_empty, found_by, found_image, is_stray, stray_lines}
-use Rattle.pblk_world.specs.Taking.{IsPlaceOf, IsPlaceOfWinner, IsPlaceOfLatest, Copies, IsMarked, MayTake}
+use Rattle.pblk_world.specs.Taking.{BearsIt, IsPlaceOf, IsPlaceOfWinner, IsPlaceOfLatest, Copies, IsMarked, MayTake}
 use Rattle.pblk_world.proofs.EngineLogLemmas.{begun_knows}
 use Rattle.pblk_world.proofs.LegalLemmas.{whole_own}
 use Rattle.pblk_world.proofs.WorldLemmas.{length_media}
@@ -219,16 +219,17 @@ module _ (i : Image) (w : World) (n : ℕ) (l : Logged) (entry : Entry) (mark : 
   base = contents (found_image i (log_of w))
 
   copied : (source : Source) (c : Copies i logs entry mark source) (o : Option Taken) → last_take (log_of then_ 0) entry.lba ≡ o
-      → IsPlaceOfLatest i logs entry.lba source o → held_by (slice_get base entry.lba) o ≡ Some entry.sector
-  copied source c None e place =
+      → IsPlaceOfLatest i logs entry.lba source o → BearsIt entry.lba source c.block o
+      → held_by (slice_get base entry.lba) o ≡ Some entry.sector
+  copied source c None e place bears =
       ap (λ (j : Image). slice_get (contents j) entry.lba) (sym found_now) ∙ of_winner source c.block entry.lba may_take.2.lba c.latest.there place
       ∙ ap (λ x. Some x) (sym c.sector)
-  copied source c (Some t) e place =
+  copied source c (Some t) e place bears =
       let test : Taken → Bool = λ u. u.mark.lba == entry.lba in
       let among : IsAmong (takes (log_of then_ 0)) t =
       last_in (IsAmong (takes (log_of then_ 0))) None (filter test (takes (log_of then_ 0))) t (λ y none. absurd (none-some y none))
       (all_filter (IsAmong (takes (log_of then_ 0))) test (takes (log_of then_ 0)) (among_all (takes (log_of then_ 0)))) e in
-      ap (λ x. Some x) (sym (of_mount source c.block entry.lba may_take.2.lba c.latest.there c.latest.bears t among place) ∙ sym c.sector)
+      ap (λ x. Some x) (sym (of_mount source c.block entry.lba may_take.2.lba c.latest.there bears t among place) ∙ sym c.sector)
 
   pub copy_follows : FollowsBy base (takes (take n (log_of w 0))) (record { entry = entry; mark = mark }) entry.source
   copy_follows = go entry.source may_take.2.marked
@@ -240,6 +241,7 @@ module _ (i : Image) (w : World) (n : ℕ) (l : Logged) (entry : Entry) (mark : 
           ∙ ap (held base (takes (log_of then_ 0))) (ap (λ (m : Mark). m.lba) c.names_sector)
           ∙ copied source c (last_take (log_of then_ 0) entry.lba) refl
           (subst (λ (log : List Logged). IsPlaceOfLatest i logs entry.lba source (last_take log entry.lba)) own c.latest.place)
+          (subst (λ (log : List Logged). BearsIt entry.lba source c.block (last_take log entry.lba)) own c.latest.bears)
       go (Some source) (inr stale) = λ low.
           let lba : mark.lba ≡ 2 ^ 64 - 2 = ap (λ (m : Mark). m.lba) stale.names_none in
           let few : i.shape.capacity < 2 ^ 40 = mount.accepted.target.capacity_number in

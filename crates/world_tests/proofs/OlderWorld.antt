@@ -63,7 +63,7 @@ unfolding zeros rows_in written_run spelling least_missing
 found_is_latest = record {
   place = record { winning = found_record; is_winner = refl; line = refl; at = refl; position = refl; not_freed = refl };
   there = refl;
-  bears = refl;
+  bears = tt;
 }
 
 takes_found : MayTake older_image (named take_found older_begun) copy_of_found (sector_mark 5 1)

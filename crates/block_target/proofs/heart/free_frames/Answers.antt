@@ -26,6 +26,7 @@ loop-frame-preserved c =
     first_frame c.loop-frame.core.window c.in-Some.frame c.loop-frame.pool.region c.loop-frame.invariant.own c.in-Some.ensures.frame in
     record {
       stands = λ i w mount st. c.pop_free.ensures.stands i w mount (c.loop-frame.invariant.stands i w mount st);
+      collects = λ i logs is. c.pop_free.ensures.collects i logs (c.loop-frame.invariant.collects i logs is);
       own = subst (λ held. view.AreOf c.give.new.self.region held) (sym entries)
           (subst (λ r. view.AreOf r (drop 1 c.loop-frame.core.window.entries)) (sym c.give.ensures.same_region) is.rest);
       out =
@@ -38,6 +39,7 @@ loop-frame-preserved c =
           c.args.core.now.window.entries = omega arith in
           it;
       region = c.give.ensures.same_region ∙ c.loop-frame.invariant.region;
+      copying = c.pop_free.ensures.copying ∙ c.loop-frame.invariant.copying;
       pad = pad ∙ c.loop-frame.invariant.pad;
       rows = c.pop_free.ensures.rows ∙ c.loop-frame.invariant.rows;
     }

@@ -1,4 +1,5 @@
-use Rattle.std.proofs.Common.{[], ◌∷◌, ◌++◌, List, refl, sym, subst, ap, ◌∙◌}
+use Rattle.std.proofs.Common.{[], ◌∷◌, ◌++◌, List, refl, sym, subst, ap, ◌∙◌, le_refl, le_trans}
+use Rattle.pblk_core.specs.Named.{pad_of}
 use Rattle.pblk_world.specs.Events.{Free}
 use Rattle.block_target.specs.Deeds.{Deed, Decides}
 use Rattle.block_target.specs.Freed.{HaveFreed}
@@ -7,7 +8,15 @@ use Rattle.block_target.proofs.HeartFrees.{all_freed, freed_beating, freed_next,
 use Rattle.block_target.proofs.mount.free_lines.Goals as goal
 
 pub loop-line-init : goal.loop-line-init
-loop-line-init c = record { lines = []; done = refl; freed = freed_none c.args.heart.now; rows = refl; pad = refl; granted = refl }
+loop-line-init c = record {
+  lines = [];
+  done = refl;
+  freed = freed_none c.args.heart.now;
+  rows = refl;
+  copying = refl;
+  pad = le_refl (pad_of c.args.heart.now.core);
+  granted = refl;
+}
 
 pub free_line-requires : goal.free_line-requires
 free_line-requires c =
@@ -23,7 +32,8 @@ loop-line-preserved c =
       freed = freed_next c.args.heart.now c.loop-line.heart was.lines was.freed c.free_line.new.self c.in-Some.line c.in-Some.ensures.may
           c.in-Some.ensures.beats;
       rows = c.free_line.ensures.rows ∙ was.rows;
-      pad = c.free_line.ensures.pad ∙ was.pad;
+      copying = c.free_line.ensures.copying ∙ was.copying;
+      pad = le_trans was.pad c.free_line.ensures.pad;
       granted = c.free_line.ensures.granted ∙ was.granted;
     }
 
@@ -32,4 +42,4 @@ returns c =
     let was = c.loop-line.invariant in
     subst (λ (h : Heart). HaveFreed c.args.heart.now c.args.deeds.now h c.loop-line.deeds) (sym c.in_default.ensures.unchanged)
     (all_freed c.args.heart.now c.loop-line.heart was.lines was.freed c.args.deeds.now c.loop-line.deeds was.done c.in_default.ensures.none
-    was.rows was.pad was.granted)
+    was.rows was.copying was.pad was.granted)

@@ -1,4 +1,5 @@
-use Rattle.std.proofs.Common.{◌≡◌, ℕ, List}
+use Rattle.std.proofs.Common.{◌≡◌, ◌≤◌, ℕ, List}
+use Rattle.pblk_core.specs.Copies.{is_copying}
 use Rattle.pblk_core.specs.Named.{pad_of}
 use Rattle.block_target.specs.Freed.{IsFreedTo, freed_deeds}
 use Rattle.block_target.specs.Heart.{OfItsMount}
@@ -11,7 +12,8 @@ invariant-loop-line l = record {
   done : l.deeds ≡ freed_deeds l.initial.deeds lines;
   freed : OfItsMount l.initial.heart (λ i w. IsFreedTo i w lines l.heart);
   rows : l.heart.core.placer.units ≡ l.initial.heart.core.placer.units;
-  pad : pad_of l.heart.core ≡ pad_of l.initial.heart.core;
+  copying : is_copying l.heart.core ≡ is_copying l.initial.heart.core;
+  pad : pad_of l.initial.heart.core ≤ pad_of l.heart.core;
   granted : l.heart.granted ≡ l.initial.heart.granted;
 }
 

@@ -15,14 +15,14 @@ loop-index-preserved g c =
     let whole : length c.loop-index.out ≡ c.args.count * c.args.size = c.loop-index.auto.out ∙ c.requires.whole in
     reading_more c.args.mount.now c.loop-index.mount c.read.new.self c.args.lba c.args.size c.args.count c.loop-index.index _ c.loop-index.out c.read.new.out
     c.loop-index.invariant c.loop-index-test.true whole
-    c.read.ensures.same c.read.ensures.pad c.read.ensures.sound (c.in_ok-read.ensures.done refl)
+    c.read.ensures.same c.read.ensures.asked c.read.ensures.sound (c.in_ok-read.ensures.done refl)
     (ap (λ n. slice_get (latest c.loop-index.mount) (c.args.lba + n)) (sym c.from.ensures) ∙ c.in_ok-read.ensures.latest refl) c.read.auto.out wide
 
 pub returns-in_err-read-clause-same : goal.returns-in_err-read-clause-same
 returns-in_err-read-clause-same g c = same_then c.args.mount.now c.loop-index.mount c.read.new.self c.loop-index.invariant.same c.read.ensures.same
 
-pub returns-in_err-read-clause-pad : goal.returns-in_err-read-clause-pad
-returns-in_err-read-clause-pad g c = c.read.ensures.pad ∙ c.loop-index.invariant.pad
+pub returns-in_err-read-clause-asked : goal.returns-in_err-read-clause-asked
+returns-in_err-read-clause-asked g c = c.read.ensures.asked ∙ c.loop-index.invariant.asked
 
 pub returns-in_err-read-clause-lost : goal.returns-in_err-read-clause-lost
 returns-in_err-read-clause-lost g c =

@@ -1,10 +1,9 @@
 use Rattle.block_target.proofs.HeartFrees.{frees_beats, frees_may, frees_none, frees_unchanged}
+use Rattle.block_target.proofs.HeartSteps.{collecting_in}
 use Rattle.block_target.proofs.heart.Heart.free_line.Goals as goal
 
 pub free_line-requires : goal.free_line-requires
-free_line-requires c =
-    let b = c.requires.beating in
-    record { standing = record { image = b.image; world = b.world; legal = b.legal; stands = b.stands.stands } }
+free_line-requires c = record { collecting = collecting_in c.args.self.now c.requires.beating }
 
 pub returns-clause-may : goal.returns-clause-may
 returns-clause-may c = frees_may c.free_line.result c.args.self.now c.free_line.ensures.may
@@ -14,7 +13,7 @@ returns-clause-none c = frees_none c.free_line.result c.args.self.now c.free_lin
 
 pub returns-clause-beats : goal.returns-clause-beats
 returns-clause-beats c = frees_beats c.free_line.result c.args.self.now c.free_line.new.self c.free_line.ensures.may c.free_line.ensures.stands
-    c.free_line.ensures.window
+    c.free_line.ensures.collects c.free_line.ensures.window
 
 pub returns-clause-unchanged : goal.returns-clause-unchanged
 returns-clause-unchanged c = frees_unchanged c.free_line.result c.args.self.now c.free_line.new.self c.free_line.ensures.unchanged

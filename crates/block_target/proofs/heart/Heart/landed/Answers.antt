@@ -2,12 +2,13 @@ use Rattle.std.proofs.Common.{List, ap, ◌∙◌, refl}
 use Rattle.std.specs.Prelude.{slice_get}
 use Rattle.pblk_world.specs.Events.{Landed}
 use Rattle.stripe_placer.specs.Placing.{UnitRow}
-use Rattle.block_target.proofs.HeartSteps.{IsRenewed, beats_later, grant_rises, standing_next}
+use Rattle.block_target.proofs.HeartSteps.{IsRenewed, beats_later, collecting_at, grant_rises, standing_next}
 use Rattle.block_target.proofs.heart.Heart.landed.Goals as goal
 
 renewed : (c : goal.After-renew) → IsRenewed c.args.self.now c.landed.new.self c.renew.new.self
 renewed c = record {
   stands = c.renew.ensures.stands;
+  collects = c.renew.ensures.collects;
   drained = c.renew.ensures.drained;
   granted = c.renew.ensures.granted;
   own = c.renew.ensures.own;
@@ -15,10 +16,10 @@ renewed c = record {
   region = c.renew.ensures.region;
 }
 
-pub landed-requires-clause-standing : goal.landed-requires-clause-standing
-landed-requires-clause-standing c =
+pub landed-requires-clause-collecting : goal.landed-requires-clause-collecting
+landed-requires-clause-collecting c =
     let may = c.requires.may in
-    record { image = may.0; world = may.1; legal = may.2; stands = may.3.stands }
+    collecting_at may.0 may.1 c.args.self.now may.2 may.3
 
 pub renew-requires-clause-standing : goal.renew-requires-clause-standing
 renew-requires-clause-standing c =
@@ -33,7 +34,8 @@ renew-requires-clause-own c = c.landed.ensures.own c.args.self.now.pool.region c
 pub returns-clause-beats : goal.returns-clause-beats
 returns-clause-beats c = λ i w event knows mount is may legal.
     beats_later i w (Landed c.args.stripe.now.stripe.unit event) knows c.args.self.now c.landed.new.self c.renew.new.self mount is legal
-    (c.landed.ensures.stands i w event knows mount is.stands may) refl c.landed.ensures.count (renewed c)
+    (c.landed.ensures.stands i w event knows mount is.stands may) (c.landed.ensures.collects i w event knows mount is.stands is.collects may) refl
+    c.landed.ensures.count (renewed c)
 
 pub returns-clause-rows : goal.returns-clause-rows
 returns-clause-rows c = λ other apart.

@@ -8,6 +8,7 @@ use Rattle.block_target.proofs.heart.Heart.open_line.Goals as goal
 renewed : (c : goal.After-renew) → IsRenewed c.args.self.now c.open_line.new.self c.renew.new.self
 renewed c = record {
   stands = c.renew.ensures.stands;
+  collects = c.renew.ensures.collects;
   drained = c.renew.ensures.drained;
   granted = c.renew.ensures.granted;
   own = c.renew.ensures.own;
@@ -28,7 +29,7 @@ pub returns-clause-beats : goal.returns-clause-beats
 returns-clause-beats c = λ i w knows mount is legal.
     let start = next_start c.args.self.now.core in
     beats_later i w (Open start.line start) knows c.args.self.now c.open_line.new.self c.renew.new.self mount is legal
-    (c.open_line.ensures.stands i w knows mount is.stands) refl
+    (c.open_line.ensures.stands i w knows mount is.stands) (c.open_line.ensures.collects i w knows mount is.stands is.collects) refl
     (ap (λ (x : window.WindowView). length x.entries) c.open_line.ensures.window) (renewed c)
 
 pub returns-clause-granted : goal.returns-clause-granted

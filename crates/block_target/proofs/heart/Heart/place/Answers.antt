@@ -1,6 +1,7 @@
 use Rattle.std.proofs.Common.{◌≡◌, List, ap, ◌∙◌, length, refl}
 use Rattle.std.specs.Prelude.{slice_get}
 use Rattle.pblk_world.specs.Events.{Place}
+use Rattle.pblk_world.specs.World.{log_of}
 use Rattle.stripe_placer.specs.Placing.{UnitRow}
 use Rattle.write_window.specs.Window as window
 use Rattle.block_target.proofs.HeartSteps.{IsRenewed, beats_later, beats_still, grant_rises, standing_placed}
@@ -9,6 +10,7 @@ use Rattle.block_target.proofs.heart.Heart.place.Goals as goal
 renewed : (c : goal.After-renew) → IsRenewed c.args.self.now c.place.new.self c.renew.new.self
 renewed c = record {
   stands = c.renew.ensures.stands;
+  collects = c.renew.ensures.collects;
   drained = c.renew.ensures.drained;
   granted = c.renew.ensures.granted;
   own = c.renew.ensures.own;
@@ -31,12 +33,15 @@ returns-clause-legal c = λ new i w mount is. c.place.ensures.legal new i w moun
 pub returns-clause-beats : goal.returns-clause-beats
 returns-clause-beats c = λ new i w knows mount is legal.
     beats_later i w (Place c.place.new.into.stripe) knows c.args.self.now c.place.new.self c.renew.new.self mount is legal
-    (c.place.ensures.stands new i w knows mount is.stands) refl (as_many c) (renewed c)
+    (c.place.ensures.stands new i w knows mount is.stands) (c.place.ensures.collects new i w knows mount is.stands is.collects) refl (as_many c) (renewed c)
 
 pub returns-clause-again : goal.returns-clause-again
 returns-clause-again c = λ again i w mount is.
-    let kept = c.place.ensures.again again i w mount is.stands in
-    (kept.0, beats_still i w c.args.self.now c.place.new.self c.renew.new.self mount is kept.1 (as_many c) (renewed c))
+    let kept = c.place.ensures.again again i w mount is.stands in (
+      kept.0,
+      beats_still i w c.args.self.now c.place.new.self c.renew.new.self mount is kept.1
+          (c.place.ensures.collects_again again i (log_of w) is.collects) (as_many c) (renewed c),
+    )
 
 pub returns-clause-rows : goal.returns-clause-rows
 returns-clause-rows c = λ other apart.

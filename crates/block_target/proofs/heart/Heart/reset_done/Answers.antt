@@ -1,12 +1,13 @@
 use Rattle.std.proofs.Common.{ap, length, refl, subst, sym}
 use Rattle.pblk_world.specs.Events.{ResetDone}
 use Rattle.write_window.specs.Window as window
-use Rattle.block_target.proofs.HeartSteps.{IsRenewed, beats_later, grant_rises, standing_next}
+use Rattle.block_target.proofs.HeartSteps.{IsRenewed, beats_later, collecting_at, grant_rises, standing_next}
 use Rattle.block_target.proofs.heart.Heart.reset_done.Goals as goal
 
 renewed : (c : goal.After-renew) → IsRenewed c.args.self.now c.reset_done.new.self c.renew.new.self
 renewed c = record {
   stands = c.renew.ensures.stands;
+  collects = c.renew.ensures.collects;
   drained = c.renew.ensures.drained;
   granted = c.renew.ensures.granted;
   own = c.renew.ensures.own;
@@ -14,10 +15,10 @@ renewed c = record {
   region = c.renew.ensures.region;
 }
 
-pub reset_done-requires-clause-standing : goal.reset_done-requires-clause-standing
-reset_done-requires-clause-standing c =
+pub reset_done-requires-clause-collecting : goal.reset_done-requires-clause-collecting
+reset_done-requires-clause-collecting c =
     let may = c.requires.may in
-    record { image = may.0; world = may.1; legal = may.2; stands = may.3.stands }
+    collecting_at may.0 may.1 c.args.self.now may.2 may.3
 
 pub renew-requires-clause-standing : goal.renew-requires-clause-standing
 renew-requires-clause-standing c =
@@ -33,7 +34,7 @@ renew-requires-clause-own c =
 pub returns-clause-beats : goal.returns-clause-beats
 returns-clause-beats c = λ i w event knows mount is may legal.
     beats_later i w (ResetDone c.args.unit event) knows c.args.self.now c.reset_done.new.self c.renew.new.self mount is legal
-    (c.reset_done.ensures.stands i w event knows mount is.stands may) refl
+    (c.reset_done.ensures.stands i w event knows mount is.stands may) (c.reset_done.ensures.collects i w event knows mount is.stands is.collects may) refl
     (ap (λ (x : window.WindowView). length x.entries) c.reset_done.ensures.window) (renewed c)
 
 pub returns-clause-granted : goal.returns-clause-granted

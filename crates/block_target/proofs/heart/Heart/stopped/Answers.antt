@@ -3,14 +3,12 @@ use Rattle.pblk_world.specs.Events.{Again}
 use Rattle.pblk_world.specs.World.{log_of}
 use Rattle.core_laws.proofs.QuietEvents.{stop_is_quiet}
 use Rattle.write_window.specs.Window as window
-use Rattle.block_target.proofs.HeartSteps.{beats_kept}
+use Rattle.block_target.proofs.HeartSteps.{beats_kept, collecting_in}
 use Rattle.block_target.proofs.KeptRoom.{freed_quiet, room_stopped}
 use Rattle.block_target.proofs.heart.Heart.stopped.Goals as goal
 
-pub stopped-requires-clause-standing : goal.stopped-requires-clause-standing
-stopped-requires-clause-standing c =
-    let b = c.requires.beating in
-    record { image = b.image; world = b.world; legal = b.legal; stands = b.stands.stands }
+pub stopped-requires-clause-collecting : goal.stopped-requires-clause-collecting
+stopped-requires-clause-collecting c = collecting_in c.args.self.now c.requires.beating
 
 pub returns-clause-beats : goal.returns-clause-beats
 returns-clause-beats c = λ i w event knows mount is may legal.
@@ -18,7 +16,7 @@ returns-clause-beats c = λ i w event knows mount is may legal.
     let same : c.stopped.new.self.window ≡ c.args.self.now.core.window = c.stopped.ensures.window in
     beats_kept i w (Again unit event) knows c.args.self.now
     (record { core = c.stopped.new.self; pool = c.args.self.now.pool; granted = c.args.self.now.granted }) mount is legal
-    (c.stopped.ensures.stands i w event knows mount is.stands may)
+    (c.stopped.ensures.stands i w event knows mount is.stands may) (c.stopped.ensures.collects i w event knows mount is.stands is.collects may)
     (freed_quiet i.shape (log_of w 0) (Again unit event) knows (stop_is_quiet (log_of w 0) unit event knows))
     (room_stopped i (log_of w) unit event knows)
     (ap (λ (x : window.WindowView). x.freed) same)

@@ -1,14 +1,49 @@
-use Rattle.std.proofs.Common.{ℕ, max, map, ap, ap₂, ◌∙◌}
-use Rattle.block_target.specs.Mount.{MountView, mount_view, with_pad}
+use Rattle.std.proofs.Common.{◌≡◌, ◌≤◌, Bool, true, false, max, map, refl, ap, sym, subst, arith}
+use Rattle.pblk_core.specs.Named.{pad_of}
+use Rattle.pblk_world.specs.AtRest.{IsCopyDue}
+use Rattle.block_target.specs.Mount.{MountView, logs_in, mount_view, world_in}
 use Rattle.block_target.proofs.AskedMounts.{mount_asked}
 use Rattle.block_target.proofs.mount.Mount.ask_pad.Goals as goal
 
 pub invariant_of-self : goal.invariant_of-self
-invariant_of-self g c = mount_asked c.self.invariant c.ask_pad.new.self c.ask_pad.ensures.beats c.ask_pad.ensures.rows
+invariant_of-self g c =
+    let m = c.self.invariant.mount in
+    let asked : c.self.inside.asked ≤ pad_of c.self.inside.heart.core = m.asked in
+    let pad : pad_of c.ask_pad.new.self.core ≡ max (pad_of c.self.inside.heart.core) c.args.to = c.ask_pad.ensures.pad in
+    let now : c.max-self-inside.result ≡ max c.self.inside.asked c.args.to = c.max-self-inside.ensures in
+    record {
+      mount = mount_asked m c.ask_pad.new.self c.max-self-inside.result c.ask_pad.ensures.beats c.ask_pad.ensures.rows c.ask_pad.ensures.copying
+          (omega arith);
+      buffer_size = c.self.invariant.buffer_size;
+    }
 
-pub returns : goal.returns
-returns g c =
-    let with_grant : ℕ → ℕ → MountView =
-    λ granted pad. mount_view c.self.inside.shape c.self.inside.drives c.self.inside.deeds (map g.U.Unit.model c.self.inside.units.items)
-    (map g.U.Unit.wear c.self.inside.units.items) granted pad in
-    ap₂ with_grant c.ask_pad.ensures.granted c.ask_pad.ensures.pad ∙ ap (λ (v : MountView). with_pad v (max v.pad c.args.to)) c.self.view_is
+pub returns-then-may_pad-clause-asked : goal.returns-then-may_pad-clause-asked
+returns-then-may_pad-clause-asked g c =
+    let now : c.max-self-inside.result ≡ max c.self.inside.asked c.args.to = c.max-self-inside.ensures in
+    let was : c.self.inside.asked ≡ c.args.self.now.asked = ap (λ (v : MountView). v.asked) c.self.view_is in
+    let m = c.self.invariant.mount in
+    let v : MountView = mount_view c.self.inside.shape c.self.inside.drives c.self.inside.deeds (map g.U.Unit.model c.self.inside.units.items)
+    (map g.U.Unit.wear c.self.inside.units.items) c.self.inside.heart.granted (pad_of c.self.inside.heart.core) c.self.inside.asked in
+    record {
+      at_least = omega arith;
+      at_most = omega arith;
+      all = λ none. omega arith;
+      kept = λ due. absurd ((c.may_pad.ensures v.image (world_in v) m.sound.legal.mount m.heart.stands m.heart.collects).0 c.if-may_pad.true
+          (subst (λ (x : MountView). IsCopyDue x.image (logs_in x)) (sym c.self.view_is) due));
+    }
+
+pub returns-else-may_pad-clause-asked : goal.returns-else-may_pad-clause-asked
+returns-else-may_pad-clause-asked g c =
+    let m = c.self.invariant.mount in
+    let v : MountView = mount_view c.self.inside.shape c.self.inside.drives c.self.inside.deeds (map g.U.Unit.model c.self.inside.units.items)
+    (map g.U.Unit.wear c.self.inside.units.items) c.self.inside.heart.granted (pad_of c.self.inside.heart.core) c.self.inside.asked in
+    record {
+      at_least = omega arith;
+      at_most = omega arith;
+      all = λ none. absurd (refused c.if-may_pad.false ((c.may_pad.ensures v.image (world_in v) m.sound.legal.mount m.heart.stands m.heart.collects).1
+          (subst (λ (x : MountView). ¬ IsCopyDue x.image (logs_in x)) (sym c.self.view_is) none)));
+      kept = λ due. refl;
+    }
+  where
+    refused : {b : Bool} → b ≡ false → b ≡ true → ⊥
+    refused calm is = absurd cc

@@ -2,4 +2,4 @@ use Rattle.block_target.proofs.SameMounts.{IsWorked}
 use Rattle.block_target.proofs.mount.Mount.claim.Given as goal
 
 abbrev pub invariant-loop : goal.invariant-loop
-invariant-loop g l = IsWorked l.fn.self l.self l.fn.self.pad
+invariant-loop g l = IsWorked l.fn.self l.self 0

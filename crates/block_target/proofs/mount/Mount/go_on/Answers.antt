@@ -4,7 +4,8 @@ use Rattle.block_target.specs.Mount.{MountView, IsSound, engine_log, logs_in}
 use Rattle.block_target.proofs.mount.Mount.go_on.Goals as goal
 
 pub returns-clause-sound : goal.returns-clause-sound
-returns-clause-sound g c = subst IsSound c.self.view_is c.self.invariant.sound
+returns-clause-sound g c = subst IsSound c.self.view_is c.self.invariant.mount.sound
 
 pub returns-clause-once : goal.returns-clause-once
-returns-clause-once g c = subst (λ (v : MountView). WasRoom v.image (logs_in v) (length (engine_log v)) v.granted) c.self.view_is c.self.invariant.heart.once
+returns-clause-once g c =
+    subst (λ (v : MountView). WasRoom v.image (logs_in v) (length (engine_log v)) v.granted) c.self.view_is c.self.invariant.mount.heart.once

@@ -2,7 +2,6 @@ use Rattle.std.proofs.Common.{◌≡◌, ◌≤◌, ◌<◌, ◌++◌, [], ◌�
 use Rattle.std.specs.Prelude.{slice_get, slice_set}
 use Rattle.pblk_model.specs.ChunkStep.{Done, Write}
 use Rattle.pblk_model.specs.UnitLog.{Answered, Stopped}
-use Rattle.pblk_world.specs.World.{log_of}
 use Rattle.step_laws.specs.Whole.{next_maker}
 use Rattle.pblk_core.specs.Filling.{Filling}
 use Rattle.pblk_core.specs.Named.{pad_of}
@@ -11,12 +10,11 @@ use Rattle.unit_port.specs.Unit.{ModelUnit, TellsDone}
 use Rattle.block_target.specs.Arm.{WasGiven, last_of}
 use Rattle.block_target.specs.Deeds.{Deed, Does, Lands, Offers, world_of}
 use Rattle.scan_recovery.specs.Lost.{IsLostAt, NoneLost}
-use Rattle.block_target.specs.Mount.{IsMount, MountView, engine_log, mount_view, work_in}
-use Rattle.block_target.proofs.FreedMounts.{longer_freed}
+use Rattle.block_target.specs.Mount.{IsMount, MountView, mount_view, work_in}
 use Rattle.block_target.proofs.GivenCommands.{was_done, was_halted}
 use Rattle.block_target.proofs.GoingOn.{Leaves, moved_on}
 use Rattle.block_target.proofs.MountLemmas.{is_named, same_from}
-use Rattle.block_target.proofs.PumpedProgram.{IsToProgram, WerePlaced, beating_landed, beating_programmed, beating_stopped, before_of, landed_done, landed_more, leaves_landed, leaves_stopped, may_be_landed, placed_more, rests_idle, rests_offered, stopped_lost, stopped_more, stripe_there, to_program, unit_within, with_answer}
+use Rattle.block_target.proofs.PumpedProgram.{IsToProgram, WerePlaced, beating_landed, beating_programmed, beating_stopped, before_of, landed_done, leaves_landed, leaves_stopped, may_be_landed, placed_more, rests_idle, rests_offered, stopped_lost, stripe_there, to_program, unit_within, with_answer}
 use Rattle.block_target.proofs.UnitLists.{unit_inside_all, unit_there, units_set, wear_kept}
 use Rattle.block_target.proofs.mount.Mount.program.Given.{Over}
 use Rattle.block_target.proofs.mount.Mount.program.Goals.{After-add, After-free_lines, After-free_lines-in-Err}
@@ -26,13 +24,13 @@ same_least : {a b : ℕ} → a ≡ b → a ≤ b
 same_least same = omega arith
 
 pub place-requires-clause-named : goal.place-requires-clause-named
-place-requires-clause-named g c = is_named c.self.invariant works.Program (ap work_in c.self.view_is ∙ c.requires)
+place-requires-clause-named g c = is_named c.self.invariant.mount works.Program (ap work_in c.self.view_is ∙ c.requires)
 
 pub index_mut-unit-requires : goal.index_mut-unit-requires
 index_mut-unit-requires g c =
-    let m = c.self.invariant in
+    let m = c.self.invariant.mount in
     let v : MountView = mount_view c.self.inside.shape c.self.inside.drives c.self.inside.deeds (map g.U.Unit.model c.self.inside.units.items)
-    (map g.U.Unit.wear c.self.inside.units.items) c.self.inside.heart.granted (pad_of c.self.inside.heart.core) in
+    (map g.U.Unit.wear c.self.inside.units.items) c.self.inside.heart.granted (pad_of c.self.inside.heart.core) c.self.inside.asked in
     let into = c.place.new.into in
     let deeds = c.add_placed.new.deeds in
     let were : WerePlaced v into deeds = record { new = c.add_placed.ensures.new; again = c.add_placed.ensures.again } in
@@ -46,9 +44,9 @@ index_mut-unit-requires g c =
 
 pub program-answer-requires : goal.program-answer-requires
 program-answer-requires g c =
-    let m = c.self.invariant in
+    let m = c.self.invariant.mount in
     let v : MountView = mount_view c.self.inside.shape c.self.inside.drives c.self.inside.deeds (map g.U.Unit.model c.self.inside.units.items)
-    (map g.U.Unit.wear c.self.inside.units.items) c.self.inside.heart.granted (pad_of c.self.inside.heart.core) in
+    (map g.U.Unit.wear c.self.inside.units.items) c.self.inside.heart.granted (pad_of c.self.inside.heart.core) c.self.inside.asked in
     let into = c.place.new.into in
     let deeds = c.add_placed.new.deeds in
     let were : WerePlaced v into deeds = record { new = c.add_placed.ensures.new; again = c.add_placed.ensures.again } in
@@ -69,10 +67,10 @@ module _ (g : Over) (c : After-add g) where
   -- the mount before
   abbrev v : MountView
   v = mount_view c.self.inside.shape c.self.inside.drives c.self.inside.deeds (map g.U.Unit.model c.self.inside.units.items)
-      (map g.U.Unit.wear c.self.inside.units.items) c.self.inside.heart.granted (pad_of c.self.inside.heart.core)
+      (map g.U.Unit.wear c.self.inside.units.items) c.self.inside.heart.granted (pad_of c.self.inside.heart.core) c.self.inside.asked
 
   m : IsMount v c.self.inside.heart c.self.inside.stripe
-  m = c.self.invariant
+  m = c.self.invariant.mount
 
   -- the stripe, and what was done once it was placed
   abbrev into : Filling
@@ -165,31 +163,24 @@ module _ (g : Over) (c : After-free_lines g) where
   leaves_ok = leaves_landed (m g d) (deeds g d) (ready g d) (was g d) (new g d) (there g d) (given g d) done c.add-in-Ok.new.self (us g d) (wear g d)
       c.landed.new.self (into g d) (placed_more (v g d) (into g d) (deeds g d) (were g d)) last (units_are g d) c.landed.ensures.beats
       (rests_idle c.self.inside.heart.core c.place.new.self.core c.landed.new.self.core (into g d).stripe.unit (m g d).resting c.place.ensures.rows
-      c.landed.ensures.rows c.landed.ensures.idle) (c.place.ensures.shape ∙ (m g d).stripe) (same_wear g d)
-      (le_trans c.place.ensures.granted c.landed.ensures.granted) (c.landed.ensures.pad ∙ c.place.ensures.pad)
+      c.landed.ensures.rows c.landed.ensures.idle) (c.landed.ensures.copying ∙ c.place.ensures.copying) (c.place.ensures.shape ∙ (m g d).stripe) (same_wear g d)
+      (le_trans c.place.ensures.granted c.landed.ensures.granted) (le_trans c.place.ensures.pad c.landed.ensures.pad)
       c.free_lines.new.heart c.free_lines.new.deeds c.free_lines.ensures
 
 pub invariant_of-self : goal.invariant_of-self
-invariant_of-self g c = (leaves_ok g c).mount
+invariant_of-self g c = record { mount = (leaves_ok g c).mount; buffer_size = c.self.invariant.buffer_size }
 
 pub returns-in-Ok-clause-same : goal.returns-in-Ok-clause-same
 returns-in-Ok-clause-same g c = same_from c.self.view_is (leaves_ok g c).same
 
-pub returns-in-Ok-clause-pad : goal.returns-in-Ok-clause-pad
-returns-in-Ok-clause-pad g c = (leaves_ok g c).pad ∙ ap (λ (v : MountView). v.pad) c.self.view_is
+pub returns-in-Ok-clause-asked : goal.returns-in-Ok-clause-asked
+returns-in-Ok-clause-asked g c = (leaves_ok g c).asked ∙ ap (λ (v : MountView). v.asked) c.self.view_is
 
 pub returns-in-Ok-clause-done : goal.returns-in-Ok-clause-done
 returns-in-Ok-clause-done g c = λ ok.
     let d = (goal.at.returns-in-Ok-clause-done g c).After-add in
     subst (λ (old : MountView). NoneLost old.units (us g d)) c.self.view_is
     (landed_done (m g d) (deeds g d) (ready g d) (was g d) (new g d) (there g d) (given g d) (done g c) (us g d) (units_are g d))
-
-pub returns-in-Ok-clause-more : goal.returns-in-Ok-clause-more
-returns-in-Ok-clause-more g c =
-    let d = (goal.at.returns-in-Ok-clause-more g c).After-add in
-    subst (λ (old : MountView). length (engine_log old) < length (log_of (world_of (v g d).image.shape c.free_lines.new.deeds) 0)) c.self.view_is
-    (longer_freed (v g d) c.add-in-Ok.new.self c.free_lines.new.deeds c.landed.new.self c.free_lines.new.heart c.free_lines.ensures
-    (landed_more (m g d) (deeds g d) (ready g d) (was g d) (new g d) (there g d) (given g d) (done g c) c.add-in-Ok.new.self (last g c)))
 
 -- ---- it was stopped
 
@@ -227,18 +218,18 @@ module _ (g : Over) (c : After-free_lines-in-Err g) where
   leaves_err = leaves_stopped (m g e) (deeds g e) (ready g e) (was g e) (new g e) (there g e) (given g e) stops.0 stops.1 c.add-in-Err.new.self (us g e)
       (wear g e) c.stopped.new.self (into g e) (placed_more (v g e) (into g e) (deeds g e) (were g e)) last_err (units_are g e) c.stopped.ensures.beats
       (rests_offered c.self.inside.heart.core c.place.new.self.core c.stopped.new.self.core (into g e).stripe.unit (m g e).resting c.place.ensures.rows
-      c.stopped.ensures.rows c.stopped.ensures.offered) (c.place.ensures.shape ∙ (m g e).stripe) (same_wear g e)
-      (le_trans c.place.ensures.granted (same_least (sym c.stopped.ensures.granted))) (c.stopped.ensures.pad ∙ c.place.ensures.pad)
+      c.stopped.ensures.rows c.stopped.ensures.offered) (c.stopped.ensures.copying ∙ c.place.ensures.copying) (c.place.ensures.shape ∙ (m g e).stripe)
+      (same_wear g e) (le_trans c.place.ensures.granted (same_least (sym c.stopped.ensures.granted))) (le_trans c.place.ensures.pad c.stopped.ensures.pad)
       c.free_lines-in-Err.new.heart c.free_lines-in-Err.new.deeds c.free_lines-in-Err.ensures
 
 pub invariant_of-self-in-Err : goal.invariant_of-self-in-Err
-invariant_of-self-in-Err g c = (leaves_err g c).mount
+invariant_of-self-in-Err g c = record { mount = (leaves_err g c).mount; buffer_size = c.self.invariant.buffer_size }
 
 pub returns-in-Err-clause-same : goal.returns-in-Err-clause-same
 returns-in-Err-clause-same g c = same_from c.self.view_is (leaves_err g c).same
 
-pub returns-in-Err-clause-pad : goal.returns-in-Err-clause-pad
-returns-in-Err-clause-pad g c = (leaves_err g c).pad ∙ ap (λ (v : MountView). v.pad) c.self.view_is
+pub returns-in-Err-clause-asked : goal.returns-in-Err-clause-asked
+returns-in-Err-clause-asked g c = (leaves_err g c).asked ∙ ap (λ (v : MountView). v.asked) c.self.view_is
 
 pub returns-in-Err-clause-lost : goal.returns-in-Err-clause-lost
 returns-in-Err-clause-lost g c =
@@ -247,11 +238,3 @@ returns-in-Err-clause-lost g c =
     (subst (λ (old : MountView). IsLostAt old.units (us g d) (into g d).stripe.unit c.events-event.result) c.self.view_is
     (stopped_lost (m g d) (deeds g d) (ready g d) (was g d) (new g d) (there g d) (given g d) (stops g c).0 (stops g c).1 (us g d)
     c.events-event.result (units_are g d) c.events-event.ensures.count))
-
-pub returns-in-Err-clause-more : goal.returns-in-Err-clause-more
-returns-in-Err-clause-more g c =
-    let d = (goal.at.returns-in-Err-clause-more g c).After-add in
-    subst (λ (old : MountView). length (engine_log old) < length (log_of (world_of (v g d).image.shape c.free_lines-in-Err.new.deeds) 0)) c.self.view_is
-    (longer_freed (v g d) c.add-in-Err.new.self c.free_lines-in-Err.new.deeds c.stopped.new.self c.free_lines-in-Err.new.heart c.free_lines-in-Err.ensures
-    (stopped_more (m g d) (deeds g d) (ready g d) (was g d) (new g d) (there g d) (given g d) (stops g c).0 (stops g c).1 c.add-in-Err.new.self
-    (last_err g c)))

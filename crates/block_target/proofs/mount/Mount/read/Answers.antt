@@ -12,9 +12,9 @@ use Rattle.block_target.proofs.mount.Mount.read.Goals as goal
 
 pub copy_from_slice-requires : goal.copy_from_slice-requires
 copy_from_slice-requires g c =
-    let m = c.self.invariant in
+    let m = c.self.invariant.mount in
     let v : MountView = mount_view c.self.inside.shape c.self.inside.drives c.self.inside.deeds (map g.U.Unit.model c.self.inside.units.items)
-    (map g.U.Unit.wear c.self.inside.units.items) c.self.inside.heart.granted (pad_of c.self.inside.heart.core) in
+    (map g.U.Unit.wear c.self.inside.units.items) c.self.inside.heart.granted (pad_of c.self.inside.heart.core) c.self.inside.asked in
     let core = c.self.inside.heart.core in
     let simple = m.sound.legal in
     let st = m.heart.stands in
@@ -25,9 +25,9 @@ copy_from_slice-requires g c =
 
 pub unreachable-requires : goal.unreachable-requires
 unreachable-requires g c =
-    let m = c.self.invariant in
+    let m = c.self.invariant.mount in
     let v : MountView = mount_view c.self.inside.shape c.self.inside.drives c.self.inside.deeds (map g.U.Unit.model c.self.inside.units.items)
-    (map g.U.Unit.wear c.self.inside.units.items) c.self.inside.heart.granted (pad_of c.self.inside.heart.core) in
+    (map g.U.Unit.wear c.self.inside.units.items) c.self.inside.heart.granted (pad_of c.self.inside.heart.core) c.self.inside.asked in
     let core = c.self.inside.heart.core in
     let simple = m.sound.legal in
     let st = m.heart.stands in
@@ -38,9 +38,9 @@ unreachable-requires g c =
 
 pub address-unit-requires-clause-line : goal.address-unit-requires-clause-line
 address-unit-requires-clause-line g c =
-    let m = c.self.invariant in
+    let m = c.self.invariant.mount in
     let v : MountView = mount_view c.self.inside.shape c.self.inside.drives c.self.inside.deeds (map g.U.Unit.model c.self.inside.units.items)
-    (map g.U.Unit.wear c.self.inside.units.items) c.self.inside.heart.granted (pad_of c.self.inside.heart.core) in
+    (map g.U.Unit.wear c.self.inside.units.items) c.self.inside.heart.granted (pad_of c.self.inside.heart.core) c.self.inside.asked in
     let core = c.self.inside.heart.core in
     let simple = m.sound.legal in
     let st = m.heart.stands in
@@ -54,9 +54,9 @@ address-unit-requires-clause-line g c =
 
 pub address-unit-requires-clause-live : goal.address-unit-requires-clause-live
 address-unit-requires-clause-live g c =
-    let m = c.self.invariant in
+    let m = c.self.invariant.mount in
     let v : MountView = mount_view c.self.inside.shape c.self.inside.drives c.self.inside.deeds (map g.U.Unit.model c.self.inside.units.items)
-    (map g.U.Unit.wear c.self.inside.units.items) c.self.inside.heart.granted (pad_of c.self.inside.heart.core) in
+    (map g.U.Unit.wear c.self.inside.units.items) c.self.inside.heart.granted (pad_of c.self.inside.heart.core) c.self.inside.asked in
     let core = c.self.inside.heart.core in
     let simple = m.sound.legal in
     let st = m.heart.stands in
@@ -70,9 +70,9 @@ address-unit-requires-clause-live g c =
 
 pub address-unit-requires-clause-inside : goal.address-unit-requires-clause-inside
 address-unit-requires-clause-inside g c =
-    let m = c.self.invariant in
+    let m = c.self.invariant.mount in
     let v : MountView = mount_view c.self.inside.shape c.self.inside.drives c.self.inside.deeds (map g.U.Unit.model c.self.inside.units.items)
-    (map g.U.Unit.wear c.self.inside.units.items) c.self.inside.heart.granted (pad_of c.self.inside.heart.core) in
+    (map g.U.Unit.wear c.self.inside.units.items) c.self.inside.heart.granted (pad_of c.self.inside.heart.core) c.self.inside.asked in
     let core = c.self.inside.heart.core in
     let simple = m.sound.legal in
     let st = m.heart.stands in
@@ -86,9 +86,9 @@ address-unit-requires-clause-inside g c =
 
 pub fetch-requires-clause-there : goal.fetch-requires-clause-there
 fetch-requires-clause-there g c =
-    let m = c.self.invariant in
+    let m = c.self.invariant.mount in
     let v : MountView = mount_view c.self.inside.shape c.self.inside.drives c.self.inside.deeds (map g.U.Unit.model c.self.inside.units.items)
-    (map g.U.Unit.wear c.self.inside.units.items) c.self.inside.heart.granted (pad_of c.self.inside.heart.core) in
+    (map g.U.Unit.wear c.self.inside.units.items) c.self.inside.heart.granted (pad_of c.self.inside.heart.core) c.self.inside.asked in
     let core = c.self.inside.heart.core in
     let simple = m.sound.legal in
     let st = m.heart.stands in
@@ -98,17 +98,17 @@ fetch-requires-clause-there g c =
     let is : IsBlockOfSlot v.image (logs_in v) c.args.lba c.in-Media.line c.in-Media.at c.in-Media.position =
     on_the_drive v.image (world_in v) m.sound.beginning c.args.lba c.in-Media.line c.in-Media.at c.in-Media.position simple
     m.sound.has_begun inside slot in
-    let there : IsFetchable v c.address-unit.result.0 c.in-Media.line c.address-unit.result.1 is.block.sector =
+    let there : IsFetchable v c.address-unit.result.0 c.in-Media.line c.address-unit.result.1 is.block =
     fetchable v core c.args.lba c.in-Media.line c.in-Media.at c.in-Media.position simple.mount st is c.address-unit.result c.address-unit.ensures in
-    let same : IsFetchable c.args.self.now c.address-unit.result.0 c.in-Media.line c.address-unit.result.1 is.block.sector =
-    subst (λ (x : MountView). IsFetchable x c.address-unit.result.0 c.in-Media.line c.address-unit.result.1 is.block.sector) c.self.view_is there in
-    (is.block.sector, same)
+    let same : IsFetchable c.args.self.now c.address-unit.result.0 c.in-Media.line c.address-unit.result.1 is.block =
+    subst (λ (x : MountView). IsFetchable x c.address-unit.result.0 c.in-Media.line c.address-unit.result.1 is.block) c.self.view_is there in
+    (is.block, same)
 
 pub returns-in-Unwritten-clause-latest : goal.returns-in-Unwritten-clause-latest
 returns-in-Unwritten-clause-latest g c = λ ok.
-    let m = c.self.invariant in
+    let m = c.self.invariant.mount in
     let v : MountView = mount_view c.self.inside.shape c.self.inside.drives c.self.inside.deeds (map g.U.Unit.model c.self.inside.units.items)
-    (map g.U.Unit.wear c.self.inside.units.items) c.self.inside.heart.granted (pad_of c.self.inside.heart.core) in
+    (map g.U.Unit.wear c.self.inside.units.items) c.self.inside.heart.granted (pad_of c.self.inside.heart.core) c.self.inside.asked in
     let core = c.self.inside.heart.core in
     let simple = m.sound.legal in
     let st = m.heart.stands in
@@ -122,9 +122,9 @@ returns-in-Unwritten-clause-latest g c = λ ok.
 
 pub returns-in-Some-clause-latest : goal.returns-in-Some-clause-latest
 returns-in-Some-clause-latest g c = λ ok.
-    let m = c.self.invariant in
+    let m = c.self.invariant.mount in
     let v : MountView = mount_view c.self.inside.shape c.self.inside.drives c.self.inside.deeds (map g.U.Unit.model c.self.inside.units.items)
-    (map g.U.Unit.wear c.self.inside.units.items) c.self.inside.heart.granted (pad_of c.self.inside.heart.core) in
+    (map g.U.Unit.wear c.self.inside.units.items) c.self.inside.heart.granted (pad_of c.self.inside.heart.core) c.self.inside.asked in
     let core = c.self.inside.heart.core in
     let simple = m.sound.legal in
     let st = m.heart.stands in
@@ -138,9 +138,9 @@ returns-in-Some-clause-latest g c = λ ok.
 
 pub returns-in_ok-fetch-in-Media-clause-latest : goal.returns-in_ok-fetch-in-Media-clause-latest
 returns-in_ok-fetch-in-Media-clause-latest g c = λ ok.
-    let m = c.self.invariant in
+    let m = c.self.invariant.mount in
     let v : MountView = mount_view c.self.inside.shape c.self.inside.drives c.self.inside.deeds (map g.U.Unit.model c.self.inside.units.items)
-    (map g.U.Unit.wear c.self.inside.units.items) c.self.inside.heart.granted (pad_of c.self.inside.heart.core) in
+    (map g.U.Unit.wear c.self.inside.units.items) c.self.inside.heart.granted (pad_of c.self.inside.heart.core) c.self.inside.asked in
     let core = c.self.inside.heart.core in
     let simple = m.sound.legal in
     let st = m.heart.stands in
@@ -150,19 +150,19 @@ returns-in_ok-fetch-in-Media-clause-latest g c = λ ok.
     let is : IsBlockOfSlot v.image (logs_in v) c.args.lba c.in-Media.line c.in-Media.at c.in-Media.position =
     on_the_drive v.image (world_in v) m.sound.beginning c.args.lba c.in-Media.line c.in-Media.at c.in-Media.position simple
     m.sound.has_begun inside slot in
-    let there : IsFetchable v c.address-unit.result.0 c.in-Media.line c.address-unit.result.1 is.block.sector =
+    let there : IsFetchable v c.address-unit.result.0 c.in-Media.line c.address-unit.result.1 is.block =
     fetchable v core c.args.lba c.in-Media.line c.in-Media.at c.in-Media.position simple.mount st is c.address-unit.result c.address-unit.ensures in
-    let same : IsFetchable c.args.self.now c.address-unit.result.0 c.in-Media.line c.address-unit.result.1 is.block.sector =
-    subst (λ (x : MountView). IsFetchable x c.address-unit.result.0 c.in-Media.line c.address-unit.result.1 is.block.sector) c.self.view_is there in
+    let same : IsFetchable c.args.self.now c.address-unit.result.0 c.in-Media.line c.address-unit.result.1 is.block =
+    subst (λ (x : MountView). IsFetchable x c.address-unit.result.0 c.in-Media.line c.address-unit.result.1 is.block) c.self.view_is there in
     subst (λ (x : MountView). slice_get (latest x) c.args.lba ≡ Some c.fetch.new.out) c.self.view_is
     (latest_at v c.args.lba m.sound
     ∙ media_latest v.image (world_in v) c.args.lba c.in-Media.line c.in-Media.at c.in-Media.position simple inside is
-    ∙ ap (λ (b : List ℕ). Some b) (sym (c.in_ok-fetch-in-Media.ensures.sector ok is.block.sector same)))
+    ∙ ap (λ (b : List ℕ). Some b) (sym (c.in_ok-fetch-in-Media.ensures.sector ok is.block same)))
 
 pub returns-in-Unwritten-clause-sound : goal.returns-in-Unwritten-clause-sound
 returns-in-Unwritten-clause-sound g c =
-    subst IsSound c.self.view_is c.self.invariant.sound
+    subst IsSound c.self.view_is c.self.invariant.mount.sound
 
 pub returns-in-Some-clause-sound : goal.returns-in-Some-clause-sound
 returns-in-Some-clause-sound g c =
-    subst IsSound c.self.view_is c.self.invariant.sound
+    subst IsSound c.self.view_is c.self.invariant.mount.sound

@@ -2,7 +2,6 @@ use Rattle.std.proofs.Common.{◌≡◌, ◌<◌, ◌++◌, [], ◌∷◌, List,
 use Rattle.std.specs.Prelude.{slice_get, slice_set}
 use Rattle.pblk_model.specs.ChunkStep.{Done, Reset}
 use Rattle.pblk_model.specs.UnitLog.{Answered, Stopped}
-use Rattle.pblk_world.specs.World.{log_of}
 use Rattle.step_laws.specs.Whole.{next_maker}
 use Rattle.pblk_core.specs.Named.{pad_of}
 use Rattle.pblk_core.specs.Resets.{IsToReset}
@@ -10,13 +9,12 @@ use Rattle.pblk_core.specs.declared.work.Work.TheVariants as works
 use Rattle.unit_port.specs.Unit.{ModelUnit, TellsDone}
 use Rattle.scan_recovery.specs.Lost.{IsLostAt, NoneLost}
 use Rattle.block_target.specs.Arm.{WasGiven}
-use Rattle.block_target.specs.Deeds.{Deed, NotesReset, world_of}
-use Rattle.block_target.specs.Mount.{MountView, IsMount, engine_log, logs_in, mount_view, work_in, world_in}
-use Rattle.block_target.proofs.FreedMounts.{longer_freed}
+use Rattle.block_target.specs.Deeds.{Deed, NotesReset}
+use Rattle.block_target.specs.Mount.{MountView, IsMount, logs_in, mount_view, work_in, world_in}
 use Rattle.block_target.proofs.GivenCommands.{was_done, was_halted}
 use Rattle.block_target.proofs.GoingOn.{Leaves, moved_on}
 use Rattle.block_target.proofs.MountLemmas.{is_named, same_from}
-use Rattle.block_target.proofs.PumpedReset.{beating_noted, before_of, has_line, leaves_reset, leaves_stopped, may_be_noted, reset_deeds, reset_kept, reset_longer, reset_there, stopped_lost, unit_within}
+use Rattle.block_target.proofs.PumpedReset.{beating_noted, before_of, has_line, leaves_reset, leaves_stopped, may_be_noted, reset_deeds, reset_kept, reset_there, stopped_lost, unit_within}
 use Rattle.block_target.proofs.UnitLists.{unit_inside_all, unit_there, units_set, wear_kept}
 use Rattle.block_target.proofs.mount.Mount.reset.Given.{Over}
 use Rattle.block_target.proofs.mount.Mount.reset.Goals.{After-add, After-free_lines}
@@ -24,9 +22,9 @@ use Rattle.block_target.proofs.mount.Mount.reset.Goals as goal
 
 pub reset-answer-requires : goal.reset-answer-requires
 reset-answer-requires g c =
-    let m = c.self.invariant in
+    let m = c.self.invariant.mount in
     let v : MountView = mount_view c.self.inside.shape c.self.inside.drives c.self.inside.deeds (map g.U.Unit.model c.self.inside.units.items)
-    (map g.U.Unit.wear c.self.inside.units.items) c.self.inside.heart.granted (pad_of c.self.inside.heart.core) in
+    (map g.U.Unit.wear c.self.inside.units.items) c.self.inside.heart.granted (pad_of c.self.inside.heart.core) c.self.inside.asked in
     let is : IsToReset v.image (logs_in v) c.args.line c.args.unit =
     subst (λ (x : MountView). IsToReset x.image (logs_in x) c.args.line c.args.unit) (sym c.self.view_is) c.requires.given_up in
     let was = g.U.Unit.model c.index_mut-of.result.now in
@@ -43,10 +41,10 @@ module _ (g : Over) (c : After-add g) where
   -- the mount before
   abbrev v : MountView
   v = mount_view c.self.inside.shape c.self.inside.drives c.self.inside.deeds (map g.U.Unit.model c.self.inside.units.items)
-      (map g.U.Unit.wear c.self.inside.units.items) c.self.inside.heart.granted (pad_of c.self.inside.heart.core)
+      (map g.U.Unit.wear c.self.inside.units.items) c.self.inside.heart.granted (pad_of c.self.inside.heart.core) c.self.inside.asked
 
   m : IsMount v c.self.inside.heart c.self.inside.stripe
-  m = c.self.invariant
+  m = c.self.invariant.mount
 
   is : IsToReset v.image (logs_in v) c.args.line c.args.unit
   is = subst (λ (x : MountView). IsToReset x.image (logs_in x) c.args.line c.args.unit) (sym c.self.view_is) c.requires.given_up
@@ -96,7 +94,7 @@ pub invariant_of-self : goal.invariant_of-self
 invariant_of-self g c =
     let d = (goal.at.invariant_of-self g c).After-add in
     let stops = was_halted (given g d).event.outcome c.reset-answer.result c.in-Err.field-0 c.in-Err.is c.reset-answer.ensures.unfailing (given g d).told in
-    (leaves_err g d stops.0 stops.1).mount
+    record { mount = (leaves_err g d stops.0 stops.1).mount; buffer_size = c.self.invariant.buffer_size }
 
 pub returns-in-Err-clause-same : goal.returns-in-Err-clause-same
 returns-in-Err-clause-same g c =
@@ -121,7 +119,7 @@ state-state-requires g c =
 
 pub reset_done-requires-clause-named : goal.reset_done-requires-clause-named
 reset_done-requires-clause-named g c =
-    is_named c.self.invariant (works.Reset c.args.line c.args.unit) (ap work_in c.self.view_is ∙ c.requires.named)
+    is_named c.self.invariant.mount (works.Reset c.args.line c.args.unit) (ap work_in c.self.view_is ∙ c.requires.named)
 
 pub reset_done-requires-clause-may : goal.reset_done-requires-clause-may
 reset_done-requires-clause-may g c =
@@ -157,10 +155,11 @@ module _ (g : Over) (c : After-free_lines g) where
       let state = c.state-state.ensures in
       leaves_reset (m g e) c.args.line c.args.unit (is g e) (was g e) (new g e) (there g e) (given g e) done c.add-2.new.self (us g e) (wear g e)
       c.reset_done.new.self c.state-state.result.0 state.0 state.1 state.2 last (units_are g e) c.reset_done.ensures.beats c.reset_done.ensures.rows
+      c.reset_done.ensures.copying
       (same_wear g e) c.reset_done.ensures.granted c.reset_done.ensures.pad c.free_lines.new.heart c.free_lines.new.deeds c.free_lines.ensures
 
 pub invariant_of-self-2 : goal.invariant_of-self-2
-invariant_of-self-2 g c = (leaves_ok g c).mount
+invariant_of-self-2 g c = record { mount = (leaves_ok g c).mount; buffer_size = c.self.invariant.buffer_size }
 
 pub returns-clause-same : goal.returns-clause-same
 returns-clause-same g c = same_from c.self.view_is (leaves_ok g c).same
@@ -171,12 +170,5 @@ returns-clause-done g c = λ ok.
     subst (λ (old : MountView). NoneLost old.units (us g d)) c.self.view_is
     (reset_kept (m g d) c.args.line c.args.unit (is g d) (was g d) (new g d) (there g d) (given g d) (done g c) (us g d) (units_are g d))
 
-pub returns-clause-pad : goal.returns-clause-pad
-returns-clause-pad g c = (leaves_ok g c).pad ∙ ap (λ (x : MountView). x.pad) c.self.view_is
-
-pub returns-clause-more : goal.returns-clause-more
-returns-clause-more g c = λ ok.
-    let d = (goal.at.returns-clause-more g c).After-add in
-    subst (λ (old : MountView). length (engine_log old) < length (log_of (world_of (v g d).image.shape c.free_lines.new.deeds) 0)) c.self.view_is
-    (longer_freed (v g d) c.add-2.new.self c.free_lines.new.deeds c.reset_done.new.self c.free_lines.new.heart c.free_lines.ensures
-    (reset_longer (m g d) c.args.line c.args.unit (is g d) (was g d) (new g d) (there g d) (given g d) (done g c) c.add-2.new.self (last g c)))
+pub returns-clause-asked : goal.returns-clause-asked
+returns-clause-asked g c = (leaves_ok g c).asked ∙ ap (λ (x : MountView). x.asked) c.self.view_is

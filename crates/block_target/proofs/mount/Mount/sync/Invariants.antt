@@ -1,6 +1,5 @@
-use Rattle.std.proofs.Common.{max}
 use Rattle.block_target.proofs.SameMounts.{IsWorked}
 use Rattle.block_target.proofs.mount.Mount.sync.Given as goal
 
 abbrev pub invariant-loop : goal.invariant-loop
-invariant-loop g l = IsWorked l.fn.self l.self (max l.fn.self.pad l.wanted)
+invariant-loop g l = IsWorked l.fn.self l.self l.wanted

@@ -35,8 +35,8 @@ invariant_of-self g c =
       faults = c.self.invariant.faults;
       worns = subst (λ (ws : List WornAnswer). AreRefusals was.mount.image (logs_in was.mount) 0 ws) (sym c.add.ensures)
           (refusals_more was.mount.image (logs_in was.mount) 0 was.worns a (omega arith) c.self.invariant.worns
-          (refused_now was a c.self.invariant.sound c.self.invariant
-          (users_written was c.front-written.result c.self.invariant c.front-written.ensures) cause));
+          (refused_now was a c.self.invariant
+          (users_written was c.front-written.result c.self.invariant c.front-written.ensures.front) cause));
       granted = c.self.invariant.granted;
     }
 
@@ -52,5 +52,5 @@ returns g c =
     } in
     ap (λ (ws : List WornAnswer). with_worns was ws) (c.add.ensures
     ∙ ap (λ n. was.worns ++ worn_row n c.args.count c.args.wanted c.args.have ∷ [])
-    (users_written was c.front-written.result c.self.invariant c.front-written.ensures))
+    (users_written was c.front-written.result c.self.invariant c.front-written.ensures.front))
     ∙ ap (λ (s : SerialView). with_worns s (s.worns ++ worn_row (written_by (device s)) c.args.count c.args.wanted c.args.have ∷ [])) c.self.view_is

@@ -1,14 +1,20 @@
-use Rattle.std.proofs.Common.{◌≡◌, ◌≤◌, List, length, max, refl, ap, ap₂, sym, subst, ◌∙◌, arith}
+use Rattle.std.proofs.Common.{◌≡◌, ◌≤◌, ℕ, Err, List, length, max, refl, ap, ap₂, sym, subst, ◌∙◌, arith}
+use Rattle.pblk_model.specs.declared.run.Front.{Front}
 use Rattle.block_port.specs.Port.{Learns}
 use Rattle.unit_port.specs.Unit.{ModelUnit}
 use Rattle.scan_recovery.specs.Lost.{IsLostAt, NoneLost}
 use Rattle.block_target.specs.NothingLeft.{IsFlushRefusal}
-use Rattle.block_target.specs.Mount.{logs_in, engine_log, synced_in, taken_in}
+use Rattle.block_target.specs.Mount.{MountView, logs_in, engine_log, synced_in, taken_in}
 use Rattle.block_target.specs.Serial.{SerialView, device}
-use Rattle.block_target.specs.Waiting.{Waits}
+use Rattle.block_target.specs.Waiting.{AsksUpTo, Waits}
 use Rattle.block_target.proofs.DeviceFronts.{same_serial, all_taken, synced_small, flush_front, learns_from}
 use Rattle.block_target.proofs.Refusals.{flush_refused}
 use Rattle.block_target.proofs.serial.SerialPort.flush.Goals as goal
+
+-- what was asked for, by the port's own mount
+asks_of : (v old : MountView) → v ≡ old → (wanted : ℕ) → wanted ≡ taken_in v → (asked : ℕ) → v.asked ≤ asked → asked ≤ max v.asked wanted
+    → (old.asked ≤ asked) × (asked ≤ max old.asked (taken_in old))
+asks_of v old is wanted all asked least most = subst (λ (o : MountView). (o.asked ≤ asked) × (asked ≤ max o.asked (taken_in o))) is (least, omega arith)
 
 pub invariant_of-self : goal.invariant_of-self
 invariant_of-self g c = same_serial _ _ c.sync.ensures.sound c.self.invariant c.sync.ensures.same refl refl refl
@@ -34,11 +40,13 @@ pub add_worn-requires : goal.add_worn-requires
 add_worn-requires g c =
     let waits = subst (Waits c.self.inside.mount c.sync.new.self c.front-wanted.result.position (synced_in c.sync.new.self))
     c.in-Err-Stuck.field-0-is c.in-Err-Stuck.ensures.refused in
-    let pad : c.sync.new.self.pad ≡ max c.self.inside.mount.pad c.front-wanted.result.position = c.sync.ensures.pad in
-    let asked : c.front-wanted.result.position ≤ c.sync.new.self.pad = omega arith in
-    let all = all_taken c.self.inside.mount c.sync.new.self c.front-wanted.result.position c.self.invariant.sound c.sync.ensures.sound
-    c.sync.ensures.same (ap (λ f. f.position) c.front-wanted.ensures) in
-    flush_refused c.sync.new.self c.front-wanted.result.position c.in-Err-Stuck.have waits.2 waits.1 asked all
+    let asks = subst (λ e. AsksUpTo {T = Front} c.self.inside.mount c.sync.new.self c.front-wanted.result.position (Err e)) c.in-Err-Stuck.field-0-is
+    c.in-Err-Stuck.ensures.asked in
+    let least : max c.self.inside.mount.asked c.front-wanted.result.position ≤ c.sync.new.self.asked = asks.all in
+    let asked : c.front-wanted.result.position ≤ c.sync.new.self.asked = omega arith in
+    let all = all_taken c.self.inside.mount c.sync.new.self c.front-wanted.result.position c.sync.ensures.same
+    (ap (λ f. f.position) c.front-wanted.ensures.front) in
+    flush_refused c.sync.new.self c.front-wanted.result.position c.in-Err-Stuck.have waits.3 waits.2 asked all
 
 pub returns-in-Ok-clause-cause : goal.returns-in-Ok-clause-cause
 returns-in-Ok-clause-cause g c =
@@ -56,15 +64,17 @@ pub returns-in-Err-Stuck-clause-cause : goal.returns-in-Err-Stuck-clause-cause
 returns-in-Err-Stuck-clause-cause g c =
     let waits = subst (Waits c.self.inside.mount c.sync.new.self c.front-wanted.result.position (synced_in c.sync.new.self))
     c.in-Err-Stuck.field-0-is c.in-Err-Stuck.ensures.refused in
-    let pad : c.sync.new.self.pad ≡ max c.self.inside.mount.pad c.front-wanted.result.position = c.sync.ensures.pad in
-    let asked : c.front-wanted.result.position ≤ c.sync.new.self.pad = omega arith in
-    let all = all_taken c.self.inside.mount c.sync.new.self c.front-wanted.result.position c.self.invariant.sound c.sync.ensures.sound
-    c.sync.ensures.same (ap (λ f. f.position) c.front-wanted.ensures) in
+    let asks = subst (λ e. AsksUpTo {T = Front} c.self.inside.mount c.sync.new.self c.front-wanted.result.position (Err e)) c.in-Err-Stuck.field-0-is
+    c.in-Err-Stuck.ensures.asked in
+    let least : max c.self.inside.mount.asked c.front-wanted.result.position ≤ c.sync.new.self.asked = asks.all in
+    let asked : c.front-wanted.result.position ≤ c.sync.new.self.asked = omega arith in
+    let all = all_taken c.self.inside.mount c.sync.new.self c.front-wanted.result.position c.sync.ensures.same
+    (ap (λ f. f.position) c.front-wanted.ensures.front) in
     subst (λ (s : SerialView). NoneLost c.args.self.now.mount.units s.mount.units
     × IsFlushRefusal s.mount.image (logs_in s.mount) (length (engine_log s.mount)) c.front-wanted.result.position c.in-Err-Stuck.have)
     (sym c.add_worn.ensures) (
       subst (λ (s : SerialView). NoneLost s.mount.units c.sync.new.self.units) c.self.view_is waits.0,
-      flush_refused c.sync.new.self c.front-wanted.result.position c.in-Err-Stuck.have waits.2 waits.1 asked all,
+      flush_refused c.sync.new.self c.front-wanted.result.position c.in-Err-Stuck.have waits.3 waits.2 asked all,
     )
 
 pub returns-in-Ok-clause-front : goal.returns-in-Ok-clause-front
@@ -77,35 +87,43 @@ returns-in-Ok-clause-front g c =
       worns = c.self.inside.worns;
     }) c.in-Ok.front
     c.front-wanted.result.position c.self.view_is c.catch_up.ensures
-    (ap (λ f. f.position) c.front-wanted.ensures) c.in-Ok.ensures.synced.0 c.in-Ok.ensures.synced.1 refl
+    (ap (λ f. f.position) c.front-wanted.ensures.front) c.in-Ok.ensures.synced.0 c.in-Ok.ensures.synced.1 refl
 
 pub returns-in-Ok-clause-learns : goal.returns-in-Ok-clause-learns
-returns-in-Ok-clause-learns g c = learns_from _ c.args.self.now _ c.self.view_is c.self.invariant.sound c.sync.ensures.sound c.sync.ensures.same
+returns-in-Ok-clause-learns g c = learns_from _ c.args.self.now _ c.self.view_is c.sync.ensures.same
 
 pub returns-in-Err-Drive-clause-learns : goal.returns-in-Err-Drive-clause-learns
 returns-in-Err-Drive-clause-learns g c =
     subst (λ n. Learns (device c.args.self.now) (device n)) (sym c.add_fault.ensures)
-    (learns_from _ c.args.self.now _ c.self.view_is c.self.invariant.sound c.sync.ensures.sound c.sync.ensures.same)
+    (learns_from _ c.args.self.now _ c.self.view_is c.sync.ensures.same)
 
 pub returns-in-Err-Stuck-clause-learns : goal.returns-in-Err-Stuck-clause-learns
 returns-in-Err-Stuck-clause-learns g c =
     subst (λ n. Learns (device c.args.self.now) (device n)) (sym c.add_worn.ensures)
-    (learns_from _ c.args.self.now _ c.self.view_is c.self.invariant.sound c.sync.ensures.sound c.sync.ensures.same)
+    (learns_from _ c.args.self.now _ c.self.view_is c.sync.ensures.same)
 
-pub returns-in-Ok-clause-pad : goal.returns-in-Ok-clause-pad
-returns-in-Ok-clause-pad g c =
-    c.sync.ensures.pad
-    ∙ ap₂ (λ m n. max m n) (ap (λ (s : SerialView). s.mount.pad) c.self.view_is)
-    (ap (λ f. f.position) c.front-wanted.ensures ∙ ap (λ (s : SerialView). taken_in s.mount) c.self.view_is)
+pub returns-in-Ok-clause-asked : goal.returns-in-Ok-clause-asked
+returns-in-Ok-clause-asked g c =
+    asks_of c.self.inside.mount c.args.self.now.mount (ap (λ (s : SerialView). s.mount) c.self.view_is) c.front-wanted.result.position
+    (ap (λ f. f.position) c.front-wanted.ensures.front) c.sync.new.self.asked c.in-Ok.ensures.asked.at_least c.in-Ok.ensures.asked.at_most
 
-pub returns-in-Err-Drive-clause-pad : goal.returns-in-Err-Drive-clause-pad
-returns-in-Err-Drive-clause-pad g c =
-    ap (λ (s : SerialView). s.mount.pad) c.add_fault.ensures ∙ c.sync.ensures.pad
-    ∙ ap₂ (λ m n. max m n) (ap (λ (s : SerialView). s.mount.pad) c.self.view_is)
-    (ap (λ f. f.position) c.front-wanted.ensures ∙ ap (λ (s : SerialView). taken_in s.mount) c.self.view_is)
+pub returns-in-Err-Drive-clause-asked : goal.returns-in-Err-Drive-clause-asked
+returns-in-Err-Drive-clause-asked g c =
+    subst (λ (s : SerialView). (c.args.self.now.mount.asked ≤ s.mount.asked)
+    × (s.mount.asked ≤ max c.args.self.now.mount.asked (taken_in c.args.self.now.mount))) (sym c.add_fault.ensures)
+    (asks_of c.self.inside.mount c.args.self.now.mount (ap (λ (s : SerialView). s.mount) c.self.view_is) c.front-wanted.result.position
+    (ap (λ f. f.position) c.front-wanted.ensures.front) c.sync.new.self.asked c.in-Err-Drive.ensures.asked.at_least c.in-Err-Drive.ensures.asked.at_most)
 
-pub returns-in-Err-Stuck-clause-pad : goal.returns-in-Err-Stuck-clause-pad
-returns-in-Err-Stuck-clause-pad g c =
-    ap (λ (s : SerialView). s.mount.pad) c.add_worn.ensures ∙ c.sync.ensures.pad
-    ∙ ap₂ (λ m n. max m n) (ap (λ (s : SerialView). s.mount.pad) c.self.view_is)
-    (ap (λ f. f.position) c.front-wanted.ensures ∙ ap (λ (s : SerialView). taken_in s.mount) c.self.view_is)
+pub returns-in-Err-Stuck-clause-asked : goal.returns-in-Err-Stuck-clause-asked
+returns-in-Err-Stuck-clause-asked g c =
+    let asks = subst (λ e. AsksUpTo {T = Front} c.self.inside.mount c.sync.new.self c.front-wanted.result.position (Err e)) c.in-Err-Stuck.field-0-is
+    c.in-Err-Stuck.ensures.asked in
+    let least : max c.self.inside.mount.asked c.front-wanted.result.position ≤ c.sync.new.self.asked = asks.all in
+    let most : c.sync.new.self.asked ≤ max c.self.inside.mount.asked c.front-wanted.result.position = asks.at_most in
+    let upto : c.front-wanted.result.position ≡ taken_in c.args.self.now.mount =
+    ap (λ f. f.position) c.front-wanted.ensures.front ∙ ap (λ (s : SerialView). taken_in s.mount) c.self.view_is in
+    let just : c.sync.new.self.asked ≡ max c.self.inside.mount.asked c.front-wanted.result.position = omega arith in (
+      upto,
+      ap (λ (s : SerialView). s.mount.asked) c.add_worn.ensures ∙ just
+          ∙ ap₂ (λ m n. max m n) (ap (λ (s : SerialView). s.mount.asked) c.self.view_is) upto,
+    )

@@ -9,7 +9,7 @@ use Rattle.scan_recovery.proofs.HandedBack.{none_lost_there}
 
 pub invariant_of-self : goal.invariant_of-self
 invariant_of-self g c = same_serial _ _ c.read_all.ensures.sound c.self.invariant c.read_all.ensures.same refl refl refl
-    (taken_front_small c.self.inside.mount c.front-front.result c.self.invariant.sound c.front-front.ensures)
+    (taken_front_small c.self.inside.mount c.front-front.result c.self.invariant.sound c.front-front.ensures.front)
 
 pub invariant_of-self-in-Err : goal.invariant_of-self-in-Err
 invariant_of-self-in-Err g c = same_serial _ _ c.read_all.ensures.sound c.self.invariant c.read_all.ensures.same refl refl refl c.self.invariant.small
@@ -38,8 +38,8 @@ returns-in-Ok-clause-front g c =
       own = c.self.inside.own;
       faults = c.self.inside.faults;
       worns = c.self.inside.worns;
-    }) c.front-front.result c.self.view_is c.catch_up.ensures c.front-front.ensures
-    c.self.invariant.sound c.read_all.ensures.sound c.read_all.ensures.same refl
+    }) c.front-front.result c.self.view_is c.catch_up.ensures c.front-front.ensures.front
+    c.self.invariant.sound c.read_all.ensures.same refl
 
 pub returns-in-Ok-clause-words : goal.returns-in-Ok-clause-words
 returns-in-Ok-clause-words g c =
@@ -56,13 +56,13 @@ returns-in-Ok-clause-words g c =
       faults = c.self.inside.faults;
       worns = c.self.inside.worns;
     }) c.front-front.result c.args.lba c.shape.result.now.sector (length c.args.out.now) c.read_all.new.out
-    c.self.view_is c.read_all.ensures.same c.front-front.ensures (ap (λ s. s.sector) c.shape.ensures) (c.in-Ok.ensures.latest refl)
+    c.self.view_is c.read_all.ensures.same c.front-front.ensures.front (ap (λ s. s.sector) c.shape.ensures) (c.in-Ok.ensures.latest refl)
 
 pub returns-in-Ok-clause-learns : goal.returns-in-Ok-clause-learns
-returns-in-Ok-clause-learns g c = learns_from _ c.args.self.now _ c.self.view_is c.self.invariant.sound c.read_all.ensures.sound c.read_all.ensures.same
+returns-in-Ok-clause-learns g c = learns_from _ c.args.self.now _ c.self.view_is c.read_all.ensures.same
 
-pub returns-in-Ok-clause-pad : goal.returns-in-Ok-clause-pad
-returns-in-Ok-clause-pad g c = c.read_all.ensures.pad ∙ ap (λ (s : SerialView). s.mount.pad) c.self.view_is
+pub returns-in-Ok-clause-asked : goal.returns-in-Ok-clause-asked
+returns-in-Ok-clause-asked g c = c.read_all.ensures.asked ∙ ap (λ (s : SerialView). s.mount.asked) c.self.view_is
 
 pub returns-in-Err-clause-cause : goal.returns-in-Err-clause-cause
 returns-in-Err-clause-cause g c =
@@ -73,8 +73,8 @@ returns-in-Err-clause-cause g c =
 pub returns-in-Err-clause-learns : goal.returns-in-Err-clause-learns
 returns-in-Err-clause-learns g c =
     subst (λ (n : SerialView). Learns (device c.args.self.now) (device n)) (sym c.add_fault.ensures)
-    (learns_from _ c.args.self.now _ c.self.view_is c.self.invariant.sound c.read_all.ensures.sound c.read_all.ensures.same)
+    (learns_from _ c.args.self.now _ c.self.view_is c.read_all.ensures.same)
 
-pub returns-in-Err-clause-pad : goal.returns-in-Err-clause-pad
-returns-in-Err-clause-pad g c = ap (λ (s : SerialView). s.mount.pad) c.add_fault.ensures ∙ c.read_all.ensures.pad
-    ∙ ap (λ (s : SerialView). s.mount.pad) c.self.view_is
+pub returns-in-Err-clause-asked : goal.returns-in-Err-clause-asked
+returns-in-Err-clause-asked g c = ap (λ (s : SerialView). s.mount.asked) c.add_fault.ensures ∙ c.read_all.ensures.asked
+    ∙ ap (λ (s : SerialView). s.mount.asked) c.self.view_is

@@ -13,30 +13,24 @@ use Rattle.block_target.specs.Serial.{SerialView, device}
 use Rattle.block_target.specs.Waiting.{Waits}
 use Rattle.block_target.proofs.DeviceFronts.{learns_from, same_serial}
 use Rattle.block_target.proofs.GrantedTakes.{granted_write, granted_place}
-use Rattle.block_target.proofs.Refusals.{refusal_of_write}
-use Rattle.block_target.proofs.Written.{some_sectors, write_cause, named_write, none_lost_write, worns_write, learns_none, learns_write, target_write, alone_write, end_low, granted_room, learns_at, target_at, pad_all, whole_sectors}
+use Rattle.block_target.proofs.Refusals.{refusal_of_write, write_refused}
+use Rattle.block_target.proofs.Written.{asked_all, some_sectors, named_write, none_lost_write, worns_write, learns_none, learns_write, target_write, alone_write, end_low, learns_at, target_at, whole_sectors}
 use Rattle.block_target.proofs.serial.SerialPort.write.Goals as goal
 use Rattle.scan_recovery.proofs.HandedBack.{none_lost_there}
 
-pub overflow_add-wanted : goal.overflow_add-wanted
-overflow_add-wanted g c =
+pub overflow_add-self : goal.overflow_add-self
+overflow_add-self g c =
     let sectors : AreSectors c.self.inside.mount.image.shape.sector (length c.args.bytes.now) =
     subst (λ (s : SerialView). AreSectors s.mount.image.shape.sector (length c.args.bytes.now)) (sym c.self.view_is) c.requires.sectors in
     let low : c.front-first.result.position + c.from.result < 2 ^ 63 =
-    end_low c.self.inside.mount c.shape.result.now c.front-first.result.position c.from.result (length c.args.bytes.now) c.self.invariant.sound
-    (ap (λ (f : Front). f.position) c.front-first.ensures) c.shape.ensures c.from.ensures sectors in
+    end_low c.self.inside.mount c.claim.new.self c.shape.result.now c.front-first.result.position c.from.result (length c.args.bytes.now)
+    c.self.invariant.sound c.claim.ensures.sound (ap (λ (f : Front). f.position) c.front-first.ensures.front) c.shape.ensures c.from.ensures sectors in
     omega arith
 
 pub take_all-requires-clause-bytes : goal.take_all-requires-clause-bytes
 take_all-requires-clause-bytes g c =
     whole_sectors c.self.inside.mount c.shape.result.now (length c.args.bytes.now) c.self.invariant.sound c.shape.ensures
     (subst (λ (s : SerialView). AreSectors s.mount.image.shape.sector (length c.args.bytes.now)) (sym c.self.view_is) c.requires.sectors)
-
-pub take_all-requires-clause-room : goal.take_all-requires-clause-room
-take_all-requires-clause-room g c =
-    granted_room c.self.inside.mount c.claim.new.self c.front-first.result.position c.from.result (length c.args.bytes.now / c.shape.result.now.sector)
-    c.self.invariant.sound c.claim.ensures.sound c.claim.ensures.same (ap (λ (f : Front). f.position) c.front-first.ensures) c.from.ensures
-    (c.in-Ok.ensures.granted refl)
 
 pub invariant_of-self : goal.invariant_of-self
 invariant_of-self g c = same_serial _ _ c.claim.ensures.sound c.self.invariant c.claim.ensures.same refl refl refl c.self.invariant.small
@@ -50,7 +44,8 @@ add_fault-requires g c = record {
   sound = c.self.invariant.sound;
   named = c.self.invariant.faults;
   same = c.claim.ensures.same;
-  lost = subst (Waits c.self.inside.mount c.claim.new.self (c.front-first.result.position + c.from.result) c.claim.new.self.granted) c.in-Err-Drive.field-0-is
+  lost = subst (Waits c.self.inside.mount c.claim.new.self
+      (taken_in c.claim.new.self + length c.args.bytes.now / c.shape.result.now.sector) c.claim.new.self.granted) c.in-Err-Drive.field-0-is
       c.in-Err-Drive.ensures.refused;
 }
 
@@ -58,24 +53,22 @@ pub add_worn-requires : goal.add_worn-requires
 add_worn-requires g c =
     let sectors : AreSectors c.self.inside.mount.image.shape.sector (length c.args.bytes.now) =
     subst (λ (s : SerialView). AreSectors s.mount.image.shape.sector (length c.args.bytes.now)) (sym c.self.view_is) c.requires.sectors in
-    let first : c.front-first.result.position ≡ taken_in c.self.inside.mount = ap (λ (f : Front). f.position) c.front-first.ensures in
-    let waits = subst (Waits c.self.inside.mount c.claim.new.self (c.front-first.result.position + c.from.result) c.claim.new.self.granted)
-    c.in-Err-Stuck.field-0-is
-    c.in-Err-Stuck.ensures.refused in
+    let waits = subst (Waits c.self.inside.mount c.claim.new.self
+    (taken_in c.claim.new.self + length c.args.bytes.now / c.shape.result.now.sector) c.claim.new.self.granted)
+    c.in-Err-Stuck.field-0-is c.in-Err-Stuck.ensures.refused in
     refusal_of_write c.claim.new.self.image (logs_in c.claim.new.self) (length (engine_log c.claim.new.self))
-    (length c.args.bytes.now / c.shape.result.now.sector)
-    (c.front-first.result.position + c.from.result) c.in-Err-Stuck.have
+    (length c.args.bytes.now / c.shape.result.now.sector) c.in-Err-Stuck.wanted c.in-Err-Stuck.have
     (some_sectors c.self.inside.mount c.shape.result.now (length c.args.bytes.now) c.self.invariant.sound c.shape.ensures sectors)
-    (write_cause c.self.inside.mount c.claim.new.self c.front-first.result.position c.from.result
-    (length c.args.bytes.now / c.shape.result.now.sector) c.in-Err-Stuck.have
-    c.self.invariant.sound c.claim.ensures.sound c.claim.ensures.same first c.from.ensures waits.1 c.claim.ensures.once waits.2)
+    (write_refused c.claim.new.self (length c.args.bytes.now / c.shape.result.now.sector) c.in-Err-Stuck.wanted c.in-Err-Stuck.have
+    waits.3 waits.2 c.claim.ensures.once waits.1)
 
 pub returns-then-is_past_end-clause-cause : goal.returns-then-is_past_end-clause-cause
 returns-then-is_past_end-clause-cause g c = none_lost_there c.args.self.now.mount.units
 
 pub returns-in-Err-Drive-clause-cause : goal.returns-in-Err-Drive-clause-cause
 returns-in-Err-Drive-clause-cause g c =
-    let lost = subst (Waits c.self.inside.mount c.claim.new.self (c.front-first.result.position + c.from.result) c.claim.new.self.granted)
+    let lost = subst (Waits c.self.inside.mount c.claim.new.self
+    (taken_in c.claim.new.self + length c.args.bytes.now / c.shape.result.now.sector) c.claim.new.self.granted)
     c.in-Err-Drive.field-0-is
     c.in-Err-Drive.ensures.refused in
     subst (λ (us : List ModelUnit). IsLostAt c.args.self.now.mount.units us c.in-Err-Drive.unit c.in-Err-Drive.event)
@@ -85,29 +78,29 @@ returns-in-Err-Drive-clause-cause g c =
 pub returns-in-Err-Drive-clause-learns : goal.returns-in-Err-Drive-clause-learns
 returns-in-Err-Drive-clause-learns g c =
     subst (λ (n : SerialView). Learns (device c.args.self.now) (device n)) (sym c.add_fault.ensures)
-    (learns_from _ c.args.self.now _ c.self.view_is c.self.invariant.sound c.claim.ensures.sound c.claim.ensures.same)
+    (learns_from _ c.args.self.now _ c.self.view_is c.claim.ensures.same)
 
-pub returns-in-Err-Drive-clause-pad : goal.returns-in-Err-Drive-clause-pad
-returns-in-Err-Drive-clause-pad g c = ap (λ (s : SerialView). s.mount.pad) c.add_fault.ensures ∙ c.claim.ensures.pad
-    ∙ ap (λ (s : SerialView). s.mount.pad) c.self.view_is
+pub returns-in-Err-Drive-clause-asked : goal.returns-in-Err-Drive-clause-asked
+returns-in-Err-Drive-clause-asked g c = ap (λ (s : SerialView). s.mount.asked) c.add_fault.ensures ∙ c.claim.ensures.asked
+    ∙ ap (λ (s : SerialView). s.mount.asked) c.self.view_is
 
 pub returns-in-Err-Stuck-clause-cause : goal.returns-in-Err-Stuck-clause-cause
 returns-in-Err-Stuck-clause-cause g c =
-    let first : c.front-first.result.position ≡ taken_in c.self.inside.mount = ap (λ (f : Front). f.position) c.front-first.ensures in
-    let count : c.from.result ≡ length c.args.bytes.now / c.args.self.now.mount.image.shape.sector =
-    c.from.ensures ∙ ap (λ (s : Shape). length c.args.bytes.now / s.sector) (c.shape.ensures ∙ ap (λ (s : SerialView). s.mount.image.shape) c.self.view_is) in
-    let waits = subst (Waits c.self.inside.mount c.claim.new.self (c.front-first.result.position + c.from.result) c.claim.new.self.granted)
-    c.in-Err-Stuck.field-0-is
-    c.in-Err-Stuck.ensures.refused in
+    let sector : c.shape.result.now.sector ≡ c.args.self.now.mount.image.shape.sector =
+    ap (λ (s : Shape). s.sector) (c.shape.ensures ∙ ap (λ (s : SerialView). s.mount.image.shape) c.self.view_is) in
+    let waits = subst (Waits c.self.inside.mount c.claim.new.self
+    (taken_in c.claim.new.self + length c.args.bytes.now / c.shape.result.now.sector) c.claim.new.self.granted)
+    c.in-Err-Stuck.field-0-is c.in-Err-Stuck.ensures.refused in
     subst (λ (s : SerialView). NoneLost c.args.self.now.mount.units s.mount.units × (c.in-Err-Stuck.have ≡ s.mount.granted)
     × IsWriteRefusal s.mount.image (logs_in s.mount) (length (engine_log s.mount)) (length c.args.bytes.now / c.args.self.now.mount.image.shape.sector)
-    (c.front-first.result.position + c.from.result) c.in-Err-Stuck.have)
+    c.in-Err-Stuck.wanted c.in-Err-Stuck.have)
     (sym c.add_worn.ensures) (
       subst (λ (s : SerialView). NoneLost s.mount.units c.claim.new.self.units) c.self.view_is waits.0,
-      waits.1,
-      write_cause c.self.inside.mount c.claim.new.self c.front-first.result.position c.from.result
-          (length c.args.bytes.now / c.args.self.now.mount.image.shape.sector) c.in-Err-Stuck.have
-          c.self.invariant.sound c.claim.ensures.sound c.claim.ensures.same first count waits.1 c.claim.ensures.once waits.2,
+      waits.2,
+      subst (λ size. IsWriteRefusal c.claim.new.self.image (logs_in c.claim.new.self) (length (engine_log c.claim.new.self))
+          (length c.args.bytes.now / size) c.in-Err-Stuck.wanted c.in-Err-Stuck.have) sector
+          (write_refused c.claim.new.self (length c.args.bytes.now / c.shape.result.now.sector) c.in-Err-Stuck.wanted c.in-Err-Stuck.have
+          waits.3 waits.2 c.claim.ensures.once waits.1),
     )
 
 pub returns-in-Err-Stuck-clause-learns : goal.returns-in-Err-Stuck-clause-learns
@@ -128,13 +121,12 @@ returns-in-Err-Stuck-clause-learns g c =
       worns = c.self.inside.worns ++ record {
         written = length (flat_map lines_of c.self.inside.own);
         count = length c.args.bytes.now / c.shape.result.now.sector;
-        wanted =
-            c.front-first.result.position + c.from.result;
+        wanted = c.in-Err-Stuck.wanted;
         have = c.in-Err-Stuck.have;
       } ∷ [];
     } in
     learns_at was c.args.self.now now c.add_worn.new.self c.self.view_is c.add_worn.ensures
-    (learns_none was now c.self.invariant.sound c.claim.ensures.sound c.claim.ensures.same)
+    (learns_none was now c.claim.ensures.same)
 
 pub invariant_of-self-2 : goal.invariant_of-self-2
 invariant_of-self-2 g c =
@@ -155,7 +147,7 @@ invariant_of-self-2 g c =
     } in
     let sectors : AreSectors c.self.inside.mount.image.shape.sector (length c.args.bytes.now) =
     subst (λ (s : SerialView). AreSectors s.mount.image.shape.sector (length c.args.bytes.now)) (sym c.self.view_is) c.requires.sectors in
-    let first : c.front-first.result.position ≡ taken_in c.self.inside.mount = ap (λ (f : Front). f.position) c.front-first.ensures in
+    let first : c.front-first.result.position ≡ taken_in c.claim.new.self = ap (λ (f : Front). f.position) c.front-first.ensures.front in
     let place : Place = record { first = c.front-first.result.position; count = length c.args.bytes.now / c.shape.result.now.sector } in
     record {
       sound = c.take_all.ensures.sound;
@@ -167,8 +159,8 @@ invariant_of-self-2 g c =
             same = c.claim.ensures.same;
             mount = c.take_all.ensures.taken;
           }) c.self.invariant first c.add.ensures;
-      small = end_low c.self.inside.mount c.shape.result.now c.front-first.result.position c.from.result
-          (length c.args.bytes.now) c.self.invariant.sound first c.shape.ensures c.from.ensures sectors;
+      small = end_low c.self.inside.mount c.claim.new.self c.shape.result.now c.front-first.result.position c.from.result
+          (length c.args.bytes.now) c.self.invariant.sound c.claim.ensures.sound first c.shape.ensures c.from.ensures sectors;
       faults = named_write was new c.claim.new.self c.args.lba
           (sectors_of c.shape.result.now.sector (length c.args.bytes.now / c.shape.result.now.sector) c.args.bytes.now)
           (record {
@@ -193,10 +185,7 @@ invariant_of-self-2 g c =
             same = c.claim.ensures.same;
             mount = c.take_all.ensures.taken;
           })
-          (granted_room c.self.inside.mount c.claim.new.self c.front-first.result.position c.from.result
-          (length c.args.bytes.now / c.shape.result.now.sector)
-          c.self.invariant.sound c.claim.ensures.sound c.claim.ensures.same first c.from.ensures (c.in-Ok.ensures.granted refl))
-          c.claim.ensures.once c.self.invariant;
+          (c.in-Ok.ensures.granted refl) c.claim.ensures.once c.self.invariant;
     }
 
 pub returns-clause-cause : goal.returns-clause-cause
@@ -283,19 +272,17 @@ returns-clause-granted g c =
       faults = c.self.inside.faults;
       worns = c.self.inside.worns;
     } in
-    let first : c.front-first.result.position ≡ taken_in c.self.inside.mount = ap (λ (f : Front). f.position) c.front-first.ensures in
+    let first : c.front-first.result.position ≡ taken_in c.claim.new.self = ap (λ (f : Front). f.position) c.front-first.ensures.front in
     granted_place was new c.claim.new.self c.args.lba c.shape.result.now.sector (length c.args.bytes.now / c.shape.result.now.sector) c.args.bytes.now
     (record { was = c.self.invariant.sound; between = c.claim.ensures.sound; same = c.claim.ensures.same; mount = c.take_all.ensures.taken })
-    (granted_room c.self.inside.mount c.claim.new.self c.front-first.result.position c.from.result (length c.args.bytes.now / c.shape.result.now.sector)
-    c.self.invariant.sound c.claim.ensures.sound c.claim.ensures.same first c.from.ensures (c.in-Ok.ensures.granted refl))
-    c.claim.ensures.once c.front-first.result.position first
+    (c.in-Ok.ensures.granted refl) c.claim.ensures.once c.front-first.result.position first
 
-pub returns-clause-pad : goal.returns-clause-pad
-returns-clause-pad g c =
-    ap (λ (v : MountView). v.pad) c.take_all.ensures.taken
-    ∙ pad_all c.claim.new.self c.args.lba (sectors_of c.shape.result.now.sector (length c.args.bytes.now / c.shape.result.now.sector) c.args.bytes.now)
-    ∙ c.claim.ensures.pad ∙ ap (λ (s : SerialView). s.mount.pad) c.self.view_is
+pub returns-clause-asked : goal.returns-clause-asked
+returns-clause-asked g c =
+    ap (λ (v : MountView). v.asked) c.take_all.ensures.taken
+    ∙ asked_all c.claim.new.self c.args.lba (sectors_of c.shape.result.now.sector (length c.args.bytes.now / c.shape.result.now.sector) c.args.bytes.now)
+    ∙ c.claim.ensures.asked ∙ ap (λ (s : SerialView). s.mount.asked) c.self.view_is
 
-pub returns-in-Err-Stuck-clause-pad : goal.returns-in-Err-Stuck-clause-pad
-returns-in-Err-Stuck-clause-pad g c = ap (λ (s : SerialView). s.mount.pad) c.add_worn.ensures ∙ c.claim.ensures.pad
-    ∙ ap (λ (s : SerialView). s.mount.pad) c.self.view_is
+pub returns-in-Err-Stuck-clause-asked : goal.returns-in-Err-Stuck-clause-asked
+returns-in-Err-Stuck-clause-asked g c = ap (λ (s : SerialView). s.mount.asked) c.add_worn.ensures ∙ c.claim.ensures.asked
+    ∙ ap (λ (s : SerialView). s.mount.asked) c.self.view_is

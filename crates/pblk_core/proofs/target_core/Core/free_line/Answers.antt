@@ -1,98 +1,110 @@
-use Rattle.std.proofs.Common.{◌≡◌, ℕ, ◌<◌, ◌≤◌, List, get_or, length, refl, sym, subst, ap, ◌∙◌, rules}
-use Rattle.std.specs.List.{filter}
-use Rattle.std.specs.Option.{IfNone}
-use Rattle.std.proofs.lemmas.Option.{get_or_from_slice_get, slice_get-get_or}
-use Rattle.pblk_model.specs.Shape.{units}
-use Rattle.pblk_layout.specs.Live.{units_in}
-use Rattle.pblk_world.specs.Freeing.{MayFree}
-use Rattle.pblk_world.specs.World.{log_of}
-use Rattle.line_table.specs.declared.row.LineState.TheVariants.{Freed}
-use Rattle.line_table.specs.Rows.{Changes, turned}
-use Rattle.pblk_core.specs.declared.line_notes.LineNote.{LineNote}
-use Rattle.pblk_core.specs.Mounts.{InItsMount}
-use Rattle.pblk_core.proofs.FreedConditions.{fewer_closed, may_give_up}
-use Rattle.pblk_core.proofs.SpentTables.{freed_where_spent, spent_where_freed}
-use Rattle.pblk_core.proofs.StandsFreed.{freed_stands}
+use Rattle.std.proofs.Common.{◌≡◌, ◌≢◌, ◌⊎◌, inl, inr, ℕ, ◌==◌, Some, None, Option, true, false, [], ◌∷◌, length, refl, sym, subst, ap, ◌∙◌}
+use Rattle.std.specs.Option.{option_eq}
+use Rattle.std.proofs.lemmas.Option.{none-some}
+use Rattle.pblk_model.specs.Image.{Image}
+use Rattle.pblk_world.specs.Events.{EngineEvent, Free}
+use Rattle.pblk_world.specs.World.{Logs, log_of}
+use Rattle.core_laws.specs.Stepping.{after}
+use Rattle.lemmas.proofs.Tests.{not_both, same, same_number}
+use Rattle.pblk_core.specs.declared.collecting.Collection.{Collection}
+use Rattle.pblk_core.specs.declared.target_core.Core.{Core}
+use Rattle.pblk_core.specs.Collecting.{HasPassed}
+use Rattle.pblk_core.specs.Stands.{Stands}
+use Rattle.pblk_core.proofs.Collected.{HasChosen, collected, collected_freed, passed_same}
+use Rattle.pblk_core.proofs.SmallCalls.{collecting_stands}
+use Rattle.pblk_core.proofs.TabledLines.{tabled_by_logs}
 use Rattle.pblk_core.proofs.target_core.Core.free_line.Goals as goal
+use Rattle.pblk_core.proofs.target_core.Core.free_line.Goals.{then-eq, else-eq}
 
-pub returns-in_err-line-clause-none : goal.returns-in_err-line-clause-none
-returns-in_err-line-clause-none c =
-    subst (λ r. IfNone r (InItsMount c.args.self.now (λ i w. (line : ℕ) → ¬ MayFree i (log_of w) line))) (sym c.from_residual.ensures)
-    (λ i w mount st line may. c.in_err-line.ensures.none line (spent_where_freed i w mount st line may))
+-- The line that was freed was the victim, and none is at work then, or it wasn't.
+abbrev without_victim : Core → Core
+without_victim c = record c { collection = record c.collection { victim = None } }
 
-pub index-requires : goal.index-requires
-index-requires c =
-    let low = (may_give_up c.args.self.now c.in_ok-line.line c.requires.standing c.in_ok-line.ensures.found).line_units in
-    search rules
+abbrev Leaves : ℕ → Core → Core → Type 0
+Leaves line mid new = ((mid.collection.victim ≡ Some line) × (new ≡ without_victim mid)) ⊎ ((mid.collection.victim ≢ Some line) × (new ≡ mid))
 
-pub turn-requires-clause-inside : goal.turn-requires-clause-inside
-turn-requires-clause-inside c = (may_give_up c.args.self.now c.in_ok-line.line c.requires.standing c.in_ok-line.ensures.found).line_row
+its_line : (v : Option ℕ) (line : ℕ) → option_eq (λ a b. a == b) v (Some line) ≡ true → v ≡ Some line
+its_line None line e = absurd cc
+its_line (Some n) line e = ap (λ m. Some m) (same n line e)
 
-pub turn-requires-clause-width : goal.turn-requires-clause-width
-turn-requires-clause-width c =
-    let may = may_give_up c.args.self.now c.in_ok-line.line c.requires.standing c.in_ok-line.ensures.found in
-    let live = get_or c.args.self.now.live.items c.in_ok-line.line c.index.result.now in
-    let few = may.few live (slice_get-get_or c.args.self.now.live.items c.in_ok-line.line c.index.result.now may.line_units) in
-    subst (λ n. n ≤ units c.args.self.now.lines.shape) (sym (c.width-width.ensures.width ∙ ap (λ us. length (units_in us)) c.index.ensures)) few
+other_line : (v : Option ℕ) (line : ℕ) → option_eq (λ a b. a == b) v (Some line) ≡ false → v ≢ Some line
+other_line v line e = λ is. not_both (line == line) (same_number line) (ap (λ o. option_eq (λ a b. a == b) o (Some line)) (sym is) ∙ e)
 
-pub turn-requires-clause-change : goal.turn-requires-clause-change
-turn-requires-clause-change c = λ row there.
-    (may_give_up c.args.self.now c.in_ok-line.line c.requires.standing c.in_ok-line.ensures.found).turns row _ there
+left_stands : (i : Image) (logs : Logs) (line : ℕ) (mid new : Core) → Leaves line mid new → Stands i logs mid → Stands i logs new
+left_stands i logs line mid new (inl gone) st =
+    subst (Stands i logs) (sym gone.1) (collecting_stands i logs mid (record mid.collection { victim = None }) st)
+left_stands i logs line mid new (inr kept) st = subst (Stands i logs) (sym kept.1) st
 
-pub free-requires : goal.free-requires
-free-requires c = (may_give_up c.args.self.now c.in_ok-line.line c.requires.standing c.in_ok-line.ensures.found).noted
+left_count : (line : ℕ) (mid new : Core) → Leaves line mid new → length new.collection.lines ≡ length mid.collection.lines
+left_count line mid new (inl gone) = ap (λ (x : Core). length x.collection.lines) gone.1
+left_count line mid new (inr kept) = ap (λ (x : Core). length x.collection.lines) kept.1
 
-pub give_up-requires-clause-none : goal.give_up-requires-clause-none
-give_up-requires-clause-none c = (may_give_up c.args.self.now c.in_ok-line.line c.requires.standing c.in_ok-line.ensures.found).none_left
+left_victim : (line : ℕ) (mid new : Core) → Leaves line mid new → (other : ℕ) → new.collection.victim ≡ Some other → mid.collection.victim ≡ Some other
+left_victim line mid new (inl gone) other is = absurd (none-some other (sym (ap (λ (x : Core). x.collection.victim) gone.1) ∙ is))
+left_victim line mid new (inr kept) other is = sym (ap (λ (x : Core). x.collection.victim) kept.1) ∙ is
 
-pub give_up-requires-clause-some : goal.give_up-requires-clause-some
-give_up-requires-clause-some c = (may_give_up c.args.self.now c.in_ok-line.line c.requires.standing c.in_ok-line.ensures.found).some_used
+left_passed : (line : ℕ) (mid new : Core) → Leaves line mid new → HasPassed mid → HasPassed new
+left_passed line mid new (inl gone) was = λ lba other at position low is there.
+    none-some other (sym (ap (λ (x : Core). x.collection.victim) gone.1) ∙ is)
+left_passed line mid new (inr kept) was = subst HasPassed (sym kept.1) was
 
-pub remove_row-requires : goal.remove_row-requires
-remove_row-requires c = record {
-  rise = (may_give_up c.args.self.now c.in_ok-line.line c.requires.standing c.in_ok-line.ensures.found).risen;
-}
+-- the line that an event frees
+abbrev freed_line : EngineEvent → ℕ
+freed_line (Free line) = line
+freed_line e = 0
 
-pub returns-clause-may : goal.returns-clause-may
-returns-clause-may c = λ i w mount st. freed_where_spent i w mount st c.in_ok-line.line c.in_ok-line.ensures.found
-
-pub returns-clause-least : goal.returns-clause-least
-returns-clause-least c = λ i w mount st m low may. c.in_ok-line.ensures.least m low (spent_where_freed i w mount st m may)
+pub choose-requires : goal.choose-requires
+choose-requires c =
+    let is = c.requires.collecting in
+    let line : ℕ = c.in_ok-line.line in
+    let mid : Core = c.free_spent.new.self in
+    let leaves : Leaves line mid c.if-eq.self = elim c.if-eq.branch [
+      | then-eq w ↦ inl (its_line mid.collection.victim line (sym c.eq.ensures ∙ w.if-eq.true), w.self-is)
+      | else-eq w ↦ inr (other_line mid.collection.victim line (sym c.eq.ensures ∙ w.if-eq.false), w.self-is)
+    ] in
+    let knows = length (log_of is.world 0) ∷ [] in
+    record {
+      tabled = tabled_by_logs c.args.self.now c.if-eq.self is (after (log_of is.world) (Free line) knows)
+          (left_stands is.image _ line mid c.if-eq.self leaves (c.in_ok-line.ensures.stands is.image is.world knows is.legal is.stands refl))
+          (left_count line mid c.if-eq.self leaves ∙ ap (λ (x : Collection). length x.lines) c.free_spent.ensures.collection)
+          (λ other at_work. sym (ap (λ (x : Collection). x.victim) c.free_spent.ensures.collection) ∙ left_victim line mid c.if-eq.self leaves other at_work);
+    }
 
 pub returns-clause-stands : goal.returns-clause-stands
 returns-clause-stands c = λ i w knows mount st own.
-    freed_stands i w c.in_ok-line.line knows c.args.self.now _ mount st c.in_ok-line.ensures.found own (record {
-      layout = refl;
-      map = refl;
-      window = refl;
-      placer = refl;
-      holds = refl;
-      open_same = refl;
-      live = refl;
-      lines = λ live there.
-          let value : c.index.result.now ≡ live = c.index.ensures ∙ get_or_from_slice_get c.args.self.now.live.items c.in_ok-line.line live _ there in
-          let wide : c.width-width.result ≡ length (units_in live) = c.width-width.ensures.width ∙ ap (λ us. length (units_in us)) value in
-          subst (λ n. Changes c.args.self.now.lines c.turn.new.self c.in_ok-line.line (turned Freed n)) wide c.turn.ensures;
-      resets = c.give_up.ensures.left;
-      used = c.give_up.ensures.used;
-      notes = c.free.ensures.rows;
-      newest = c.free.ensures.newest;
-      seq = refl;
-      first_seq = refl;
-      own_capacity = refl;
-      older = c.remove_row.ensures;
-      first = refl;
-      placed = refl;
-      left = refl;
-      under_way = refl;
-      answers = refl;
-      users = refl;
-    })
+    let line : ℕ = c.in_ok-line.line in
+    let mid : Core = c.free_spent.new.self in
+    let leaves : Leaves line mid c.if-eq.self = elim c.if-eq.branch [
+      | then-eq w ↦ inl (its_line mid.collection.victim line (sym c.eq.ensures ∙ w.if-eq.true), w.self-is)
+      | else-eq w ↦ inr (other_line mid.collection.victim line (sym c.eq.ensures ∙ w.if-eq.false), w.self-is)
+    ] in
+    c.choose.ensures.stands i _ (left_stands i _ line mid c.if-eq.self leaves (c.in_ok-line.ensures.stands i w knows mount st own))
 
-pub returns-clause-fewer : goal.returns-clause-fewer
-returns-clause-fewer c =
-    let spent = c.in_ok-line.ensures.found in
-    subst (λ (rows : List LineNote).
-    length (filter (λ (r : LineNote). r.closed) rows) < length (filter (λ (r : LineNote). r.closed) c.args.self.now.notes.rows.items))
-    (sym (c.free.ensures.rows spent.note spent.is_note))
-    (fewer_closed c.args.self.now.notes.rows.items c.in_ok-line.line spent.note spent.is_note spent.spent.closed)
+pub returns-clause-collects : goal.returns-clause-collects
+returns-clause-collects c = λ i w knows mount st was own.
+    let line : ℕ = c.in_ok-line.line in
+    let old : Core = c.args.self.now in
+    let mid : Core = c.free_spent.new.self in
+    let left : Core = c.if-eq.self in
+    let leaves : Leaves line mid left = elim c.if-eq.branch [
+      | then-eq w ↦ inl (its_line mid.collection.victim line (sym c.eq.ensures ∙ w.if-eq.true), w.self-is)
+      | else-eq w ↦ inr (other_line mid.collection.victim line (sym c.eq.ensures ∙ w.if-eq.false), w.self-is)
+    ] in
+    let now = left_stands i _ line mid left leaves (c.in_ok-line.ensures.stands i w knows mount st own) in
+    let same_victim = ap (λ (x : Collection). x.victim) c.free_spent.ensures.collection in
+    let count = left_count line mid left leaves ∙ ap (λ (x : Collection). length x.lines) c.free_spent.ensures.collection in
+    let chose : HasChosen i (after (log_of w) (Free line) knows) left c.choose.new.self = record {
+      stands = c.choose.ensures.stands i _ now;
+      count = c.choose.ensures.count;
+      victim = c.choose.ensures.victim i w _ mount now;
+      passed = c.choose.ensures.passed (left_passed line mid left leaves
+          (passed_same old mid was.passed c.free_spent.ensures.map c.free_spent.ensures.collection));
+      asked = c.choose.ensures.asked;
+    } in
+    elim leaves [
+      | inl gone ↦ collected_freed old left c.choose.new.self i w line knows mount st was (sym same_victim ∙ gone.0) count
+          (ap (λ (x : Core). x.collection.victim) gone.1) chose
+      | inr kept ↦ collected old left c.choose.new.self i w (Free line) knows mount st was (λ t is. absurd (none-some t is))
+          (λ other at_work freed. kept.0 (same_victim ∙ at_work ∙ ap (λ e. Some (freed_line e)) (sym freed))) count
+          (ap (λ (x : Core). x.collection.victim) kept.1 ∙ same_victim) chose
+    ]

@@ -1,4 +1,4 @@
-use Rattle.std.proofs.Common.{◌<◌, ◌≢◌, Some, [], length, refl, sym, subst, ap, ap₂, ◌∙◌}
+use Rattle.std.proofs.Common.{◌<◌, ◌≢◌, Some, None, [], length, refl, sym, subst, ap, ap₂, ◌∙◌}
 use Rattle.std.specs.Prelude.{map, replicate, slice_get}
 use Rattle.std.specs.FinMap as fin
 use Rattle.pblk_model.specs.declared.shape.Shape.{Shape}
@@ -8,9 +8,11 @@ use Rattle.stripe_placer.specs.Placing.{nothing_placed}
 use Rattle.world_laws.specs.MountBeginnings.{seq_after}
 use Rattle.core_laws.specs.OnlineUnits.{all_online}
 use Rattle.core_laws.specs.OpeningTables.{IsOpeningTable, slot_found}
+use Rattle.lemmas.proofs.Lists.{length_replicate}
 use Rattle.pblk_core.specs.OlderLines.{older_found}
 use Rattle.pblk_core.specs.LineNotes.{head_start, note_found}
 use Rattle.pblk_core.specs.Resets.{resets_found, used_below}
+use Rattle.lemmas.proofs.Lists.{length_replicate}
 use Rattle.pblk_core.proofs.FitFindings.{stray_inside, stray_used, head_inside, small_seq, opening_table}
 use Rattle.pblk_core.proofs.target_core.Core.made.Goals as goal
 
@@ -74,6 +76,10 @@ returns c = record {
   left = refl;
   in_flight = refl;
   none_answered = c.in_ok-answers.ensures ∙ ap (λ n. replicate n 0) c.units.ensures;
+  lines_held = ap length c.in_ok-collection.ensures.lines ∙ length_replicate c.args.shape.now.chunks None;
+  none_at_work = c.in_ok-collection.ensures.victim;
+  from_start = c.in_ok-collection.ensures.cursor;
+  none_copied = c.in_ok-collection.ensures.idle;
   seq = c.next_seq-seq.ensures ∙ ap (λ lines. seq_after lines c.args.found.now.head) c.as_slice-4.ensures;
   first_seq = c.next_seq-seq.ensures ∙ ap (λ lines. seq_after lines c.args.found.now.head) c.as_slice-4.ensures;
   own_capacity = refl;

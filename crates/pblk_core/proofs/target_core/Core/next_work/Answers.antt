@@ -1,25 +1,18 @@
-use Rattle.std.proofs.Common.{◌+◌, ◌^◌, ◌≤◌, sym, ap, ◌∙◌, arith}
+use Rattle.std.proofs.Common.{sym, ap, ◌∙◌}
 use Rattle.pblk_core.specs.Named.{named_beside, reset_or}
-use Rattle.pblk_core.proofs.SimpleLogs.{its_simple, simple_in}
 use Rattle.pblk_core.proofs.NamedReset.{to_reset}
-use Rattle.pblk_core.proofs.SmallGrant.{small}
 use Rattle.pblk_core.proofs.StandsReset.{named_in}
 use Rattle.pblk_core.proofs.WorkOf.{work_is}
 use Rattle.pblk_core.proofs.target_core.Core.next_work.Goals as goal
 
-pub work_beside-requires : goal.work_beside-requires
-work_beside-requires c =
-    let placed : c.args.self.now.first + c.args.self.now.placed ≤ 2 ^ 62 =
-    (small c.requires.image c.requires.world c.args.self.now (its_simple c.requires) c.requires.stands).placed in
-    omega arith
-
 pub returns-in-Some-clause-work : goal.returns-in-Some-clause-work
-returns-in-Some-clause-work c = λ i w mount st. let simple = simple_in i w mount st in
-    ap (λ o. reset_or o (named_beside c.args.self.now)) (sym c.in-Some.is ∙ c.first.ensures) ∙ work_is i w c.args.self.now simple st
+returns-in-Some-clause-work c = λ i w mount st col.
+    ap (λ o. reset_or o (named_beside c.args.self.now)) (sym c.in-Some.is ∙ c.first.ensures) ∙ work_is i w c.args.self.now mount st col
 
 pub returns-in-None-clause-work : goal.returns-in-None-clause-work
-returns-in-None-clause-work c = λ i w mount st. let simple = simple_in i w mount st in
-    c.work_beside.ensures ∙ ap (λ o. reset_or o (named_beside c.args.self.now)) (sym c.in-None.is ∙ c.first.ensures) ∙ work_is i w c.args.self.now simple st
+returns-in-None-clause-work c = λ i w mount st col.
+    c.work_beside.ensures ∙ ap (λ o. reset_or o (named_beside c.args.self.now)) (sym c.in-None.is ∙ c.first.ensures)
+    ∙ work_is i w c.args.self.now mount st col
 
 pub returns-in-Some-clause-reset : goal.returns-in-Some-clause-reset
 returns-in-Some-clause-reset c = λ i w line unit st is.

@@ -1,6 +1,13 @@
-use Rattle.std.proofs.Common.{◌≡◌, true, false, sym, ◌∙◌, is_some, rules}
-use Rattle.stripe_placer.specs.Placing.{next_stripe, program}
+use Rattle.std.proofs.Common.{◌≡◌, List, [], length, ap, arith, true, false, sym, ◌∙◌, is_some, rules}
+use Rattle.std.specs.Prelude.{slice_get}
+use Rattle.std.proofs.lemmas.Option.{none-some}
+use Rattle.pblk_world.specs.Events.{Place}
+use Rattle.stripe_placer.specs.Placing.{UnitRow, next_stripe, program}
 use Rattle.stripe_placer.proofs.NextUnits.{its_idle, its_stop}
+use Rattle.pblk_core.specs.declared.collecting.Collection.{Collection}
+use Rattle.pblk_core.specs.Named.{pad_of}
+use Rattle.pblk_core.proofs.Collected.{collected, collects_same, passed_same}
+use Rattle.pblk_core.proofs.TabledLines.{tabled_same}
 use Rattle.pblk_core.proofs.WorkOf.{program_named}
 use Rattle.pblk_core.proofs.target_core.Core.place.Goals as goal
 
@@ -27,6 +34,11 @@ returns-then-is_stopped-clause-stands c = λ first. let wrong : true ≡ false =
 pub returns-then-is_stopped-clause-again : goal.returns-then-is_stopped-clause-again
 returns-then-is_stopped-clause-again c = λ again i w mount st. (c.place_again.ensures.stripe i w mount st, c.place_again.ensures.stands i w mount st)
 
+pub returns-then-is_stopped-clause-collects_again : goal.returns-then-is_stopped-clause-collects_again
+returns-then-is_stopped-clause-collects_again c = λ again i logs was.
+    let pad : pad_of c.place_again.new.self ≡ pad_of c.args.self.now = c.place_again.ensures.pad in
+    collects_same c.args.self.now c.place_again.new.self i logs was c.place_again.ensures.map c.place_again.ensures.collection (omega arith)
+
 -- ---- a new stripe
 
 pub place_new-requires-clause-idle : goal.place_new-requires-clause-idle
@@ -36,8 +48,34 @@ place_new-requires-clause-idle c =
 pub returns-else-is_stopped-clause-legal : goal.returns-else-is_stopped-clause-legal
 returns-else-is_stopped-clause-legal c = λ first. c.place_new.ensures.legal
 
+pub choose-requires : goal.choose-requires
+choose-requires c =
+    let is = c.requires.collecting in
+    record {
+      tabled = tabled_same c.args.self.now c.place_new.new.self is _ (c.place_new.ensures.stands is.image is.world [] is.legal is.stands)
+          c.place_new.ensures.collection;
+    }
+
 pub returns-else-is_stopped-clause-stands : goal.returns-else-is_stopped-clause-stands
-returns-else-is_stopped-clause-stands c = λ first. c.place_new.ensures.stands
+returns-else-is_stopped-clause-stands c = λ first i w knows mount st. c.choose.ensures.stands i _ (c.place_new.ensures.stands i w knows mount st)
+
+pub returns-else-is_stopped-clause-collects : goal.returns-else-is_stopped-clause-collects
+returns-else-is_stopped-clause-collects c = λ first i w knows mount st was.
+    let mid = c.place_new.ensures.stands i w knows mount st in
+    let same = c.place_new.ensures.collection in
+    collected c.args.self.now c.place_new.new.self c.choose.new.self i w (Place c.place_new.new.into.stripe) knows mount st was
+    (λ t is. absurd (none-some t is)) (λ line at_work freed. absurd cc)
+    (ap (λ (x : Collection). length x.lines) same) (ap (λ (x : Collection). x.victim) same) (record {
+      stands = c.choose.ensures.stands i _ mid;
+      count = c.choose.ensures.count;
+      victim = c.choose.ensures.victim i w _ mount mid;
+      passed = c.choose.ensures.passed (passed_same c.args.self.now c.place_new.new.self was.passed c.place_new.ensures.map same);
+      asked = c.choose.ensures.asked;
+    })
+
+pub returns-else-is_stopped-clause-rows : goal.returns-else-is_stopped-clause-rows
+returns-else-is_stopped-clause-rows c = λ other apart.
+    ap (λ (units : List UnitRow). slice_get units other) c.choose.ensures.rows ∙ c.place_new.ensures.rows other apart
 
 pub returns-else-is_stopped-clause-again : goal.returns-else-is_stopped-clause-again
 returns-else-is_stopped-clause-again c = λ again. let wrong : false ≡ true = sym c.place_new.ensures.first ∙ again in absurd cc

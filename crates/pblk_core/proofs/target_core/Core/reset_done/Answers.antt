@@ -1,110 +1,29 @@
-use Rattle.std.proofs.Common.{◌≡◌, ◌<◌, ◌≤◌, true, false, length, refl, sym, subst, ap, ◌∙◌, rules}
-use Rattle.std.specs.Prelude.{slice_get}
-use Rattle.std.specs.List.{slice_index_or}
-use Rattle.std.proofs.lemmas.Option.{get_or_from_slice_get, slice_get_within}
-use Rattle.pblk_model.specs.declared.shape.Shape.{Shape}
-use Rattle.pblk_model.specs.Shape.{units}
-use Rattle.pblk_model.specs.LineOrder.{data_len}
-use Rattle.pblk_layout.specs.Live.{units_in}
-use Rattle.line_table.specs.declared.row.LineState.TheVariants.{Freed}
-use Rattle.line_table.specs.Rows.{Changes, IsChange, turned}
-use Rattle.pblk_core.specs.Resets.{emptied}
-use Rattle.pblk_core.proofs.SimpleLogs.{simple_in}
-use Rattle.pblk_core.proofs.ResetConditions.{reset_next, kept_few, kept_there, emptied_change, table_shape}
-use Rattle.pblk_core.proofs.StandsReset.{reset_stands}
+use Rattle.std.proofs.Common.{length, ap}
+use Rattle.std.proofs.lemmas.Option.{none-some}
+use Rattle.pblk_world.specs.Events.{ResetDone}
+use Rattle.pblk_core.specs.declared.collecting.Collection.{Collection}
+use Rattle.pblk_core.proofs.Collected.{collected, passed_same}
+use Rattle.pblk_core.proofs.TabledLines.{tabled_kept}
 use Rattle.pblk_core.proofs.target_core.Core.reset_done.Goals as goal
 
-pub keep_unit-requires-clause-line : goal.keep_unit-requires-clause-line
-keep_unit-requires-clause-line c = (reset_next c.args.self.now c.args.line c.args.unit c.requires.standing c.requires.named).line_units
+pub choose-requires : goal.choose-requires
+choose-requires c =
+    let mid = c.note_reset.ensures in
+    record { tabled = tabled_kept c.args.self.now c.note_reset.new.self c.requires.collecting mid.each mid.layout mid.collection }
 
-pub keep_unit-requires-clause-unit : goal.keep_unit-requires-clause-unit
-keep_unit-requires-clause-unit c = (reset_next c.args.self.now c.args.line c.args.unit c.requires.standing c.requires.named).small
+pub returns-clause-stands : goal.returns-clause-stands
+returns-clause-stands c = λ i w event knows mount st may. c.choose.ensures.stands i _ (c.note_reset.ensures.stands i w event knows mount st may)
 
-pub keep_unit-requires-clause-there : goal.keep_unit-requires-clause-there
-keep_unit-requires-clause-there c = (reset_next c.args.self.now c.args.line c.args.unit c.requires.standing c.requires.named).unit_in
-
-pub index-requires : goal.index-requires
-index-requires c =
-    let kept = kept_there c.args.self.now c.args.line c.args.unit c.args.state c.requires.standing c.requires.named in
-    let low : c.args.line < length c.keep_unit.new.live.items =
-    slice_get_within c.keep_unit.new.live.items c.args.line kept.0 (ap (λ us. slice_get us c.args.line) c.keep_unit.ensures ∙ kept.1) in
-    search rules
-
-pub emptied-requires : goal.emptied-requires
-emptied-requires c =
-    kept_few c.args.self.now c.args.line c.args.unit c.index.result.now c.index.result.now c.width-width.result c.args.state c.requires.standing
-    c.requires.named
-    (c.index.ensures ∙ ap (λ us. slice_index_or us c.args.line c.index.result.now) c.keep_unit.ensures) c.width-width.ensures.few
-
-pub turn-requires-clause-width : goal.turn-requires-clause-width
-turn-requires-clause-width c =
-    let few = kept_few c.args.self.now c.args.line c.args.unit c.index.result.now c.index.result.now c.width-width.result c.args.state c.requires.standing
-    c.requires.named
-    (c.index.ensures ∙ ap (λ us. slice_index_or us c.args.line c.index.result.now) c.keep_unit.ensures) c.width-width.ensures.few in
-    subst (λ (s : Shape). c.width-width.result ≤ units s) (table_shape c.args.self.now c.requires.standing) few
-
-pub turn-requires-clause-inside : goal.turn-requires-clause-inside
-turn-requires-clause-inside c = (reset_next c.args.self.now c.args.line c.args.unit c.requires.standing c.requires.named).line_row
-
-pub turn-requires-clause-change : goal.turn-requires-clause-change
-turn-requires-clause-change c = λ row there.
-    subst (λ was. IsChange was c.emptied.result (data_len c.args.self.now.lines.shape c.width-width.result))
-    (sym ((reset_next c.args.self.now c.args.line c.args.unit c.requires.standing c.requires.named).freed row there))
-    (subst (λ to. IsChange Freed to (data_len c.args.self.now.lines.shape c.width-width.result)) (sym c.emptied.ensures)
-    (subst (λ s. IsChange Freed (emptied c.args.self.now.layout c.width-width.result) (data_len s c.width-width.result))
-    (table_shape c.args.self.now c.requires.standing)
-    (emptied_change c.args.self.now.layout c.width-width.result)))
-
-pub returns-then-not-is_at-clause-stands : goal.returns-then-not-is_at-clause-stands
-returns-then-not-is_at-clause-stands c = λ i w event knows mount st to. let simple = simple_in i w mount st in
-    reset_stands i w c.args.line c.args.unit event knows c.args.state c.args.self.now _ simple st c.requires.named to (record {
-      layout = refl;
-      map = refl;
-      window = refl;
-      placer = refl;
-      holds = refl;
-      open_same = refl;
-      start = refl;
-      live = c.keep_unit.ensures;
-      resets = c.advance.ensures.left;
-      used_lines = c.advance.ensures.lines;
-      used = c.advance.ensures.others;
-      notes = refl;
-      lines_stay = λ at. let held : c.is_at.result ≡ true = c.is_at.ensures ∙ at in let gone = c.if-not-is_at.true in absurd cc;
-      lines_turn = λ live off there.
-          let value : c.index.result.now ≡ live = c.index.ensures ∙ get_or_from_slice_get c.keep_unit.new.live.items c.args.line live _ there in
-          let wide : c.width-width.result ≡ length (units_in live) = c.width-width.ensures.width ∙ ap (λ us. length (units_in us)) value in
-          subst (λ n. Changes c.args.self.now.lines c.turn.new.self c.args.line (turned (emptied c.args.self.now.layout n) n)) wide
-          (subst (λ to. Changes c.args.self.now.lines c.turn.new.self c.args.line (turned to c.width-width.result)) c.emptied.ensures c.turn.ensures);
-      first = refl;
-      placed = refl;
-      left = refl;
-      under_way = refl;
-      answers = refl;
-      users = refl;
-    })
-
-pub returns-else-not-is_at-clause-stands : goal.returns-else-not-is_at-clause-stands
-returns-else-not-is_at-clause-stands c = λ i w event knows mount st to. let simple = simple_in i w mount st in
-    reset_stands i w c.args.line c.args.unit event knows c.args.state c.args.self.now _ simple st c.requires.named to (record {
-      layout = refl;
-      map = refl;
-      window = refl;
-      placer = refl;
-      holds = refl;
-      open_same = refl;
-      start = refl;
-      live = c.keep_unit.ensures;
-      resets = c.advance.ensures.left;
-      used_lines = c.advance.ensures.lines;
-      used = c.advance.ensures.others;
-      notes = refl;
-      lines_stay = λ at. refl;
-      lines_turn = λ live off there. let none : c.is_at.result ≡ false = c.is_at.ensures ∙ off in let held = c.if-not-is_at.false in absurd cc;
-      first = refl;
-      placed = refl;
-      left = refl;
-      under_way = refl;
-      answers = refl;
-      users = refl;
+pub returns-clause-collects : goal.returns-clause-collects
+returns-clause-collects c = λ i w event knows mount st was may.
+    let mid = c.note_reset.ensures.stands i w event knows mount st may in
+    let same = c.note_reset.ensures.collection in
+    collected c.args.self.now c.note_reset.new.self c.choose.new.self i w (ResetDone c.args.unit event) knows mount st was
+    (λ t is. absurd (none-some t is)) (λ line at_work freed. absurd cc)
+    (ap (λ (x : Collection). length x.lines) same) (ap (λ (x : Collection). x.victim) same) (record {
+      stands = c.choose.ensures.stands i _ mid;
+      count = c.choose.ensures.count;
+      victim = c.choose.ensures.victim i w _ mount mid;
+      passed = c.choose.ensures.passed (passed_same c.args.self.now c.note_reset.new.self was.passed c.note_reset.ensures.map same);
+      asked = c.choose.ensures.asked;
     })

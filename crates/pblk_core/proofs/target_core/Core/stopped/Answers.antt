@@ -1,86 +1,29 @@
-use Rattle.std.proofs.Common.{◌≡◌, ℕ, ◌<◌, Some, length, refl, sym, subst, ap, ◌∙◌}
-use Rattle.std.specs.Prelude.{slice_get}
-use Rattle.std.proofs.lemmas.Option.{slice_get_within}
-use Rattle.pblk_model.specs.Shape.{units}
-use Rattle.stripe_placer.specs.Placing.{Placing, Program, program, stopped}
-use Rattle.stripe_placer.specs.Placing.UnitRow.{Stopped, UnderWay}
-use Rattle.lemmas.proofs.Parts.{get_set_same}
-use Rattle.pblk_core.proofs.LandedCore.{of_core, told_row}
-use Rattle.pblk_core.proofs.LandedWay.{unit_is}
-use Rattle.pblk_core.proofs.SimpleLogs.{its_simple, simple_in}
-use Rattle.pblk_core.proofs.StandsAgain.{stopped_stands}
+use Rattle.std.proofs.Common.{length, ap}
+use Rattle.std.proofs.lemmas.Option.{none-some}
+use Rattle.pblk_world.specs.Events.{Again}
+use Rattle.pblk_core.specs.declared.collecting.Collection.{Collection}
+use Rattle.pblk_core.proofs.Collected.{collected, passed_same}
+use Rattle.pblk_core.proofs.TabledLines.{tabled_kept}
 use Rattle.pblk_core.proofs.target_core.Core.stopped.Goals as goal
-use Rattle.pblk_core.proofs.UnitRows.{row_beside}
-use Rattle.pblk_core.proofs.target_core.Core.stopped.Goals.{In-Some}
 
-pub under_way-requires : goal.under_way-requires
-under_way-requires c =
-    let sd = c.requires.standing in
-    let unit : ℕ = c.args.stripe.now.stripe.unit in
-    let its = of_core sd.image sd.world c.args.self.now unit c.requires.under_way.0 (its_simple sd) sd.stands c.requires.under_way.1 in
-    subst (λ s. c.unit.result < units s) (sym (ap (λ (p : Placing). p.shape) sd.stands.placing))
-    (subst (λ u. u < units sd.image.shape) (sym c.unit.ensures) its.is.row.inside)
-
--- the program that is under way on the unit
-abbrev program_in : In-Some → Program
-program_in c = program c.args.self.now.placer c.in-Some.of
-
-on_its_unit : (c : In-Some) → slice_get c.args.self.now.placer.units c.args.stripe.now.stripe.unit ≡ Some (UnderWay (program_in c))
-on_its_unit c =
-    told_row c.args.self.now.placer c.args.stripe.now.stripe.unit _ _ c.in-Some.of _ c.in-Some.is c.unit.ensures c.under_way.ensures c.requires.under_way.1
-
-its_unit : (c : In-Some) → Program.unit (program_in c) ≡ c.args.stripe.now.stripe.unit
-its_unit c =
-    let sd = c.requires.standing in
-    let its = of_core sd.image sd.world c.args.self.now c.args.stripe.now.stripe.unit (program_in c) (its_simple sd) sd.stands (on_its_unit c) in
-    unit_is sd.image sd.world c.args.stripe.now.stripe.unit (program_in c) its.is
-
-here : (c : In-Some) → slice_get c.args.self.now.placer.units (Program.unit (program_in c)) ≡ Some (UnderWay (program_in c))
-here c = ap (slice_get c.args.self.now.placer.units) (its_unit c) ∙ on_its_unit c
-
-pub stopped-requires : goal.stopped-requires
-stopped-requires c = here (goal.at.stopped-requires c).In-Some
+pub choose-requires : goal.choose-requires
+choose-requires c =
+    let mid = c.note_stopped.ensures in
+    record { tabled = tabled_kept c.args.self.now c.note_stopped.new.self c.requires.collecting mid.each mid.layout mid.collection }
 
 pub returns-clause-stands : goal.returns-clause-stands
-returns-clause-stands c = λ i w event knows mount st may.
-    let at = (goal.at.returns-clause-stands c).In-Some in
-    stopped_stands i w c.args.stripe.now.stripe.unit event knows c.args.self.now _ (program_in at) (simple_in i w mount st) st (its_unit at) (here at) (record {
-      layout = refl;
-      map = refl;
-      lines = refl;
-      window = refl;
-      placer = c.stopped.ensures;
-      holds = refl;
-      open_same = refl;
-      live = refl;
-      resets = refl;
-      notes = refl;
-      start = refl;
-      first = refl;
-      placed = refl;
-      left = refl;
-      under_way = refl;
-      answers = refl;
-      users = refl;
+returns-clause-stands c = λ i w event knows mount st may. c.choose.ensures.stands i _ (c.note_stopped.ensures.stands i w event knows mount st may)
+
+pub returns-clause-collects : goal.returns-clause-collects
+returns-clause-collects c = λ i w event knows mount st was may.
+    let mid = c.note_stopped.ensures.stands i w event knows mount st may in
+    let same = c.note_stopped.ensures.collection in
+    collected c.args.self.now c.note_stopped.new.self c.choose.new.self i w (Again c.args.stripe.now.stripe.unit event) knows mount st was
+    (λ t is. absurd (none-some t is)) (λ line at_work freed. absurd cc)
+    (ap (λ (x : Collection). length x.lines) same) (ap (λ (x : Collection). x.victim) same) (record {
+      stands = c.choose.ensures.stands i _ mid;
+      count = c.choose.ensures.count;
+      victim = c.choose.ensures.victim i w _ mount mid;
+      passed = c.choose.ensures.passed (passed_same c.args.self.now c.note_stopped.new.self was.passed c.note_stopped.ensures.map same);
+      asked = c.choose.ensures.asked;
     })
-
-pub returns-clause-offered : goal.returns-clause-offered
-returns-clause-offered c =
-    let at = (goal.at.returns-clause-offered c).In-Some in
-    let of : Program = program_in at in
-    let old : Placing = c.args.self.now.placer in
-    let inside : of.unit < length old.units = slice_get_within old.units of.unit (UnderWay of) (here at) in (
-      of,
-      ap (λ (p : Placing). slice_get p.units c.args.stripe.now.stripe.unit) c.stopped.ensures
-          ∙ ap (slice_get (Placing.units (stopped old of))) (sym (its_unit at))
-          ∙ get_set_same old.units of.unit (Stopped of) inside,
-    )
-
-pub returns-clause-pad : goal.returns-clause-pad
-returns-clause-pad c = ap (λ (p : Placing). p.entries.pad) c.stopped.ensures
-
-pub returns-clause-rows : goal.returns-clause-rows
-returns-clause-rows c = λ other apart.
-    let at = (goal.at.returns-clause-rows c).In-Some in
-    ap (λ (p : Placing). slice_get p.units other) c.stopped.ensures
-    ∙ row_beside c.args.self.now.placer (program_in at) (Stopped (program_in at)) c.args.stripe.now.stripe.unit other (its_unit at) apart

@@ -1,101 +1,125 @@
-use Rattle.std.proofs.Common.{◌≡◌, refl, sym, subst, ap, ◌∙◌, ◌%◌, ◌<◌, ◌≤◌, ◌^◌, None, length, arith}
-use Rattle.pblk_world.specs.Fronts.{taken}
-use Rattle.pblk_core.proofs.SimpleLogs.{its_simple, simple_in}
-use Rattle.pblk_core.proofs.HeldPositions.{held_room, held_another, held_rises}
-use Rattle.pblk_core.proofs.StandsFacts.{users_few, window_taken_is, ring_some}
-use Rattle.pblk_core.proofs.HoldRows.{taker_length}
-use Rattle.std.specs.Prelude.{slice_set}
-use Rattle.pblk_core.specs.Taken.{mark_of}
-use Rattle.pblk_core.proofs.StandsTaken.{taken_stands, live_inside, live_there, may_take}
-use Rattle.pblk_world.specs.World.{log_of}
+use Rattle.std.proofs.Common.{ℕ, ◌≡◌, ◌<◌, ◌≤◌, ◌^◌, max, Some, List, [], length, sym, subst, ap, ◌∙◌, arith}
+use Rattle.std.specs.FinMap as fin
+use Rattle.std.proofs.lemmas.Option.{same_Some}
+use Rattle.pblk_model.specs.Image.{Image}
+use Rattle.pblk_world.specs.EngineLog.{Taken, taken_by}
+use Rattle.pblk_world.specs.Events.{EngineEvent, Decides, Take}
+use Rattle.pblk_world.specs.World.{World, Logs, log_of}
+use Rattle.world_laws.specs.LegalMounts.{IsLegalMount}
+use Rattle.core_laws.specs.Stepping.{after}
+use Rattle.pblk_core.specs.Collecting.{HasPassed}
+use Rattle.pblk_core.specs.Copies.{victim_asks}
+use Rattle.pblk_core.specs.Named.{pad_of}
+use Rattle.pblk_core.specs.Stands.{Stands}
+use Rattle.pblk_core.specs.Taken.{entry_of, mark_of}
+use Rattle.pblk_core.specs.declared.collecting.Collection.{Collection}
+use Rattle.pblk_core.specs.declared.target_core.Core.{Core}
+use Rattle.pblk_core.proofs.Collected.{collected}
+use Rattle.pblk_core.proofs.SmallCalls.{collecting_stands}
+use Rattle.pblk_core.proofs.TabledLines.{tabled_by_logs}
 use Rattle.pblk_core.proofs.target_core.Core.take.Goals as goal
+
+-- What is collected once the entry is in the tables: all but whether a copy is under way is as it was.
+record IsEnded (old entered ended : Core) : Type 0 where
+  whole : ended ≡ record entered { collection = ended.collection }
+  own : ended.collection ≡ record entered.collection { under_way = ended.collection.under_way }
+  same : entered.collection ≡ old.collection
+
+module _ (old entered ended : Core) (is : IsEnded old entered ended) where
+  stands_ended : (i : Image) (logs : Logs) → Stands i logs entered → Stands i logs ended
+  stands_ended i logs st = subst (Stands i logs) (sym is.whole) (collecting_stands i logs entered ended.collection st)
+
+  same_count : length ended.collection.lines ≡ length old.collection.lines
+  same_count = ap (λ (k : Collection). length k.lines) is.own ∙ ap (λ (k : Collection). length k.lines) is.same
+
+  same_victim : ended.collection.victim ≡ old.collection.victim
+  same_victim = ap (λ (k : Collection). k.victim) is.own ∙ ap (λ (k : Collection). k.victim) is.same
+
+  passed_ended : HasPassed entered → HasPassed ended
+  passed_ended was = λ lba line at position below at_work there. was lba line at position
+      (subst (λ (k : Collection). lba < k.cursor) is.own below)
+      (sym (ap (λ (k : Collection). k.victim) is.own) ∙ at_work)
+      (sym (ap (λ (x : Core). fin.get x.map lba) is.whole) ∙ there)
 
 pub returns : goal.returns
 returns c = record {
-  stands = λ i w knows mount st. let simple = simple_in i w mount st in taken_stands i w knows c.args.self.now _ c.args.entry simple st (record {
-    slot = c.get.result;
-    found = c.get.ensures;
-    layout = refl;
-    map = c.set.ensures.set;
-    capacity = c.set.ensures.capacity;
-    lines = c.supersede.ensures.lines;
-    window = c.push.ensures.pushed;
-    placer = c.wait.ensures;
-    holds = c.set-2.ensures ∙ ap (λ rows. slice_set rows (c.args.entry.position % length rows)
-        (record { mark = mark_of c.args.entry; line = None; taker = None })) c.supersede.ensures.holds;
-    open_lines = refl;
-    live = refl;
-    resets = refl;
-    notes = refl;
-    start = refl;
-    first = refl;
-    placed = refl;
-    left = refl;
-    under_way = refl;
-    answers = refl;
-    users = refl;
-  }) c.requires.next c.requires.room c.requires.user.0 c.requires.user.1 (subst (λ s. c.args.entry.lba < s.capacity) st.layout c.requires.lba);
-  pushed = c.push.ensures.pushed;
-  pad = ap (λ p. p.entries.pad) c.wait.ensures;
-  rows = ap (λ p. p.units) c.wait.ensures;
-  legal = λ i w mount st block. let simple =
-      simple_in i w mount st in may_take i w c.args.self.now c.args.entry st c.requires.next c.requires.position c.requires.user.1
-      (subst (λ s. c.args.entry.lba < s.capacity) st.layout c.requires.lba) block;
+  stands = λ i w knows mount st. c.choose.ensures.stands i (new_logs w knows) (stands_now i w knows mount st);
+  collects = λ i w knows mount st was. collected old ended chosen i w event knows mount st was few (λ line at_work same. absurd cc)
+      (same_count old entered ended is) (same_victim old entered ended is) (record {
+        stands = c.choose.ensures.stands i (new_logs w knows) (stands_now i w knows mount st);
+        count = c.choose.ensures.count;
+        victim = c.choose.ensures.victim i w (new_logs w knows) mount (stands_now i w knows mount st);
+        passed = c.choose.ensures.passed (passed_ended old entered ended is (c.enter.ensures.passed was.passed));
+        asked = c.choose.ensures.asked;
+      });
+  legal = c.enter.ensures.legal;
+  pushed = c.choose.ensures.window ∙ ap (λ (x : Core). x.window) c.end_copy.ensures.unchanged ∙ c.enter.ensures.pushed;
+  copying = λ copy. c.choose.ensures.copying ∙ c.end_copy.ensures.copy copy;
+  copying_still = λ user. c.choose.ensures.copying ∙ c.end_copy.ensures.user user ∙ ap (λ (k : Collection). k.under_way) c.enter.ensures.collection;
+  pad = pads;
+  pad_most = pads_most;
+  rows = c.choose.ensures.rows ∙ ap (λ (x : Core). x.placer.units) c.end_copy.ensures.unchanged ∙ c.enter.ensures.rows;
+}
+  where
+    old : Core
+    old = c.args.self.now
+
+    entered : Core
+    entered = c.enter.new.self
+
+    ended : Core
+    ended = c.end_copy.new.self
+
+    chosen : Core
+    chosen = c.choose.new.self
+
+    is : IsEnded old entered ended
+    is = record { whole = c.end_copy.ensures.unchanged; own = c.end_copy.ensures.collection; same = c.enter.ensures.collection }
+
+    event : EngineEvent
+    event = Take (entry_of c.args.entry) (mark_of c.args.self.now.map c.args.entry)
+
+    new_logs : World → List ℕ → Logs
+    new_logs w knows = after (log_of w) event knows
+
+    stands_now : (i : Image) (w : World) (knows : List ℕ) → IsLegalMount i w → Stands i (log_of w) c.args.self.now
+        → Stands i (after (log_of w) (Take (entry_of c.args.entry) (mark_of c.args.self.now.map c.args.entry)) knows) c.end_copy.new.self
+    stands_now i w knows mount st = stands_ended old entered ended is i (new_logs w knows) (c.enter.ensures.stands i w knows mount st)
+
+    few : (t : Taken) → taken_by (Decides (Take (entry_of c.args.entry) (mark_of c.args.self.now.map c.args.entry))) ≡ Some t → t.entry.position < 2 ^ 62
+    few t one = subst (λ (u : Taken). u.entry.position < 2 ^ 62) (same_Some _ t one) c.requires.position
+
+    pads : pad_of c.args.self.now ≤ pad_of c.choose.new.self
+    pads =
+        let more : pad_of c.choose.new.self ≡ max (pad_of c.end_copy.new.self) (victim_asks c.choose.new.self) = c.choose.ensures.asked in
+        let same : pad_of c.end_copy.new.self ≡ pad_of c.args.self.now = ap (λ (x : Core). pad_of x) c.end_copy.ensures.unchanged ∙ c.enter.ensures.pad in
+        omega arith
+
+    pads_most : pad_of c.choose.new.self ≤ max (pad_of c.args.self.now) (victim_asks c.choose.new.self)
+    pads_most =
+        let more : pad_of c.choose.new.self ≡ max (pad_of c.end_copy.new.self) (victim_asks c.choose.new.self) = c.choose.ensures.asked in
+        let same : pad_of c.end_copy.new.self ≡ pad_of c.args.self.now = ap (λ (x : Core). pad_of x) c.end_copy.ensures.unchanged ∙ c.enter.ensures.pad in
+        omega arith
+
+pub enter-requires-clause-standing : goal.enter-requires-clause-standing
+enter-requires-clause-standing c = record {
+  image = c.requires.collecting.image;
+  world = c.requires.collecting.world;
+  legal = c.requires.collecting.legal;
+  stands = c.requires.collecting.stands;
 }
 
-pub get-requires : goal.get-requires
-get-requires c =
-    let st = c.requires.standing in
-    subst (λ n. c.args.entry.lba < n) (sym st.stands.capacity) (subst (λ s. c.args.entry.lba < s.capacity) st.stands.layout c.requires.lba)
-
-pub supersede-requires-clause-room : goal.supersede-requires-clause-room
-supersede-requires-clause-room c =
-    let st = c.requires.standing in
-    subst (λ n. 0 < n) (sym st.stands.holds.room) (ring_some st.image.shape st.legal.accepted)
-
-pub supersede-requires-clause-inside : goal.supersede-requires-clause-inside
-supersede-requires-clause-inside c = λ line is.
-    let st = c.requires.standing in
-    live_inside st.image st.world c.args.self.now c.args.entry.lba c.get.result line (its_simple st) st.stands c.get.ensures
-    (subst (λ s. c.args.entry.lba < s.capacity) st.stands.layout c.requires.lba) is
-
-pub supersede-requires-clause-live : goal.supersede-requires-clause-live
-supersede-requires-clause-live c = λ line row is there.
-    let st = c.requires.standing in
-    live_there st.image st.world c.args.self.now c.args.entry.lba c.get.result line row (its_simple st) st.stands c.get.ensures
-    (subst (λ s. c.args.entry.lba < s.capacity) st.stands.layout c.requires.lba) is there
-
-pub set-requires : goal.set-requires
-set-requires c =
-    let st = c.requires.standing in
-    subst (λ n. c.args.entry.lba < n) (sym st.stands.capacity) (subst (λ s. c.args.entry.lba < s.capacity) st.stands.layout c.requires.lba)
-
-pub set-requires-2 : goal.set-requires-2
-set-requires-2 c =
-    let st = c.requires.standing in
-    subst (λ rows. 0 < length rows) (sym c.supersede.ensures.holds)
-    (subst (λ n. 0 < n) (sym (taker_length c.get.result c.args.entry.position c.args.self.now.holds.rows.items ∙ st.stands.holds.room))
-    (ring_some st.image.shape st.legal.accepted))
-
-pub wait-requires-clause-room : goal.wait-requires-clause-room
-wait-requires-clause-room c =
-    let st = c.requires.standing in
-    held_room st.image st.world c.args.self.now (its_simple st) st.stands c.requires.room
-
-pub wait-requires-clause-another : goal.wait-requires-clause-another
-wait-requires-clause-another c =
-    let st = c.requires.standing in
-    held_another st.image st.world c.args.self.now c.args.entry.position (its_simple st) st.stands c.requires.next
-
-pub wait-requires-clause-rises : goal.wait-requires-clause-rises
-wait-requires-clause-rises c = λ new.
-    let st = c.requires.standing in
-    held_rises st.image st.world c.args.self.now c.args.entry.position (its_simple st) st.stands c.requires.next
-
-pub overflow_add-self : goal.overflow_add-self
-overflow_add-self c =
-    let st = c.requires.standing in
-    let few : c.args.self.now.users ≤ taken (log_of st.world 0) = users_few st.image st.world c.args.self.now st.stands in
-    let next : c.args.entry.position ≡ taken (log_of st.world 0) = c.requires.next ∙ window_taken_is st.image st.world c.args.self.now st.stands in
-    let low : c.args.entry.position < 2 ^ 62 = c.requires.position in
-    omega arith
+pub choose-requires : goal.choose-requires
+choose-requires c =
+    let was = c.requires.collecting in
+    let logs : Logs = after (log_of was.world) (Take (entry_of c.args.entry) (mark_of c.args.self.now.map c.args.entry)) [] in
+    let old : Core = c.args.self.now in
+    let entered : Core = c.enter.new.self in
+    let ended : Core = c.end_copy.new.self in
+    let is : IsEnded old entered ended =
+    record { whole = c.end_copy.ensures.unchanged; own = c.end_copy.ensures.collection; same = c.enter.ensures.collection } in
+    record {
+      tabled = tabled_by_logs old ended was logs
+          (stands_ended old entered ended is was.image logs (c.enter.ensures.stands was.image was.world [] was.legal was.stands))
+          (same_count old entered ended is) (λ line at_work. sym (same_victim old entered ended is) ∙ at_work);
+    }

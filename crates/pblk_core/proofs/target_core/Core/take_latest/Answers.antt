@@ -1,0 +1,109 @@
+use Rattle.std.proofs.Common.{◌≡◌, ◌+◌, ◌%◌, ◌<◌, ◌≤◌, ◌^◌, if◌then◌else◌, None, length, refl, sym, subst, ap, ◌∙◌, arith}
+use Rattle.std.specs.Prelude.{slice_set}
+use Rattle.std.specs.FinMap as fin
+use Rattle.pblk_model.specs.declared.chunk.Mark.{Mark}
+use Rattle.pblk_model.specs.Chunk.{IsBlock}
+use Rattle.pblk_model.specs.Marks.{sector_mark, void_mark}
+use Rattle.pblk_world.specs.Events.{Take}
+use Rattle.pblk_world.specs.Fronts.{taken}
+use Rattle.pblk_world.specs.Taking.{MayTake}
+use Rattle.pblk_world.specs.World.{log_of}
+use Rattle.sector_pool.specs.declared.entry.Class.{Class}
+use Rattle.sector_pool.specs.declared.entry.Class.TheVariants.{User, Copy}
+use Rattle.core_laws.specs.Stepping.{after}
+use Rattle.pblk_core.specs.Stands.{Stands}
+use Rattle.pblk_core.specs.Taken.{entry_of, mark_of, users_in}
+use Rattle.pblk_core.proofs.SimpleLogs.{its_simple, simple_in}
+use Rattle.pblk_core.proofs.HeldPositions.{held_room, held_another, held_rises}
+use Rattle.pblk_core.proofs.StandsFacts.{users_few, window_taken_is}
+use Rattle.pblk_core.proofs.StandsTaken.{taken_stands, live_inside, live_there, may_take}
+use Rattle.pblk_core.proofs.target_core.Core.take_latest.Goals as goal
+
+pub returns : goal.returns
+returns c = record {
+  stands = λ i w knows mount st. subst (λ (m : Mark). Stands i (after (log_of w) (Take (entry_of c.args.entry) m) knows) c.keep.new.self) (sym mark)
+      (taken_stands i w knows c.args.self.now c.keep.new.self c.args.entry (sector_mark c.args.entry.lba c.args.entry.position) (simple_in i w mount st) st
+      (record { position = c.requires.next; room = c.requires.room; class = c.requires.class }) (record {
+        kept = record {
+          layout = ap (λ s. s.layout) c.keep.ensures.unchanged;
+          capacity = ap (λ s. fin.len s.map) c.keep.ensures.unchanged ∙ c.set.ensures.capacity;
+          window = c.keep.ensures.window;
+          placer = c.keep.ensures.placer;
+          open_lines = ap (λ s. s.open) c.keep.ensures.unchanged;
+          live = ap (λ s. s.live) c.keep.ensures.unchanged;
+          resets = ap (λ s. s.resets) c.keep.ensures.unchanged;
+          notes = ap (λ s. s.notes) c.keep.ensures.unchanged;
+          start = ap (λ s. s.start) c.keep.ensures.unchanged;
+          first = ap (λ s. s.first) c.keep.ensures.unchanged;
+          placed = ap (λ s. s.placed) c.keep.ensures.unchanged;
+          left = ap (λ s. s.left) c.keep.ensures.unchanged;
+          under_way = ap (λ s. s.under_way) c.keep.ensures.unchanged;
+          answers = ap (λ s. s.answers.items) c.keep.ensures.unchanged;
+          users = ap (λ s. s.users) c.keep.ensures.unchanged ∙ ap (λ n. c.args.self.now.users + n) c.users_in.ensures;
+        };
+        slot = c.get.result;
+        found = c.get.ensures;
+        map = ap (λ s. s.map) c.keep.ensures.unchanged ∙ c.set.ensures.set;
+        lines = ap (λ s. s.lines) c.keep.ensures.unchanged ∙ c.supersede.ensures.lines;
+        holds = c.keep.ensures.holds ∙ ap (λ rows. slice_set rows (c.args.entry.position % length rows)
+            (record { mark = sector_mark c.args.entry.lba c.args.entry.position; line = None; taker = None })) c.supersede.ensures.holds;
+      }) refl (subst (λ s. c.args.entry.lba < s.capacity) st.layout c.requires.lba));
+  pushed = c.keep.ensures.window;
+  pad = ap (λ p. p.entries.pad) c.keep.ensures.placer;
+  rows = ap (λ p. p.units) c.keep.ensures.placer;
+  map = ap (λ s. s.map) c.keep.ensures.unchanged ∙ c.set.ensures.set;
+  collection = ap (λ s. s.collection) c.keep.ensures.unchanged;
+  legal = λ i w mount st block sector. subst (λ (m : Mark). MayTake i (log_of w) (entry_of c.args.entry) m) (sym mark)
+      (may_take i w c.args.self.now c.args.entry mount st c.requires.next c.requires.position
+      (subst (λ s. c.args.entry.lba < s.capacity) st.layout c.requires.lba) c.requires.latest
+      (subst (λ (m : Mark). IsBlock i.shape (record { sector = c.args.entry.frame.bytes; mark = m })) mark block) sector);
+}
+  where
+    mark : mark_of c.args.self.now.map c.args.entry ≡ sector_mark c.args.entry.lba c.args.entry.position
+    mark = ap (λ b. if b then sector_mark c.args.entry.lba c.args.entry.position else void_mark c.args.entry.position) c.requires.latest
+
+pub get-requires : goal.get-requires
+get-requires c =
+    let st = c.requires.standing in
+    subst (λ n. c.args.entry.lba < n) (sym st.stands.capacity) (subst (λ s. c.args.entry.lba < s.capacity) st.stands.layout c.requires.lba)
+
+pub supersede-requires-clause-inside : goal.supersede-requires-clause-inside
+supersede-requires-clause-inside c = λ line is.
+    let st = c.requires.standing in
+    live_inside st.image st.world c.args.self.now c.args.entry.lba c.get.result line (its_simple st) st.stands c.get.ensures
+    (subst (λ s. c.args.entry.lba < s.capacity) st.stands.layout c.requires.lba) is
+
+pub supersede-requires-clause-live : goal.supersede-requires-clause-live
+supersede-requires-clause-live c = λ line row is there.
+    let st = c.requires.standing in
+    live_there st.image st.world c.args.self.now c.args.entry.lba c.get.result line row (its_simple st) st.stands c.get.ensures
+    (subst (λ s. c.args.entry.lba < s.capacity) st.stands.layout c.requires.lba) is there
+
+pub keep-requires-clause-waits_room : goal.keep-requires-clause-waits_room
+keep-requires-clause-waits_room c =
+    let st = c.requires.standing in
+    held_room st.image st.world c.args.self.now (its_simple st) st.stands c.requires.room
+
+pub keep-requires-clause-another : goal.keep-requires-clause-another
+keep-requires-clause-another c =
+    let st = c.requires.standing in
+    held_another st.image st.world c.args.self.now c.args.entry.position (its_simple st) st.stands c.requires.next
+
+pub keep-requires-clause-rises : goal.keep-requires-clause-rises
+keep-requires-clause-rises c =
+    let st = c.requires.standing in
+    held_rises st.image st.world c.args.self.now c.args.entry.position (its_simple st) st.stands c.requires.next
+
+pub overflow_add-self : goal.overflow_add-self
+overflow_add-self c =
+    let st = c.requires.standing in
+    let few : c.args.self.now.users ≤ taken (log_of st.world 0) = users_few st.image st.world c.args.self.now st.stands in
+    let next : c.args.entry.position ≡ taken (log_of st.world 0) = c.requires.next ∙ window_taken_is st.image st.world c.args.self.now st.stands in
+    let low : c.args.entry.position < 2 ^ 62 = c.requires.position in
+    let more : users_in c.args.entry.class ≤ 1 = at_most_one c.args.entry.class in
+    let its : c.users_in.result ≡ users_in c.args.entry.class = c.users_in.ensures in
+    omega arith
+  where
+    at_most_one : (class : Class) → users_in class ≤ 1
+    at_most_one User = omega arith
+    at_most_one Copy = omega arith

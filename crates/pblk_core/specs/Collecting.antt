@@ -1,0 +1,98 @@
+-- What a core collects: the victim at work, and the sector that is copied next.
+use Rattle.std.specs.Prelude.{ℕ, ◌+◌, ◌^◌, ◌<◌, ◌≤◌, ◌≡◌, ◌≢◌, if◌then◌else◌, nat_le, true, false, List, length, slice_get, Option, Some, None}
+use Rattle.std.specs.FinMap as fin
+use Rattle.std.specs.Option.{option_and_then, option_map}
+use Rattle.pblk_model.specs.declared.shape.Shape.{Shape}
+use Rattle.pblk_model.specs.Image.{Image}
+use Rattle.pblk_model.specs.LineOrder.{data_len}
+use Rattle.pblk_model.specs.Shape.{units}
+use Rattle.pblk_layout.specs.Live.{units_in}
+use Rattle.pblk_world.specs.AtRest.{pad_target, victim_now}
+use Rattle.pblk_world.specs.Events.{EngineEvent}
+use Rattle.pblk_world.specs.Victims.{comes_to_work}
+use Rattle.pblk_world.specs.World.{World, Logs, log_of}
+use Rattle.world_laws.specs.LegalMounts.{IsLegalMount}
+use Rattle.l2p_map.specs.declared.slot.Slot.TheVariants.{Media}
+use Rattle.line_table.specs.declared.row.Row.{Row}
+use Rattle.victim_index.specs.declared.candidate.Candidate.{Candidate}
+use Rattle.core_laws.specs.CandidateLines.{is_failed_state}
+use Rattle.core_laws.specs.Stepping.{after}
+use Rattle.pblk_core.specs.Copies.{copy_due, is_copying}
+use Rattle.pblk_core.specs.LineNotes.{outdated_seq}
+use Rattle.pblk_core.specs.Named.{pad_of}
+use Rattle.pblk_core.specs.Stands.{Stands}
+use Rattle.pblk_core.specs.declared.collecting.CopyJob.{CopyJob}
+use Rattle.pblk_core.specs.declared.line_notes.LineNote.{LineNote}
+use Rattle.pblk_core.specs.declared.line_notes.StartNote.{StartNote}
+use Rattle.pblk_core.specs.declared.target_core.Core.{Core}
+
+-- By the core's tables.
+
+-- No sector below the cursor is on the drive in the victim at work.
+abbrev pub HasPassed : Core → Type 0
+HasPassed c = (lba line at position : ℕ) → lba < c.collection.cursor → c.collection.victim ≡ Some line
+    → fin.get c.map lba ≢ Some (Media line at position)
+
+-- The job names the first sector that is on the drive in the victim at work, with its place there.
+pub record IsReady (c : Core) (job : CopyJob) : Type 0 where
+  pub due : copy_due c ≡ true
+  pub idle : is_copying c ≡ false
+  pub at_work : c.collection.victim ≡ Some job.line
+  pub inside : job.lba < c.layout.capacity
+  pub there : fin.get c.map job.lba ≡ Some (Media job.line job.at job.position)
+  pub first : (lba at position : ℕ) → lba < job.lba → fin.get c.map lba ≢ Some (Media job.line at position)
+
+-- By the logs.
+
+-- the victim after an event, where this one is at work or none is
+abbrev pub victim_after : Image → Logs → Option ℕ → Option ℕ
+victim_after i logs None = comes_to_work i logs
+victim_after i logs (Some line) = Some line
+
+-- What a core collects is what the logs of its mount say.
+pub record Collects (i : Image) (logs : Logs) (c : Core) : Type 0 where
+  pub count : length c.collection.lines ≡ i.shape.chunks
+  pub victim : c.collection.victim ≡ victim_now i logs
+  pub passed : HasPassed c
+  pub asked : pad_target i logs 0 ≤ pad_of c
+
+-- It stands for the logs of some legal mount, and collects what they say.
+pub record IsCollecting (c : Core) : Type 0 where
+  pub image : Image
+  pub world : World
+  pub legal : IsLegalMount image world
+  pub stands : Stands image (log_of world) c
+  pub collects : Collects image (log_of world) c
+
+-- Where the core collected what the logs of its mount say, it now does with this event of the engine
+-- behind.
+abbrev pub CollectsAfter : Core → EngineEvent → Core → Type 0
+CollectsAfter old e new = (i : Image) (w : World) (knows : List ℕ) → IsLegalMount i w
+    → Stands i (log_of w) old → Collects i (log_of w) old → Collects i (after (log_of w) e knows) new
+
+-- The choice of a victim.
+
+-- The tables have a row of each line of the drive, and the online units of each are units of the drive.
+pub record HasEachLine (c : Core) : Type 0 where
+  pub rows : length c.lines.rows ≡ c.layout.chunks
+  pub noted : length c.notes.rows.items ≡ c.layout.chunks
+  pub online : length c.live.items ≡ c.layout.chunks
+  pub few : (line live : ℕ) → slice_get c.live.items line ≡ Some live → live < 2 ^ units c.layout
+
+-- There is room to weigh each line, and the victim is one of the lines.
+pub record IsTabled (c : Core) : Type 0 where
+  pub each : HasEachLine c
+  pub count : length c.collection.lines ≡ c.layout.chunks
+  pub in_range : (line : ℕ) → c.collection.victim ≡ Some line → line < c.layout.chunks
+
+-- What the choice looks at in a line, by its note, its row and its online units, where it might be
+-- collected: it is outdated, and its live sectors are at most its data addresses less a stripe.
+abbrev pub weighed_by : Shape → Option StartNote → LineNote → Row → ℕ → Option Candidate
+weighed_by s newest note row live = if nat_le (row.live + s.ws_opt) (data_len s (length (units_in live)))
+    then option_map (λ seq. record { failed = is_failed_state row.state; live = row.live; seq = seq }) (outdated_seq note newest)
+    else None
+
+abbrev pub weighed : Core → ℕ → Option Candidate
+weighed c line = option_and_then (λ note. option_and_then (λ row. option_and_then
+    (weighed_by c.layout c.notes.newest note row) (slice_get c.live.items line)) (slice_get c.lines.rows line))
+    (slice_get c.notes.rows.items line)
