@@ -19,7 +19,7 @@ use Rattle.scan_recovery.specs.Readying.{AreHandedBack, IsFoundAfter}
 use Rattle.scan_recovery.specs.Units.{AreFit, IsUnitOf, image_of}
 use Rattle.scan_recovery.proofs.PadLoops.{fit_image, fit_kept}
 use Rattle.pblk_world.specs.Commanding.{has_stopped}
-use Rattle.pblk_world.specs.Events.{Beginning, Begin, Decides as Event, Logged}
+use Rattle.pblk_world.specs.Events.{Beginning, Begin, Decides as Event, Logged, Place, Take}
 use Rattle.pblk_world.specs.EngineLog.{Taken, takes}
 use Rattle.pblk_world.specs.Fronts.{is_users}
 use Rattle.pblk_world.specs.Lines.{found_image}
@@ -28,6 +28,7 @@ use Rattle.pblk_world.specs.World.{World, Logs, log_of, media, unit_events}
 use Rattle.pblk_world.specs.Space.{room}
 use Rattle.core_laws.specs.SimpleMounts.{IsSimpleMount}
 use Rattle.world_laws.specs.MountBeginnings.{beginning_of}
+use Rattle.world_laws.specs.Reasons.{AreBegun, AreUrgent}
 use Rattle.world_laws.specs.Finding.{IsFoundOf, NoneOpen}
 use Rattle.world_laws.proofs.MayBegin.{may_begin}
 use Rattle.world_laws.proofs.FoundFits.{found_fits}
@@ -57,6 +58,7 @@ use Rattle.block_target.specs.declared.heart.Heart.{Heart}
 use Rattle.block_target.proofs.FreedMounts.{mount_freed, takes_then, world_freed}
 use Rattle.block_target.proofs.GoingOn.{goes_none}
 use Rattle.block_target.proofs.GrantedTakes.{none_taken}
+use Rattle.block_target.proofs.Reasoned.{begun_decided, urgent_decided}
 
 -- ---- the world
 
@@ -187,6 +189,21 @@ module _ (s : Shape) (us new : List ModelUnit) (f : Found) (accepted : IsAccepte
         },
       )
 
+  -- nothing was taken or placed yet
+  none_begun : AreBegun i (log_of first_world)
+  none_begun = begun_decided i before legal_before.mount.legal (Begin b) tt
+      (record {
+        each = λ k knows entry mark source at of. absurd (none-some (record { event = Event (Take entry mark); knows = knows })
+            (sym (ap (λ (log : List Logged). slice_get log k) none_before) ∙ at));
+      })
+
+  none_placed : AreUrgent i (log_of first_world)
+  none_placed = urgent_decided i before legal_before.mount.legal (Begin b) tt
+      (record {
+        each = λ k knows stripe position at bears. absurd (none-some (record { event = Event (Place stripe); knows = knows })
+            (sym (ap (λ (log : List Logged). slice_get log k) none_before) ∙ at));
+      })
+
   first_sound : (wear : List (List ℕ)) (granted pad : ℕ) → IsSound (first_view wear granted pad)
   first_sound wear granted pad = record {
     legal = first_legal;
@@ -197,6 +214,8 @@ module _ (s : Shape) (us new : List ModelUnit) (f : Found) (accepted : IsAccepte
     handed = refl;
     count = fit_new.count;
     each = λ number u there. unit_begins wear granted pad number u there;
+    begun = none_begun;
+    urgent = none_placed;
   }
 
   pub first_beating : (h : Heart) → HasBegun s f h → IsBeating h

@@ -49,6 +49,8 @@ module _ (s : SerialView) (v : MountView) (is : Closes s v) where
     faults = faults;
     refusals = worns;
     granted = granted_same s.mount v is.serial.sound is.same is.serial.granted;
+    begun = is.sound.begun;
+    urgent = is.sound.urgent;
     asked = asked;
     from_synced = λ sealed. (is.between sealed).0;
     to_taken = λ sealed. (is.between sealed).1;

@@ -1,15 +1,11 @@
 -- A mount that copies the sector that its core names: the block that it fetches, and what it leaves.
-use Rattle.std.proofs.Common.{◌≡◌, ℕ, ◌<◌, ◌≤◌, false, List, [], ◌∷◌, ◌++◌, refl, sym, subst, ap, ◌∙◌, arith}
+use Rattle.std.proofs.Common.{◌≡◌, ℕ, ◌+◌, ◌<◌, ◌≤◌, false, List, [], ◌∷◌, ◌++◌, length, refl, ap, ◌∙◌, arith, length-append}
 use Rattle.std.specs.Prelude.{Result}
-use Rattle.std.proofs.lemmas.Option.{same_Some}
-use Rattle.pblk_model.specs.declared.shape.Shape.{Shape}
 use Rattle.pblk_model.specs.Image.{Image, block_at}
 use Rattle.pblk_model.specs.Marks.{sector_mark}
-use Rattle.pblk_world.specs.Events.{Entry, Take}
+use Rattle.pblk_world.specs.Events.{Entry, Logged, Take}
 use Rattle.pblk_world.specs.Taking.{MayTake}
-use Rattle.pblk_world.specs.World.{log_of}
-use Rattle.l2p_map.specs.declared.slot.Slot.TheVariants.{Media}
-use Rattle.core_laws.specs.SlotOf.{slot_of}
+use Rattle.pblk_world.specs.World.{World, log_of}
 use Rattle.step_laws.specs.SlotBlocks.{IsBlockOfSlot}
 use Rattle.step_laws.proofs.CopiedBlocks.{block_there}
 use Rattle.step_laws.proofs.SlotBlocks.{on_the_drive}
@@ -21,28 +17,25 @@ use Rattle.pblk_core.specs.Filling.{Filling}
 use Rattle.pblk_core.specs.Named.{pad_of}
 use Rattle.pblk_core.specs.Taken.{HasItsSector}
 use Rattle.pblk_core.specs.declared.collecting.CopyJob.{CopyJob}
-use Rattle.block_target.specs.Deeds.{Decides, Deed}
+use Rattle.block_target.specs.Deeds.{Decides, Deed, world_of}
 use Rattle.block_target.specs.Fetched.{WasFetched}
 use Rattle.block_target.specs.Heart.{BeatsAfter, OfItsMount, copy_entry}
-use Rattle.block_target.specs.Mount.{IsFetchable, IsMount, MountView, logs_in, world_in}
+use Rattle.block_target.specs.Mount.{IsFetchable, IsMount, MountView, engine_log, logs_in, world_in}
 use Rattle.block_target.specs.declared.heart.Heart.{Heart}
 use Rattle.block_target.specs.declared.opening.DriveErr.{DriveErr}
-use Rattle.block_target.proofs.GoingOn.{Leaves, moved_on}
+use Rattle.block_target.proofs.BegunCopies.{copy_begun, inside, slot}
+use Rattle.block_target.proofs.DeedsLemmas.{world_more}
+use Rattle.block_target.proofs.GoingOn.{Leaves, longer_decided, moved_on}
+use Rattle.block_target.proofs.GrantedRoom.{log_longer}
 use Rattle.block_target.proofs.MountLemmas.{same_then}
 use Rattle.block_target.proofs.ReadFetch.{leaves_fetched, media_fetched}
 use Rattle.block_target.proofs.TakenMount.{leaves_copied}
 
 module _ {v : MountView} {h : Heart} {f : Filling} (m : IsMount v h f) (job : CopyJob) (ready : IsReady h.core job) where
-  inside : job.lba < v.image.shape.capacity
-  inside = subst (λ (s : Shape). job.lba < s.capacity) m.heart.stands.layout ready.inside
-
-  slot : slot_of v.image (logs_in v) job.lba ≡ Media job.line job.at job.position
-  slot = same_Some (slot_of v.image (logs_in v) job.lba) (Media job.line job.at job.position)
-      (sym (m.heart.stands.slots job.lba inside) ∙ ready.there)
-
   -- its block
   pub job_block : IsBlockOfSlot v.image (logs_in v) job.lba job.line job.at job.position
-  job_block = on_the_drive v.image (world_in v) m.sound.beginning job.lba job.line job.at job.position m.sound.legal m.sound.has_begun inside slot
+  job_block = on_the_drive v.image (world_in v) m.sound.beginning job.lba job.line job.at job.position m.sound.legal m.sound.has_begun
+      (inside m job ready) (slot m job ready)
 
   -- The block was fetched from its place, and the copy was taken.
   module _ (place : ℕ × ℕ) (is : IsFetchable v place.0 job.line place.1 job_block.block) {us : List ModelUnit} {last : List Deed}
@@ -79,6 +72,18 @@ module _ {v : MountView} {h : Heart} {f : Filling} (m : IsMount v h f) (job : Co
           let may : MayTake mid.image (logs_in mid) entry (sector_mark job.lba (window.taken h.core.window)) =
           legal mid.image (world_in mid) first.mount.sound.legal.mount first.mount.heart (has_sector (window.taken h.core.window) sector same) in
           let second : Leaves mid (moved_on mid deeds us wear new.granted (pad_of new.core)) new f =
-          leaves_copied first.mount entry (sector_mark job.lba (window.taken h.core.window)) may new deeds done beats rows idle pads _ refl
+          leaves_copied first.mount entry (sector_mark job.lba (window.taken h.core.window)) may (copy_begun first.mount job ready) new deeds done beats rows idle pads _ refl
           (omega (arith, grants)) in
           record { mount = second.mount; same = same_then v mid _ first.same second.same; asked = refl }
+
+      pub copied_more : length (engine_log v) < length (log_of (world_of v.image.shape deeds) 0)
+      copied_more =
+          let w : World = world_of v.image.shape last in
+          let long : length (log_of (world_of v.image.shape deeds) 0) ≡ length (log_of w 0) + 1 =
+          ap (λ (x : World). length (log_of x 0)) (ap (world_of v.image.shape) done
+          ∙ world_more v.image.shape last (Decides (Take entry (sector_mark job.lba (window.taken h.core.window)))))
+          ∙ longer_decided v.image.shape (Take entry (sector_mark job.lba (window.taken h.core.window))) w in
+          let grown : (later : List Logged) × (log_of w 0 ≡ engine_log v ++ later) = log_longer v mid first.same.more refl first.same.deeds in
+          let same : length (log_of w 0) ≡ length (engine_log v) + length grown.0 = ap (λ (log : List Logged). length log) grown.1
+          ∙ length-append (engine_log v) grown.0 in
+          omega arith

@@ -1,28 +1,24 @@
 -- What a core collects, and which sectors it copies, depends on what the engine was told alone. So a
 -- step of a unit leaves it as it was.
-use Rattle.std.proofs.Common.{◌≡◌, ℕ, ◌+◌, ◌≤◌, ◌==◌, ◌&&◌, nat_lt, max, false, None, Some, Option, List, ◌∷◌, length, refl, sym, subst, ap, ap₂, ◌∙◌, if◌then◌else◌}
-use Rattle.std.specs.List.{range_with_len, sum_by}
+use Rattle.std.proofs.Common.{◌≡◌, ℕ, ◌≤◌, ◌==◌, ◌&&◌, nat_lt, max, false, None, Some, Option, List, ◌∷◌, length, refl, sym, subst, ap, ap₂, ◌∙◌, if◌then◌else◌}
 use Rattle.std.specs.Option.{option_map_or}
 use Rattle.pblk_model.specs.Image.{Image}
 use Rattle.pblk_model.specs.UnitLog.{UnitEvent}
 use Rattle.pblk_world.specs.AtRest.{asked_by, pad_target, victim_now}
 use Rattle.pblk_world.specs.Events.{Logged, Maker}
 use Rattle.pblk_world.specs.Fronts.{taken, waiting}
-use Rattle.pblk_world.specs.Lines.{is_free_line, known_image, line_data}
-use Rattle.pblk_world.specs.Space.{addresses, position_limit}
+use Rattle.pblk_world.specs.Space.{position_limit}
 use Rattle.pblk_world.specs.Victims.{live, victim}
 use Rattle.pblk_world.specs.World.{World, Logs, log_of}
 use Rattle.world_laws.specs.LegalMounts.{IsLegalMount}
 use Rattle.world_laws.specs.SameTold.{AreSameTold}
-use Rattle.world_laws.proofs.ToldImages.{image_same}
-use Rattle.world_laws.proofs.ToldTables.{due_told, free_told, live_told, open_told, takers_told, victim_told}
+use Rattle.world_laws.proofs.ToldTables.{addresses_told, due_told, live_told, takers_told, victim_told}
 use Rattle.step_laws.specs.Whole.{unit_step}
 use Rattle.step_laws.proofs.UnitStays.{told_stays}
 use Rattle.pblk_core.specs.Collecting.{Collects}
 use Rattle.pblk_core.specs.Copies.{is_copy_due}
 use Rattle.pblk_core.specs.Named.{pad_of}
 use Rattle.pblk_core.specs.declared.target_core.Core.{Core}
-use Rattle.lemmas.proofs.Numbers.{fun_same}
 
 -- ---- logs of which the engine was told the same
 
@@ -38,12 +34,6 @@ module _ (i : Image) (a b : Logs) (h : AreSameTold i a b) where
   pads_told asked = ap₂ (λ due upto. max asked (if due then upto else 0)) (due_told i a b h)
       (ap (asked_by i b) at_work_told ∙ asked_told (victim_now i a))
 
-  addresses_told : addresses i b ≡ addresses i a
-  addresses_told = ap₂ (λ m n. m + n) (open_told i a b h) (ap (λ f. sum_by f (range_with_len 0 i.shape.chunks))
-      (fun_same (λ line. if is_free_line i b line then line_data (known_image i b) line else 0)
-      (λ line. if is_free_line i a line then line_data (known_image i a) line else 0)
-      (λ line. ap₂ (λ free (known : Image). if free then line_data known line else 0) (free_told i a b h line) (image_same i a b h))))
-
   has_live_told : (line : Option ℕ) → option_map_or (λ l. nat_lt 0 (live i b l)) line false ≡ option_map_or (λ l. nat_lt 0 (live i a l)) line false
   has_live_told None = refl
   has_live_told (Some line) = ap (nat_lt 0) (live_told i a b h line)
@@ -51,13 +41,14 @@ module _ (i : Image) (a b : Logs) (h : AreSameTold i a b) where
   pub copies_told : is_copy_due i b ≡ is_copy_due i a
   copies_told = ap₂ (λ x y. x && y) (due_told i a b h)
       (ap₂ (λ x y. x && y) (ap (λ o. option_map_or (λ l. nat_lt 0 (live i b l)) o false) at_work_told ∙ has_live_told (victim_now i a))
-      (ap₂ (λ (log : List Logged) n. nat_lt (taken log) (position_limit log) && nat_lt (length (waiting i.shape log)) n) h.own addresses_told))
+      (ap₂ (λ (log : List Logged) n. nat_lt (taken log) (position_limit log) && nat_lt (length (waiting i.shape log)) n) h.own (addresses_told i a b h)))
 
   pub collects_told : (c : Core) → Collects i a c → Collects i b c
   collects_told c is = record {
     count = is.count;
     victim = is.victim ∙ sym at_work_told;
     passed = is.passed;
+    barren = is.barren;
     asked = subst (λ n. n ≤ pad_of c) (sym (pads_told 0)) is.asked;
   }
 
@@ -72,6 +63,9 @@ module _ (i : Image) (w : World) (unit : ℕ) (e : UnitEvent) (maker : Maker) (m
 
   pub collects_beside : (c : Core) → Collects i (log_of w) c → Collects i after_ c
   collects_beside c is = collects_told i (log_of w) after_ told c is
+
+  pub victim_beside : victim_now i after_ ≡ victim_now i (log_of w)
+  victim_beside = at_work_told i (log_of w) after_ told
 
   pub pads_beside : (asked : ℕ) → pad_target i after_ asked ≡ pad_target i (log_of w) asked
   pads_beside asked = pads_told i (log_of w) after_ told asked

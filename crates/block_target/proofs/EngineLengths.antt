@@ -11,20 +11,22 @@ use Rattle.pblk_model.specs.Image.{Image}
 use Rattle.pblk_model.specs.UnitLog.{UnitEvent}
 use Rattle.pblk_world.specs.Events.{EngineEvent, Again, Landed, ResetDone, Maker, Logged}
 use Rattle.pblk_world.specs.World.{World, log_of, known}
-use Rattle.pblk_world.specs.AtRest.{knows_last, logs_at, pad_target}
+use Rattle.pblk_world.specs.AtRest.{knows_last, logs_at, pad_target, victim_now}
 use Rattle.pblk_world.specs.Space.{room}
 use Rattle.pblk_world.proofs.Growing.{grows}
 use Rattle.core_laws.specs.SimpleMounts.{IsSimpleMount}
+use Rattle.core_laws.specs.SlotOf.{slot_of}
 use Rattle.core_laws.specs.Spent.{IsSpent}
 use Rattle.step_laws.specs.Whole.{engine_step, unit_step, next_maker, opening_maker}
 use Rattle.step_laws.proofs.Knowing.{known_whole}
 use Rattle.step_laws.proofs.SpentStays.{spent_stays}
 use Rattle.step_laws.proofs.UnitSteps.{engine_log}
-use Rattle.step_laws.proofs.UnitStays.{room_stays}
+use Rattle.step_laws.proofs.UnitStays.{room_stays, slot_stays}
 use Rattle.step_laws.specs.Opened.{after_events, after_units}
+use Rattle.pblk_core.specs.Copies.{is_copy_due}
 use Rattle.pblk_core.specs.Named.{work_of}
 use Rattle.block_target.specs.Deeds.{Deed, Readies, Decides, Does, Lands, NotesReset, Offers, after_deed, world_of, last_event}
-use Rattle.block_target.proofs.CopiesTold.{pads_beside}
+use Rattle.block_target.proofs.CopiesTold.{copies_beside, pads_beside, victim_beside}
 use Rattle.block_target.proofs.OnceRoom.{last_within}
 use Rattle.block_target.proofs.UnitStands.{work_beside}
 use Rattle.core_laws.proofs.SimpleMounts.{simple_before as simple_tail}
@@ -103,6 +105,9 @@ pub record IsLeft (i : Image) (w : World) : Type 0 where
   pub logs : logs_at (length (log_of w 0)) (log_of w) ≡ log_of left
   pub work : (pad : ℕ) → work_of i (log_of left) pad [] false ≡ work_of i (log_of w) pad [] false
   pub pads : (asked : ℕ) → pad_target i (log_of left) asked ≡ pad_target i (log_of w) asked
+  pub victim : victim_now i (log_of left) ≡ victim_now i (log_of w)
+  pub copies : is_copy_due i (log_of left) ≡ is_copy_due i (log_of w)
+  pub slots : (lba : ℕ) → slot_of i (log_of left) lba ≡ slot_of i (log_of w) lba
   pub room : room i (log_of left) ≡ room i (log_of w)
   pub spent : (line : ℕ) → IsSpent i (log_of left) line → IsSpent i (log_of w) line
 
@@ -114,6 +119,9 @@ none_left i simple = record {
   logs = fun_same (logs_at 0 (log_of [])) (log_of []) each;
   work = λ pad. refl;
   pads = λ asked. refl;
+  victim = refl;
+  copies = refl;
+  slots = λ lba. refl;
   room = refl;
   spent = λ line is. is;
 }
@@ -130,6 +138,9 @@ engine_left i w e simple = record {
   logs = fun_same (logs_at (length (log_of next 0)) (log_of next)) (log_of next) each;
   work = λ pad. refl;
   pads = λ asked. refl;
+  victim = refl;
+  copies = refl;
+  slots = λ lba. refl;
   room = refl;
   spent = λ line is. is;
 }
@@ -170,6 +181,9 @@ unit_left i w unit e maker simple was = record {
       ∙ fun_same (logs_at (length (log_of w 0)) (log_of next)) (logs_at (length (log_of w 0)) (log_of w)) each ∙ was.logs;
   work = λ pad. was.work pad ∙ sym (work_beside i w unit e maker pad simple);
   pads = λ asked. was.pads asked ∙ sym (pads_beside i w unit e maker simple.mount asked);
+  victim = was.victim ∙ sym (victim_beside i w unit e maker simple.mount);
+  copies = was.copies ∙ sym (copies_beside i w unit e maker simple.mount);
+  slots = λ lba. was.slots lba ∙ sym (slot_stays i w unit e maker lba simple.mount.legal);
   room = was.room ∙ sym (room_stays i w unit e maker simple.mount.legal);
   spent = λ line is. spent_stays i w unit e maker line simple.mount (was.spent line is);
 }

@@ -1,5 +1,5 @@
 -- Mounts of which lines were freed, one after another.
-use Rattle.std.proofs.Common.{◌≡◌, ◌≤◌, ℕ, false, List, [], ◌∷◌, ◌++◌, Some, refl, sym, subst, ap, ◌∙◌, append-nil, append_assoc, le_trans}
+use Rattle.std.proofs.Common.{◌≡◌, ◌<◌, ◌≤◌, ℕ, false, List, [], ◌∷◌, ◌++◌, Some, length, refl, sym, subst, ap, ◌∙◌, arith, append-nil, append_assoc, le_trans}
 use Rattle.std.specs.Prelude.{slice_get}
 use Rattle.pblk_model.specs.declared.shape.Shape.{Shape}
 use Rattle.pblk_core.specs.Copies.{is_copying}
@@ -12,7 +12,7 @@ use Rattle.pblk_world.specs.World.{World, log_of}
 use Rattle.step_laws.specs.FreedWorlds.{MightFree, freed_world}
 use Rattle.step_laws.specs.Whole.{IsKnown, IsLevel, engine_step}
 use Rattle.step_laws.proofs.EngineSteps.{engine_next}
-use Rattle.step_laws.proofs.FreedWorlds.{begun_then, known_then, level_then}
+use Rattle.step_laws.proofs.FreedWorlds.{begun_then, known_then, later_then, level_then}
 use Rattle.stripe_placer.specs.Placing.{UnitRow}
 use Rattle.unit_port.specs.Unit.{ModelUnit}
 use Rattle.block_target.specs.Deeds.{Decides, Deed, world_of}
@@ -21,6 +21,7 @@ use Rattle.block_target.specs.Heart.{IsHeart}
 use Rattle.block_target.specs.declared.heart.Heart.{Heart}
 use Rattle.block_target.specs.Mount.{IsMount, IsSound, MountView, engine_log}
 use Rattle.block_target.proofs.DeedsLemmas.{world_more}
+use Rattle.block_target.proofs.EngineLengths.{no_shorter}
 use Rattle.block_target.proofs.GoingOn.{GoesOn, Leaves, begun_on, goes_decided, leaves_on, mount_on, moved_on, none_taken, takes_still}
 
 -- ---- what was done
@@ -41,6 +42,22 @@ pub takes_then : (s : Shape) (w : World) (lines : List ℕ) → takes (log_of (f
 takes_then s w [] = refl
 takes_then s w (line ∷ lines) = takes_still s (Free line) (freed_world s w lines) refl ∙ takes_then s w lines
 
+-- the engine's log is no shorter
+pub longer_then : (s : Shape) (w : World) (lines : List ℕ) → length (log_of w 0) ≤ length (log_of (freed_world s w lines) 0)
+longer_then s w lines =
+    let is = later_then s w lines in
+    subst (λ (x : World). length (log_of w 0) ≤ length (log_of x 0)) (sym is.1) (no_shorter is.0 w 0)
+
+-- and longer than it was before, where it had grown already
+pub longer_freed : (v : MountView) (deeds after : List Deed) (h new : Heart) → HaveFreed h deeds new after
+    → length (engine_log v) < length (log_of (world_of v.image.shape deeds) 0)
+    → length (engine_log v) < length (log_of (world_of v.image.shape after) 0)
+longer_freed v deeds after h new frees longer =
+    let w : World = world_of v.image.shape deeds in
+    let more : length (log_of w 0) ≤ length (log_of (freed_world v.image.shape w frees.lines) 0) = longer_then v.image.shape w frees.lines in
+    subst (λ (x : World). length (engine_log v) < length (log_of x 0))
+    (sym (ap (world_of v.image.shape) frees.deeds ∙ world_freed v.image.shape deeds frees.lines)) (omega arith)
+
 -- ---- a mount that goes on
 
 module _ {v : MountView} {w : World} {us : List ModelUnit} (sound : IsSound v) (goes : GoesOn v w us) where
@@ -54,7 +71,7 @@ module _ {v : MountView} {w : World} {us : List ModelUnit} (sound : IsSound v) (
       goes_decided before (Free line)
       (engine_next v.image (freed_world v.image.shape w lines) sound.beginning (Free line) before.legal (begun_then v.image w sound.beginning begins lines)
       might.0 refl)
-      (λ knows. refl)
+      (λ knows. refl) tt
 
   -- once its heart freed all lines that may be freed
   module _ (deeds : List Deed) (wear : List (List ℕ)) (h new : Heart) (f : Filling) (after : List Deed) (is : world_of v.image.shape deeds ≡ w)

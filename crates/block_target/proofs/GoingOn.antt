@@ -1,5 +1,5 @@
 -- A world that goes on from that of a sound mount, and the units as it leaves them.
-use Rattle.std.proofs.Common.{◌≡◌, ◌≢◌, ◌<◌, ◌≤◌, ℕ, suc, Option, List, [], ◌∷◌, ◌++◌, Some, None, length, refl, sym, subst, ap, ap₂, ◌∙◌, arith, append-nil, append_assoc, le_refl, false}
+use Rattle.std.proofs.Common.{◌≡◌, ◌≢◌, ◌<◌, ◌≤◌, ℕ, ◌+◌, suc, Option, List, [], ◌∷◌, ◌++◌, Some, None, length, refl, sym, subst, ap, ap₂, ◌∙◌, arith, append-nil, append_assoc, length-append, le_refl, false}
 use Rattle.std.proofs.lemmas.Option.{same_Some, slice_get_within}
 use native.Mathlib.Decide.{ℕ_discrete}
 use Rattle.std.specs.List.{filter, filter_map}
@@ -31,12 +31,14 @@ use Rattle.step_laws.specs.FreedWorlds.{NoneToFree}
 use Rattle.step_laws.specs.Whole.{IsKnown, IsLevel, engine_step, knows_all, unit_step}
 use Rattle.unit_port.specs.Unit.{ModelUnit}
 use Rattle.world_laws.proofs.Begun.{first_is as first_of}
+use Rattle.world_laws.specs.Reasons.{AreBegun, AreUrgent}
 use Rattle.world_laws.proofs.Fronts.{begun_later, synced_later}
 use Rattle.block_target.specs.Arm.{IsArm}
 use Rattle.block_target.specs.Deeds.{Deed, world_of}
 use Rattle.block_target.specs.Heart.{IsHeart}
 use Rattle.block_target.specs.declared.heart.Heart.{Heart}
 use Rattle.block_target.specs.Mount.{HaveGrown, IsMount, IsSameMount, IsSound, MountView, engine_log, logs_in, world_in}
+use Rattle.block_target.proofs.Reasoned.{HasReason, begun_beside, begun_decided, urgent_beside, urgent_decided}
 use Rattle.lemmas.proofs.Parts.{get_set_other, get_set_same, got_within}
 
 -- ---- a unit, as the world goes on
@@ -80,6 +82,8 @@ pub record GoesOn (v : MountView) (w : World) (us : List ModelUnit) : Type 0 whe
   pub found : found_image v.image (log_of w) ≡ found_image v.image (logs_in v)
   pub count : length us ≡ length v.units
   pub each : (number : ℕ) (u : ModelUnit) → slice_get us number ≡ Some u → IsUnitAt v w number u
+  pub begun : AreBegun v.image (logs_in v) → AreBegun v.image (log_of w)
+  pub urgent : AreUrgent v.image (logs_in v) → AreUrgent v.image (log_of w)
 
 abbrev pub goes_none : (v : MountView) → IsSound v → GoesOn v (world_in v) v.units
 goes_none v sound = record {
@@ -89,6 +93,8 @@ goes_none v sound = record {
   found = refl;
   count = refl;
   each = sound.each;
+  begun = λ were. were;
+  urgent = λ were. were;
 }
 
 module _ {v : MountView} {w : World} {us : List ModelUnit} (goes : GoesOn v w us) where
@@ -97,13 +103,19 @@ module _ {v : MountView} {w : World} {us : List ModelUnit} (goes : GoesOn v w us
       let is = grows goes.later (world_in v) author in
       (is.0, ap (λ (x : World). log_of x author) goes.whole ∙ is.1)
 
+  pub no_less : length (engine_log v) ≤ length (log_of w 0)
+  no_less =
+      let long : length (log_of w 0) ≡ length (engine_log v) + length (longer 0).0 =
+      ap (λ (log : List Logged). length log) (longer 0).1 ∙ length-append (engine_log v) (longer 0).0 in
+      omega arith
+
   pub begun_on : (b : Begun) → begun (engine_log v) ≡ Some b → begun (log_of w 0) ≡ Some b
   begun_on b has = ap (λ (log : List Logged). begun log) (longer 0).1 ∙ begun_later (engine_log v) (longer 0).0 b has
 
   pub goes_decided : (e : EngineEvent) → IsSimpleMount v.image (engine_step v.image.shape e w ∷ w)
-      → ((knows : List ℕ) → begun_by knows (Event e) ≡ None)
+      → ((knows : List ℕ) → begun_by knows (Event e) ≡ None) → HasReason v.image (log_of w) e
       → GoesOn v (engine_step v.image.shape e w ∷ w) us
-  goes_decided e legal begins = record {
+  goes_decided e legal begins reason = record {
     later = engine_step v.image.shape e w ∷ goes.later;
     whole = ap (λ (x : World). engine_step v.image.shape e w ∷ x) goes.whole;
     legal = legal;
@@ -113,6 +125,8 @@ module _ {v : MountView} {w : World} {us : List ModelUnit} (goes : GoesOn v w us
     each = λ number u there.
         let was = goes.each number u there in
         (was.0, was.1, arm_decided v.image w e number was.0 u was.2);
+    begun = λ were. begun_decided v.image w goes.legal.mount.legal e reason (goes.begun were);
+    urgent = λ were. urgent_decided v.image w goes.legal.mount.legal e reason (goes.urgent were);
   }
 
   pub goes_given : (number : ℕ) (was new : ModelUnit) (e : UnitEvent) (maker : Maker) → (there : slice_get us number ≡ Some was)
@@ -126,6 +140,8 @@ module _ {v : MountView} {w : World} {us : List ModelUnit} (goes : GoesOn v w us
     found = found_stays v.image w number e maker goes.legal.mount.legal ∙ goes.found;
     count = set_length us number new ∙ goes.count;
     each = each;
+    begun = λ were. begun_beside v.image w goes.legal.mount.legal number e maker (goes.begun were);
+    urgent = λ were. urgent_beside v.image w goes.legal.mount.legal number e maker (goes.urgent were);
   }
     where
       next : World
@@ -149,6 +165,10 @@ module _ {v : MountView} {w : World} {us : List ModelUnit} (goes : GoesOn v w us
               (o.0, o.1, arm_beside v.image w number e maker other o.0 u apart o.2)
 
 -- ---- the engine's log
+
+pub longer_decided : (s : Shape) (e : EngineEvent) (w : World) → length (log_of (engine_step s e w ∷ w) 0) ≡ length (log_of w 0) + 1
+longer_decided s e w = ap (λ (log : List Logged). length log) (log_here (engine_step s e w) w 0 refl)
+    ∙ length-append (log_of w 0) ((engine_step s e w).logged ∷ [])
 
 pub takes_still : (s : Shape) (e : EngineEvent) (w : World) → taken_by (Event e) ≡ None → takes (log_of (engine_step s e w ∷ w) 0) ≡ takes (log_of w 0)
 takes_still s e w none = ap (λ (log : List Logged). takes log) (log_here (engine_step s e w) w 0 refl)
@@ -197,6 +217,8 @@ module _ {v : MountView} {w : World} {us : List ModelUnit} (sound : IsSound v) (
     handed = sound.handed;
     count = goes.count ∙ sound.count;
     each = λ number u there. subst (λ (x : World). IsUnitAt v x number u) (sym is) (goes.each number u there);
+    begun = subst (λ (x : World). AreBegun v.image (log_of x)) (sym is) (goes.begun sound.begun);
+    urgent = subst (λ (x : World). AreUrgent v.image (log_of x)) (sym is) (goes.urgent sound.urgent);
   }
 
   -- the units' logs have grown

@@ -11,7 +11,7 @@ use Rattle.pblk_world.proofs.Growing.{grows}
 use Rattle.core_laws.specs.SimpleMounts.{IsSimpleMount}
 use Rattle.step_laws.proofs.UnitSteps.{engine_longer}
 use Rattle.block_target.specs.Deeds.{Deed, world_of}
-use Rattle.block_target.specs.Granted.{WasRoom}
+use Rattle.world_laws.specs.Reasons.{WasRoom}
 use Rattle.block_target.specs.Mount.{MountView, world_in, logs_in, engine_log}
 use Rattle.block_target.proofs.EngineLengths.{IsLeft, deeds_left, world_grown}
 use Rattle.block_target.proofs.OnceRoom.{room_later, room_less}

@@ -23,13 +23,14 @@ use Rattle.write_window.specs.declared.held.Held.{Held}
 use Rattle.write_window.specs.Window as window
 use Rattle.pblk_core.specs.Collecting.{Collects}
 use Rattle.pblk_core.specs.Mounts.{InItsMount}
+use Rattle.pblk_core.specs.Named.{pad_of}
 use Rattle.pblk_core.specs.Stands.{Stands, IsStanding}
 use Rattle.pblk_core.specs.declared.target_core.Core.{Core}
 use Rattle.pblk_core.proofs.FoundNotes.{none_found_open}
 use Rattle.pblk_core.proofs.FreedWindow.{unread_at_front}
 use Rattle.pblk_core.proofs.SimpleLogs.{simple_in}
 use Rattle.pblk_core.proofs.SmallGrant.{ring_kept}
-use Rattle.block_target.specs.Granted.{WasRoom}
+use Rattle.world_laws.specs.Reasons.{WasRoom}
 use Rattle.block_target.specs.Heart.{Begins, CanBegin, HasBegun, IsHeart, decided}
 use Rattle.block_target.proofs.HeartGrants.{grant_kept}
 use Rattle.block_target.proofs.HeartSteps.{log_is, logs_are, was_room}
@@ -119,9 +120,9 @@ module _ (s : Shape) (f : Found) (core : Core) (has : HasBegunWith s f core) (co
         ∙ ap (map _) (drop-nil (core.window.freed - (beginning_of f).first)))
 
     -- with a pool that has all its frames, and a grant of what there is room for
-    heart_first : (pool : PoolView) (granted : ℕ) → count_out pool.left ≡ 0 → pool.region.count ≡ s.ring → pool.region.size ≡ s.sector
+    heart_first : pad_of core ≡ 0 → (pool : PoolView) (granted : ℕ) → count_out pool.left ≡ 0 → pool.region.count ≡ s.ring → pool.region.size ≡ s.sector
         → granted ≡ room i (log_of later) → IsHeart i (log_of later) (record { core = core; pool = pool; granted = granted })
-    heart_first pool granted out count size grants =
+    heart_first unasked pool granted out count size grants =
         let limits = grant_kept i later 0 core.window.freed (first_position (log_of later 0)) is.legal.accepted first_freed refl
         (none_granted (units i.shape * i.shape.ws_opt) core.window.freed i.shape.ring (ring_kept i.shape is.legal.accepted))
         (least (max (2 ^ 61 - 2) (first_position (log_of later 0)))) in
@@ -138,6 +139,7 @@ module _ (s : Shape) (f : Found) (core : Core) (has : HasBegunWith s f core) (co
           last = subst (λ n. n ≤ max (2 ^ 61 - 2) (first_position (log_of later 0))) same limits.1;
           room = no_less granted (room i (log_of later)) grants;
           once = subst (λ n. WasRoom i (log_of later) (length (log_of later 0)) n) (sym grants) (was_room i w event knows is.legal.legal);
+          pads = λ some. absurd (omega arith);
         }
 
   pub first_standing : CanBegin s f → IsStanding core
@@ -151,9 +153,9 @@ module _ (s : Shape) (f : Found) (core : Core) (has : HasBegunWith s f core) (co
   pub first_unread : CanBegin s f → window.is_readable_at core.window core.window.freed ≡ false
   first_unread can = unread can.image can.world can.knows can.begins
 
-  pub has_begun : (pool : PoolView) (granted : ℕ) → count_out pool.left ≡ 0 → pool.region.count ≡ s.ring → pool.region.size ≡ s.sector
+  pub has_begun : pad_of core ≡ 0 → (pool : PoolView) (granted : ℕ) → count_out pool.left ≡ 0 → pool.region.count ≡ s.ring → pool.region.size ≡ s.sector
       → InItsMount core (λ i w. granted ≡ room i (log_of w)) → HasBegun s f (record { core = core; pool = pool; granted = granted })
-  has_begun pool granted out count size grants i w knows is =
+  has_begun unasked pool granted out count size grants i w knows is =
       let grant : granted ≡ room i (log_of (decided (Begin (beginning_of f)) knows w)) =
       grants i (decided (Begin (beginning_of f)) knows w) is.legal (stands_first i w knows is) in
-      (heart_first i w knows is pool granted out count size grant, grant)
+      (heart_first i w knows is unasked pool granted out count size grant, grant)

@@ -10,11 +10,13 @@ use Rattle.step_laws.proofs.UnitStays.{room_stays}
 use Rattle.step_laws.proofs.UnitSteps.{engine_log}
 use Rattle.step_laws.specs.Whole.{unit_step}
 use Rattle.world_laws.specs.LegalMounts.{IsLegalMount}
-use Rattle.block_target.specs.Granted.{WasRoom}
+use Rattle.world_laws.specs.Reasons.{WasAsked, WasRoom}
+use Rattle.pblk_core.specs.Named.{pad_of}
 use Rattle.block_target.specs.Heart.{IsHeart}
 use Rattle.block_target.specs.declared.heart.Heart.{Heart}
 use Rattle.block_target.proofs.CopiesTold.{collects_beside}
 use Rattle.block_target.proofs.OnceRoom.{room_later}
+use Rattle.block_target.proofs.PadsAsked.{asked_later}
 use Rattle.block_target.proofs.UnitStands.{stands_beside}
 
 module _ (i : Image) (w : World) (unit : ℕ) (e : UnitEvent) (maker : Maker) where
@@ -38,4 +40,7 @@ module _ (i : Image) (w : World) (unit : ℕ) (e : UnitEvent) (maker : Maker) wh
     room = subst (λ n. n ≤ h.granted) (sym (room_stays i w unit e maker mount.legal)) is.room;
     once = subst (λ (log : List Logged). WasRoom i after_ (length log) h.granted) (sym engine)
         (room_later i (unit_step i.shape unit e maker w ∷ []) w (length (log_of w 0)) h.granted mount.legal (le_refl (length (log_of w 0))) is.once);
+    pads = λ some. subst (λ (log : List Logged). WasAsked i after_ (length log) (pad_of h.core)) (sym engine)
+        (asked_later i (unit_step i.shape unit e maker w ∷ []) w (length (log_of w 0)) (pad_of h.core) mount.legal (le_refl (length (log_of w 0)))
+        (is.pads some));
   }

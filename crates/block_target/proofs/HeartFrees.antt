@@ -1,5 +1,5 @@
 -- What a heart stands for once its core freed a line, and once it freed one line after another.
-use Rattle.std.proofs.Common.{◌≡◌, ◌≤◌, ℕ, None, Some, Option, List, [], ◌∷◌, length, refl, sym, subst, ap, ◌∙◌}
+use Rattle.std.proofs.Common.{◌≡◌, ◌≤◌, max, ℕ, None, Some, Option, List, [], ◌∷◌, length, refl, sym, subst, ap, ◌∙◌}
 use Rattle.std.specs.Prelude.{slice_index, IfSome, IfNone}
 use Rattle.pblk_model.specs.Image.{Image}
 use Rattle.pblk_world.specs.Events.{Free}
@@ -16,7 +16,7 @@ use Rattle.step_laws.proofs.FreedWorlds.{legal_then}
 use Rattle.step_laws.proofs.Knowing.{known_whole}
 use Rattle.write_window.specs.Window as window
 use Rattle.pblk_core.specs.Collecting.{Collects}
-use Rattle.pblk_core.specs.Copies.{is_copying}
+use Rattle.pblk_core.specs.Copies.{is_copying, victim_asks}
 use Rattle.pblk_core.specs.Mounts.{InItsMount}
 use Rattle.pblk_core.specs.Named.{pad_of}
 use Rattle.pblk_core.specs.Stands.{Stands}
@@ -34,15 +34,15 @@ with_core h core = record { core = core; pool = h.pool; granted = h.granted }
 -- The front freed, the window and the room are as they were.
 beats_freed : (i : Image) (w : World) (line : ℕ) (knows : List ℕ) (old : Heart) (core : Core) → IsLegalMount i w → IsHeart i (log_of w) old
     → IsLegalMount i (decided (Free line) knows w) → MayFree i (log_of w) line → Stands i (after (log_of w) (Free line) knows) core
-    → Collects i (after (log_of w) (Free line) knows) core → core.window ≡ old.core.window
+    → Collects i (after (log_of w) (Free line) knows) core → core.window ≡ old.core.window → pad_of core ≤ max (pad_of old.core) (victim_asks core)
     → IsHeart i (log_of (decided (Free line) knows w)) (with_core old core)
-beats_freed i w line knows old core mount was legal may stands collects same =
+beats_freed i w line knows old core mount was legal may stands collects same pads =
     beats_kept i w (Free line) knows old (with_core old core) mount was legal stands collects
     (quiet_freed i.shape (log_of w 0) (Free line) knows (free_is_quiet (log_of w 0) line knows))
     (room_freed i w mount line knows may.over was.stands.beginning was.stands.has_begun may.seq may.has_seq)
     (ap (λ (x : window.WindowView). x.freed) same)
     (subst (λ (x : window.WindowView). window.AreOf old.pool.region x.entries) (sym same) was.own)
-    (was.out ∙ ap (λ (x : window.WindowView). length x.entries) (sym same)) refl refl
+    (was.out ∙ ap (λ (x : window.WindowView). length x.entries) (sym same)) refl refl pads
 
 -- ---- by what the core answers
 
@@ -61,14 +61,14 @@ pub frees_beats : (line : Option ℕ) (old : Heart) (core : Core) → IfSome lin
     → Stands i (after (log_of w) (Free x) knows) core)
     → IfSome line (λ x. (i : Image) (w : World) (knows : List ℕ) → IsLegalMount i w → Stands i (log_of w) old.core → Collects i (log_of w) old.core
     → slice_index knows 0 ≡ length (log_of w 0) → Collects i (after (log_of w) (Free x) knows) core)
-    → core.window ≡ old.core.window
+    → core.window ≡ old.core.window → pad_of core ≤ max (pad_of old.core) (victim_asks core)
     → IfSome line (λ x. (i : Image) (w : World) (knows : List ℕ) → IsLegalMount i w → IsHeart i (log_of w) old → slice_index knows 0 ≡ length (log_of w 0)
     → IsLegalMount i (decided (Free x) knows w)
     → IsHeart i (log_of (decided (Free x) knows w)) (record { core = core; pool = old.pool; granted = old.granted }))
-frees_beats None old core may stands collects same = tt
-frees_beats (Some x) old core may stands collects same = λ i w knows mount was own legal.
+frees_beats None old core may stands collects same pads = tt
+frees_beats (Some x) old core may stands collects same pads = λ i w knows mount was own legal.
     beats_freed i w x knows old core mount was legal (may i w mount was.stands) (stands i w knows mount was.stands own)
-    (collects i w knows mount was.stands was.collects own) same
+    (collects i w knows mount was.stands was.collects own) same pads
 
 pub frees_unchanged : (line : Option ℕ) (old : Heart) (core : Core) → IfNone line (core ≡ old.core)
     → IfNone line (record { core = core; pool = old.pool; granted = old.granted } ≡ old)

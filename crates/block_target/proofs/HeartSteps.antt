@@ -9,7 +9,7 @@ use Rattle.std.proofs.lemmas.Option.{none-some, same_Some}
 use Rattle.pblk_model.specs.Frames.{count_out}
 use Rattle.pblk_model.specs.Image.{Image}
 use Rattle.pblk_model.specs.Shape.{units}
-use Rattle.pblk_world.specs.AtRest.{knows_last, logs_at}
+use Rattle.pblk_world.specs.AtRest.{knows_last, logs_at, pad_target}
 use Rattle.pblk_world.specs.EngineLog.{Begun, begun}
 use Rattle.pblk_world.specs.Events.{EngineEvent, Begin, Place, Stripe, Decides, Logged}
 use Rattle.pblk_world.specs.Fronts.{first_position}
@@ -30,17 +30,21 @@ use Rattle.step_laws.specs.Whole.{knows_all}
 use Rattle.step_laws.proofs.EngineSteps.{decided_legal}
 use Rattle.write_window.specs.Window as window
 use Rattle.pblk_core.specs.Collecting.{Collects, IsCollecting}
+use Rattle.pblk_core.specs.Copies.{victim_asks}
 use Rattle.pblk_core.specs.Landing.{WasStopped}
 use Rattle.pblk_core.specs.Mounts.{InItsMount, StandsAfter}
+use Rattle.pblk_core.specs.Named.{pad_of}
 use Rattle.pblk_core.specs.Stands.{Stands, IsStanding}
 use Rattle.pblk_core.specs.declared.target_core.Core.{Core}
 use Rattle.pblk_core.proofs.ChunkRows.{rows_of_chunks}
 use Rattle.pblk_core.proofs.SimpleLogs.{simple_in}
-use Rattle.block_target.specs.Granted.{WasRoom}
+use Rattle.world_laws.specs.Reasons.{WasAsked, WasRoom}
 use Rattle.block_target.specs.Heart.{IsBeating, IsHeart, OfItsMount, decided}
 use Rattle.block_target.specs.declared.heart.Heart.{Heart}
+use Rattle.block_target.proofs.CopiesTold.{pads_told}
 use Rattle.block_target.proofs.HeartGrants.{all_granted, grant_kept}
 use Rattle.block_target.proofs.OnceRoom.{greater, room_later, room_less}
+use Rattle.block_target.proofs.PadsAsked.{asked_greater, asked_later, asked_less, asks_at_most}
 use Rattle.lemmas.proofs.Lists.{IsAmong, among_contained}
 use Rattle.lemmas.proofs.Numbers.{fun_same}
 use Rattle.lemmas.proofs.Parts.{get_first, get_last, is_in}
@@ -54,6 +58,7 @@ pub record IsRenewed (old : Heart) (core : Core) (new : Heart) : Type 0 where
   pub own : window.AreOf new.pool.region new.core.window.entries
   pub out : count_out old.pool.left + length new.core.window.entries ≡ count_out new.pool.left + length core.window.entries
   pub region : new.pool.region ≡ old.pool.region
+  pub pad : pad_of new.core ≡ pad_of core
 
 out_renewed : (a b x y z : ℕ) → a + x ≡ b + y → a ≡ z → y ≡ z → b ≡ x
 out_renewed a b x y z sum was same = omega arith
@@ -143,6 +148,17 @@ module _ (i : Image) (w : World) (e : EngineEvent) (knows : List ℕ) where
       room = let is : room i ends_at ≡ room i (log_of later) = room_at_end in omega arith;
     }
 
+    pub was_asked : WasAsked i (log_of later) (length (log_of later 0)) (pad_target i (log_of later) 0)
+    was_asked = record {
+      at = length (log_of later 0);
+      has_begun = let is : length (log_of later 0) ≡ length (log_of w 0) + 1 = long in omega arith;
+      within = le_refl (length (log_of later 0));
+      why = inr (
+          let is : pad_target i ends_at 0 ≡ pad_target i (log_of later) 0 =
+          pads_told i (log_of later) ends_at (same_told i later ends_at legal same_named) 0 in
+          omega (arith, is));
+    }
+
   -- the front freed doesn't fall
   decision : (o : EngineEvent) (b : Begun) → prefixes last (log_of w) 0 ≡ log_of w 0 → begun (log_of w 0) ≡ Some b
       → MayDecide i (prefixes last (log_of w)) o
@@ -171,8 +187,9 @@ module _ (i : Image) (w : World) (e : EngineEvent) (knows : List ℕ) where
       → count_out new.pool.left ≡ length new.core.window.entries
       → new.pool.region ≡ old.pool.region
       → new.granted ≡ max old.granted (room i (log_of later))
+      → pad_of new.core ≤ max (pad_of old.core) (pad_target i (log_of later) 0)
       → IsHeart i (log_of later) new
-  heart_later old new mount was legal stands collects drained rises own out region is =
+  heart_later old new mount was legal stands collects drained rises own out region is pads =
       let first : first_position (log_of later 0) ≡ first_position (log_of w 0) =
       ap first_position log_is ∙ first_stays (log_of w 0) last was.stands.beginning was.stands.has_begun in
       let low : old.granted + units i.shape * i.shape.ws_opt ≤ new.core.window.freed + i.shape.ring =
@@ -192,8 +209,21 @@ module _ (i : Image) (w : World) (e : EngineEvent) (knows : List ℕ) where
         room = all_granted new.granted old.granted (room i (log_of later)) is;
         once = subst (λ g. WasRoom i (log_of later) (length (log_of later 0)) g) (sym is)
             (greater i (log_of later) (length (log_of later 0)) old.granted (room i (log_of later)) before_room (was_room legal.legal));
+        pads = λ some.
+            asked_less i (log_of later) (length (log_of later 0)) (length (log_of later 0)) (max (pad_of old.core) (pad_target i (log_of later) 0))
+            (pad_of new.core)
+            (asked_greater i (log_of later) (length (log_of later 0)) (pad_of old.core) (pad_target i (log_of later) 0) asked_before
+            (λ asks. was_asked legal.legal) (omega arith)) (le_refl (length (log_of later 0))) pads;
       }
     where
+      -- what had been asked for
+      asked_before : 0 < pad_of old.core → WasAsked i (log_of later) (length (log_of later 0)) (pad_of old.core)
+      asked_before some =
+          asked_less i (log_of later) (length (log_of w 0)) (length (log_of later 0)) (pad_of old.core) (pad_of old.core)
+          (asked_later i (record { author = 0; logged = last } ∷ []) w (length (log_of w 0)) (pad_of old.core) mount.legal (le_refl (length (log_of w 0)))
+          (was.pads some))
+          (let is : length (log_of later 0) ≡ length (log_of w 0) + 1 = long in omega arith) (le_refl (pad_of old.core))
+
       further : (a x y r g h : ℕ) → a ≤ x + r → x ≡ g → y ≡ h → g ≤ h → a ≤ y + r
       further a x y r g h low e f grows = omega arith
 
@@ -206,16 +236,22 @@ module _ (i : Image) (w : World) (e : EngineEvent) (knows : List ℕ) where
   -- by a core that stands for the logs with the event, once its frames and its grant are renewed
   pub beats_later : (old : Heart) (core : Core) (new : Heart) → IsLegalMount i w → IsHeart i (log_of w) old → IsLegalMount i later
       → Stands i (after (log_of w) e knows) core → Collects i (after (log_of w) e knows) core → is_plain_decision e ≡ true
-      → length core.window.entries ≡ length old.core.window.entries → IsRenewed old core new
+      → length core.window.entries ≡ length old.core.window.entries → pad_of core ≤ max (pad_of old.core) (victim_asks core) → IsRenewed old core new
       → IsHeart i (log_of later) new
-  beats_later old core new mount was legal stands collects plain count is =
+  beats_later old core new mount was legal stands collects plain count pads is =
       heart_later old new mount was legal (is.stands i later legal now)
-      (is.collects i (log_of later) (subst (λ (logs : Logs). Collects i logs core) (sym logs_are) collects)) (is.drained i later legal now)
+      (is.collects i (log_of later) collects_now) (is.drained i later legal now)
       (freed_later was.stands.beginning was.stands.has_begun plain old.core mount was.stands legal.legal)
       is.own (out_renewed _ _ _ _ _ is.out was.out count) is.region (is.granted i later legal now)
+      (let low : victim_asks core ≤ pad_target i (log_of later) 0 = asks_at_most i later core legal now collects_now in
+      let same : pad_of new.core ≡ pad_of core = is.pad in
+      omega arith)
     where
       now : Stands i (log_of later) core
       now = subst (λ (logs : Logs). Stands i logs core) (sym logs_are) stands
+
+      collects_now : Collects i (log_of later) core
+      collects_now = subst (λ (logs : Logs). Collects i logs core) (sym logs_are) collects
 
   -- by a core whose window holds as much, where the front freed and the room stay
   pub beats_kept : (old new : Heart) → IsLegalMount i w → IsHeart i (log_of w) old → IsLegalMount i later
@@ -223,13 +259,20 @@ module _ (i : Image) (w : World) (e : EngineEvent) (knows : List ℕ) where
       → freed i.shape (after (log_of w) e knows 0) ≡ freed i.shape (log_of w 0) → room i (after (log_of w) e knows) ≡ room i (log_of w)
       → new.core.window.freed ≡ old.core.window.freed → window.AreOf new.pool.region new.core.window.entries
       → count_out new.pool.left ≡ length new.core.window.entries → new.pool.region ≡ old.pool.region → new.granted ≡ old.granted
+      → pad_of new.core ≤ max (pad_of old.core) (victim_asks new.core)
       → IsHeart i (log_of later) new
-  beats_kept old new mount was legal stands collects front same window own out region granted =
-      heart_later old new mount was legal (subst (λ (logs : Logs). Stands i logs new.core) (sym logs_are) stands)
-      (subst (λ (logs : Logs). Collects i logs new.core) (sym logs_are) collects)
+  beats_kept old new mount was legal stands collects front same window own out region granted pads =
+      heart_later old new mount was legal now collects_now
       (window ∙ was.drained ∙ sym front_is) (subst (λ n. freed i.shape (log_of w 0) ≤ n) (sym front_is) (le_refl (freed i.shape (log_of w 0)))) own out region
       (no_more new.granted old.granted (room i (log_of later)) granted (subst (λ n. n ≤ old.granted) (sym room_is) was.room))
+      (let low : victim_asks new.core ≤ pad_target i (log_of later) 0 = asks_at_most i later new.core legal now collects_now in omega arith)
     where
+      now : Stands i (log_of later) new.core
+      now = subst (λ (logs : Logs). Stands i logs new.core) (sym logs_are) stands
+
+      collects_now : Collects i (log_of later) new.core
+      collects_now = subst (λ (logs : Logs). Collects i logs new.core) (sym logs_are) collects
+
       front_is : freed i.shape (log_of later 0) ≡ freed i.shape (log_of w 0)
       front_is = ap (λ (logs : Logs). freed i.shape (logs 0)) logs_are ∙ front
 
@@ -269,9 +312,10 @@ standing_after h e core b may stands =
 -- Where the engine did nothing, a heart stands for the same logs once its frames and its grant are
 -- renewed.
 pub beats_still : (i : Image) (w : World) (old : Heart) (core : Core) (new : Heart) → IsLegalMount i w → IsHeart i (log_of w) old
-    → Stands i (log_of w) core → Collects i (log_of w) core → length core.window.entries ≡ length old.core.window.entries → IsRenewed old core new
+    → Stands i (log_of w) core → Collects i (log_of w) core → length core.window.entries ≡ length old.core.window.entries
+    → pad_of core ≤ max (pad_of old.core) (victim_asks core) → IsRenewed old core new
     → IsHeart i (log_of w) new
-beats_still i w old core new mount was stands collects count is = record {
+beats_still i w old core new mount was stands collects count pads is = record {
   stands = is.stands i w mount stands;
   collects = is.collects i (log_of w) collects;
   drained = is.drained i w mount stands;
@@ -283,10 +327,21 @@ beats_still i w old core new mount was stands collects count is = record {
   last = subst (λ n. n ≤ max (2 ^ 61 - 2) (first_position (log_of w 0))) (sym granted) was.last;
   room = subst (λ n. room i (log_of w) ≤ n) (sym granted) was.room;
   once = subst (λ g. WasRoom i (log_of w) (length (log_of w 0)) g) (sym granted) was.once;
+  pads = λ some. asked_less i (log_of w) (length (log_of w 0)) (length (log_of w 0)) (pad_of old.core) (pad_of new.core)
+      (was.pads (let less : pad_of new.core ≤ pad_of old.core = no_further in omega arith))
+      (le_refl (length (log_of w 0))) no_further;
 }
   where
     no_more : (a b c : ℕ) → a ≡ max b c → c ≤ b → a ≡ b
     no_more a b c is less = omega arith
+
+    -- the pad target holds already what the victim asks for
+    no_further : pad_of new.core ≤ pad_of old.core
+    no_further =
+        let same : pad_of new.core ≡ pad_of core = is.pad in
+        let asks : victim_asks core ≤ pad_target i (log_of w) 0 = asks_at_most i w core mount stands collects in
+        let held : pad_target i (log_of w) 0 ≤ pad_of old.core = was.collects.asked in
+        omega arith
 
     granted : new.granted ≡ old.granted
     granted = no_more new.granted old.granted (room i (log_of w)) (is.granted i w mount stands) was.room

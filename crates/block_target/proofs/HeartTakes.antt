@@ -19,6 +19,7 @@ use Rattle.pblk_world.specs.Fronts.{first_position, taken}
 use Rattle.pblk_world.specs.Taking.{MayTake}
 use Rattle.pblk_world.specs.World.{World, Logs, log_of}
 use Rattle.world_laws.specs.LegalMounts.{IsLegalMount}
+use Rattle.world_laws.specs.Reasons.{WasAsked}
 use Rattle.line_table.specs.declared.row.Row.{Row}
 use Rattle.l2p_map.specs.declared.slot.Slot.{Slot}
 use Rattle.l2p_map.specs.declared.slot.Slot.TheVariants.{Cached, Media}
@@ -31,8 +32,9 @@ use Rattle.write_window.specs.declared.held.Held.{Held}
 use Rattle.write_window.specs.declared.held.Progress.TheVariants.{Waiting}
 use Rattle.write_window.specs.Window as window
 use Rattle.pblk_core.specs.Collecting.{Collects, CollectsAfter, IsReady}
-use Rattle.pblk_core.specs.Copies.{is_due_in, victim_row}
+use Rattle.pblk_core.specs.Copies.{is_due_in, victim_asks, victim_row}
 use Rattle.pblk_core.specs.Mounts.{StandsAfter}
+use Rattle.pblk_core.specs.Named.{pad_of}
 use Rattle.pblk_core.specs.Stands.{Stands}
 use Rattle.pblk_core.specs.Taken.{HasItsSector, IsClassed, entry_of, is_source, mark_of}
 use Rattle.pblk_core.specs.declared.collecting.CopyJob.{CopyJob}
@@ -57,6 +59,15 @@ room_left h b room =
 pub frame_left : (h : Heart) → IsBeating h → length h.core.window.entries < h.core.window.size
     → count_left h.pool.left + count_out h.pool.left ≡ h.pool.region.count → 0 < count_left h.pool.left
 frame_left h b held sum =
+    let size : h.core.window.size ≡ b.image.shape.ring = b.stands.stands.size in
+    let out : count_out h.pool.left ≡ length h.core.window.entries = b.stands.out in
+    let count : h.pool.region.count ≡ b.image.shape.ring = b.stands.count in
+    omega arith
+
+-- and where one is left there is room in the window
+pub frame_holds : (h : Heart) → IsBeating h → count_left h.pool.left + count_out h.pool.left ≡ h.pool.region.count → 0 < count_left h.pool.left
+    → length h.core.window.entries < h.core.window.size
+frame_holds h b sum some =
     let size : h.core.window.size ≡ b.image.shape.ring = b.stands.stands.size in
     let out : count_out h.pool.left ≡ length h.core.window.entries = b.stands.out in
     let count : h.pool.region.count ≡ b.image.shape.ring = b.stands.count in
@@ -162,6 +173,7 @@ pub record IsTakenBy (old : Heart) (core : Core) (pool : PoolView) (position : �
   pub region : pool.region ≡ old.pool.region
   pub out : count_out pool.left ≡ count_out old.pool.left + 1
   pub own : frame.region ≡ old.pool.region
+  pub pads : pad_of core ≤ max (pad_of old.core) (victim_asks core)
 
 module _ (old : Heart) (core : Core) (pool : PoolView) (position : ℕ) (class : Class) (lba : ℕ) (source : Option EntrySource) (frame : FrameView)
     (sector : List ℕ) (is : IsTakenBy old core pool position class lba source frame) (bytes : frame.bytes ≡ sector) where
@@ -203,7 +215,7 @@ module _ (old : Heart) (core : Core) (pool : PoolView) (position : ℕ) (class :
       was.stands.beginning was.stands.has_begun none)
       (room_taken i (log_of w) (taken_entry at lba source sector) (taken_mark at lba (fin.get old.core.map lba) source) knows
       was.stands.beginning was.stands.has_begun (window_taken_is i w old.core was.stands) none)
-      (ap (λ (x : window.WindowView). x.freed) is.pushed) (own_now was.own) (out_now was.out) is.region refl
+      (ap (λ (x : window.WindowView). x.freed) is.pushed) (own_now was.own) (out_now was.out) is.region refl is.pads
     where
       none : IsUnplaced i.shape (log_of w 0) (taken (log_of w 0))
       none = next_is_unplaced i w (simple_in i w mount was.stands)
@@ -215,8 +227,9 @@ with_core h core = record { core = core; pool = h.pool; granted = h.granted }
 
 module _ (h : Heart) (core : Core) (stands : (i : Image) (logs : Logs) → Stands i logs h.core → Stands i logs core)
     (collects : (i : Image) (logs : Logs) → Collects i logs h.core → Collects i logs core) (same : core.window ≡ h.core.window) where
-  pub heart_with : (i : Image) (logs : Logs) → IsHeart i logs h → IsHeart i logs (record { core = core; pool = h.pool; granted = h.granted })
-  heart_with i logs is = record {
+  pub heart_with : (i : Image) (logs : Logs) → IsHeart i logs h → (0 < pad_of core → WasAsked i logs (length (logs 0)) (pad_of core))
+      → IsHeart i logs (record { core = core; pool = h.pool; granted = h.granted })
+  heart_with i logs is asked = record {
     stands = stands i logs is.stands;
     collects = collects i logs is.collects;
     drained = ap (λ (x : window.WindowView). x.freed) same ∙ is.drained;
@@ -228,10 +241,18 @@ module _ (h : Heart) (core : Core) (stands : (i : Image) (logs : Logs) → Stand
     last = is.last;
     room = is.room;
     once = is.once;
+    pads = asked;
   }
 
+module _ (h : Heart) (core : Core) (stands : (i : Image) (logs : Logs) → Stands i logs h.core → Stands i logs core)
+    (collects : (i : Image) (logs : Logs) → Collects i logs h.core → Collects i logs core) (same : core.window ≡ h.core.window)
+    (pad : pad_of core ≡ pad_of h.core) where
+  heart_claimed : (i : Image) (logs : Logs) → IsHeart i logs h → IsHeart i logs (record { core = core; pool = h.pool; granted = h.granted })
+  heart_claimed i logs is = heart_with h core stands collects same i logs is
+      (subst (λ n. 0 < n → WasAsked i logs (length (logs 0)) n) (sym pad) is.pads)
+
   pub claimed_beating : IsBeating h → IsBeating (record { core = core; pool = h.pool; granted = h.granted })
-  claimed_beating b = record { image = b.image; world = b.world; legal = b.legal; stands = heart_with b.image (log_of b.world) b.stands }
+  claimed_beating b = record { image = b.image; world = b.world; legal = b.legal; stands = heart_claimed b.image (log_of b.world) b.stands }
 
   pub claimed_room : length h.core.window.entries < h.core.window.size → length core.window.entries < core.window.size
   claimed_room room = subst (λ (x : window.WindowView). length x.entries < x.size) (sym same) room
@@ -241,7 +262,7 @@ module _ (h : Heart) (core : Core) (stands : (i : Image) (logs : Logs) → Stand
 
   pub claimed_inside : (i : Image) (logs : Logs) (job : CopyJob) → IsHeart i logs h → IsReady h.core job → job.lba < core.layout.capacity
   claimed_inside i logs job is ready =
-      subst (λ (s : Shape). job.lba < s.capacity) (is.stands.layout ∙ sym (heart_with i logs is).stands.layout) ready.inside
+      subst (λ (s : Shape). job.lba < s.capacity) (is.stands.layout ∙ sym (heart_claimed i logs is).stands.layout) ready.inside
 
   -- it has begun a copy
   module _ (job : CopyJob) (ready : IsReady h.core job) (map : core.map ≡ h.core.map) where
@@ -285,7 +306,7 @@ module _ (h : Heart) (core : Core) (stands : (i : Image) (logs : Logs) → Stand
         (Some (record { line = job.line; at = job.at; position = job.position })))) new
         → BeatsAfter h (Take (copy_entry (window.taken h.core.window) job sector) (sector_mark job.lba (window.taken h.core.window))) new
     beats_copied new sector beats i w knows mount was legal =
-        subst (λ (e : EngineEvent). BeatsAfter (with_core h core) e new) (copy_event sector) beats i w knows mount (heart_with i (log_of w) was) legal
+        subst (λ (e : EngineEvent). BeatsAfter (with_core h core) e new) (copy_event sector) beats i w knows mount (heart_claimed i (log_of w) was) legal
 
     pub may_copy : (sector : List ℕ)
         → OfItsMount (record { core = core; pool = h.pool; granted = h.granted })
@@ -299,6 +320,6 @@ module _ (h : Heart) (core : Core) (stands : (i : Image) (logs : Logs) → Stand
     may_copy sector legal i w mount is has =
         subst (λ (x : window.WindowView). MayTake i (log_of w) (copy_entry (window.taken x) job sector) (sector_mark job.lba (window.taken x))) same
         (subst (λ (m : Mark). MayTake i (log_of w) (copy_entry (window.taken core.window) job sector) m) (its_mark (window.taken core.window))
-        (legal i w mount (heart_with i (log_of w) is)
+        (legal i w mount (heart_claimed i (log_of w) is)
         (subst (λ (x : window.WindowView). HasItsSector i (log_of w) (copy_entry (window.taken x) job sector)
         (copy_entry (window.taken x) job sector).source) (sym same) has)))

@@ -1,5 +1,6 @@
 pub mod AskedMounts
 pub mod Begun
+pub mod BegunCopies
 pub mod ClosedEnd
 pub mod ClosedPorts
 pub mod CopiedMount
@@ -17,7 +18,9 @@ pub mod PumpedOpen
 pub mod PumpedProgram
 pub mod PumpedReset
 pub mod ReadFetch
+pub mod PadsAsked
 pub mod Readied
+pub mod Reasoned
 pub mod ReadLook
 pub mod ReadSectors
 pub mod Refusals
@@ -28,6 +31,7 @@ pub mod TakenMount
 pub mod KeptRoom
 pub mod TakenSectors
 pub mod UnitStands
+pub mod UrgentStripes
 pub mod Written
 pub mod MountLemmas
 pub mod DeedsLemmas

@@ -1,5 +1,5 @@
 -- A mount whose heart opened the line that it names.
-use Rattle.std.proofs.Common.{◌≡◌, ℕ, ◌≤◌, List, [], ◌∷◌, ◌++◌, Some, refl, sym, ap, ◌∙◌}
+use Rattle.std.proofs.Common.{◌≡◌, ℕ, ◌+◌, ◌<◌, ◌≤◌, List, [], ◌∷◌, ◌++◌, length, Some, refl, sym, subst, ap, ◌∙◌, arith}
 use Rattle.std.specs.Prelude.{slice_get}
 use Rattle.pblk_core.specs.Copies.{is_copying}
 use Rattle.pblk_core.specs.Filling.{Filling}
@@ -22,7 +22,7 @@ use Rattle.block_target.specs.Mount.{IsMount, MountView, engine_log, logs_in, wo
 use Rattle.block_target.specs.declared.heart.Heart.{Heart}
 use Rattle.block_target.proofs.DeedsLemmas.{world_more}
 use Rattle.block_target.proofs.FreedMounts.{leaves_freed}
-use Rattle.block_target.proofs.GoingOn.{GoesOn, Leaves, goes_decided, goes_none, moved_on, takes_still}
+use Rattle.block_target.proofs.GoingOn.{GoesOn, Leaves, goes_decided, goes_none, longer_decided, moved_on, takes_still}
 use Rattle.block_target.proofs.MountLemmas.{asked_within}
 
 module _ {v : MountView} {h : Heart} {f : Filling} (m : IsMount v h f) (line : ℕ) (start : StartRecord)
@@ -38,7 +38,7 @@ module _ {v : MountView} {h : Heart} {f : Filling} (m : IsMount v h f) (line : �
       (may m.sound.beginning m.sound.has_begun) refl
 
   goes : GoesOn v next v.units
-  goes = goes_decided (goes_none v m.sound) (Open line start) legal (λ knows. refl)
+  goes = goes_decided (goes_none v m.sound) (Open line start) legal (λ knows. refl) tt
 
   its_world : world_of v.image.shape done ≡ next
   its_world = world_more v.image.shape v.deeds (Decides (Open line start))
@@ -60,3 +60,8 @@ module _ {v : MountView} {h : Heart} {f : Filling} (m : IsMount v h f) (line : �
       (known_still v.image (world_in v) (Open line start) refl (λ unit. refl) m.known)
       (λ unit of is. m.resting unit of (ap (λ (us : List UnitRow). slice_get us unit) (sym rows) ∙ is)) (copying ∙ m.idle) m.stripe
       (takes_still v.image.shape (Open line start) (world_in v) refl) refl grants (asked_within m (pad_of mid.core) pads)
+
+  pub more_opened : length (engine_log v) < length (log_of (world_of v.image.shape done) 0)
+  more_opened =
+      let long : length (log_of next 0) ≡ length (engine_log v) + 1 = longer_decided v.image.shape (Open line start) (world_in v) in
+      subst (λ (w : World). length (engine_log v) < length (log_of w 0)) (sym its_world) (omega arith)

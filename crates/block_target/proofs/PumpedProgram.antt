@@ -1,5 +1,5 @@
 -- A mount that has a stripe programmed: what it asks of the unit, and the mount that this leaves.
-use Rattle.std.proofs.Common.{◌≡◌, ◌≢◌, Bool, ℕ, ◌-◌, ◌<◌, ◌≤◌, ◌^◌, ◌&&◌, ◌||◌, min, true, false, Some, Option, List, [], ◌∷◌, ◌++◌, length, refl, sym, subst, ap, ap₂, ◌∙◌, arith, append-nil, append_assoc}
+use Rattle.std.proofs.Common.{◌≡◌, ◌≢◌, Bool, ℕ, ◌+◌, ◌-◌, ◌<◌, ◌≤◌, ◌^◌, ◌&&◌, ◌||◌, min, true, false, Some, Option, List, [], ◌∷◌, ◌++◌, length, refl, sym, subst, ap, ap₂, ◌∙◌, arith, append-nil, append_assoc}
 use native.Mathlib.Decide.{ℕ_discrete}
 use Rattle.std.specs.Prelude.{slice_get, slice_set}
 use Rattle.pblk_model.specs.ChunkStep.{Done, Write}
@@ -44,10 +44,14 @@ use Rattle.block_target.specs.declared.heart.Heart.{Heart}
 use Rattle.block_target.proofs.DeedsLemmas.{landed_world, stopped_world, world_more}
 use Rattle.block_target.proofs.FreedMounts.{leaves_freed}
 use Rattle.block_target.proofs.GivenCommands.{can_program}
-use Rattle.block_target.proofs.GoingOn.{GoesOn, Leaves, goes_decided, goes_given, goes_none, moved_on, one_more, takes_beside, takes_still}
+use Rattle.block_target.proofs.GoingOn.{GoesOn, Leaves, goes_decided, goes_given, goes_none, longer_decided, moved_on, no_less, one_more, takes_beside, takes_still}
 use Rattle.block_target.proofs.HeartBeside.{heart_beside}
 use Rattle.block_target.proofs.MountLemmas.{asked_within}
 use Rattle.block_target.proofs.LostCommands.{is_lost_one, none_lost_one}
+use Rattle.block_target.proofs.Reasoned.{PlacesFor}
+use Rattle.block_target.proofs.UrgentStripes.{placed_for}
+use Rattle.pblk_model.proofs.MarksLemmas.{accepted_small}
+use Rattle.pblk_world.specs.AtRest.{IsDue}
 use Rattle.lemmas.proofs.Tests.{same_number}
 
 -- ---- no program is under way, but maybe on one unit
@@ -74,6 +78,7 @@ rests_offered old mid new unit rests first second offered =
 -- what a heart's call says that placed it
 pub record IsPlacedBy (h : Heart) (into : Filling) (mid : Heart) : Type 0 where
   pub legal : into.again ≡ false → OfItsMount h (λ i w. MayPlace i (log_of w) into.stripe)
+  pub due : into.again ≡ false → OfItsMount h (λ i w. IsDue i (log_of w) (pad_of h.core) into.stripe)
   pub beats : into.again ≡ false → BeatsAfter h (Place into.stripe) mid
   pub again : into.again ≡ true → OfItsMount h (λ i w. WasStopped (log_of w 0) into.stripe × IsHeart i (log_of w) mid)
 
@@ -104,6 +109,11 @@ module _ {v : MountView} {h : Heart} {f : Filling} (m : IsMount v h f) (mid : He
   module _ (fresh : into.again ≡ false) where
     may : MayPlace v.image (log_of (world_in v)) into.stripe
     may = placed.legal fresh v.image (world_in v) m.sound.legal.mount m.heart
+
+    reason : PlacesFor v.image (log_of (world_in v)) into.stripe
+    reason = placed_for v.image (log_of (world_in v)) (pad_of h.core) into.stripe
+        (accepted_small v.image.shape m.sound.legal.mount.accepted)
+        (placed.due fresh v.image (world_in v) m.sound.legal.mount m.heart) m.heart.pads
 
     abbrev next : World
     next = engine_step v.image.shape (Place into.stripe) (world_in v) ∷ world_in v
@@ -138,7 +148,7 @@ module _ {v : MountView} {h : Heart} {f : Filling} (m : IsMount v h f) (mid : He
 
     to_program_new : IsToProgram v mid into.stripe next
     to_program_new = record {
-      goes = goes_decided (goes_none v m.sound) (Place into.stripe) legal (λ knows. refl);
+      goes = goes_decided (goes_none v m.sound) (Place into.stripe) legal (λ knows. refl) reason;
       heart = placed.beats fresh v.image (world_in v) knows m.sound.legal.mount m.heart legal.mount;
       level = level_by v.image.shape (Place into.stripe) (world_in v) (λ unit. refl) m.level;
       known = known_still v.image (world_in v) (Place into.stripe) refl (λ unit. refl) m.known;
@@ -266,7 +276,7 @@ module _ {v : MountView} {h : Heart} {f : Filling} (m : IsMount v h f) {mid : He
       may_be_landed = (v.image, programmed, given.legal.mount, heart_programmed, its_number, landing)
 
       goes_landed : GoesOn v (noted v.image.shape note programmed) (slice_set v.units stripe.unit new)
-      goes_landed = goes_decided goes note landed_legal (λ knows. refl)
+      goes_landed = goes_decided goes note landed_legal (λ knows. refl) tt
 
       takes_landed : takes (log_of (noted v.image.shape note programmed) 0) ≡ takes (engine_log v)
       takes_landed = takes_still v.image.shape note programmed refl ∙ takes_beside v.image.shape stripe.unit e (next_maker w) w ∙ ready.takes
@@ -290,6 +300,15 @@ module _ {v : MountView} {h : Heart} {f : Filling} (m : IsMount v h f) {mid : He
           (landing_level v.image w stripe.unit ready.placed e (next_maker w) ready.goes.legal can done ready.level)
           (landing_known v.image w stripe.unit ready.placed e (next_maker w) ready.goes.legal can done ready.known)
           rests (copying ∙ m.idle) shape takes_landed same_wear grants (asked_within m (pad_of after.core) pads))
+
+      pub landed_more : (last : List Deed) → last ≡ with_answer deeds stripe.unit (last_of new) (Lands stripe.unit)
+          → length (engine_log v) < length (log_of (world_of v.image.shape last) 0)
+      landed_more last is =
+          let long : length (log_of (noted v.image.shape note programmed) 0) ≡ length (log_of programmed 0) + 1 =
+          longer_decided v.image.shape note programmed in
+          let before : length (engine_log v) ≤ length (log_of programmed 0) = no_less goes in
+          subst (λ (x : World). length (engine_log v) < length (log_of x 0))
+          (sym (ap (world_of v.image.shape) is ∙ landed_world v.image.shape deeds stripe.unit (last_of new) e given.last)) (omega arith)
 
       pub landed_done : (us : List ModelUnit) → us ≡ slice_set v.units stripe.unit new → NoneLost v.units us
       landed_done us is = subst (NoneLost v.units) (sym is)
@@ -319,7 +338,7 @@ module _ {v : MountView} {h : Heart} {f : Filling} (m : IsMount v h f) {mid : He
       }
 
       goes_stopped : GoesOn v (noted v.image.shape again programmed) (slice_set v.units stripe.unit new)
-      goes_stopped = goes_decided goes again stopped_legal (λ knows. refl)
+      goes_stopped = goes_decided goes again stopped_legal (λ knows. refl) tt
 
       takes_stopped : takes (log_of (noted v.image.shape again programmed) 0) ≡ takes (engine_log v)
       takes_stopped = takes_still v.image.shape again programmed refl ∙ takes_beside v.image.shape stripe.unit e (next_maker w) w ∙ ready.takes
@@ -344,6 +363,15 @@ module _ {v : MountView} {h : Heart} {f : Filling} (m : IsMount v h f) {mid : He
           (stopping_level v.image w stripe.unit ready.placed e (next_maker w) ready.goes.legal can k stops ready.level)
           (stopping_known v.image w stripe.unit ready.placed e (next_maker w) ready.goes.legal can k stops ready.known)
           rests (copying ∙ m.idle) shape takes_stopped same_wear grants (asked_within m (pad_of after.core) pads))
+
+      pub stopped_more : (last : List Deed) → last ≡ with_answer deeds stripe.unit (last_of new) (Offers stripe.unit)
+          → length (engine_log v) < length (log_of (world_of v.image.shape last) 0)
+      stopped_more last is =
+          let long : length (log_of (noted v.image.shape again programmed) 0) ≡ length (log_of programmed 0) + 1 =
+          longer_decided v.image.shape again programmed in
+          let before : length (engine_log v) ≤ length (log_of programmed 0) = no_less goes in
+          subst (λ (x : World). length (engine_log v) < length (log_of x 0))
+          (sym (ap (world_of v.image.shape) is ∙ stopped_world v.image.shape deeds stripe.unit (last_of new) e given.last)) (omega arith)
 
       pub stopped_lost : (us : List ModelUnit) (n : ℕ) → us ≡ slice_set v.units stripe.unit new → n ≡ min (length new.log) (2 ^ 64 - 1)
           → IsLostAt v.units us stripe.unit n

@@ -1,5 +1,5 @@
 -- A mount that has a chunk reset: what it asks of the unit, and the mount that this leaves.
-use Rattle.std.proofs.Common.{◌≡◌, ◌⊎◌, ℕ, ◌-◌, ◌<◌, ◌≤◌, ◌^◌, ◌&&◌, ◌||◌, min, true, false, Some, List, [], ◌∷◌, ◌++◌, length, refl, sym, subst, ap, ap₂, ◌∙◌, arith, append_assoc, le_refl}
+use Rattle.std.proofs.Common.{◌≡◌, ◌⊎◌, ℕ, ◌+◌, ◌-◌, ◌<◌, ◌≤◌, ◌^◌, ◌&&◌, ◌||◌, min, true, false, Some, List, [], ◌∷◌, ◌++◌, length, refl, sym, subst, ap, ap₂, ◌∙◌, arith, append_assoc, le_refl}
 use Rattle.std.specs.Prelude.{slice_get, slice_set}
 use Rattle.std.specs.List.{list_any}
 use Rattle.std.specs.Option.{option_and_then, option_map}
@@ -43,7 +43,7 @@ use Rattle.block_target.specs.declared.heart.Heart.{Heart}
 use Rattle.block_target.proofs.DeedsLemmas.{given_world, reset_world}
 use Rattle.block_target.proofs.FreedMounts.{leaves_freed}
 use Rattle.block_target.proofs.GivenCommands.{can_reset}
-use Rattle.block_target.proofs.GoingOn.{GoesOn, Leaves, goes_decided, goes_given, goes_none, leaves_on, moved_on, none_taken, one_more, takes_beside, takes_still}
+use Rattle.block_target.proofs.GoingOn.{GoesOn, Leaves, goes_decided, goes_given, goes_none, leaves_on, longer_decided, moved_on, no_less, none_taken, one_more, takes_beside, takes_still}
 use Rattle.block_target.proofs.HeartBeside.{heart_beside}
 use Rattle.block_target.proofs.MountLemmas.{asked_within}
 use Rattle.block_target.proofs.LostCommands.{is_lost_one, none_lost_one}
@@ -193,7 +193,7 @@ module _ {v : MountView} {h : Heart} {f : Filling} (m : IsMount v h f) (line uni
       }
 
       goes_noted : GoesOn v (noted i.shape note left) (slice_set v.units unit new)
-      goes_noted = goes_decided goes note noted_mount (λ knows. refl)
+      goes_noted = goes_decided goes note noted_mount (λ knows. refl) tt
 
       takes_noted : takes (log_of (noted i.shape note left) 0) ≡ takes (engine_log v)
       takes_noted = takes_still i.shape note left refl ∙ takes_beside i.shape unit e (next_maker w) w
@@ -220,6 +220,13 @@ module _ {v : MountView} {h : Heart} {f : Filling} (m : IsMount v h f) (line uni
           (noted_known i w unit e (next_maker w) can ends m.sound.legal m.known)
           (λ other of there. m.resting other of (ap (λ (us : List UnitRow). slice_get us other) (sym rows) ∙ there)) (copying ∙ m.idle) m.stripe takes_noted
           same_wear grants (asked_within m (pad_of after.core) pads))
+
+      pub reset_longer : (last : List Deed) → last ≡ reset_deeds → length (engine_log v) < length (log_of (world_of v.image.shape last) 0)
+      reset_longer last lasts =
+          let long : length (log_of (noted i.shape note left) 0) ≡ length (log_of left 0) + 1 = longer_decided i.shape note left in
+          let before : length (engine_log v) ≤ length (log_of left 0) = no_less goes in
+          subst (λ (x : World). length (engine_log v) < length (log_of x 0))
+          (sym (ap (world_of i.shape) lasts ∙ reset_world i.shape v.deeds unit (last_of new) e given.last)) (omega arith)
 
       pub reset_kept : (us : List ModelUnit) → us ≡ slice_set v.units unit new → NoneLost v.units us
       reset_kept us units_are = subst (NoneLost v.units) (sym units_are)

@@ -1,7 +1,8 @@
 -- A mount that takes an entry: a user's sector, or a copy of one.
-use Rattle.std.proofs.Common.{◌≡◌, ◌<◌, ◌≤◌, ℕ, false, Some, List, [], ◌∷◌, ◌++◌, length, refl, sym, subst, ap, ◌∙◌, arith, append-nil, if◌then◌else◌}
+use Rattle.std.proofs.Common.{◌≡◌, ◌⊎◌, inl, inr, ◌<◌, ◌≤◌, ℕ, false, Some, List, [], ◌∷◌, ◌++◌, length, refl, sym, subst, ap, ◌∙◌, arith, append-nil, if◌then◌else◌}
 use Rattle.std.specs.List.{filter}
 use Rattle.std.specs.Prelude.{slice_get}
+use Rattle.std.proofs.lemmas.Bool.{cases_lt}
 use Rattle.std.proofs.lemmas.List.Elements.{filter-append}
 use Rattle.pblk_core.proofs.StandsFacts.{window_taken_is}
 use Rattle.pblk_core.specs.Copies.{is_copying}
@@ -15,6 +16,7 @@ use Rattle.pblk_world.proofs.WorldLemmas.{log_here}
 use Rattle.pblk_world.specs.EngineLog.{Taken, takes}
 use Rattle.pblk_world.specs.Events.{EngineEvent, Entry, Logged, Source, Take}
 use Rattle.pblk_world.specs.Fronts.{first_position, is_users, user_takes}
+use Rattle.pblk_world.specs.Space.{freed}
 use Rattle.pblk_world.specs.Taking.{MayTake}
 use Rattle.pblk_world.specs.World.{World, log_of}
 use Rattle.core_laws.specs.SimpleMounts.{IsSimpleMount}
@@ -30,11 +32,12 @@ use Rattle.world_laws.proofs.Begun.{first_is as first_of}
 use Rattle.write_window.specs.Window as window
 use Rattle.block_target.specs.Deeds.{Decides, Deed, world_of}
 use Rattle.block_target.specs.Heart.{BeatsAfter, IsHeart, user_entry}
-use Rattle.block_target.specs.Mount.{IsMount, MountView, engine_log, logs_in, taken_in, with_entry, with_pad, world_in}
+use Rattle.block_target.specs.Mount.{IsMount, IsRingFull, MountView, engine_log, logs_in, taken_in, with_entry, with_pad, world_in}
 use Rattle.block_target.specs.declared.heart.Heart.{Heart}
 use Rattle.block_target.proofs.DeedsLemmas.{world_more}
 use Rattle.block_target.proofs.GoingOn.{GoesOn, KeepsUsers, Leaves, begun_on, goes_decided, goes_none, leaves_on, mount_on, moved_on}
 use Rattle.block_target.proofs.MountLemmas.{asked_within}
+use Rattle.block_target.proofs.Reasoned.{HasReason}
 
 -- what its heart asks of the sector, and where it puts it
 module _ {v : MountView} {h : Heart} {f : Filling} (m : IsMount v h f) where
@@ -50,8 +53,20 @@ module _ {v : MountView} {h : Heart} {f : Filling} (m : IsMount v h f) where
   pub room_there : taken_in v < v.granted → window.taken h.core.window < h.granted
   room_there room = subst (λ n. n < h.granted) (sym next_position) (subst (λ n. taken_in v < n) m.granted room)
 
+  -- where no frame is left for it the ring is full
+  pub ring_full : ¬ (length h.core.window.entries < h.core.window.size) → IsRingFull v
+  ring_full none = go (cases_lt (length h.core.window.entries) h.core.window.size)
+    where
+      go : (length h.core.window.entries < h.core.window.size) ⊎ (h.core.window.size ≤ length h.core.window.entries) → IsRingFull v
+      go (inl left) = absurd (none left)
+      go (inr full) =
+          let size : h.core.window.size ≡ v.image.shape.ring = m.heart.stands.size in
+          let drained : h.core.window.freed ≡ freed v.image.shape (engine_log v) = m.heart.drained in
+          let next : window.taken h.core.window ≡ taken_in v = next_position in
+          omega arith
+
   -- the mount that it leaves
-  module _ (entry : Entry) (mark : Mark) (may : MayTake v.image (logs_in v) entry mark) where
+  module _ (entry : Entry) (mark : Mark) (may : MayTake v.image (logs_in v) entry mark) (reason : HasReason v.image (logs_in v) (Take entry mark)) where
     abbrev event : EngineEvent
     event = Take entry mark
 
@@ -62,7 +77,7 @@ module _ {v : MountView} {h : Heart} {f : Filling} (m : IsMount v h f) where
     legal = engine_next v.image (world_in v) m.sound.beginning event m.sound.legal m.sound.has_begun may refl
 
     goes : GoesOn v next v.units
-    goes = goes_decided (goes_none v m.sound) event legal (λ knows. refl)
+    goes = goes_decided (goes_none v m.sound) event legal (λ knows. refl) reason
 
     -- it leaves none to be freed
     none_to_free : NoneToFree v.image (log_of next)

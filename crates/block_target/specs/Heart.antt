@@ -1,5 +1,5 @@
 -- What decides for a target, and what it stands for in a world.
-use Rattle.std.specs.Prelude.{ℕ, ◌+◌, ◌*◌, ◌-◌, ◌^◌, ◌≤◌, ◌≡◌, ◌≢◌, if◌then◌else◌, List, [], ◌∷◌, length, max, Option, Some, None}
+use Rattle.std.specs.Prelude.{ℕ, ◌+◌, ◌*◌, ◌-◌, ◌^◌, ◌<◌, ◌≤◌, ◌≡◌, ◌≢◌, if◌then◌else◌, List, [], ◌∷◌, length, max, Option, Some, None}
 use Rattle.std.specs.Option.{option_map}
 use Rattle.pblk_model.specs.declared.chunk.Mark.{Mark}
 use Rattle.pblk_model.specs.declared.found.Found.{Found}
@@ -23,10 +23,11 @@ use Rattle.sector_pool.specs.declared.entry.Class.TheVariants.{User, Copy}
 use Rattle.sector_pool.specs.declared.entry.Source.{Source as EntrySource}
 use Rattle.write_window.specs.Window as window
 use Rattle.pblk_core.specs.Collecting.{Collects}
+use Rattle.pblk_core.specs.Named.{pad_of}
 use Rattle.pblk_core.specs.Stands.{Stands}
 use Rattle.pblk_core.specs.Taken.{is_latest_from}
 use Rattle.pblk_core.specs.declared.collecting.CopyJob.{CopyJob}
-use Rattle.block_target.specs.Granted.{WasRoom}
+use Rattle.world_laws.specs.Reasons.{WasAsked, WasRoom}
 use Rattle.block_target.specs.declared.heart.Heart.{Heart}
 
 -- The heart stands for the logs of a mount: its core does, and collects what they say. The window
@@ -45,6 +46,8 @@ pub record IsHeart (i : Image) (logs : Logs) (h : Heart) : Type 0 where
   -- there is no room that isn't granted, and no more is granted than there once was room for
   pub room : room i logs ≤ h.granted
   pub once : WasRoom i logs (length (logs 0)) h.granted
+  -- pads were asked for up to the pad target
+  pub pads : 0 < pad_of h.core → WasAsked i logs (length (logs 0)) (pad_of h.core)
 
 -- It stands for the logs of some legal mount.
 pub record IsBeating (h : Heart) : Type 0 where

@@ -1,7 +1,6 @@
 pub mod Deeds
 pub mod Fetched
 pub mod Freed
-pub mod Granted
 pub mod Moments
 pub mod NothingLeft
 pub mod Mount

@@ -15,8 +15,9 @@ use Rattle.pblk_world.specs.World.{World, Logs, log_of}
 use Rattle.pblk_world.specs.EngineLog.{Begun, begun}
 use Rattle.pblk_world.specs.Fronts.{taken, synced, user_takes, history}
 use Rattle.pblk_world.specs.Lines.{found_image}
-use Rattle.pblk_world.specs.Space.{is_due, room}
+use Rattle.pblk_world.specs.Space.{freed, is_due, room}
 use Rattle.pblk_world.specs.AtRest.{IsCopyDue, logs_at}
+use Rattle.world_laws.specs.Reasons.{AreBegun, AreUrgent}
 use Rattle.core_laws.specs.SimpleMounts.{IsSimpleMount}
 use Rattle.core_laws.specs.WindowOf.{users_below}
 use Rattle.step_laws.specs.FreedWorlds.{NoneToFree}
@@ -99,7 +100,8 @@ abbrev pub IsUnitIn : MountView → ℕ → ModelUnit → Type 0
 IsUnitIn v number u = (old : ModelUnit) × (slice_get v.handed number ≡ Some old)
     × IsArm v.image (logs_in v) number old u
 
--- What was done is a simple mount that has begun, and the units are as it leaves them.
+-- What was done is a simple mount that has begun, and the units are as it leaves them. Each copy that
+-- was taken had been begun, and each stripe with an entry was placed where it was urgent.
 pub record IsSound (v : MountView) : Type 0 where
   pub legal : IsSimpleMount v.image (world_in v)
   pub beginning : Begun
@@ -109,6 +111,8 @@ pub record IsSound (v : MountView) : Type 0 where
   pub handed : v.image ≡ image_of v.image.shape v.handed
   pub count : length v.units ≡ units v.image.shape
   pub each : (number : ℕ) (u : ModelUnit) → slice_get v.units number ≡ Some u → IsUnitIn v number u
+  pub begun : AreBegun v.image (logs_in v)
+  pub urgent : AreUrgent v.image (logs_in v)
 
 -- Besides, the heart stands for what was done. No program is in flight, no copy is begun, and the
 -- engine has noted all that the units did but resets that were stopped. No line is left that may be
@@ -205,6 +209,10 @@ with_entries v lba (sector ∷ sectors) = with_entries (with_entry v lba sector)
 -- what comes next, where no program is in flight and no copy is begun
 abbrev pub work_in : MountView → Work
 work_in v = work_of v.image (logs_in v) v.pad [] false
+
+-- The ring is full: each of its frames holds an entry that was taken, from the front freed on.
+abbrev pub IsRingFull : MountView → Type 0
+IsRingFull v = freed v.image.shape (engine_log v) + v.image.shape.ring ≤ taken_in v
 
 -- There is nothing left to do where as much is asked for as is here, or less, and no room that isn't
 -- granted.

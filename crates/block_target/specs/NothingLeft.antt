@@ -13,7 +13,7 @@ use Rattle.pblk_world.specs.Space.{open_addresses, room}
 use Rattle.pblk_world.specs.AtRest.{logs_at, IsCopyDue, IsDue, pad_target}
 use Rattle.step_laws.specs.FreedWorlds.{NoneToFree}
 use Rattle.block_port.specs.declared.rows.WornAnswer.{WornAnswer}
-use Rattle.block_target.specs.Granted.{WasRoom}
+use Rattle.world_laws.specs.Reasons.{WasRoom}
 
 -- There is nothing left to do where pads are asked for up to this position.
 pub record HasNothingLeft (i : Image) (logs : Logs) (asked : ℕ) : Type 0 where

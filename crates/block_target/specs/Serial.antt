@@ -21,7 +21,7 @@ use Rattle.pblk_model.specs.UnitLog.{UnitEvent}
 use Rattle.step_laws.specs.FreedWorlds.{NoneToFree}
 use Rattle.unit_port.specs.Unit.{ModelUnit}
 use Rattle.block_target.specs.Mount.{MountView, IsSound, IsSameMount, IsCollectionOver, logs_in, engine_log, taken_in, synced_in}
-use Rattle.block_target.specs.Granted.{WasRoom, AreGranted}
+use Rattle.world_laws.specs.Reasons.{WasRoom, AreBegun, AreGranted, AreUrgent}
 use Rattle.scan_recovery.specs.Lost.{IsLostAt, NoneLost, was_lost}
 use Rattle.block_target.specs.NothingLeft.{IsFlushRefusal, IsWriteRefusal, AreRefusals}
 use Rattle.block_target.specs.declared.opening.SettleErr.{SettleErr}
@@ -180,8 +180,11 @@ pub record IsClosed (target : SerialView) (settled : Result Unit SettleErr) (v :
   -- each Worn had its cause, this call's the last of them
   pub refusals : AreRefusals v.image (logs_in v) 0
       (target.worns ++ settle_worns (length (flat_map lines_of target.own)) settled)
-  -- all that users' writes took was granted before
+  -- All that users' writes took was granted before, and each copy that was taken had been begun. Each
+  -- stripe with an entry was placed where it was urgent.
   pub granted : AreGranted v.image (logs_in v)
+  pub begun : AreBegun v.image (logs_in v)
+  pub urgent : AreUrgent v.image (logs_in v)
   -- pads were asked for up to what was taken, or by an earlier call
   pub asked : SettleAsks target.mount.asked (taken_in v) v.asked settled
   -- What is now found on a drive that was sealed ends between the front synced and the front taken.

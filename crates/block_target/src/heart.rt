@@ -1,12 +1,13 @@
 //! What decides for a target: its core, its frames and what is granted.
 
-ghost use Rattle.std.specs.Prelude.{ℕ, List, ◌≡◌, ◌≤◌, ◌<◌, ◌+◌, ◌^◌, true, false, length, max, slice_index, IfOk, IfSome, IfNone, IsTrue, OnSome};
+ghost use Rattle.std.specs.Prelude.{ℕ, List, ◌≡◌, ◌≤◌, ◌<◌, ◌+◌, ◌^◌, ◌↔◌, true, false, length, max, slice_index, IfOk, IfSome, IfNone, IsTrue, OnSome};
 ghost use Rattle.std.specs.FinMap as fin;
 ghost use Rattle.pblk_model.specs.Frames.{count_out};
 ghost use Rattle.pblk_model.specs.Accepted.{IsAccepted};
 ghost use Rattle.pblk_model.specs.Found.{IsFitFound};
 ghost use Rattle.pblk_model.specs.Image.{Image};
 ghost use Rattle.pblk_model.specs.Marks.{sector_mark};
+ghost use Rattle.pblk_world.specs.AtRest.{IsDue};
 ghost use Rattle.pblk_world.specs.Answering.{MayLand, MayOfferAgain};
 ghost use Rattle.pblk_world.specs.EngineLog.{Begun, begun};
 ghost use Rattle.pblk_world.specs.Events.{Again, Free, Landed, Open, Place, ResetDone, Take};
@@ -17,6 +18,7 @@ ghost use Rattle.pblk_world.specs.Space.{freed, room};
 ghost use Rattle.pblk_world.specs.Taking.{MayTake};
 ghost use Rattle.pblk_world.specs.World.{World, Logs, log_of};
 ghost use Rattle.world_laws.specs.LegalMounts.{IsLegalMount};
+ghost use Rattle.world_laws.specs.Reasons.{WasAsked};
 ghost use Rattle.core_laws.specs.Stepping.{after};
 ghost use Rattle.step_laws.specs.FreedWorlds.{NoneToFree};
 ghost use Rattle.sector_pool.specs.declared.entry.Class.TheVariants as classes;
@@ -173,6 +175,8 @@ impl Heart {
         requires shape { into.old.shape ≡ self.old.core.layout }
         ensures legal { into.new.again ≡ false
             → OfItsMount self.old (λ i w. MayPlace i (log_of w) into.new.stripe) }
+        ensures due { into.new.again ≡ false → OfItsMount self.old (λ i w.
+            IsDue i (log_of w) (pad_of self.old.core) into.new.stripe) }
         ensures beats { into.new.again ≡ false
             → BeatsAfter self.old (Place into.new.stripe) self.new }
         ensures again { into.new.again ≡ true → OfItsMount self.old (λ i w.
@@ -269,7 +273,7 @@ impl Heart {
     pub(crate) fn has_frame(&self) -> bool
         requires beating { IsBeating self.now }
         ensures { IsTrue result
-            → length self.now.core.window.entries < self.now.core.window.size }
+            ↔ (length self.now.core.window.entries < self.now.core.window.size) }
     {
         0 < self.pool.left()
     }
@@ -343,7 +347,8 @@ impl Heart {
 
     /// Raises the pad target.
     pub(crate) fn ask_pad(&mut self, to: u64)
-        ensures beats { OfItsMount self.old (λ i w. IsHeart i (log_of w) self.new) }
+        ensures beats { OfItsMount self.old (λ i w.
+            WasAsked i (log_of w) (length (log_of w 0)) to → IsHeart i (log_of w) self.new) }
         ensures rows { self.new.core.placer.units ≡ self.old.core.placer.units }
         ensures copying { is_copying self.new.core ≡ is_copying self.old.core }
         ensures pad { pad_of self.new.core ≡ max (pad_of self.old.core) to }

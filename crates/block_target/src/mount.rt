@@ -1,5 +1,5 @@
 //! A mount of a drive for one session: the heart, and the drive's units.
-ghost use Rattle.std.specs.Prelude.{◌≡◌, ◌<◌, ◌≤◌, ◌^◌, map, max, length, slice_get, true, false, Some, IfOk, IfErr, IsOk};
+ghost use Rattle.std.specs.Prelude.{◌≡◌, ◌<◌, ◌≤◌, ◌^◌, ◌⊎◌, map, max, length, slice_get, true, false, Some, IfOk, IfErr, IsOk};
 ghost use Rattle.pblk_model.specs.Accepted.{IsAccepted};
 ghost use Rattle.pblk_model.specs.Chunk.{Block};
 ghost use Rattle.pblk_model.specs.Contents.{end};
@@ -17,7 +17,7 @@ ghost use Rattle.unit_port.specs.Unit.{ModelUnit};
 ghost use Rattle.block_target.specs.Fetched.{IsReadableThere, WasFetched};
 ghost use Rattle.block_target.specs.Freed.{HaveFreed};
 ghost use Rattle.block_target.specs.Heart.{IsBeating};
-ghost use Rattle.block_target.specs.Mount.{IsSound, IsSameMount, IsSpent, IsFetchable, HasAsked, logs_in, with_asked, with_entry, with_pad, work_in, taken_in, synced_in, front_taken, latest};
+ghost use Rattle.block_target.specs.Mount.{IsSound, IsSameMount, IsSpent, IsRingFull, IsFetchable, HasAsked, engine_log, logs_in, with_asked, with_entry, with_pad, work_in, taken_in, synced_in, front_taken, latest};
 ghost use Rattle.block_target.specs.Opened.{IsOpened, OpenCause};
 
 use crate::arm;
@@ -234,13 +234,16 @@ impl<U: Unit> Mount<U> {
     }
 
     /// Does what comes next, and frees each line that may then be freed. It answers false where
-    /// there is nothing to do. `Err` names the command that it gave a unit and that was stopped, or
+    /// there is nothing to do. Where it answers true it was done, unless a sector was to be copied
+    /// and the ring is full. `Err` names the command that it gave a unit and that was stopped, or
     /// the fetch that failed.
     pub(crate) fn pump(&mut self) -> Result<bool, DriveErr>
         ensures same { IsSameMount self.old self.new }
         ensures asked { self.new.asked ≡ self.old.asked }
         ensures done { IsOk result → NoneLost self.old.units self.new.units }
         ensures lost { IfErr result (λ e. IsLostAt self.old.units self.new.units e.unit e.event) }
+        ensures more { IfOk result (λ did. did ≡ true
+            → (length (engine_log self.old) < length (engine_log self.new)) ⊎ IsRingFull self.old) }
         ensures rest { IfOk result (λ did. did ≡ false → (self.new ≡ self.old) × IsSpent self.old) }
     {
         match self.heart.core.next_work() {
@@ -262,6 +265,8 @@ impl<U: Unit> Mount<U> {
         ensures asked { self.new.asked ≡ self.old.asked }
         ensures done { IsOk result → NoneLost self.old.units self.new.units }
         ensures lost { IfErr result (λ e. IsLostAt self.old.units self.new.units e.unit e.event) }
+        ensures more { IsOk result
+            → length (engine_log self.old) < length (engine_log self.new) }
     {
         let of = &mut self.units[unit as usize];
         let answer = arm::reset(of, line);
@@ -292,6 +297,7 @@ impl<U: Unit> Mount<U> {
         ensures same { IsSameMount self.old self.new }
         ensures asked { self.new.asked ≡ self.old.asked }
         ensures units { self.new.units ≡ self.old.units }
+        ensures more { length (engine_log self.old) < length (engine_log self.new) }
     {
         self.deeds.add(&Opens {
             core: &self.heart.core,
@@ -308,6 +314,7 @@ impl<U: Unit> Mount<U> {
         ensures asked { self.new.asked ≡ self.old.asked }
         ensures done { IsOk result → NoneLost self.old.units self.new.units }
         ensures lost { IfErr result (λ e. IsLostAt self.old.units self.new.units e.unit e.event) }
+        ensures more { length (engine_log self.old) < length (engine_log self.new) }
     {
         self.heart.place(&mut self.stripe);
         add_placed(&mut self.deeds, &self.stripe);
@@ -348,6 +355,8 @@ impl<U: Unit> Mount<U> {
         ensures asked { self.new.asked ≡ self.old.asked }
         ensures done { IsOk result → NoneLost self.old.units self.new.units }
         ensures lost { IfErr result (λ e. IsLostAt self.old.units self.new.units e.unit e.event) }
+        ensures more { IsOk result
+            → (length (engine_log self.old) < length (engine_log self.new)) ⊎ IsRingFull self.old }
     {
         let job = match self.heart.core.copy_ready() {
             Some(job) => job,
@@ -375,9 +384,10 @@ impl<U: Unit> Mount<U> {
         Ok(())
     }
 
-    /// Asks for pads up to a position, unless a sector is to be copied first (this project's rule
-    /// "A flush sets the pad target" in docs/TARGET.md).
+    /// Asks for pads up to a position below which all was taken, unless a sector is to be copied
+    /// first (this project's rule "A flush sets the pad target" in docs/TARGET.md).
     pub(crate) fn ask_pad(&mut self, to: u64)
+        requires { to ≤ taken_in self.old }
         ensures same { self.new ≡ with_asked self.old self.new.pad self.new.asked }
         ensures asked { HasAsked self.old to self.new.asked }
         ensures sound { IsSound self.new }

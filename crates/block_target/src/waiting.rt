@@ -1,7 +1,7 @@
 //! What a mount works for: room to claim, entries on the drive, and rest.
 
 ghost use Rattle.std.specs.Prelude.{◌≡◌, ◌≤◌, ◌+◌, false, length, IfOk, IfErr, IsOk};
-ghost use Rattle.block_target.specs.Granted.{WasRoom};
+ghost use Rattle.world_laws.specs.Reasons.{WasRoom};
 ghost use Rattle.scan_recovery.specs.Lost.{IsLostAt, NoneLost};
 ghost use Rattle.block_target.specs.Mount.{IsSound, IsSameMount, IsSpent, IsCollectionOver, engine_log, logs_in, synced_in, taken_in, front_synced};
 ghost use Rattle.block_target.specs.Waiting.{AsksUpTo, Waits};
@@ -61,11 +61,12 @@ impl<U: Unit> Mount<U> {
         unreachable!()
     }
 
-    /// Asks for pads up to a position as soon as no sector is to be copied, works until all below
-    /// it is on the drive, and gives the front synced. `Stuck` comes where there is nothing left to
-    /// do, and tells up to which position all is there. `Drive` comes where a command of this call
-    /// was stopped, or a fetch failed.
+    /// Asks for pads up to a position, below which all was taken, as soon as no sector is to be
+    /// copied. It works until all below it is on the drive, and gives the front synced. `Stuck`
+    /// comes where there is nothing left to do, and tells up to which position all is there.
+    /// `Drive` comes where a command of this call was stopped, or a fetch failed.
     pub(crate) fn sync<R: Wait>(&mut self, rt: &R, wanted: u64) -> Result<Front, WaitErr>
+        requires { wanted ≤ taken_in self.old }
         ensures same { IsSameMount self.old self.new }
         ensures asked { AsksUpTo self.old self.new wanted result }
         ensures sound { IsSound self.new }

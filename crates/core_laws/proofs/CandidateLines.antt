@@ -4,7 +4,6 @@ use Rattle.std.specs.Prelude.{◌↔◌}
 use Rattle.std.specs.List.{list_all}
 use Rattle.std.specs.Option.{is_none, is_some, option_and_then, option_map, option_map_or}
 use Rattle.std.proofs.lemmas.Bool.{cases_lt, ltb-true}
-use Rattle.std.proofs.lemmas.Bool.Decides.{nat_tests}
 use Rattle.std.proofs.lemmas.Option.{none-some, same_Some}
 use Rattle.pblk_model.specs.EndRecord.{EndRecord, end_of}
 use Rattle.pblk_model.specs.Image.{Image}
@@ -22,12 +21,10 @@ use Rattle.core_laws.specs.ClosedLines.{ClosedLine, StartNumbers, closed_line, c
 use Rattle.core_laws.specs.RowsOf.{row_of_line, state_found, state_given_up, state_in, state_of}
 use Rattle.core_laws.proofs.LatestStarts.{numbers_of}
 use Rattle.core_laws.proofs.TopPositions.{top_more}
+use Rattle.stripe_placer.proofs.Rising.{le_false}
 use Rattle.lemmas.proofs.Tests.{and_both, both, within_is, and_false, le_true, lt_true, not_before, not_first}
 
 -- ---- positions below a bound
-
-past_le : (m n : ℕ) → n < m → nat_le m n ≡ false
-past_le m n past = grind (arith, nat_tests)
 
 below_top : (n : ℕ) (ps : List ℕ) → list_all (λ position. nat_lt position n) ps ≡ nat_le (top_of ps) n
 below_top n [] = sym (le_true 0 n (omega arith))
@@ -37,14 +34,14 @@ below_top n (p ∷ ps) =
     ap (λ b. nat_lt p n && b) (below_top n ps) ∙ joined (cases_lt p n) (cases_lt n (top_of ps)) ∙ ap (λ t. nat_le t n) top
   where
     over : n < max (p + 1) (top_of ps) → nat_le (max (p + 1) (top_of ps)) n ≡ false
-    over above = past_le (max (p + 1) (top_of ps)) n above
+    over above = le_false (max (p + 1) (top_of ps)) n above
 
     joined : (p < n) ⊎ (n ≤ p) → (n < top_of ps) ⊎ (top_of ps ≤ n) → (nat_lt p n && nat_le (top_of ps) n) ≡ nat_le (max (p + 1) (top_of ps)) n
     joined (inl below) (inr within) =
         and_both (nat_lt p n) (nat_le (top_of ps) n) (lt_true p n below) (le_true (top_of ps) n within)
         ∙ sym (le_true (max (p + 1) (top_of ps)) n (omega arith))
     joined (inr above) rest = not_first (nat_lt p n) (nat_le (top_of ps) n) (not_before p n above) ∙ sym (over (omega arith))
-    joined (inl below) (inl past) = and_false (nat_lt p n) (nat_le (top_of ps) n) (past_le (top_of ps) n past) ∙ sym (over (omega arith))
+    joined (inl below) (inl past) = and_false (nat_lt p n) (nat_le (top_of ps) n) (le_false (top_of ps) n past) ∙ sym (over (omega arith))
 
 -- ---- candidates
 

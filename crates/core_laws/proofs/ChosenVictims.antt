@@ -15,7 +15,7 @@ use Rattle.lemmas.proofs.Tests.{and_both, both, either, lt_true, not_both, or_le
 
 -- ---- the order of candidates
 
-abbrev is_less : (live seq other_live other_seq : ℕ) → Bool
+abbrev pub is_less : (live seq other_live other_seq : ℕ) → Bool
 is_less l s m t = nat_lt l m || ((l == m) && nat_lt s t)
 
 less_when : (l s m t : ℕ) → is_less l s m t ≡ true → (l < m) ⊎ ((l ≡ m) × (s < t))
@@ -25,7 +25,7 @@ less_when l s m t e = go (either (nat_lt l m) ((l == m) && nat_lt s t) e)
     go (inl less) = inl (ltb-true l m less)
     go (inr level) = let parts = both (l == m) (nat_lt s t) level in inr (eqb-true l m parts.0, ltb-true s t parts.1)
 
-less_is : (l s m t : ℕ) → (l < m) ⊎ ((l ≡ m) × (s < t)) → is_less l s m t ≡ true
+pub less_is : (l s m t : ℕ) → (l < m) ⊎ ((l ≡ m) × (s < t)) → is_less l s m t ≡ true
 less_is l s m t (inl less) = or_left (nat_lt l m) ((l == m) && nat_lt s t) (lt_true l m less)
 less_is l s m t (inr level) = or_right (nat_lt l m) ((l == m) && nat_lt s t)
     (and_both (l == m) (nat_lt s t) (ap (λ n. l == n) (sym level.0) ∙ same_number l) (lt_true s t level.1))

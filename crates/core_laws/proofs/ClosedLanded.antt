@@ -34,13 +34,14 @@ use Rattle.world_laws.specs.LegalMounts.{decides, is_losing, IsLegalMount, NoneL
 use Rattle.world_laws.proofs.LifePlaces.{began, place_of_block}
 use Rattle.world_laws.proofs.LineBlocks.{block_placed, landed_written}
 use Rattle.world_laws.proofs.StripeBlocks.{all_flat_of}
+use Rattle.world_laws.proofs.NextPrograms.{landed_of_answered}
 use Rattle.core_laws.specs.ClosedLines.{ClosedLine, closed_line, placed_top, top_of}
 use Rattle.core_laws.specs.PlacerOf.{unanswered_on}
 use Rattle.core_laws.specs.Stepping.{after}
 use Rattle.core_laws.proofs.ClosedKept.{closed_in, closed_same}
 use Rattle.core_laws.proofs.KeptStripes.{have_landed_alike}
 use Rattle.core_laws.proofs.LandedNow.{opened_now}
-use Rattle.core_laws.proofs.LandedOver.{landed_unless_lost, not_lost, over_is}
+use Rattle.core_laws.proofs.LandedOver.{not_lost, over_is}
 use Rattle.core_laws.proofs.NextWorlds.{lengths_of, next_legal, next_logs, next_step}
 use Rattle.core_laws.proofs.OverAnswered.{over_answered}
 use Rattle.core_laws.proofs.OverLines.{IsOfStripe, flat_at, of_stripe, position_of_block, positions_written, written_counts}
@@ -101,7 +102,7 @@ module _ (i : Image) (w : World) (mount : IsLegalMount i w) (o : Opening) (is_op
       by_position p its block among (Some position) e =
           let name = position_of_block i.shape block position e in
           let landed : has_landed log p ≡ true =
-          landed_unless_lost log p (over_answered i w mount o is_open over p its) (not_lost i w mount o is_open none p) in
+          landed_of_answered log p (over_answered i w mount o is_open over p its) (not_lost i w mount o is_open none p) in
           let place = place_of_block i w mount o is_open p among.0 its (slice_get_within p.stripe.blocks among.0 block among.1) in
           let r : Record = record {
             line = o.line;

@@ -1,9 +1,9 @@
 -- Where no stripe was lost, nothing more is written to an opened line exactly if all its stripes have
 -- landed.
-use Rattle.std.proofs.Common.{◌≡◌, ◌⊎◌, inl, inr, ℕ, ◌+◌, ◌*◌, ◌/◌, ◌%◌, ◌<◌, ◌==◌, suc, zero, Bool, true, false, Some, None, Option, List, length, refl, sym, subst, ap, ap₂, ◌∙◌, arith, if◌then◌else◌, div-add-mod'}
+use Rattle.std.proofs.Common.{◌≡◌, ◌⊎◌, inl, inr, ℕ, ◌+◌, ◌*◌, ◌/◌, ◌%◌, ◌<◌, ◌==◌, suc, zero, Bool, true, false, Some, None, List, length, refl, sym, subst, ap, ap₂, ◌∙◌, arith, if◌then◌else◌, div-add-mod'}
 use Rattle.std.specs.Prelude.{slice_get}
 use Rattle.std.specs.List.{Contains, list_all}
-use Rattle.std.specs.Option.{IfSome, is_some}
+use Rattle.std.specs.Option.{IfSome}
 use Rattle.std.proofs.lemmas.Nat.{div-mul-add, mod-mul-add}
 use Rattle.std.proofs.lemmas.Option.{same_Some}
 use Rattle.std.proofs.Math.Nat.{lt_of_mul-lt-mul_right, mul-div_cancel, zero-mul}
@@ -14,7 +14,7 @@ use Rattle.pblk_model.specs.Image.{Image, is_online_in, line_units, width}
 use Rattle.pblk_model.specs.LineOrder.{block_of, column_of}
 use Rattle.pblk_laws.specs.LineBlocks.{chunk_in}
 use Rattle.pblk_laws.proofs.LineUnits.{line_units_chunks, line_units_count}
-use Rattle.pblk_world.specs.EngineLog.{Answer, DidLand, WasLost, answer_by, answer_of, has_failed, has_landed, is_answered, is_land, is_loss, LineLife, is_as_found, life_of, Opened, Opening, Placed, stripes_of, was_lost}
+use Rattle.pblk_world.specs.EngineLog.{Answer, DidLand, answer_by, has_failed, is_loss, LineLife, is_as_found, life_of, Opened, Opening, Placed, stripes_of, was_lost}
 use Rattle.pblk_world.specs.Events.{Decides, Does, Event, Landed, Logged, Lost}
 use Rattle.pblk_world.specs.Lines.{are_over, chunks_of, is_over_state, known_image, place_of}
 use Rattle.pblk_world.specs.Placing.{IsNext, line_end}
@@ -55,15 +55,6 @@ no_losses log none unit =
     go (Decides (Lost other event)) kept = absurd cc
     go (Decides e) kept = tt
     go (Does e maker) kept = tt
-
--- a stripe that was answered and not lost has landed
-pub landed_unless_lost : (log : List Logged) (p : Placed) → is_answered log p ≡ true → was_lost log p ≡ false → has_landed log p ≡ true
-landed_unless_lost log p answered kept = go (answer_of log p) answered kept
-  where
-    go : (a : Option Answer) → is_some a ≡ true → is_loss a ≡ false → is_land a ≡ true
-    go None e f = absurd cc
-    go (Some (DidLand event)) e f = refl
-    go (Some (WasLost event)) e f = absurd cc
 
 same_tests : (a b : Bool) → (a ≡ true → b ≡ true) → (b ≡ true → a ≡ true) → a ≡ b
 same_tests true b there back = sym (there refl)

@@ -41,11 +41,11 @@ use Rattle.world_laws.proofs.Placements.{number_of}
 use Rattle.world_laws.proofs.StartRecords.{front_synced}
 use Rattle.world_laws.proofs.StripePlaces.{kth_place}
 use Rattle.world_laws.proofs.Stripes.{life_of_stripe, opening_then}
+use Rattle.world_laws.proofs.NextPrograms.{landed_of_answered}
 use Rattle.core_laws.specs.SlotOf.{address_in, media_of, readable_block, slot_by, slot_of, slot_of_entry, slot_of_winner}
 use Rattle.core_laws.proofs.BegunOnce.{begun_once}
 use Rattle.core_laws.proofs.DoneLines.{is_done}
 use Rattle.core_laws.proofs.KnownFilling.{HasLoss}
-use Rattle.core_laws.proofs.LandedOver.{landed_unless_lost}
 use Rattle.core_laws.proofs.LastTakes.{last_is, last_none}
 use Rattle.core_laws.proofs.OverAnswered.{over_answered}
 use Rattle.core_laws.proofs.PlacedAnew.{landed_not_lost, one_kept}
@@ -240,7 +240,7 @@ module _ (i : Image) (w : World) (mount : IsLegalMount i w) where
           → filter (has_landed (log_of w 0)) (stripes_on (log_of w 0) o unit) ≡ stripes_on (log_of w 0) o unit
       all_landed unit none =
           all_pass (has_landed log) (stripes_on log o unit) (all_by_get (λ (p : Placed). has_landed log p ≡ true) (stripes_on log o unit) (λ k p at.
-          landed_unless_lost log p (over_answered i w mount o is_open over p (of_unit i w mount o is_open unit p (k, at)).0)
+          landed_of_answered log p (over_answered i w mount o is_open over p (of_unit i w mount o is_open unit p (k, at)).0)
           (kept k p at (was_lost log p) refl)))
         where
           kept : (k : ℕ) (p : Placed) → slice_get (stripes_on (log_of w 0) o unit) k ≡ Some p → (t : Bool) → was_lost (log_of w 0) p ≡ t → t ≡ false
@@ -318,7 +318,7 @@ module _ (i : Image) (w : World) (mount : IsLegalMount i w) where
             (ap (is_life life.0.number) life.1 ∙ same_number life.0.number))
 
         landed : has_landed (log_of w 0) p ≡ true
-        landed = landed_unless_lost log p (over_answered i w mount life.0 is_open over_there p of_opening) is.kept
+        landed = landed_of_answered log p (over_answered i w mount life.0 is_open over_there p of_opening) is.kept
 
         found : (b : Block) × (find (bears_position i.shape position) p.stripe.blocks ≡ Some b)
         found = some_value (find (bears_position i.shape position) p.stripe.blocks)

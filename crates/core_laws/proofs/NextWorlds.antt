@@ -24,7 +24,7 @@ abbrev pub next_step : Image → World → EngineEvent → Step
 next_step i w e = record { author = 0; logged = record { event = Decides e; knows = lengths_of i w } }
 
 -- there are no authors beyond the last unit
-none_beyond : (i : Image) (w : World) → IsLegal i w → (author : ℕ) → units i.shape < author → log_of w author ≡ []
+pub none_beyond : (i : Image) (w : World) → IsLegal i w → (author : ℕ) → units i.shape < author → log_of w author ≡ []
 unfolding IsLegal
 none_beyond i [] legal author far = refl
 none_beyond i (s ∷ w) legal author far =

@@ -1,6 +1,5 @@
 -- The state of a line when a target opens, case by case.
 use Rattle.std.proofs.Common.{◌≡◌, ◌≢◌, ℕ, Bool, true, false, ◌≤◌, cond, eqb, Some, None, List, ◌++◌, take, drop, length, refl, sym, ap, subst, ◌∙◌, arith}
-use Rattle.std.proofs.lemmas.Bool.Decides.{nat_tests}
 use Rattle.std.proofs.Math.Seq.{take-append_seam}
 use Rattle.std.proofs.lemmas.Option.{same_Some, slice_get_within, get_or_from_slice_get}
 use Rattle.std.specs.List.{list_any, slice_get, slice_index_or}
@@ -17,7 +16,7 @@ use Rattle.pblk_model.specs.Shape.{units}
 use Rattle.line_table.specs.declared.row.Row.{Row}
 use Rattle.line_table.specs.Opening.{width_of, live_count, opening_state}
 use Rattle.line_table.specs.Counting.{IsOpened, AreOpened, AreCounted, IsOpening, AreOpening, with_live}
-use Rattle.line_table.proofs.Places.{get_within}
+use Rattle.line_table.proofs.Places.{get_within, some_isnt_zero}
 
 -- a choice of four
 abbrev choice : Bool → Bool → Bool → Bool → LineState
@@ -45,9 +44,6 @@ unfolding opening_state
 is_dead s f line g n row seq stray g-is n-is none =
     let dead : eqb (data_len s (width_of s f line)) 0 ≡ true = ap (λ w. eqb (data_len s w) 0) (sym g-is) ∙ ap (λ k. eqb k 0) (sym n-is ∙ none) in
     sym (chosen _ false row.full row.full _ false _ true seq refl stray dead)
-
-some_isnt_zero : (n : ℕ) → n ≢ 0 → eqb n 0 ≡ false
-some_isnt_zero n h = grind (arith, nat_tests)
 
 pub is_free_one : (s : Shape) (f : Found) (line g n : ℕ) (row : LineRow) → is_some row.seq ≡ false → list_any (λ stray. eqb stray line) f.strays ≡ false
     → g ≡ width_of s f line → n ≡ data_len s g → n ≢ 0 → Free ≡ opening_state s f line row

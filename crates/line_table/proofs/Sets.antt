@@ -1,10 +1,11 @@
 -- Sets of lines as words.
-use Rattle.std.proofs.Common.{◌≡◌, ◌≢◌, ℕ, ◌+◌, ◌*◌, ◌/◌, ◌%◌, ◌^◌, ◌<◌, ◌≤◌, ◌⊎◌, inl, inr, zero, suc, Bool, true, false, eqb, List, [], ◌∷◌, length, refl, sym, ap, ◌∙◌, arith, bit_or, bit_and, replicate}
+use Rattle.std.proofs.Common.{◌≡◌, ◌≢◌, ℕ, ◌+◌, ◌-◌, ◌*◌, ◌/◌, ◌%◌, ◌^◌, ◌<◌, ◌≤◌, ◌⊎◌, inl, inr, zero, suc, Bool, true, false, eqb, List, [], ◌∷◌, length, refl, sym, ap, ◌∙◌, arith, bit_or, bit_and, replicate}
 use Rattle.std.specs.List.{slice_index_or, slice_set}
 use Rattle.std.specs.Int.{bit_not, w64, trailing_zeros}
 use Rattle.std.proofs.lemmas.List.{get_or-set_same, get_or-set_other}
-use Rattle.std.proofs.lemmas.Bool.{eqb-true, eqb-false}
-use Rattle.std.proofs.lemmas.Nat.Bits.{bit_at_set_same, bit_at_set_other, bit_at_clear_same, bit_at_clear_other, bit_at-zero, bit_at-trailing_zeros, shr_and_one}
+use Rattle.std.proofs.lemmas.Bool.{cases_lt, eqb-true, eqb-false}
+use Rattle.std.proofs.lemmas.Nat.{shr-shr}
+use Rattle.std.proofs.lemmas.Nat.Bits.{bit_at_above, bit_at_set_same, bit_at_set_other, bit_at_clear_same, bit_at_clear_other, bit_at-zero, bit_at-trailing_zeros, shr_and_one}
 use Rattle.line_table.specs.LineSets.{is_set, has}
 
 pub bit_is_set : (word bit : ℕ) → bit < 64 → is_set (bit_or word (1 * 2 ^ bit % 2 ^ 64)) bit ≡ true
@@ -104,15 +105,77 @@ below_least words i word n m e some fits n-is below from =
     ap (λ k. is_set (slice_index_or words k 0) (m % 64)) index ∙ ap (λ w. is_set w (m % 64)) e
     ∙ ap (λ b. eqb b 1) ((bit_at-trailing_zeros w64 word some fits).2 (m % 64) bit)
 
-below_or_not : (a b : ℕ) → (a < b) ⊎ (b ≤ a)
-below_or_not zero zero = inr (omega arith)
-below_or_not zero (suc b) = inl (omega arith)
-below_or_not (suc a) zero = inr (omega arith)
-below_or_not (suc a) (suc b) = elim (below_or_not a b) [ inl h ↦ inl (omega arith) | inr h ↦ inr (omega arith) ]
-
--- a line before a word, or from it on
-pub by_word : (words : List ℕ) (i m : ℕ) → ((n : ℕ) → n < i * 64 → has words n ≡ false) → (i * 64 ≤ m → has words m ≡ false) → has words m ≡ false
-by_word words i m before from = or_from (below_or_not m (i * 64)) where
+-- a line from a first word on that is before another word, or from it on
+pub by_word : (words : List ℕ) (first i m : ℕ) → first * 64 ≤ m → ((n : ℕ) → first * 64 ≤ n → n < i * 64 → has words n ≡ false)
+    → (i * 64 ≤ m → has words m ≡ false) → has words m ≡ false
+by_word words first i m past before from = or_from (cases_lt m (i * 64)) where
   or_from : (m < i * 64) ⊎ (i * 64 ≤ m) → has words m ≡ false
-  or_from (inl h) = before m h
+  or_from (inl h) = before m past h
   or_from (inr h) = from h
+
+-- ---- from one line on, in its word
+
+-- a word without its first bits
+moved : (word by n : ℕ) → is_set (word / 2 ^ by) n ≡ is_set word (by + n)
+unfolding is_set
+moved word by n = ap (λ x. eqb (x % 2) 1) (shr-shr word by n)
+
+-- the least bit that such a word has is of the same word
+pub within_word : (word by : ℕ) → word < 2 ^ 64 → 0 < word / 2 ^ by → word / 2 ^ by < 2 ^ 64 → by + trailing_zeros w64 (word / 2 ^ by) < 64
+unfolding is_set
+within_word word by fits some small = below (cases_lt (by + trailing_zeros w64 (word / 2 ^ by)) 64)
+  where
+    least : ℕ
+    least = trailing_zeros w64 (word / 2 ^ by)
+
+    below : (by + least < 64) ⊎ (64 ≤ by + least) → by + least < 64
+    below (inl h) = h
+    below (inr past) =
+        let none = bit_at_above word 64 (by + least) fits past in
+        let there = ap (λ x. x % 2) (sym (shr-shr word by least)) ∙ (bit_at-trailing_zeros w64 (word / 2 ^ by) some small).1 in
+        absurd (omega (arith, none, there))
+
+pub least_from_is_set : (words : List ℕ) (from word n : ℕ) → slice_index_or words (from / 64) 0 ≡ word → word < 2 ^ 64
+    → 0 < word / 2 ^ (from % 64) → word / 2 ^ (from % 64) < 2 ^ 64 → n ≡ from + trailing_zeros w64 (word / 2 ^ (from % 64)) → has words n ≡ true
+unfolding has is_set
+least_from_is_set words from word n e fits some small n-is =
+    let inside : from % 64 + trailing_zeros w64 (word / 2 ^ (from % 64)) < 64 = within_word word (from % 64) fits some small in
+    let index : n / 64 ≡ from / 64 = omega arith in
+    let bit : n % 64 ≡ from % 64 + trailing_zeros w64 (word / 2 ^ (from % 64)) = omega arith in
+    ap (λ k. is_set (slice_index_or words k 0) (n % 64)) index ∙ ap (λ w. is_set w (n % 64)) e ∙ ap (is_set word) bit
+    ∙ sym (moved word (from % 64) (trailing_zeros w64 (word / 2 ^ (from % 64))))
+    ∙ ap (λ b. eqb b 1) (bit_at-trailing_zeros w64 (word / 2 ^ (from % 64)) some small).1
+
+-- a line between is not in the set
+pub between : (words : List ℕ) (from word n m : ℕ) → slice_index_or words (from / 64) 0 ≡ word → word < 2 ^ 64
+    → 0 < word / 2 ^ (from % 64) → word / 2 ^ (from % 64) < 2 ^ 64 → n ≡ from + trailing_zeros w64 (word / 2 ^ (from % 64)) → from ≤ m → m < n
+    → has words m ≡ false
+unfolding has is_set
+between words from word n m e fits some small n-is least below =
+    let inside : from % 64 + trailing_zeros w64 (word / 2 ^ (from % 64)) < 64 = within_word word (from % 64) fits some small in
+    let index : m / 64 ≡ from / 64 = omega arith in
+    let bit : m % 64 ≡ from % 64 + (m - from) = omega arith in
+    let before : m - from < trailing_zeros w64 (word / 2 ^ (from % 64)) = omega arith in
+    ap (λ k. is_set (slice_index_or words k 0) (m % 64)) index ∙ ap (λ w. is_set w (m % 64)) e ∙ ap (is_set word) bit
+    ∙ sym (moved word (from % 64) (m - from))
+    ∙ ap (λ b. eqb b 1) ((bit_at-trailing_zeros w64 (word / 2 ^ (from % 64)) some small).2 (m - from) before)
+
+-- a word that has no bit from one on
+pub none_from : (words : List ℕ) (from word m : ℕ) → slice_index_or words (from / 64) 0 ≡ word → word / 2 ^ (from % 64) ≡ 0 → from ≤ m → m / 64 ≡ from / 64
+    → has words m ≡ false
+unfolding has
+none_from words from word m e empty least index =
+    let bit : m % 64 ≡ from % 64 + (m - from) = omega arith in
+    ap (λ k. is_set (slice_index_or words k 0) (m % 64)) index ∙ ap (λ w. is_set w (m % 64)) e ∙ ap (is_set word) bit
+    ∙ sym (moved word (from % 64) (m - from))
+    ∙ ap (λ w. is_set w (m - from)) empty
+    ∙ none_in_zero (m - from)
+
+-- no line of that word is in the set, and none after it
+pub none_in_rest : (words : List ℕ) (from m : ℕ) → ((n : ℕ) → from ≤ n → n / 64 ≡ from / 64 → has words n ≡ false)
+    → ((from / 64 + 1) * 64 ≤ m → has words m ≡ false) → from ≤ m → has words m ≡ false
+none_in_rest words from m here later least = go (cases_lt m ((from / 64 + 1) * 64))
+  where
+    go : (m < (from / 64 + 1) * 64) ⊎ ((from / 64 + 1) * 64 ≤ m) → has words m ≡ false
+    go (inl inside) = here m least (omega arith)
+    go (inr beyond) = later beyond

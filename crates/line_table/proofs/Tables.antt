@@ -1,6 +1,7 @@
 -- Rows that change, and what the rows come to.
-use Rattle.std.proofs.Common.{◌≡◌, ◌≢◌, ℕ, ◌+◌, ◌*◌, ◌<◌, ◌≤◌, ◌^◌, zero, suc, true, false, cond, eqb, not, Option, Some, None, List, [], ◌∷◌, length, refl, sym, ap, subst, ◌∙◌, arith, sum_by, length-set}
+use Rattle.std.proofs.Common.{◌≡◌, ◌≢◌, ℕ, ◌+◌, ◌*◌, ◌<◌, ◌≤◌, ◌^◌, zero, suc, Bool, true, false, cond, eqb, not, ◌&&◌, Option, Some, None, List, [], ◌∷◌, length, refl, sym, ap, ap₂, subst, ◌∙◌, arith, sum_by, length-set}
 use Rattle.std.proofs.lemmas.Bool.{eqb-true, eqb-false}
+use Rattle.std.proofs.Math.Bool.{and-false}
 use Rattle.std.proofs.lemmas.Bool.Decides.{nat_tests}
 use Rattle.std.proofs.lemmas.Option.{same_Some, slice_get_within, get_or_from_slice_get}
 use Rattle.std.proofs.lemmas.List.Sums.{sum_by-set, sum_by-cons}
@@ -13,10 +14,10 @@ use Rattle.pblk_model.specs.LineOrder.{data_len}
 use Rattle.line_table.specs.declared.row.LineState.{LineState}
 use Rattle.line_table.specs.declared.row.LineState.TheVariants.{Free}
 use Rattle.line_table.specs.declared.row.Row.{Row}
-use Rattle.line_table.specs.Rows.{Table, IsFreeLine, Changes, latest, noted, kept, turned, is_free, is_free_state, is_free_at, free_len}
+use Rattle.line_table.specs.Rows.{Table, IsFreeLine, IsOutlivedLine, Changes, latest, noted, kept, turned, is_free, is_free_state, is_free_at, is_full_or_failed, is_outlived, is_outlived_at, free_len}
 use Rattle.line_table.specs.LineSets.{has}
 use Rattle.line_table.specs.Inside.{Keeps}
-use Rattle.line_table.proofs.Places.{get_set_same, get_set_other, set_twice}
+use Rattle.line_table.proofs.Places.{get_set_same, get_set_other, set_twice, some_isnt_zero}
 use Rattle.line_table.proofs.RowsLemmas.{free_state}
 
 -- a sum with one term changed
@@ -58,45 +59,68 @@ by_place rows i n new row P inside h here there =
       | false ↦ λ e. there (sym (get_set_other rows i n new (eqb-false n i e)) ∙ h)
     ] refl
 
-free_changed : (rows : List Row) (i n : ℕ) (new : Row) (before after : List ℕ) → i < length rows → has after i ≡ is_free new
-    → ((m : ℕ) → m ≢ i → has after m ≡ has before m) → ((m : ℕ) → has before m ≡ is_free_at rows m)
-    → has after n ≡ is_free_at (slice_set rows i new) n
-free_changed rows i n new before after inside here others free =
-    elim (eqb n i) as (λ b. eqb n i ≡ b → has after n ≡ is_free_at (slice_set rows i new) n) [
+-- whether something holds of the row of a line
+abbrev holds_at : (Row → Bool) → List Row → ℕ → Bool
+holds_at p rows line = option_map_or p (slice_get rows line) false
+
+-- a set of the lines of which it holds
+set_changed : (p : Row → Bool) (rows : List Row) (i n : ℕ) (new : Row) (before after : List ℕ) → i < length rows → has after i ≡ p new
+    → ((m : ℕ) → m ≢ i → has after m ≡ has before m) → ((m : ℕ) → has before m ≡ holds_at p rows m)
+    → has after n ≡ holds_at p (slice_set rows i new) n
+set_changed p rows i n new before after inside here others those =
+    elim (eqb n i) as (λ b. eqb n i ≡ b → has after n ≡ holds_at p (slice_set rows i new) n) [
       | true ↦ λ e.
           let same : n ≡ i = eqb-true n i e in
-          ap (has after) same ∙ here ∙ sym (ap (λ o. option_map_or is_free o false) (get_set_same rows i n new same inside))
+          ap (has after) same ∙ here ∙ sym (ap (λ o. option_map_or p o false) (get_set_same rows i n new same inside))
       | false ↦ λ e.
           let apart : n ≢ i = eqb-false n i e in
-          others n apart ∙ free n ∙ sym (ap (λ o. option_map_or is_free o false) (get_set_other rows i n new apart))
+          others n apart ∙ those n ∙ sym (ap (λ o. option_map_or p o false) (get_set_other rows i n new apart))
     ] refl
 
 -- with a row changed
-pub keeps_changed : (s : Shape) (before after : List ℕ) (addresses new_addresses : ℕ) (rows : List Row) (i : ℕ) (old new : Row) → Keeps s before addresses rows
-    → slice_get rows i ≡ Some old
+pub keeps_changed : (s : Shape) (before after over over_after : List ℕ) (addresses new_addresses : ℕ) (rows : List Row) (i : ℕ) (old new : Row)
+    → Keeps s before over addresses rows → slice_get rows i ≡ Some old
     → new.width ≤ units s → free_len s new < 2 ^ 32 → has after i ≡ is_free new → ((m : ℕ) → m ≢ i → has after m ≡ has before m)
+    → has over_after i ≡ is_outlived new → ((m : ℕ) → m ≢ i → has over_after m ≡ has over m)
     → new_addresses + free_len s old ≡ addresses + free_len s new
-    → Keeps s after new_addresses (slice_set rows i new)
-keeps_changed s before after addresses new_addresses rows i old new keeps h width short here others sum =
+    → Keeps s after over_after new_addresses (slice_set rows i new)
+keeps_changed s before after over over_after addresses new_addresses rows i old new keeps h width short here others over_here over_others sum =
     let inside : i < length rows = slice_get_within rows i old h in
     record {
       few = omega (arith, length-set rows i new, keeps.few);
       widths = λ n row there. by_place rows i n new row (λ r. r.width ≤ units s) inside there width (keeps.widths n row);
       short = λ n row there. by_place rows i n new row (λ r. free_len s r < 2 ^ 32) inside there short (keeps.short n row);
-      free = λ n. free_changed rows i n new before after inside here others keeps.free;
+      free = λ n. set_changed is_free rows i n new before after inside here others keeps.free;
+      outlived = λ n. set_changed is_outlived rows i n new over over_after inside over_here over_others keeps.outlived;
       addresses = omega (arith, sum_changed (free_len s) rows i old new h, keeps.addresses);
     }
 
 -- with a row changed that keeps its state and width
-pub keeps_same : (s : Shape) (words : List ℕ) (addresses : ℕ) (rows : List Row) (i : ℕ) (old new : Row) → Keeps s words addresses rows
-    → slice_get rows i ≡ Some old → new.state ≡ old.state → new.width ≡ old.width
-    → Keeps s words addresses (slice_set rows i new)
-keeps_same s words addresses rows i old new keeps h state width =
+pub keeps_counted : (s : Shape) (words over over_after : List ℕ) (addresses : ℕ) (rows : List Row) (i : ℕ) (old new : Row)
+    → Keeps s words over addresses rows → slice_get rows i ≡ Some old → new.state ≡ old.state → new.width ≡ old.width
+    → has over_after i ≡ is_outlived new → ((m : ℕ) → m ≢ i → has over_after m ≡ has over m)
+    → Keeps s words over_after addresses (slice_set rows i new)
+keeps_counted s words over over_after addresses rows i old new keeps h state width over_here over_others =
     let len : free_len s new ≡ free_len s old = same_len s old new state width in
     let width-was : old.width ≤ units s = keeps.widths i old h in
     let len-was : free_len s old < 2 ^ 32 = keeps.short i old h in
-    keeps_changed s words words addresses addresses rows i old new keeps h (omega arith) (omega arith)
-    (keeps.free i ∙ ap (λ o. option_map_or is_free o false) h ∙ sym (ap is_free_state state)) (λ m other. refl) (omega arith)
+    keeps_changed s words words over over_after addresses addresses rows i old new keeps h (omega arith) (omega arith)
+    (keeps.free i ∙ ap (λ o. option_map_or is_free o false) h ∙ sym (ap is_free_state state)) (λ m other. refl) over_here over_others (omega arith)
+
+-- and its live sectors
+pub keeps_same : (s : Shape) (words over : List ℕ) (addresses : ℕ) (rows : List Row) (i : ℕ) (old new : Row) → Keeps s words over addresses rows
+    → slice_get rows i ≡ Some old → new.state ≡ old.state → new.width ≡ old.width → new.live ≡ old.live
+    → Keeps s words over addresses (slice_set rows i new)
+keeps_same s words over addresses rows i old new keeps h state width live =
+    let same : is_outlived new ≡ is_outlived old = ap₂ (λ st n. is_full_or_failed st && eqb n 0) state live in
+    keeps_counted s words over over addresses rows i old new keeps h state width
+    (keeps.outlived i ∙ ap (λ o. option_map_or is_outlived o false) h ∙ sym same) (λ m other. refl)
+
+-- a line with live sectors isn't outlived
+pub live_left : (state : LineState) (live : ℕ) → 0 < live → is_full_or_failed state && eqb live 0 ≡ false
+live_left state live some =
+    let left : live ≢ 0 = λ none. absurd (omega (arith, none)) in
+    ap (λ b. is_full_or_failed state && b) (some_isnt_zero live left) ∙ and-false (is_full_or_failed state)
 
 -- ---- the least Free line
 
@@ -115,11 +139,17 @@ none_at (r ∷ rows) h =
     let rest : prefix_len (λ r. not (is_free r)) rows ≡ length rows = none_at rows (λ m. h (suc m)) in
     ap (λ b. cond (not b) (1 + prefix_len (λ r. not (is_free r)) rows) 0) (h 0) ∙ omega arith
 
+-- the row of a line of which something holds
+row_where : (p : Row → Bool) (rows : List Row) (n : ℕ) → holds_at p rows n ≡ true → (row : Row) × (slice_get rows n ≡ Some row) × (p row ≡ true)
+row_where p [] n e = absurd cc
+row_where p (r ∷ rows) zero e = (r, refl, e)
+row_where p (r ∷ rows) (suc n) e = row_where p rows n e
+
 -- the row of a line that is Free
 free_row : (rows : List Row) (n : ℕ) → is_free_at rows n ≡ true → (row : Row) × (slice_get rows n ≡ Some row) × (row.state ≡ Free)
-free_row [] n e = absurd cc
-free_row (r ∷ rows) zero e = (r, refl, free_state r.state e)
-free_row (r ∷ rows) (suc n) e = free_row rows n e
+free_row rows n e =
+    let there = row_where is_free rows n e in
+    (there.0, there.1, free_state there.0.state there.2)
 
 pub least_is_free : (t : Table) (rows : List Row) (words : List ℕ) (r : Option ℕ) → rows ≡ t.rows → ((n : ℕ) → has words n ≡ is_free_at rows n)
     → IfSome r (λ n. has words n ≡ true) → IfSome r (IsFreeLine t)
@@ -138,6 +168,32 @@ least_is_position rows words None free found least none =
     let all : prefix_len (λ r. not (is_free r)) rows ≡ length rows = none_at rows (λ m. sym (free m) ∙ none m) in
     let past : nat_lt (length rows) (length rows) ≡ false = grind (arith, nat_tests) in
     sym (ap (λ k. cond (nat_lt k (length rows)) (Some k) None) all ∙ ap (λ b. cond b (Some (length rows)) None) past)
+
+-- ---- the lines outlived
+
+module _ (t : Table) (rows : List Row) (over : List ℕ) (same : rows ≡ t.rows) (those : (n : ℕ) → has over n ≡ is_outlived_at rows n) where
+  outlived_there : (n : ℕ) → has over n ≡ is_outlived_at t.rows n
+  outlived_there n = those n ∙ ap (λ (xs : List Row). is_outlived_at xs n) same
+
+  pub least_is_outlived : (r : Option ℕ) → IfSome r (λ n. has over n ≡ true) → IfSome r (IsOutlivedLine t)
+  least_is_outlived None found = tt
+  least_is_outlived (Some n) found = row_where is_outlived t.rows n (sym (outlived_there n) ∙ found)
+
+  -- a line that isn't in the set
+  pub not_outlived : (n : ℕ) → has over n ≡ false → ¬ IsOutlivedLine t n
+  not_outlived n out line =
+      let is : false ≡ true = sym out ∙ outlived_there n ∙ ap (λ o. option_map_or is_outlived o false) line.1 ∙ line.2 in
+      absurd cc
+
+  pub none_before : (from : ℕ) (r : Option ℕ) → IfSome r (λ n. (m : ℕ) → from ≤ m → m < n → has over m ≡ false)
+      → IfSome r (λ n. (m : ℕ) → from ≤ m → m < n → ¬ IsOutlivedLine t m)
+  none_before from None least = tt
+  none_before from (Some n) least = λ m past below. not_outlived m (least m past below)
+
+  pub none_outlived : (from : ℕ) (r : Option ℕ) → IfNone r ((m : ℕ) → from ≤ m → has over m ≡ false)
+      → IfNone r ((m : ℕ) → from ≤ m → ¬ IsOutlivedLine t m)
+  none_outlived from None none = λ m past. not_outlived m (none m past)
+  none_outlived from (Some n) none = tt
 
 -- ---- one change
 

@@ -1,5 +1,5 @@
 -- The rows of a table of lines, what changes of them, and what they come to.
-use Rattle.std.specs.Prelude.{ℕ, ◌-◌, ◌<◌, ◌≡◌, ◌⊎◌, max, if◌then◌else◌, Bool, true, false, List, length, slice_get, slice_set, sum_by, Option, Some, None}
+use Rattle.std.specs.Prelude.{ℕ, ◌-◌, ◌<◌, ◌≡◌, ◌⊎◌, ◌==◌, ◌&&◌, max, if◌then◌else◌, Bool, true, false, List, length, slice_get, slice_set, sum_by, Option, Some, None}
 use Rattle.std.specs.Option.{option_map_or}
 use Rattle.pblk_model.specs.declared.shape.Shape.{Shape}
 use Rattle.pblk_model.specs.LineOrder.{data_len}
@@ -23,6 +23,22 @@ EachRow t P = (line : ℕ) (row : Row) → IsRow t line row → P line row
 -- a line of the drive is Free
 abbrev pub IsFreeLine : Table → ℕ → Type 0
 IsFreeLine t line = (row : Row) × IsRow t line row × (row.state ≡ Free)
+
+abbrev pub is_full_or_failed : LineState → Bool
+is_full_or_failed Free = false
+is_full_or_failed Open = false
+is_full_or_failed Full = true
+is_full_or_failed Failed = true
+is_full_or_failed Freed = false
+is_full_or_failed Dead = false
+
+-- a Full or Failed line that has no live sector
+abbrev pub is_outlived : Row → Bool
+is_outlived row = is_full_or_failed row.state && row.live == 0
+
+-- a line of the drive is such a one
+abbrev pub IsOutlivedLine : Table → ℕ → Type 0
+IsOutlivedLine t line = (row : Row) × IsRow t line row × (is_outlived row ≡ true)
 
 -- the row of a line was changed, and nothing else
 pub record Changes (old new : Table) (line : ℕ) (change : Row → Row) : Type 0 where
@@ -83,6 +99,9 @@ is_free row = is_free_state row.state
 
 abbrev pub is_free_at : List Row → ℕ → Bool
 is_free_at rows line = option_map_or is_free (slice_get rows line) false
+
+abbrev pub is_outlived_at : List Row → ℕ → Bool
+is_outlived_at rows line = option_map_or is_outlived (slice_get rows line) false
 
 -- the data addresses of a Free line, by its width
 unfoldable pub free_len : Shape → Row → ℕ

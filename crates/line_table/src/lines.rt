@@ -1,16 +1,18 @@
 //! The table of the lines.
 
-ghost use Rattle.std.specs.Prelude.{ℕ, ◌≡◌, ◌≢◌, ◌+◌, ◌-◌, ◌<◌, ◌≤◌, ◌^◌, length, slice_get, position, Some, None, IfOk, IfSome};
+ghost use Rattle.std.specs.Prelude.{ℕ, ◌≡◌, ◌≢◌, ◌+◌, ◌-◌, ◌<◌, ◌≤◌, ◌^◌, length, slice_get, position, Some, None, IfOk, IfSome, IfNone};
 ghost use Rattle.pblk_model.specs.Found.{IsFitFound};
 ghost use Rattle.pblk_model.specs.LineOrder.{data_len};
 ghost use Rattle.pblk_model.specs.Shape.{units};
 ghost use Rattle.pblk_model.specs.declared.found.LineRow.{LineRow};
 ghost use Rattle.line_table.specs.declared.row.Row.{Row};
 ghost use Rattle.line_table.specs.Opening.{width_of, live_count, opening_state};
-ghost use Rattle.line_table.specs.Rows.{IsRow, EachRow, IsFreeLine, Changes, IsChange, is_free, free_addresses, lost, lowered, noted, turned};
+ghost use Rattle.line_table.specs.Rows.{IsRow, EachRow, IsFreeLine, IsOutlivedLine, Changes, IsChange, is_free, free_addresses, lost, lowered, noted, turned};
 
 use crate::line_set::LineSet;
-use crate::opening::{count_free_addresses, free_addresses_of, free_lines, opening_rows};
+use crate::opening::{
+    count_free_addresses, free_addresses_of, free_lines, opening_rows, outlived_lines,
+};
 use crate::row::{LineState, Row, latest};
 use pblk_layout::Layout;
 use pblk_model::Found;
@@ -32,6 +34,8 @@ pub struct Lines {
     free: LineSet,
     // their data addresses
     free_addresses: u64,
+    // the Full and Failed ones that have no live sector
+    outlived: LineSet,
 }
 
 impl Model for Lines {
@@ -69,11 +73,13 @@ impl Lines {
         let rows = opening_rows(alloc, layout, found)?;
         let free = free_lines(&rows);
         let free_addresses = count_free_addresses(layout, &rows);
+        let outlived = outlived_lines(&rows);
         Ok(Lines {
             layout: *layout,
             rows,
             free,
             free_addresses,
+            outlived,
         })
     }
 
@@ -121,6 +127,21 @@ impl Lines {
         self.free.least()
     }
 
+    /// The line of least number, from this one on, that is Full or Failed and has no live sector. None exactly
+    /// where there is no such line. Garbage collection frees such a line without a copy, once nothing in it is
+    /// needed (Bjørling, González, Bonnet, FAST 2017).
+    ///
+    /// The table keeps an index of 16 words for it.
+    pub fn outlived_from(&self, from: u32) -> Option<u32>
+        ensures found { IfSome result (IsOutlivedLine self.now) }
+        ensures from { IfSome result (λ line. from ≤ line) }
+        ensures least { IfSome result (λ line.
+            (m : ℕ) → from ≤ m → m < line → ¬ IsOutlivedLine self.now m) }
+        ensures none { IfNone result ((line : ℕ) → from ≤ line → ¬ IsOutlivedLine self.now line) }
+    {
+        self.outlived.least_from(from)
+    }
+
     /// Counts one more live sector in a line of the drive, which had fewer than 2^32 - 1.
     pub fn gain(&mut self, line: u32)
         requires inside { line < length self.old.rows }
@@ -128,6 +149,7 @@ impl Lines {
         ensures { Changes self.old self.new line (λ row. record row { live = row.live + 1 }) }
     {
         self.rows[line as usize].live += 1;
+        self.outlived.set(line, false);
     }
 
     /// The entry at position `by` took a sector from a line of the drive, where it had landed. The line has one
@@ -148,7 +170,10 @@ impl Lines {
         requires some { (row : Row) → IsRow self.old line row → 0 < row.live }
         ensures { Changes self.old self.new line lowered }
     {
-        self.rows[line as usize].live -= 1;
+        let row = &mut self.rows[line as usize];
+        row.live -= 1;
+        let outlived = row.is_outlived();
+        self.outlived.set(line, outlived);
     }
 
     /// Notes that the entry at position `by` took a sector from a line of the drive. The line's live sectors
@@ -184,6 +209,7 @@ impl Lines {
         let after = free_addresses_of(&self.layout, &turned);
         self.free_addresses = self.free_addresses - before + after;
         self.free.set(line, to.is_free());
+        self.outlived.set(line, turned.is_outlived());
         self.rows[index] = turned;
     }
 }

@@ -8,7 +8,7 @@ ghost use Rattle.pblk_model.specs.Found.{IsFitFound};
 ghost use Rattle.pblk_model.specs.Shape.{units};
 ghost use Rattle.line_table.specs.declared.row.Row.{Row};
 ghost use Rattle.line_table.specs.Opening.{width_of, live_count, opening_state};
-ghost use Rattle.line_table.specs.Rows.{is_free_at, free_len};
+ghost use Rattle.line_table.specs.Rows.{is_free_at, is_outlived_at, free_len};
 ghost use Rattle.line_table.specs.LineSets.{has};
 ghost use Rattle.line_table.specs.Counting.{AreOpened, AreCounted, AreOpening};
 
@@ -98,6 +98,18 @@ pub(crate) fn free_lines(rows: &[Row]) -> LineSet
         free.set(line as u32, rows[line].state.is_free());
     }
     free
+}
+
+/// The Full and Failed lines that have no live sector.
+pub(crate) fn outlived_lines(rows: &[Row]) -> LineSet
+    requires { length rows.now ≤ 1024 }
+    ensures { (n : ℕ) → has result n ≡ is_outlived_at rows.now n }
+{
+    let mut outlived = LineSet::empty();
+    for line in 0..rows.len() {
+        outlived.set(line as u32, rows[line].is_outlived());
+    }
+    outlived
 }
 
 /// The data addresses of a line, if it is Free.

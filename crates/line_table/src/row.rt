@@ -1,7 +1,7 @@
 //! What is kept of a line.
 
 ghost use Rattle.std.specs.Prelude.{◌≡◌};
-ghost use Rattle.line_table.specs.Rows.{is_free_state, latest, kept};
+ghost use Rattle.line_table.specs.Rows.{is_free_state, is_full_or_failed, is_outlived, latest, kept};
 
 /// The state of a line.
 #[derive(Clone, Copy, Debug, PartialEq, Eq)]
@@ -25,6 +25,12 @@ impl LineState {
         ensures { result ≡ is_free_state self }
     {
         matches!(self, LineState::Free)
+    }
+
+    fn is_full_or_failed(self) -> bool
+        ensures { result ≡ is_full_or_failed self }
+    {
+        matches!(self, LineState::Full | LineState::Failed)
     }
 
     /// What a turn to this state leaves of the position that took a sector last.
@@ -55,4 +61,13 @@ pub struct Row {
     pub live: u32,
     /// The greatest position that took a sector from it, since the table was made or the line last opened.
     pub taker: Option<u64>,
+}
+
+impl Row {
+    /// Whether the line is Full or Failed and has no live sector.
+    pub(crate) fn is_outlived(&self) -> bool
+        ensures { result ≡ is_outlived self.now }
+    {
+        self.state.is_full_or_failed() && self.live == 0
+    }
 }

@@ -17,7 +17,7 @@ use Rattle.ocssd_drive.specs.Faults.{IsOutcomeBy, fault_of, kind_of}
 use Rattle.ocssd_drive.specs.Outcomes.{IsEventBy}
 use Rattle.unit_port.specs.Armed.{is_fail, is_stop}
 use Rattle.scan_recovery.specs.Lost.{is_fetch, was_lost}
-use Rattle.step_laws.proofs.Knowing.{none_beyond}
+use Rattle.core_laws.proofs.NextWorlds.{none_beyond}
 use Rattle.pblk_cli.specs.Stops.{AreNames, AreStopsBy, IsLossIn, arms_of, name_at}
 use Rattle.lemmas.proofs.Parts.{all_by_get}
 use Rattle.lemmas.proofs.Tests.{no_both}

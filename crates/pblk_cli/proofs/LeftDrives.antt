@@ -1,10 +1,9 @@
 -- The drive that a run leaves.
 use Rattle.std.proofs.Common.{◌≡◌, ℕ, zero, suc, ◌<◌, ◌≤◌, ◌⊎◌, List, [], ◌∷◌, length, map, take, Option, Some, sym, subst, ap, ap₂, ◌∙◌, arith, inl, inr}
 use Rattle.std.specs.Prelude.{slice_get}
-use Rattle.std.specs.List.{AllByRecursion, enumerate_from}
+use Rattle.std.specs.List.{AllByRecursion}
 use Rattle.std.proofs.lemmas.Bool.{cases_order}
 use Rattle.std.proofs.lemmas.List.{length-map, take-map}
-use Rattle.std.proofs.lemmas.List.FromFn.{length-enumerate_from}
 use Rattle.std.proofs.lemmas.Option.{none-some, same_Some, slice_get_past}
 use Rattle.atomic_table.specs.Seated.{TableId}
 use Rattle.pblk_model.specs.declared.script.Command.{Command}
@@ -17,9 +16,8 @@ use Rattle.pblk_model.specs.ImageFile.{image_of}
 use Rattle.pblk_model.specs.Sealed.{IsSealed}
 use Rattle.pblk_model.specs.Shape as shapes
 use Rattle.pblk_model.specs.Text.{HistoryLine, Transcript, text_of}
-use Rattle.pblk_model.specs.UnitLog.{after_log}
 use Rattle.pblk_model.specs.Transcript.{IsRun, sector_writes}
-use Rattle.pblk_world.specs.World.{Logs, World, log_of, media, unit_events}
+use Rattle.pblk_world.specs.World.{Logs, World, log_of, media}
 use Rattle.pblk_world.specs.Fronts.{history, user_positions}
 use Rattle.world_laws.specs.LegalMounts.{IsLegalMount}
 use Rattle.unit_port.specs.declared.armed.FaultPlan.{FaultPlan}
@@ -156,6 +154,8 @@ module _ (found : DriveView) (stop : Option Fuse) (word : Option TableId) (scrip
               serving.named;
           worn = serving.worn;
           granted = serving.granted;
+          begun = serving.begun;
+          urgent = serving.urgent;
         };
         kept_is = serving.kept ∙ ap (λ (x : Image). users (user_positions (log_of w 0)) (end x)) (sym left_is);
         told = serving.told;

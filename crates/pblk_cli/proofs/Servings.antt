@@ -35,7 +35,7 @@ use Rattle.block_port.specs.declared.rows.WornAnswer.{WornAnswer}
 use Rattle.block_port.specs.Own.{PlacedSector, lines_of}
 use Rattle.block_port.specs.Port.{Footing, IsSameTarget, ModelPort, positions}
 use Rattle.block_target.specs.Arm.{IsArm}
-use Rattle.block_target.specs.Granted.{AreGranted}
+use Rattle.world_laws.specs.Reasons.{AreBegun, AreGranted, AreUrgent}
 use Rattle.block_target.specs.Mount.{MountView, synced_in, taken_in, world_in}
 use Rattle.block_target.specs.NothingLeft.{AreRefusals}
 use Rattle.block_target.specs.Opened.{AreReadied, IsOpened, OpenCause, readied_world}
@@ -284,6 +284,8 @@ module _ (s : Shape) (us : List ModelUnit) (first last : SerialView) (units : Li
             (subst (λ (j : Image). AreRefusals j (log_of w) 0
             (last.worns ++ settle_worns (length (flat_map lines_of last.own)) closed.settled)) mount_image closed.closed.refusals);
         granted = subst (λ (j : Image). AreGranted j (log_of w)) mount_image closed.closed.granted;
+        begun = subst (λ (j : Image). AreBegun j (log_of w)) mount_image closed.closed.begun;
+        urgent = subst (λ (j : Image). AreUrgent j (log_of w)) mount_image closed.closed.urgent;
         kept = one_kept commands records (device first) (device last) front one ∙ ap (λ ps. users ps front) positions_are;
         told = told_by first.mount.image.shape.sector s.sector (commands ∷ []) (contents first.mount.found)
             (contents (found_image (image_of s us) (log_of w))) (transcript_by (commands ∷ []) records i (log_of w)) size_is start_found
@@ -328,6 +330,8 @@ module _ (s : Shape) (us : List ModelUnit) (first last : SerialView) (units : Li
             (subst (λ (j : Image). AreRefusals j (log_of w) 0
             (last.worns ++ settle_worns (length (flat_map lines_of last.own)) closed.settled)) mount_image closed.closed.refusals);
         granted = subst (λ (j : Image). AreGranted j (log_of w)) mount_image closed.closed.granted;
+        begun = subst (λ (j : Image). AreBegun j (log_of w)) mount_image closed.closed.begun;
+        urgent = subst (λ (j : Image). AreUrgent j (log_of w)) mount_image closed.closed.urgent;
         kept = sym (ap (λ ps. users ps front) no_positions);
         told = (no_port s.sector records (contents (found_image (image_of s us) (log_of w))) front threads unopened_is closed.trouble).told;
         run = λ sealed. no_port s.sector records (contents (image_of s us)) front threads unopened_is closed.trouble;
@@ -426,6 +430,8 @@ module _ (s : Shape) (old new : List WornUnit) (refused : AreHandedBack s (units
         history_is = ap history readied.none ∙ ap (sector_writes s.sector) (sym (nothing_written left_end));
         worn = rw (threads, closing) tt;
         granted = record { each = λ k knows entry mark there its. absurd (no_take k _ there) };
+        begun = record { each = λ k knows entry mark source there its. absurd (no_take k _ there) };
+        urgent = record { each = λ k knows stripe position there its. absurd (no_take k _ there) };
         kept = nothing_kept left_end ∙ sym (ap (λ ps. users ps left_end) nothing_taken);
         told = (ran_nothing s.sector (contents (found_image as_it_was (log_of still)))).told;
         run = λ sealed. subst (IsRun s.sector script (contents as_it_was) (transcript_of script records left_end))

@@ -18,7 +18,7 @@ use Rattle.pblk_world.specs.Fronts.{history, user_positions}
 use Rattle.pblk_world.specs.Lines.{found_image}
 use Rattle.core_laws.specs.SimpleMounts.{IsSimpleMount}
 use Rattle.unit_port.specs.declared.armed.Fuse.{Fuse}
-use Rattle.block_target.specs.Granted.{AreGranted}
+use Rattle.world_laws.specs.Reasons.{AreBegun, AreGranted, AreUrgent}
 use Rattle.block_target.specs.NothingLeft.{AreRefusals}
 use Rattle.command_text.specs.Says.{Says}
 use Rattle.pblk_cli.specs.Contents.{numbers_text, show_text}
@@ -94,7 +94,8 @@ pub record SameNumbers (old new : Drive) : Type 0 where
 -- own in it: a command that was stopped, or a fetch that failed. Each answer for want of room was
 -- given at a length of the engine's log at which nothing was left to do. These lengths never fall
 -- from one answer to the next, and the users' sectors that were taken by then are those that the
--- thread had written. And no user's sector was taken but where there had been room for it.
+-- thread had written. And no user's sector was taken but where there had been room for it, nor a copy
+-- but one that had been begun. And no stripe with an entry was placed but where it was urgent.
 pub record IsWorldBetween (found left : Drive) (stop : Option Fuse) (commands : List (List Command)) (t : Transcript) : Type 0 where
   pub world : World
   pub legal : IsSimpleMount (image_of found) world
@@ -105,6 +106,8 @@ pub record IsWorldBetween (found left : Drive) (stop : Option Fuse) (commands : 
   pub named : AreNames (image_of found) (log_of world) (events t)
   pub worn : AreRefusals (image_of found) (log_of world) 0 (worns_of commands t)
   pub granted : AreGranted (image_of found) (log_of world)
+  pub begun : AreBegun (image_of found) (log_of world)
+  pub urgent : AreUrgent (image_of found) (log_of world)
 
 -- A run of these commands from one drive to another, told of this stop, with this text.
 pub record IsRunBetween (found : Drive) (stop : Option Fuse) (commands : List (List Command)) (text : List ℕ) (left : Drive) : Type 0 where

@@ -27,7 +27,7 @@ use Rattle.scan_recovery.specs.Lost.{was_lost}
 use Rattle.scan_recovery.specs.Units.{image_of}
 use Rattle.block_port.specs.Own.{lines_of}
 use Rattle.block_port.specs.Port.{IsSameTarget, ModelPort}
-use Rattle.block_target.specs.Granted.{AreGranted}
+use Rattle.world_laws.specs.Reasons.{AreBegun, AreGranted, AreUrgent}
 use Rattle.block_target.specs.Mount.{MountView}
 use Rattle.block_target.specs.NothingLeft.{AreRefusals}
 use Rattle.block_target.specs.Opened.{IsOpened}
@@ -173,6 +173,8 @@ pub record IsServing (i : Image) (handed units : List ModelUnit) (script : List 
   pub history_is : history (log_of w 0) ≡ sector_writes i.shape.sector (transcript_by script records i (log_of w)).history
   pub worn : AreRefusals i (log_of w) 0 (worns_of script (transcript_by script records i (log_of w)))
   pub granted : AreGranted i (log_of w)
+  pub begun : AreBegun i (log_of w)
+  pub urgent : AreUrgent i (log_of w)
   pub kept : (transcript_by script records i (log_of w)).kept ≡ users (user_positions (log_of w 0)) (end (media i (log_of w)))
   pub told : IsTranscript i.shape.sector script (contents (found_image i (log_of w))) (transcript_by script records i (log_of w))
   pub run : IsSealed i → let t = transcript_by script records i (log_of w) in let start = contents i in

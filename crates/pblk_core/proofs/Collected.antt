@@ -8,7 +8,7 @@ use Rattle.std.specs.Option.{option_and_then, option_map, option_map_or, option_
 use Rattle.std.proofs.lemmas.Option.{none-some, same_Some}
 use Rattle.pblk_model.specs.Image.{Image}
 use Rattle.pblk_world.specs.AtRest.{asked_by, pad_target, victim_now}
-use Rattle.pblk_world.specs.EngineLog.{AsFound, Freed, LineLife, life_of, Opened, Taken, taken_by, takes}
+use Rattle.pblk_world.specs.EngineLog.{life_of, Taken, taken_by, takes}
 use Rattle.pblk_world.specs.Events.{Begin, Beginning, Decides, EngineEvent, Free, Logged}
 use Rattle.pblk_world.specs.Fronts.{first_position, taken}
 use Rattle.pblk_world.specs.Space.{is_due}
@@ -25,6 +25,7 @@ use Rattle.core_laws.specs.RowsOf.{row_of_line, taker_by, taker_in}
 use Rattle.core_laws.specs.Stepping.{after}
 use Rattle.core_laws.proofs.CachedEntries.{numbered_at}
 use Rattle.core_laws.proofs.CandidateLines.{candidate_when}
+use Rattle.core_laws.proofs.TakenRows.{taker_is}
 use Rattle.core_laws.proofs.ChosenVictims.{next_victim_is}
 use Rattle.core_laws.proofs.LastTakes.{last_passing}
 use Rattle.core_laws.proofs.NextVictims.{victim_next}
@@ -36,10 +37,11 @@ use Rattle.lemmas.proofs.Tests.{positive, same}
 use Rattle.pblk_world.proofs.EngineLogLemmas.{takes_more}
 use Rattle.pblk_core.specs.declared.collecting.Collection.{Collection}
 use Rattle.pblk_core.specs.declared.target_core.Core.{Core}
-use Rattle.pblk_core.specs.Collecting.{Collects, HasPassed, victim_after}
+use Rattle.pblk_core.specs.Collecting.{BringsNone, Collects, HasPassed, IsBarrenRightly, victim_after}
 use Rattle.pblk_core.specs.Copies.{asked_by_row, is_due_in, victim_asks, victim_row}
 use Rattle.pblk_core.specs.Named.{pad_of}
 use Rattle.pblk_core.specs.Stands.{Stands}
+use Rattle.pblk_core.proofs.BarrenLines.{barren_kept}
 use Rattle.pblk_core.proofs.SmallCalls.{numbered_in}
 use Rattle.pblk_core.proofs.SmallGrant.{due_is}
 use Rattle.pblk_core.proofs.SmallPositions.{taken_bounded}
@@ -75,11 +77,6 @@ small_after logs e knows was new = λ t among. go t (taken_by (Decides e)) refl
         by (inr same) = new t (is ∙ ap (λ (x : Taken). Some x) same)
 
 -- ---- lines that were not freed
-
-taker_unfreed : (i : Image) (logs : Logs) (line : ℕ) (life : LineLife) → is_freed life ≡ false → taker_in i logs line life ≡ taker_by i logs line
-taker_unfreed i logs line AsFound e = refl
-taker_unfreed i logs line (Opened o) e = refl
-taker_unfreed i logs line (Freed was knows) e = absurd cc
 
 -- a line stays unfreed where the event doesn't free it
 pub unfreed_after : (logs : Logs) (e : EngineEvent) (knows : List ℕ) (line : ℕ) → is_freed (life_of (logs 0) line) ≡ false → e ≢ Free line
@@ -122,7 +119,7 @@ stay_row i logs line (Some other) inside e = go (is_freed (life_of (logs 0) othe
     go : (b : Bool) → is_freed (life_of (logs 0) other) ≡ b → (if b then comes_to_work i logs else Some other) ≡ Some line → IsVictimRow i logs line
     go true is f = come_row i logs line (is_due i logs) f
     go false is f = subst (IsVictimRow i logs) (same_Some other line f)
-        (record { in_range = inside other refl; taker = taker_unfreed i logs other (life_of (logs 0) other) is })
+        (record { in_range = inside other refl; taker = taker_is i logs other (life_of (logs 0) other) is })
 
 -- the event leaves the victim at work, unless it frees it
 pub stays : (i : Image) (w : World) (e : EngineEvent) (knows : List ℕ) → IsLegalMount i w → (was : Option ℕ) → victim_now i (log_of w) ≡ was
@@ -231,13 +228,14 @@ passed_landed old new i w mount st was col map = λ lba line at position low at_
 
 -- so it collects what it did, where it asks for no fewer pads
 pub collects_same : (old new : Core) (i : Image) (logs : Logs) → Collects i logs old → new.map ≡ old.map → new.collection ≡ old.collection
-    → pad_of old ≤ pad_of new → Collects i logs new
-collects_same old new i logs was map col pads =
+    → BringsNone old new → pad_of old ≤ pad_of new → Collects i logs new
+collects_same old new i logs was map col brings pads =
     let low : pad_target i logs 0 ≤ pad_of old = was.asked in
     record {
       count = ap (λ (x : Collection). length x.lines) col ∙ was.count;
       victim = ap (λ (x : Collection). x.victim) col ∙ was.victim;
       passed = passed_same old new was.passed map col;
+      barren = barren_kept old new was.barren brings (ap (λ (x : Collection). x.barren) col);
       asked = omega arith;
     }
 
@@ -249,6 +247,7 @@ pub record HasChosen (i : Image) (logs : Logs) (mid new : Core) : Type 0 where
   pub count : length new.collection.lines ≡ length mid.collection.lines
   pub victim : new.collection.victim ≡ victim_after i logs mid.collection.victim
   pub passed : HasPassed new
+  pub barren : IsBarrenRightly new
   pub asked : pad_of new ≡ max (pad_of mid) (victim_asks new)
 
 -- where the victim that it had is that of the logs before the event, unless that was freed
@@ -265,7 +264,7 @@ collected_from mid new i w e knows mount small stay count chose =
     pads_asked i logs new chose.stands small is
     (λ line at_work. stay_row i logs line (victim_now i (log_of w)) (λ other was. (victim_is_closed i w other mount was).in_range) (sym now ∙ at_work)) in
     let pad : pad_of new ≡ max (pad_of mid) (victim_asks new) = chose.asked in
-    record { count = chose.count ∙ count; victim = is; passed = chose.passed; asked = omega arith }
+    record { count = chose.count ∙ count; victim = is; passed = chose.passed; barren = chose.barren; asked = omega arith }
 
 -- The event isn't the freeing of the victim, and the inner step left the victim. A position that is
 -- taken is below 2^62.

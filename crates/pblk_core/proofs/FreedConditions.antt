@@ -1,7 +1,8 @@
 -- What the parts of a core ask of a line that it frees, and that one line less is closed then.
-use Rattle.std.proofs.Common.{◌≡◌, ◌≢◌, ◌⊎◌, inl, inr, ℕ, ◌+◌, ◌<◌, ◌≤◌, zero, suc, Bool, true, false, cond, Some, None, Option, List, [], ◌∷◌, length, refl, sym, subst, ap, ◌∙◌, arith, if◌then◌else◌}
-use Rattle.std.specs.Prelude.{slice_get, slice_set}
+use Rattle.std.proofs.Common.{◌≡◌, ◌≢◌, ◌⊎◌, inl, inr, ℕ, ◌+◌, ◌<◌, ◌≤◌, zero, suc, Bool, true, false, ◌&&◌, cond, Some, None, Option, List, [], ◌∷◌, length, refl, sym, subst, ap, ap₂, ◌∙◌, arith, if◌then◌else◌}
+use Rattle.std.specs.Prelude.{◌==◌, slice_get, slice_set}
 use Rattle.std.specs.List.{AllByRecursion, cons_option, filter, filter_map, range_with_len}
+use Rattle.std.proofs.lemmas.Bool.{cases_lt}
 use Rattle.std.proofs.lemmas.Option.{none-some, same_Some, slice_get_within}
 use Rattle.pblk_model.specs.declared.shape.Shape.{Shape}
 use Rattle.pblk_model.specs.Shape.{units}
@@ -15,9 +16,10 @@ use Rattle.pblk_world.specs.Lines.{are_empty, found_image, known_image}
 use Rattle.pblk_world.specs.Starts.{found_row, older_row}
 use Rattle.pblk_world.specs.World.{World, Logs, log_of}
 use Rattle.world_laws.specs.LegalMounts.{IsLegalMount}
+use Rattle.line_table.specs.declared.row.LineState.{LineState}
 use Rattle.line_table.specs.declared.row.LineState.TheVariants as states
 use Rattle.line_table.specs.declared.row.Row.{Row}
-use Rattle.line_table.specs.Rows.{IsChange, IsRow, Table}
+use Rattle.line_table.specs.Rows.{IsChange, IsOutlivedLine, IsRow, Table, is_full_or_failed, is_outlived}
 use Rattle.core_laws.specs.OpenedLines.{live_now}
 use Rattle.core_laws.specs.RowsOf.{row_of_line}
 use Rattle.core_laws.proofs.FreedRows.{state_was}
@@ -83,6 +85,39 @@ fewer_closed (x ∷ rows) (suc k) row at closed =
     go true ls ms less = omega arith
     go false ls ms less = less
 
+-- ---- a line that may be freed is Full or Failed, and no sector is live in it
+
+module _ (c : Core) (line : ℕ) (standing : IsStanding c) (spent : IsSpentIn c line) where
+  state_ended : (spent.row.state ≡ states.Full) ⊎ (spent.row.state ≡ states.Failed)
+  state_ended =
+      let i = standing.image in
+      let w = standing.world in
+      let may : MayFree i (log_of w) line = freed_where_spent i w standing.legal standing.stands line spent in
+      let same : row_of_line i (log_of w) line ≡ spent.row =
+      same_Some (row_of_line i (log_of w) line) spent.row (sym (its_row i w standing.legal standing.stands line may.in_range) ∙ spent.is_row) in
+      subst (λ (r : Row). (r.state ≡ states.Full) ⊎ (r.state ≡ states.Failed)) same
+      (state_was i w standing.legal line [] may.seq may.has_seq may.over)
+
+  pub spent_outlived : IsOutlivedLine c.lines line
+  spent_outlived = (spent.row, spent.is_row, ended state_ended)
+    where
+      by : (state : LineState) → is_full_or_failed state ≡ true → (is_full_or_failed state && spent.row.live == 0) ≡ true
+      by state e = ap₂ (λ b n. b && n == 0) e spent.spent.none_live
+
+      ended : (spent.row.state ≡ states.Full) ⊎ (spent.row.state ≡ states.Failed) → is_outlived spent.row ≡ true
+      ended (inl e) = by spent.row.state (ap is_full_or_failed e)
+      ended (inr e) = by spent.row.state (ap is_full_or_failed e)
+
+-- So where no line before one is spent, and none from it on is such a one up to another, none before
+-- the other is spent.
+pub none_spent_before : (c : Core) (from line : ℕ) → IsStanding c → ((m : ℕ) → m < from → ¬ IsSpentIn c m)
+    → ((m : ℕ) → from ≤ m → m < line → ¬ IsOutlivedLine c.lines m) → (m : ℕ) → m < line → ¬ IsSpentIn c m
+none_spent_before c from line standing before between m below spent = go (cases_lt m from)
+  where
+    go : (m < from) ⊎ (from ≤ m) → ⊥
+    go (inl low) = before m low spent
+    go (inr past) = between m past below (spent_outlived c m standing spent)
+
 -- ---- what is asked
 
 pub record MayGiveUp (c : Core) (line : ℕ) : Type 0 where
@@ -106,8 +141,8 @@ may_give_up c line standing spent = record {
       (subst (λ us. length (units_in us) ≤ units i.shape) own (omega (arith, wide, low)));
   line_row = slice_get_within c.lines.rows line (row_of_line i (log_of w) line) row_is;
   turns = λ row addresses there.
-      let same : row_of_line i (log_of w) line ≡ row = same_Some (row_of_line i (log_of w) line) row (sym row_is ∙ there) in
-      subst (λ (r : Row). IsChange r.state states.Freed addresses) same (turned_from addresses (state_was i w mount line [] may.seq may.has_seq may.over));
+      subst (λ (r : Row). IsChange r.state states.Freed addresses) (same_Some spent.row row (sym spent.is_row ∙ there))
+      (turned_from addresses (state_ended c line standing spent));
   noted = slice_get_within c.notes.rows.items line spent.note spent.is_note;
   none_left = subst (HasNoneOf line) (sym st.resets)
       (left_out i (log_of w) line (not_given_up i w mount line st.beginning st.has_begun may.seq may.has_seq));
@@ -140,9 +175,8 @@ may_give_up c line standing spent = record {
     row_is : IsRow c.lines line (row_of_line i (log_of w) line)
     row_is = its_row i w mount st line may.in_range
 
-    turned_from : (addresses : ℕ)
-        → ((row_of_line i (log_of w) line).state ≡ states.Full) ⊎ ((row_of_line i (log_of w) line).state ≡ states.Failed)
-        → IsChange (row_of_line i (log_of w) line).state states.Freed addresses
+    turned_from : (addresses : ℕ) → (spent.row.state ≡ states.Full) ⊎ (spent.row.state ≡ states.Failed)
+        → IsChange spent.row.state states.Freed addresses
     turned_from addresses (inl full) = subst (λ was. IsChange was states.Freed addresses) (sym full) refl
     turned_from addresses (inr failed) = subst (λ was. IsChange was states.Freed addresses) (sym failed) refl
 

@@ -16,7 +16,7 @@ use Rattle.lemmas.proofs.Parts.{get_set_same, got_within}
 use Rattle.lemmas.proofs.Tests.{not_both, other_number}
 use Rattle.line_table.proofs.Places.{set_twice}
 use Rattle.world_laws.specs.LegalMounts.{IsLegalMount, NoneLost}
-use Rattle.core_laws.specs.ClosedLines.{ClosedLine, StartNumbers, closed_line, newer_start, newest_numbers, placed_top, starts_left}
+use Rattle.core_laws.specs.ClosedLines.{StartNumbers, closed_line, newer_start, newest_numbers, placed_top, starts_left}
 use Rattle.core_laws.specs.PlacerOf.{unanswered_on}
 use Rattle.core_laws.specs.Stepping.{after}
 use Rattle.core_laws.proofs.ClosedKept.{closed_others}
@@ -29,7 +29,7 @@ use Rattle.pblk_core.specs.declared.line_notes.LineNote.{LineNote}
 use Rattle.pblk_core.specs.declared.line_notes.LineNotes.{LineNotes}
 use Rattle.pblk_core.specs.declared.line_notes.StartNote.{StartNote}
 use Rattle.pblk_core.specs.LineNotes.{AreNotes, IsNoteOf, closed_by, newer_note, newest_landed, note_closed, note_landed, numbers_in, start_in}
-use Rattle.pblk_core.proofs.NotesSet.{notes_set}
+use Rattle.pblk_core.proofs.NotesSet.{notes_set, note_unclosed}
 
 -- what becomes of a row where its line is full
 abbrev pub closed_when : Bool → LineNote → LineNote
@@ -57,13 +57,6 @@ record IsClosedRow (old new : LineNote) : Type 0 where
 closed_row : (full : Bool) (row : LineNote) → IsClosedRow row (closed_when full row)
 closed_row true row = record { seq = refl; front = refl; starts_left = refl; top = refl }
 closed_row false row = record { seq = refl; front = refl; starts_left = refl; top = refl }
-
-unclosed : (row : LineNote) → closed_by row ≡ None → row.closed ≡ false
-unclosed row none = go row.closed none
-  where
-    go : (b : Bool) → ◌≡◌ {A = Option ClosedLine} (if b then Some (record { seq = row.seq; top = row.top }) else None) None → b ≡ false
-    go true e = absurd cc
-    go false e = refl
 
 unclosed_by : (row : LineNote) → row.closed ≡ false → closed_by row ≡ None
 unclosed_by row e = ap (λ b. if b then Some (record { seq = row.seq; top = row.top }) else None) e
@@ -223,7 +216,7 @@ module _ (i : Image) (w : World) (mount : IsLegalMount i w) (none : NoneLost (lo
           go : (t : Bool) → full ≡ t
               → closed_by (closed_when t (note_landed start row)) ≡ closed_if t (record { seq = o.start.seq; top = placed_top i.shape (log_of w 0) o })
           go true e = ap₂ (λ seq top. Some (record { seq = seq; top = top })) (kept.seq ∙ was.seq) (kept.top ∙ was.top)
-          go false e = unclosed_by (note_landed start row) (kept.closed ∙ unclosed row (is ∙ closed_was e))
+          go false e = unclosed_by (note_landed start row) (kept.closed ∙ note_unclosed row (is ∙ closed_was e))
 
       pub notes_landed : (old notes : LineNotes) → p.stripe.line < i.shape.chunks
           → ((row : LineNote) → slice_get old.rows.items p.stripe.line ≡ Some row

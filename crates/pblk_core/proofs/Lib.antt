@@ -82,6 +82,7 @@ pub mod SpentTables
 pub mod WeighedLines
 pub mod TabledLines
 pub mod MadeLines
+pub mod BarrenLines
 pub mod Collected
 pub mod StandsFreed
 pub mod LandedNotes

@@ -161,3 +161,11 @@ notes_placed i w b stripe knows o old notes mount begins life inside unclosed ro
         let at = life_at (log_of w 0) other p is in
         ap (is_life p.number) life
         ∙ of_its_line (log_of w 0) stripe.line o p life (at.0 ∙ ap (λ n. Some n) (sym at.1)) (λ same. apart (sym at.1 ∙ same))
+
+-- a note that tells of no closed line
+pub note_unclosed : (row : LineNote) → closed_by row ≡ None → row.closed ≡ false
+note_unclosed row none = go row.closed none
+  where
+    go : (b : Bool) → ◌≡◌ {A = Option ClosedLine} (if b then Some (record { seq = row.seq; top = row.top }) else None) None → b ≡ false
+    go true e = absurd cc
+    go false e = refl

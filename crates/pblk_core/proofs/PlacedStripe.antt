@@ -1,5 +1,5 @@
 -- The program that the placer of a standing core offers, and the stripe for it.
-use Rattle.std.proofs.Common.{◌≡◌, ◌⊎◌, inl, inr, ℕ, ◌+◌, ◌-◌, ◌*◌, ◌/◌, ◌<◌, ◌≤◌, ◌&&◌, zero, suc, Bool, true, false, Some, None, List, ◌||◌, length, take, refl, sym, subst, ap, ◌∙◌, arith}
+use Rattle.std.proofs.Common.{◌≡◌, ◌⊎◌, inl, inr, ℕ, ◌+◌, ◌-◌, ◌*◌, ◌/◌, ◌<◌, ◌≤◌, ◌&&◌, nat_lt, zero, suc, Bool, true, false, Some, None, List, [], ◌∷◌, ◌||◌, length, take, refl, sym, subst, ap, ◌∙◌, arith}
 use Rattle.std.specs.Prelude.{nat_le, slice_get}
 use Rattle.std.specs.List.{list_all, list_any}
 use Rattle.std.proofs.Math.Nat.{mul-le-mul_right}
@@ -11,18 +11,20 @@ use Rattle.pblk_model.specs.Image.{Image, line_units}
 use Rattle.pblk_world.specs.Lines.{known_image}
 use Rattle.pblk_world.specs.Events.{Stripe, Logged}
 use Rattle.pblk_world.specs.World.{World, Logs, log_of}
-use Rattle.pblk_world.specs.EngineLog.{Opening, Opened, life_of, stripes_of, has_failed, has_landed}
+use Rattle.pblk_world.specs.AtRest.{IsDue, IsUrgent}
+use Rattle.pblk_world.specs.EngineLog.{Opening, Opened, Taken, life_of, stripes_of, has_failed, has_landed}
+use Rattle.pblk_world.specs.Fronts as fronts
 use Rattle.pblk_world.specs.Placing.{next_address, end_address, line_end, IsStart, IsData, IsEnd, IsPad, MayPlace}
 use Rattle.stripe_placer.specs.declared.placement.StripeKind.{StripeKind}
 use Rattle.stripe_placer.specs.declared.placement.StripeKind.TheVariants as kinds
 use Rattle.pblk_world.specs.Starts.{has_landed_start}
-use Rattle.stripe_placer.specs.Entries.{Entries}
-use Rattle.stripe_placer.specs.OpenLines.{OpenLine, numbers, is_to_place, is_unanswered, has_left}
+use Rattle.stripe_placer.specs.Entries.{Entries, has_stripe, waiting}
+use Rattle.stripe_placer.specs.OpenLines.{OpenLine, numbers, is_to_place, is_unanswered, has_left, start_has_landed}
 use Rattle.stripe_placer.proofs.Named.{IsProgramIn, its_program}
 use Rattle.core_laws.proofs.LeftLines.{left_apart}
-use Rattle.stripe_placer.specs.Placing.{Program, next_in, next_stripe, stopped_in}
+use Rattle.stripe_placer.specs.Placing.{Program, allows, next_in, next_stripe, stopped_in}
 use Rattle.core_laws.specs.OpenedLines.{open_line, standing}
-use Rattle.core_laws.specs.PlacerOf.{entries_of, placing_of, row_of, IsStripeOf}
+use Rattle.core_laws.specs.PlacerOf.{entries_of, placing_of, positions_of, row_of, IsStripeOf}
 use Rattle.core_laws.specs.SimpleMounts.{IsSimpleMount}
 use Rattle.core_laws.proofs.SimpleMounts.{engine_plain}
 use Rattle.core_laws.specs.StripeFor.{IsStripeFor, IsProgramFor, positions_for}
@@ -41,9 +43,12 @@ use Rattle.pblk_core.specs.declared.target_core.Core.{Core}
 use Rattle.pblk_core.specs.declared.open_lines.OpenLine.{OpenLine as KeptLine}
 use Rattle.pblk_core.specs.declared.open_lines.OpenLines.{OpenLines}
 use Rattle.core_laws.proofs.PlainEventsLemmas.{none_failed}
+use Rattle.core_laws.proofs.StillWaiting.{length_positions}
+use Rattle.core_laws.proofs.WaitingEntries.{waiting_alike}
 use Rattle.lemmas.proofs.Lists.{IsAmong}
 use Rattle.lemmas.proofs.Maps.{in_filter}
-use Rattle.lemmas.proofs.Parts.{got_within}
+use Rattle.lemmas.proofs.Parts.{contained_among, got_within}
+use Rattle.lemmas.proofs.Tests.{below_of, both, either, within_is}
 use Rattle.pblk_world.proofs.EngineLogLemmas.{opened_same}
 
 -- where a stripe of a kind begins in its line
@@ -70,6 +75,43 @@ pub record IsOfferedNow (i : Image) (w : World) (pad : ℕ) (o : Opening) (of : 
   pub has : has_left (open_line i (log_of w) o) ≡ true
   pub may : (stripe : Stripe) → IsStripeFor i (log_of w) o of stripe → MayPlace i (log_of w) stripe
   pub its : (stripe : Stripe) → IsStripeFor i (log_of w) o of stripe → IsStripeOf i (log_of w) pad o stripe of
+  -- entries are placed where that is urgent
+  pub urgent : of.kind ≡ kinds.Data → IsUrgent i.shape (log_of w 0) pad
+
+-- an entry below the pad target
+below_target : (ts : List Taken) (pad : ℕ) → list_any (λ q. nat_lt q pad) (positions_of ts) ≡ true
+    → (t : Taken) × IsAmong ts t × (t.entry.position < pad)
+below_target [] pad e = absurd cc
+below_target (t ∷ ts) pad e = go (either (nat_lt t.entry.position pad) (list_any (λ q. nat_lt q pad) (positions_of ts)) e) (λ f. below_target ts pad f)
+  where
+    go : (nat_lt t.entry.position pad ≡ true) ⊎ (list_any (λ q. nat_lt q pad) (positions_of ts) ≡ true)
+        → (list_any (λ q. nat_lt q pad) (positions_of ts) ≡ true → (u : Taken) × IsAmong ts u × (u.entry.position < pad))
+        → (u : Taken) × IsAmong (t ∷ ts) u × (u.entry.position < pad)
+    go (inl here) rest = (t, (0, refl), below_of t.entry.position pad here)
+    go (inr there) rest = let its = rest there in (its.0, (suc its.1.0, its.1.1), its.2)
+
+-- where there are entries for a stripe it is urgent
+urgent_by : (s : Shape) (log : List Logged) (pad : ℕ) → has_stripe s.ws_opt (entries_of s log pad) ≡ true → IsUrgent s log pad
+urgent_by s log pad e = go (either (nat_le s.ws_opt (length (waiting (entries_of s log pad))))
+    (list_any (λ q. nat_lt q pad) (waiting (entries_of s log pad))) e)
+  where
+    go : (nat_le s.ws_opt (length (waiting (entries_of s log pad))) ≡ true) ⊎ (list_any (λ q. nat_lt q pad) (waiting (entries_of s log pad)) ≡ true)
+        → IsUrgent s log pad
+    go (inl full) =
+        let count : length (waiting (entries_of s log pad)) ≡ length (fronts.waiting s log) = ap (λ (qs : List ℕ). length qs) (waiting_alike s log pad)
+        ∙ length_positions (fronts.waiting s log) in
+        let enough : s.ws_opt ≤ length (waiting (entries_of s log pad)) = within_is s.ws_opt (length (waiting (entries_of s log pad))) full in
+        inl (omega arith)
+    go (inr asked) =
+        let it : (t : Taken) × IsAmong (fronts.waiting s log) t × (t.entry.position < pad) =
+        below_target (fronts.waiting s log) pad (sym (ap (list_any (λ q. nat_lt q pad)) (waiting_alike s log pad)) ∙ asked) in
+        inr (it.0, contained_among (fronts.waiting s log) it.0 it.1, it.2)
+
+allowed_urgent : (s : Shape) (log : List Logged) (pad : ℕ) (l : OpenLine) (kind : StripeKind) → allows s (entries_of s log pad) l kind ≡ true
+    → kind ≡ kinds.Data → IsUrgent s log pad
+allowed_urgent s log pad l kind allowed data_ =
+    urgent_by s log pad (both (start_has_landed l) (has_stripe s.ws_opt (entries_of s log pad))
+    (ap (allows s (entries_of s log pad) l) (sym data_) ∙ allowed)).1
 
 pub in_part : (s : Shape) (o : Opening) (k c d : ℕ) (kind : StripeKind) → c * s.ws_opt ≡ start_len s → (c + d) * s.ws_opt ≡ end_address s o → IsPart k c d kind
     → IsInPart s o (k * s.ws_opt) kind
@@ -119,6 +161,7 @@ offered_now i w pad again busy of simple next none =
         positions = program.positions;
         may = λ stripe its. next_may_be_placed i us w pad again busy of o stripe is next none its;
         its = λ stripe its. next_is_its i us w pad again busy of o stripe is next none its;
+        urgent = allowed_urgent i.shape log pad l of.kind off.allowed;
         count = sym (ap (λ (x : Program). x.count) made) ∙ ap (λ (x : Program). length x.positions) made;
         start_is = parts.start_is;
         stands = life_stands i us w is o.line o off.life;
@@ -180,6 +223,23 @@ of_kind i w pad o of stripe simple now for =
     let same : may.opening ≡ o = opened_same may.opening o (sym may.is_open ∙ ap (life_of (log_of w 0)) for.line ∙ now.opened) in
     one_kind i (log_of w) o stripe of.kind simple.mount.accepted.drive.ws_opt now.start_is (none_failed (log_of w 0) o (engine_plain i w simple))
     (subst (λ a. IsInPart i.shape o a of.kind) now.at now.part) (subst (λ p. Kinds i (log_of w) p stripe) same may.kind)
+
+-- so it is due
+pub due_now : (i : Image) (w : World) (pad : ℕ) (o : Opening) (of : Program) (stripe : Stripe) → IsSimpleMount i w → IsOfferedNow i w pad o of
+    → IsStripeFor i (log_of w) o of stripe → IsDue i (log_of w) pad stripe
+due_now i w pad o of stripe simple now for = record {
+  opening = o;
+  is_open = ap (life_of (log_of w 0)) for.line ∙ now.opened;
+  kind = go of.kind refl (of_kind i w pad o of stripe simple now for);
+}
+  where
+    go : (kind : StripeKind) → of.kind ≡ kind → IsOfKind i (log_of w) o stripe kind
+        → IsStart i (log_of w) o stripe
+        ⊎ (IsEnd i (log_of w) o stripe ⊎ (IsPad i (log_of w) o stripe ⊎ (IsData i (log_of w) o stripe × IsUrgent i.shape (log_of w 0) pad)))
+    go kinds.Start e is = inl is
+    go kinds.Data e is = inr (inr (inr (is, now.urgent e)))
+    go kinds.Pad e is = absurd is
+    go kinds.End e is = inr (inl is)
 
 -- ---- the open line
 

@@ -1,5 +1,5 @@
 -- What the parts of a core ask of the reset of a chunk that it names.
-use Rattle.std.proofs.Common.{◌≡◌, ◌⊎◌, ℕ, ◌+◌, ◌-◌, ◌^◌, ◌<◌, ◌≤◌, ◌==◌, if◌then◌else◌, Bool, true, false, Some, None, Option, List, length, refl, sym, subst, ap, ◌∙◌, arith, inl, inr}
+use Rattle.std.proofs.Common.{◌≡◌, ◌≢◌, ◌⊎◌, ℕ, ◌+◌, ◌-◌, ◌^◌, ◌<◌, ◌≤◌, ◌==◌, if◌then◌else◌, Bool, true, false, Some, None, Option, List, length, refl, sym, subst, ap, ◌∙◌, arith, inl, inr}
 use Rattle.std.specs.Prelude.{slice_get, slice_set}
 use Rattle.std.specs.List.{slice_index_or}
 use Rattle.std.specs.Option.{option_map_or}
@@ -93,6 +93,17 @@ kept_less live line unit us state there = go (is_online_in state)
           ∙ get_set_same live line line (us - 2 ^ unit) refl (slice_get_within live line us there),
       omega arith,
     )
+
+-- those of another line are what they were
+pub kept_beside : (live : List ℕ) (line unit other : ℕ) (state : ChunkState) → other ≢ line
+    → slice_get (kept_units live line unit state) other ≡ slice_get live other
+kept_beside live line unit other state apart = go (is_online_in state) (slice_get live line)
+  where
+    go : (b : Bool) (o : Option ℕ) → slice_get (if b then live else option_map_or (λ units. slice_set live line (units - 2 ^ unit)) o live) other
+        ≡ slice_get live other
+    go true o = refl
+    go false None = refl
+    go false (Some us) = get_set_other live line other (us - 2 ^ unit) apart
 
 -- each line has as many units as before, or one less
 kept_below : (live : List ℕ) (line unit n : ℕ) (state : ChunkState) → ((k us : ℕ) → slice_get live k ≡ Some us → us < n)

@@ -404,7 +404,7 @@ some_left i w pad o of some now =
     ap (λ b. b && list_all (has_landed (log_of w 0)) (take (line_end i.shape o / i.shape.ws_opt) (stripes_of (log_of w 0) o)))
     (le_false (line_end i.shape o / i.shape.ws_opt) n (omega arith))
 
-line_unclosed : (i : Image) (w : World) (pad : ℕ) (o : Opening) (of : Program) → IsSimpleMount i w → IsOfferedNow i w pad o of
+pub line_unclosed : (i : Image) (w : World) (pad : ℕ) (o : Opening) (of : Program) → IsSimpleMount i w → IsOfferedNow i w pad o of
     → closed_line i (log_of w) of.line ≡ None
 line_unclosed i w pad o of simple now =
     ap (closed_line i (log_of w)) now.own

@@ -30,10 +30,11 @@ use Rattle.core_laws.proofs.TakenRows.{rows_void}
 use Rattle.core_laws.proofs.TakenSlots.{slot_taken}
 use Rattle.lemmas.proofs.Tests.{and_both, not_both, other_number}
 use Rattle.pblk_core.specs.Stands.{Stands}
+use Rattle.pblk_core.specs.Taking.{CanTake}
 use Rattle.pblk_core.specs.Taken.{IsClassed, entry_of, is_latest_from, is_latest_in, is_source}
 use Rattle.pblk_core.specs.declared.target_core.Core.{Core}
 use Rattle.pblk_core.proofs.StandsFacts.{window_taken_is}
-use Rattle.pblk_core.proofs.StandsTaken.{IsKeptInto, IsNext, kept_stands, numbered, sources, taken_is, unplaced, within}
+use Rattle.pblk_core.proofs.StandsTaken.{IsKeptInto, kept_stands, numbered, sources, taken_is, unplaced, within}
 use Rattle.pblk_core.proofs.TakenHolds.{holds_void}
 
 -- what a core's fields are once it took one
@@ -45,7 +46,7 @@ pub record IsStaleInto (old new : Core) (e : FramedEntry) : Type 0 where
       (record { mark = void_mark e.position; line = None; taker = None })
 
 pub stale_stands : (i : Image) (w : World) (knows : List ℕ) (old new : Core) (e : FramedEntry) → IsSimpleMount i w → Stands i (log_of w) old
-    → IsNext old e → IsStaleInto old new e → Stands i (after (log_of w) (Take (entry_of e) (void_mark e.position)) knows) new
+    → CanTake old e → IsStaleInto old new e → Stands i (after (log_of w) (Take (entry_of e) (void_mark e.position)) knows) new
 stale_stands i w knows old new e simple st next is = kept_stands i w knows old new e (void_mark e.position) simple st next is.kept (record {
   slots = λ lba inside. ap (λ m. fin.get m lba) is.map ∙ st.slots lba inside ∙ ap Some (sym (slot_same lba inside));
   table = is.lines ∙ st.table
@@ -130,12 +131,12 @@ marked_stale i w c e Copy (Some source) mount st inside classed stale = inr (rec
         let from : source ≡ classed.0 = same_Some source classed.0 classed.1 in
         classed.2 (st.slots e.lba inside ∙ same ∙ ap (λ (s : EntrySource). Some (Cached s.position)) from)
 
-pub may_take_stale : (i : Image) (w : World) (c : Core) (e : FramedEntry) → IsLegalMount i w → Stands i (log_of w) c → IsNext c e
+pub may_take_stale : (i : Image) (w : World) (c : Core) (e : FramedEntry) → IsLegalMount i w → Stands i (log_of w) c → CanTake c e
     → e.position < 2 ^ 62 → e.lba < i.shape.capacity → is_latest_in c.map e ≡ false
     → IsBlock i.shape (record { sector = e.frame.bytes; mark = void_mark e.position })
     → MayTake i (log_of w) (entry_of e) (void_mark e.position)
 may_take_stale i w c e mount st next number inside stale block = record {
-  position = next.position ∙ window_taken_is i w c st;
+  position = next.next ∙ window_taken_is i w c st;
   position_number = number;
   lba = inside;
   marked = marked_stale i w c e e.class e.source mount st inside next.class stale;

@@ -72,6 +72,7 @@ use Rattle.std.specs.Prelude.{slice_get}
 use Rattle.core_laws.proofs.FreedMoments.{freed_before}
 use Rattle.core_laws.proofs.UsersEntries.{in_order}
 use Rattle.std.proofs.lemmas.Option.{same_Some}
+use Rattle.pblk_core.specs.Taking.{CanTake}
 use Rattle.pblk_core.specs.Taken.{HasItsSector, IsClassed, entry_of, is_latest_from, is_latest_in, is_source, users_in}
 use Rattle.pblk_core.specs.Holds.{has_landed_in, line_of_slot, rows_with_taker}
 use Rattle.core_laws.specs.ChangedTables.{lose_in}
@@ -237,15 +238,9 @@ pub record TellsSectors (i : Image) (logs : Logs) (c : Core) : Type 0 where
   pub table : c.lines ≡ rows_of i logs
   pub holds : AreHolds i.shape (logs 0) c.holds
 
--- the entry is the next, and there is room for it
-pub record IsNext (c : Core) (e : FramedEntry) : Type 0 where
-  pub position : e.position ≡ view.taken c.window
-  pub room : length c.window.entries < c.window.size
-  pub class : IsClassed c.map e e.class e.source
-
-module _ (i : Image) (w : World) (c : Core) (e : FramedEntry) (simple : IsSimpleMount i w) (st : Stands i (log_of w) c) (next : IsNext c e) where
+module _ (i : Image) (w : World) (c : Core) (e : FramedEntry) (simple : IsSimpleMount i w) (st : Stands i (log_of w) c) (next : CanTake c e) where
   pub taken_is : e.position ≡ taken (log_of w 0)
-  taken_is = next.position ∙ window_taken_is i w c st
+  taken_is = next.next ∙ window_taken_is i w c st
 
   pub unplaced : IsUnplaced i.shape (log_of w 0) e.position
   unplaced = subst (IsUnplaced i.shape (log_of w 0)) (sym taken_is) (next_is_unplaced i w simple)
@@ -261,7 +256,7 @@ module _ (i : Image) (w : World) (c : Core) (e : FramedEntry) (simple : IsSimple
   numbered = (in_order i w (accepted_small i.shape simple.mount.accepted) simple.mount.legal).numbered
 
 pub kept_stands : (i : Image) (w : World) (knows : List ℕ) (old new : Core) (e : FramedEntry) (mark : Mark) → IsSimpleMount i w → Stands i (log_of w) old
-    → IsNext old e → IsKeptInto old new e → TellsSectors i (after (log_of w) (Take (entry_of e) mark) knows) new
+    → CanTake old e → IsKeptInto old new e → TellsSectors i (after (log_of w) (Take (entry_of e) mark) knows) new
     → Stands i (after (log_of w) (Take (entry_of e) mark) knows) new
 kept_stands i w knows old new e mark simple st next is tells = record {
   simple = simple_after (log_of w 0) (record { event = Decides (Take (entry_of e) mark); knows = knows }) st.simple refl;
@@ -422,7 +417,7 @@ pub record IsTakenInto (old new : Core) (e : FramedEntry) (mark : Mark) : Type 0
       (e.position % length (rows_with_taker slot e.position old.holds.rows.items)) (record { mark = mark; line = None; taker = None })
 
 pub taken_stands : (i : Image) (w : World) (knows : List ℕ) (old new : Core) (e : FramedEntry) (mark : Mark) → IsSimpleMount i w → Stands i (log_of w) old
-    → IsNext old e → IsTakenInto old new e mark → mark.lba ≡ e.lba → e.lba < i.shape.capacity
+    → CanTake old e → IsTakenInto old new e mark → mark.lba ≡ e.lba → e.lba < i.shape.capacity
     → Stands i (after (log_of w) (Take (entry_of e) mark) knows) new
 taken_stands i w knows old new e mark simple st next is names inside = kept_stands i w knows old new e mark simple st next is.kept (record {
   slots = λ x within. ap (λ m. fin.get m x) is.map ∙ slots_taken i (log_of w) (entry_of e) mark knows old.map x none names st.slots within;

@@ -19,16 +19,16 @@ use Rattle.core_laws.specs.CandidateLines.{candidate_by, is_failed_state}
 use Rattle.core_laws.specs.OpenedLines.{live_now}
 use Rattle.core_laws.specs.RowsOf.{row_of_line}
 use Rattle.core_laws.proofs.CandidateLines.{candidate_by_row}
-use Rattle.core_laws.proofs.ChosenVictims.{is_next_victim, none_is_next}
+use Rattle.core_laws.proofs.ChosenVictims.{is_less, is_next_victim, less_is, none_is_next}
 use Rattle.core_laws.proofs.PlacedLines.{get_row as row_there}
-use Rattle.lemmas.proofs.Options.{map_some}
-use Rattle.lemmas.proofs.Parts.{get_below, got_within}
-use Rattle.lemmas.proofs.Tests.{and_both, and_refused, lt_true, not_before, or_left, or_right, other_number, same_number}
+use Rattle.lemmas.proofs.Options.{map_some, none_of_map}
+use Rattle.lemmas.proofs.Parts.{get_below, get_past, got_within}
+use Rattle.lemmas.proofs.Tests.{and_refused, not_before, other_number}
 use Rattle.line_table.specs.declared.row.Row.{Row}
 use Rattle.pblk_core.specs.declared.line_notes.LineNote.{LineNote}
 use Rattle.pblk_core.specs.declared.line_notes.StartNote.{StartNote}
 use Rattle.pblk_core.specs.declared.target_core.Core.{Core}
-use Rattle.pblk_core.specs.Collecting.{weighed, weighed_by}
+use Rattle.pblk_core.specs.Collecting.{IsTabled, weighed, weighed_by}
 use Rattle.pblk_core.specs.LineNotes.{closed_by, numbers_in, outdated_seq}
 use Rattle.pblk_core.specs.Stands.{Stands}
 use Rattle.pblk_core.proofs.LineBits.{bits_width}
@@ -107,15 +107,12 @@ module _ {c : Core} (i : Image) (w : World) (logs : Logs) (mount : IsLegalMount 
       (live_is line inside k)) (row_stands i logs st line inside k)) (note.1 k))
       ∙ by_note line note.0 note.1
 
+  -- so where no line may be collected by the tables none comes next
+  pub none_weighed : ((line : ℕ) → weighed c line ≡ None) → next_victim i logs ≡ None
+  none_weighed none = none_is_next i logs
+      (λ line inside. none_of_map without_line (candidate i logs line) (sym (weighed_is line inside) ∙ none line))
+
 -- ---- one is before another
-
-abbrev is_less : (live seq other_live other_seq : ℕ) → Bool
-is_less l s m t = nat_lt l m || ((l == m) && nat_lt s t)
-
-less_is : (l s m t : ℕ) → (l < m) ⊎ ((l ≡ m) × (s < t)) → is_less l s m t ≡ true
-less_is l s m t (inl less) = or_left (nat_lt l m) ((l == m) && nat_lt s t) (lt_true l m less)
-less_is l s m t (inr level) = or_right (nat_lt l m) ((l == m) && nat_lt s t)
-    (and_both (l == m) (nat_lt s t) (ap (λ n. l == n) (sym level.0) ∙ same_number l) (lt_true s t level.1))
 
 less_not : (l s m t : ℕ) → (m < l) ⊎ ((l ≡ m) × (t ≤ s)) → is_less l s m t ≡ false
 less_not l s m t (inl above) =
@@ -217,6 +214,32 @@ module _ {c : Core} (i : Image) (w : World) (logs : Logs) (mount : IsLegalMount 
   pub next_is : (o : Option ℕ) → IfSome o (IsBest rows) → IfNone o (HoldsNone rows) → o ≡ next_victim i logs
   next_is None best none = sym (none_is none)
   next_is (Some line) best none = sym (best_is line best)
+
+-- where none is held no line may be collected
+pub none_held : (c : Core) (rows : List (Option Candidate)) → IsTabled c
+    → ((line : ℕ) → line < c.layout.chunks → slice_get rows line ≡ Some (weighed c line)) → HoldsNone rows → (line : ℕ) → weighed c line ≡ None
+none_held c rows tabled each none line = go (cases_order line c.layout.chunks)
+  where
+    of_line : (o : Option Candidate) → slice_get rows line ≡ Some o → o ≡ None
+    of_line None there = refl
+    of_line (Some d) there = absurd (none line d there)
+
+    past : c.layout.chunks ≤ line → weighed c line ≡ None
+    past high =
+        let noted : length c.notes.rows.items ≡ c.layout.chunks = tabled.each.noted in
+        ap (option_and_then (λ (note : LineNote). option_and_then (λ (row : Row). option_and_then (weighed_by c.layout c.notes.newest note row)
+        (slice_get c.live.items line)) (slice_get c.lines.rows line))) (get_past c.notes.rows.items line (omega arith))
+
+    go : (line ≡ c.layout.chunks) ⊎ ((line < c.layout.chunks) ⊎ (c.layout.chunks < line)) → weighed c line ≡ None
+    go (inl last) = past (omega arith)
+    go (inr (inl inside)) = of_line (weighed c line) (each line inside)
+    go (inr (inr beyond)) = past (omega arith)
+
+pub if_none_held : (c : Core) (rows : List (Option Candidate)) (o : Option ℕ) → IsTabled c
+    → ((line : ℕ) → line < c.layout.chunks → slice_get rows line ≡ Some (weighed c line)) → IfNone o (HoldsNone rows)
+    → IfNone o ((line : ℕ) → weighed c line ≡ None)
+if_none_held c rows None tabled each none = none_held c rows tabled each none
+if_none_held c rows (Some line) tabled each none = tt
 
 -- a line that is held is one of the drive
 pub best_inside : (rows : List (Option Candidate)) (o : Option ℕ) → IfSome o (IsBest rows) → IfSome o (λ line. line < length rows)

@@ -42,6 +42,32 @@ pub record IsReady (c : Core) (job : CopyJob) : Type 0 where
   pub there : fin.get c.map job.lba ≡ Some (Media job.line job.at job.position)
   pub first : (lba at position : ℕ) → lba < job.lba → fin.get c.map lba ≢ Some (Media job.line at position)
 
+-- Lines that may be collected.
+
+-- What the choice looks at in a line, by its note, its row and its online units, where it might be
+-- collected: it is outdated, and its live sectors are at most its data addresses less a stripe.
+abbrev pub weighed_by : Shape → Option StartNote → LineNote → Row → ℕ → Option Candidate
+weighed_by s newest note row live = if nat_le (row.live + s.ws_opt) (data_len s (length (units_in live)))
+    then option_map (λ seq. record { failed = is_failed_state row.state; live = row.live; seq = seq }) (outdated_seq note newest)
+    else None
+
+abbrev pub weighed : Core → ℕ → Option Candidate
+weighed c line = option_and_then (λ note. option_and_then (λ row. option_and_then
+    (weighed_by c.layout c.notes.newest note row) (slice_get c.live.items line)) (slice_get c.lines.rows line))
+    (slice_get c.notes.rows.items line)
+
+-- where it is noted that no line may be collected, none may
+abbrev pub IsBarrenRightly : Core → Type 0
+IsBarrenRightly c = c.collection.barren ≡ true → (line : ℕ) → weighed c line ≡ None
+
+-- no line has come to be one that may be collected
+abbrev pub BringsNone : Core → Core → Type 0
+BringsNone old new = (line : ℕ) → weighed old line ≡ None → weighed new line ≡ None
+
+-- or this one alone has, where one is named
+abbrev pub BringsNoneBut : Option ℕ → Core → Core → Type 0
+BringsNoneBut at old new = (line : ℕ) → at ≢ Some line → weighed old line ≡ None → weighed new line ≡ None
+
 -- By the logs.
 
 -- the victim after an event, where this one is at work or none is
@@ -54,6 +80,7 @@ pub record Collects (i : Image) (logs : Logs) (c : Core) : Type 0 where
   pub count : length c.collection.lines ≡ i.shape.chunks
   pub victim : c.collection.victim ≡ victim_now i logs
   pub passed : HasPassed c
+  pub barren : IsBarrenRightly c
   pub asked : pad_target i logs 0 ≤ pad_of c
 
 -- It stands for the logs of some legal mount, and collects what they say.
@@ -84,15 +111,3 @@ pub record IsTabled (c : Core) : Type 0 where
   pub each : HasEachLine c
   pub count : length c.collection.lines ≡ c.layout.chunks
   pub in_range : (line : ℕ) → c.collection.victim ≡ Some line → line < c.layout.chunks
-
--- What the choice looks at in a line, by its note, its row and its online units, where it might be
--- collected: it is outdated, and its live sectors are at most its data addresses less a stripe.
-abbrev pub weighed_by : Shape → Option StartNote → LineNote → Row → ℕ → Option Candidate
-weighed_by s newest note row live = if nat_le (row.live + s.ws_opt) (data_len s (length (units_in live)))
-    then option_map (λ seq. record { failed = is_failed_state row.state; live = row.live; seq = seq }) (outdated_seq note newest)
-    else None
-
-abbrev pub weighed : Core → ℕ → Option Candidate
-weighed c line = option_and_then (λ note. option_and_then (λ row. option_and_then
-    (weighed_by c.layout c.notes.newest note row) (slice_get c.live.items line)) (slice_get c.lines.rows line))
-    (slice_get c.notes.rows.items line)

@@ -18,3 +18,4 @@ pub mod Landing
 pub mod OlderLines
 pub mod Freeing
 pub mod Collecting
+pub mod Taking

@@ -47,6 +47,7 @@ pub record IsMadeOn (s : Shape) (f : Found) (c : Core) : Type 0 where
   pub none_answered : c.answers.items ≡ replicate (units s) 0
   -- nothing is collected
   pub lines_held : length c.collection.lines ≡ s.chunks
+  pub none_weighed : c.collection.barren ≡ false
   pub none_at_work : c.collection.victim ≡ None
   pub from_start : c.collection.cursor ≡ 0
   pub none_copied : c.collection.under_way ≡ false

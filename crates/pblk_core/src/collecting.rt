@@ -3,14 +3,15 @@
 //! project's rules "Which line may be a victim", "Choice of the victim" and "A victim's work" in
 //! docs/TARGET.md.
 
-ghost use Rattle.std.specs.Prelude.{ℕ, ◌≡◌, ◌≢◌, ◌⊎◌, ◌<◌, ◌≤◌, ◌↔◌, true, false, replicate, length, max, slice_set, Some, None, IfOk, IfSome, IfNone, IsTrue, List};
+ghost use Rattle.std.specs.Prelude.{ℕ, ◌≡◌, ◌≢◌, ◌⊎◌, ◌<◌, ◌≤◌, ◌↔◌, ◌&&◌, true, false, not, replicate, length, max, slice_set, Some, None, IfOk, IfSome, IfNone, IsTrue, List};
+ghost use Rattle.std.specs.Option.{is_some, option_and_then};
 ghost use Rattle.std.specs.FinMap as fin;
 ghost use Rattle.pblk_model.specs.Image.{Image};
 ghost use Rattle.pblk_world.specs.AtRest.{IsCopyDue};
 ghost use Rattle.pblk_world.specs.World.{World, Logs, log_of};
 ghost use Rattle.world_laws.specs.LegalMounts.{IsLegalMount};
 ghost use Rattle.l2p_map.specs.declared.slot.Slot.TheVariants.{Media};
-ghost use Rattle.pblk_core.specs.Collecting.{Collects, HasPassed, IsCollecting, IsReady, IsTabled, victim_after, weighed};
+ghost use Rattle.pblk_core.specs.Collecting.{Collects, HasPassed, IsBarrenRightly, IsCollecting, IsReady, IsTabled, victim_after, weighed};
 ghost use Rattle.pblk_core.specs.Copies.{copy_due, is_copying, victim_asks};
 ghost use Rattle.pblk_core.specs.Named.{may_copy, pad_of};
 ghost use Rattle.pblk_core.specs.Stands.{Stands};
@@ -21,13 +22,16 @@ use crate::target_core::{Core, LAST_POSITION};
 use l2p_map::Slot;
 use line_table::LineState;
 use std::alloc::{AllocError, Global};
-use victim_index::Victims;
+use victim_index::{Candidate, Victims};
 
 /// The victim at work, and how far its sectors were copied.
 #[derive(Drop)]
 pub(crate) struct Collection {
     // the lines that might be collected, as the last choice found them
     pub(crate) lines: Victims,
+    // the last weighing of all lines found none that may be collected, and no step since can have
+    // made one
+    pub(crate) barren: bool,
     // the line that is collected, until it is freed
     pub(crate) victim: Option<u32>,
     // no sector below this one is on the drive in the victim
@@ -53,12 +57,14 @@ impl Collection {
     /// Nothing is collected on a drive of so many lines. Fails only where there isn't the memory.
     pub(crate) fn new(alloc: Global, lines: u32) -> Result<Collection, AllocError>
         ensures lines { IfOk result (λ c. c.lines ≡ replicate lines None) }
+        ensures fresh { IfOk result (λ c. c.barren ≡ false) }
         ensures victim { IfOk result (λ c. c.victim ≡ None) }
         ensures cursor { IfOk result (λ c. c.cursor ≡ 0) }
         ensures idle { IfOk result (λ c. c.under_way ≡ false) }
     {
         Ok(Collection {
             lines: Victims::new(alloc, lines)?,
+            barren: false,
             victim: None,
             cursor: 0,
             under_way: false,
@@ -180,10 +186,12 @@ impl Core {
     }
 
     // Brings the next line to work as the victim, where none is at work and collection is due.
-    // While collection is due, a victim without live sectors asks for pads up to its taker (this
+    // Where no line may be collected, it weighs none until one may have come to be. While
+    // collection is due, a victim without live sectors asks for pads up to its taker (this
     // project's rules "A victim's work" and "A victim sets the pad target" in docs/TARGET.md).
     pub(crate) fn choose(&mut self)
         requires tabled { IsTabled self.old }
+        requires barren { IsBarrenRightly self.old }
         ensures stands { (i : Image) (logs : Logs)
             → Stands i logs self.old → Stands i logs self.new }
         ensures count { length self.new.collection.lines ≡ length self.old.collection.lines }
@@ -191,6 +199,7 @@ impl Core {
             → Stands i logs self.old
             → self.new.collection.victim ≡ victim_after i logs self.old.collection.victim }
         ensures passed { HasPassed self.old → HasPassed self.new }
+        ensures barren { IsBarrenRightly self.new }
         ensures copying { is_copying self.new ≡ is_copying self.old }
         ensures asked { pad_of self.new ≡ max (pad_of self.old) (victim_asks self.new) }
         ensures map { self.new.map ≡ self.old.map }
@@ -210,9 +219,33 @@ impl Core {
     // The line that is collected next.
     fn next_victim(&mut self) -> Option<u32>
         requires tabled { IsTabled self.old }
+        requires barren { IsBarrenRightly self.old }
         ensures victim { (i : Image) (w : World) (logs : Logs) → IsLegalMount i w
             → Stands i logs self.old → result ≡ next_victim i logs }
         ensures inside { IfSome result (λ line. line < self.old.layout.chunks) }
+        ensures barren { IsBarrenRightly self.new }
+        ensures unchanged { self.new ≡ record self.old { collection = self.new.collection } }
+        ensures collection { self.new.collection ≡ record self.old.collection {
+          lines = self.new.collection.lines;
+          barren = self.new.collection.barren;
+        } }
+        ensures count { length self.new.collection.lines ≡ length self.old.collection.lines }
+    {
+        if self.collection.barren {
+            return None;
+        }
+        let line = self.best_line();
+        self.collection.barren = line.is_none();
+        line
+    }
+
+    // Weighs all lines, and gives the best of those that may be collected.
+    fn best_line(&mut self) -> Option<u32>
+        requires tabled { IsTabled self.old }
+        ensures victim { (i : Image) (w : World) (logs : Logs) → IsLegalMount i w
+            → Stands i logs self.old → result ≡ next_victim i logs }
+        ensures inside { IfSome result (λ line. line < self.old.layout.chunks) }
+        ensures none { IfNone result ((line : ℕ) → weighed self.old line ≡ None) }
         ensures unchanged { self.new ≡ record self.old { collection = self.new.collection } }
         ensures collection { self.new.collection ≡ record self.old.collection {
           lines = self.new.collection.lines;
@@ -236,14 +269,55 @@ impl Core {
           lines = self.new.collection.lines;
         } }
     {
+        match self.weighed(line) {
+            Some(Candidate { failed, live, seq }) => {
+                self.collection.lines.set(line, failed, live, seq)
+            }
+            None => self.collection.lines.remove(line),
+        }
+    }
+
+    // What the choice looks at in a line of the drive, where it might be collected.
+    fn weighed(&self, line: u32) -> Option<Candidate>
+        requires tabled { IsTabled self.now }
+        requires inside { line < self.now.layout.chunks }
+        ensures { result ≡ weighed self.now line }
+    {
         let live = self.lines.live(line);
         let data = self.layout.data_len(self.live[line as usize].width());
         let failed = self.lines.state(line) == LineState::Failed;
         let ws_opt = self.layout.shape().ws_opt;
         let fits = u64::from(live) + u64::from(ws_opt) <= u64::from(data);
         match self.notes.outdated(line) {
-            Some(seq) if fits => self.collection.lines.set(line, failed, live, seq),
-            _ => self.collection.lines.remove(line),
+            Some(seq) if fits => Some(Candidate { failed, live, seq }),
+            _ => None,
+        }
+    }
+
+    // Whether this line of the drive might be collected, where one is given. It is weighed only
+    // where it is noted that none might be.
+    pub(crate) fn may_collect(&self, line: Option<u32>) -> bool
+        requires tabled { IsTabled self.now }
+        requires inside { IfSome line (λ n. n < self.now.layout.chunks) }
+        ensures { self.now.collection.barren ≡ true
+            → result ≡ is_some (option_and_then (weighed self.now) line) }
+    {
+        match line {
+            Some(line) if self.collection.barren => self.weighed(line).is_some(),
+            _ => false,
+        }
+    }
+
+    // Lets the next choice weigh all lines, where one may have come to be that may be collected.
+    pub(crate) fn look_again(&mut self, may_be: bool)
+        ensures { self.new ≡ record self.old {
+          collection = record self.old.collection {
+            barren = self.old.collection.barren && not may_be;
+          };
+        } }
+    {
+        if may_be {
+            self.collection.barren = false;
         }
     }
 

@@ -11,7 +11,7 @@ ghost use Rattle.pblk_world.specs.World.{World, log_of};
 ghost use Rattle.world_laws.specs.LegalMounts.{IsLegalMount};
 ghost use Rattle.core_laws.specs.Stepping.{after};
 ghost use Rattle.write_window.specs.Window as view;
-ghost use Rattle.pblk_core.specs.Collecting.{Collects, IsCollecting};
+ghost use Rattle.pblk_core.specs.Collecting.{BringsNone, Collects, IsCollecting};
 ghost use Rattle.pblk_core.specs.Copies.{is_copying, victim_asks};
 ghost use Rattle.pblk_core.specs.Freeing.{IsSpentIn, closed_count, HaveRisen};
 ghost use Rattle.pblk_core.specs.Mounts.{InItsMount};
@@ -79,6 +79,7 @@ impl Core {
         ensures rows { self.new.placer.units ≡ self.old.placer.units }
         ensures map { self.new.map ≡ self.old.map }
         ensures collection { self.new.collection ≡ self.old.collection }
+        ensures brings { BringsNone self.old self.new }
     {
         let line = self.spent_line()?;
         let width = self.live[line as usize].width();
@@ -97,10 +98,12 @@ impl Core {
         ensures none { IfNone result ((line : ℕ) → ¬ IsSpentIn self.now line) }
     {
         let synced = self.window.synced().position;
-        for line in 0..self.layout.shape().chunks {
+        let mut from = 0;
+        while let Some(line) = self.lines.outlived_from(from) {
             if self.is_spent(line, synced) {
                 return Some(line);
             }
+            from = line + 1;
         }
         None
     }

@@ -1,6 +1,6 @@
 //! What a core notes of each line, to tell when it may be freed.
 
-ghost use Rattle.std.specs.Prelude.{ℕ, ◌<◌, ◌^◌, ◌≡◌, ◌↔◌, map, length, slice_get, slice_set, Some, IfOk, IsTrue, true};
+ghost use Rattle.std.specs.Prelude.{ℕ, ◌<◌, ◌^◌, ◌≡◌, ◌↔◌, map, length, slice_get, slice_set, Some, IfOk, IsTrue, true, false};
 ghost use Rattle.core_laws.specs.ClosedLines.{top_of};
 ghost use Rattle.pblk_core.specs.LineNotes.{IsSpentNote, newest_landed, outdated_seq, note_found, note_opened, note_placed, note_landed, note_closed, note_freed, head_start, newer_note, start_found};
 
@@ -94,8 +94,9 @@ impl LineNotes {
     }
 
     /// A stripe of a line has landed, which is one of its start record or another. Once all of its
-    /// start record have, that record is the newest one, if it is newer than that which was.
-    pub(crate) fn land(&mut self, line: u32, is_start: bool)
+    /// start record have, that record is the newest one, if it is newer than that which was. Tells
+    /// whether it is.
+    pub(crate) fn land(&mut self, line: u32, is_start: bool) -> bool
         requires inside { line < length self.old.rows.items }
         requires some { (row : LineNote) → slice_get self.old.rows.items line ≡ Some row
             → is_start ≡ true → 0 < row.starts_left }
@@ -104,9 +105,10 @@ impl LineNotes {
             ≡ slice_set self.old.rows.items line (note_landed is_start row) }
         ensures newest { (row : LineNote) → slice_get self.old.rows.items line ≡ Some row
             → self.new.newest ≡ newest_landed is_start row self.old.newest }
+        ensures same { result ≡ false → self.new.newest ≡ self.old.newest }
     {
         if !is_start {
-            return;
+            return false;
         }
         let row = &mut self.rows[line as usize];
         row.starts_left -= 1;
@@ -115,7 +117,24 @@ impl LineNotes {
                 seq: row.seq,
                 front: row.front,
             };
-            self.newest = Some(newer_of(self.newest, start));
+            self.set_newer(start)
+        } else {
+            false
+        }
+    }
+
+    // A start record has landed whole. Tells whether it is the newest one now.
+    fn set_newer(&mut self, start: StartNote) -> bool
+        ensures newest { self.new.newest ≡ Some (newer_note self.old.newest start) }
+        ensures rows { self.new.rows.items ≡ self.old.rows.items }
+        ensures same { result ≡ false → self.new.newest ≡ self.old.newest }
+    {
+        match self.newest {
+            Some(newest) if start.seq <= newest.seq => false,
+            _ => {
+                self.newest = Some(start);
+                true
+            }
         }
     }
 
@@ -195,16 +214,6 @@ fn start_of_head(row: &LineRow, front: u64) -> Option<StartNote>
     match row.seq {
         Some(seq) => Some(StartNote { seq, front }),
         None => None,
-    }
-}
-
-// The newer of two start records, of which there may be one alone.
-fn newer_of(newest: Option<StartNote>, start: StartNote) -> StartNote
-    ensures { result ≡ newer_note newest start }
-{
-    match newest {
-        Some(newest) if start.seq <= newest.seq => newest,
-        _ => start,
     }
 }
 

@@ -10,7 +10,7 @@ ghost use Rattle.pblk_world.specs.Opening.{MayOpen};
 ghost use Rattle.pblk_world.specs.World.{World, log_of};
 ghost use Rattle.world_laws.specs.LegalMounts.{IsLegalMount};
 ghost use Rattle.core_laws.specs.Stepping.{after};
-ghost use Rattle.pblk_core.specs.Collecting.{Collects, CollectsAfter, HasEachLine, IsCollecting};
+ghost use Rattle.pblk_core.specs.Collecting.{BringsNone, Collects, CollectsAfter, HasEachLine, IsCollecting};
 ghost use Rattle.pblk_core.specs.Copies.{is_copying, victim_asks};
 ghost use Rattle.pblk_core.specs.Named.{named, pad_of, next_start};
 ghost use Rattle.pblk_core.specs.Resets.{IsResetTo, kept_units, emptied};
@@ -86,6 +86,7 @@ impl Core {
         ensures rows { self.new.placer.units ≡ self.old.placer.units }
         ensures map { self.new.map ≡ self.old.map }
         ensures collection { self.new.collection ≡ self.old.collection }
+        ensures brings { BringsNone self.old self.new }
     {
         let line = match self.lines.least_free() {
             Some(line) => line,
@@ -148,6 +149,7 @@ impl Core {
         ensures each { HasEachLine self.new }
         ensures map { self.new.map ≡ self.old.map }
         ensures collection { self.new.collection ≡ self.old.collection }
+        ensures brings { BringsNone self.old self.new }
     {
         self.resets.advance();
         keep_unit(&mut self.live, line, unit, state);

@@ -3,6 +3,7 @@
 ghost use Rattle.std.specs.Prelude.{ℕ, true, false, ◌≡◌, ◌≢◌, ◌^◌, ◌<◌, ◌+◌, ◌-◌, ◌≤◌, ◌==◌, if◌then◌else◌, List, length, min, Some, slice_get, slice_set, max};
 ghost use Rattle.pblk_model.specs.Frames.{Region};
 ghost use Rattle.pblk_model.specs.Image.{Image};
+ghost use Rattle.pblk_world.specs.AtRest.{IsDue};
 ghost use Rattle.pblk_world.specs.Answering.{MayLand, MayOfferAgain};
 ghost use Rattle.pblk_world.specs.Events.{Again, Place, Landed};
 ghost use Rattle.pblk_world.specs.Placing.{MayPlace};
@@ -17,7 +18,7 @@ ghost use Rattle.world_laws.specs.LegalMounts.{IsLegalMount};
 ghost use Rattle.core_laws.specs.Stepping.{after};
 ghost use Rattle.stripe_placer.specs.Placing.{program, next_stripe};
 ghost use Rattle.stripe_placer.specs.Placing.UnitRow.{Idle, Stopped};
-ghost use Rattle.pblk_core.specs.Collecting.{Collects, CollectsAfter, HasEachLine, IsCollecting};
+ghost use Rattle.pblk_core.specs.Collecting.{BringsNone, Collects, CollectsAfter, HasEachLine, IsCollecting};
 ghost use Rattle.pblk_core.specs.Copies.{is_copying, victim_asks};
 ghost use Rattle.pblk_core.specs.Landing.{AreKeptBeside, IsIdleOn, IsOfferedOn, IsUnderWayOn, WasStopped, all_landed};
 ghost use Rattle.pblk_core.specs.Named.{named, pad_of};
@@ -47,6 +48,8 @@ impl Core {
         requires shape { into.old.shape ≡ self.old.layout }
         ensures legal { into.new.again ≡ false
             → InItsMount self.old (λ i w. MayPlace i (log_of w) into.new.stripe) }
+        ensures due { into.new.again ≡ false
+            → InItsMount self.old (λ i w. IsDue i (log_of w) (pad_of self.old) into.new.stripe) }
         ensures stands { into.new.again ≡ false
             → StandsAfter self.old (Place into.new.stripe) self.new }
         ensures collects { into.new.again ≡ false
@@ -85,6 +88,8 @@ impl Core {
         requires shape { into.old.shape ≡ self.old.layout }
         ensures first { into.new.again ≡ false }
         ensures legal { InItsMount self.old (λ i w. MayPlace i (log_of w) into.new.stripe) }
+        ensures due { InItsMount self.old (λ i w.
+            IsDue i (log_of w) (pad_of self.old) into.new.stripe) }
         ensures stands { StandsAfter self.old (Place into.new.stripe) self.new }
         ensures window { self.new.window ≡ self.old.window }
         ensures pad { pad_of self.new ≡ pad_of self.old }
@@ -95,6 +100,7 @@ impl Core {
             into.new.turn ≡ answer_count (log_of w 0) into.new.stripe.unit) }
         ensures map { self.new.map ≡ self.old.map }
         ensures collection { self.new.collection ≡ self.old.collection }
+        ensures brings { BringsNone self.old self.new }
     {
         self.placer.placed(of);
         let turn = self.answers[of.unit as usize];
@@ -140,6 +146,7 @@ impl Core {
             into.new.turn ≡ answer_count (log_of w 0) into.new.stripe.unit) }
         ensures map { self.new.map ≡ self.old.map }
         ensures collection { self.new.collection ≡ self.old.collection }
+        ensures brings { BringsNone self.old self.new }
     {
         let turn = self.answers[of.unit as usize];
         into.begin(of.line, of.unit, of.block, true, turn);
@@ -178,12 +185,14 @@ impl Core {
         ensures idle { IsIdleOn self.new stripe.now.stripe.unit }
         ensures rows { AreKeptBeside stripe.now.stripe.unit self.old self.new }
     {
-        self.note_landed(stripe);
+        let may_be = self.note_landed(stripe);
+        self.look_again(may_be);
         self.choose();
     }
 
-    // Notes that in the tables.
-    fn note_landed(&mut self, stripe: &Stripe)
+    // Notes that in the tables. Tells whether a line may have come to be one that may be collected:
+    // one is closed now, or another start record is the newest.
+    fn note_landed(&mut self, stripe: &Stripe) -> bool
         requires standing { IsStanding self.old }
         requires under_way { IsUnderWayOn self.old stripe.now.stripe.unit }
         ensures stands { (i : Image) (w : World) (event : ℕ) (knows : List ℕ) → IsLegalMount i w
@@ -201,6 +210,7 @@ impl Core {
             → row.state ≢ states.Open → fin.get self.new.map lba ≡ Some (Media line at position)
             → fin.get self.old.map lba ≡ Some (Media line at position) }
         ensures collection { self.new.collection ≡ self.old.collection }
+        ensures brings { result ≡ false → BringsNone self.old self.new }
     {
         let unit = stripe.unit();
         let of = match self.placer.under_way(unit) {
@@ -225,13 +235,16 @@ impl Core {
         self.placer.landed(&of);
         self.under_way -= 1;
         add_answer(&mut self.answers, unit);
-        self.notes.land(of.line, of.kind == StripeKind::Start);
+        let is_newer = self.notes.land(of.line, of.kind == StripeKind::Start);
         if self.open.land(index) == 0 {
             let width = self.layout.width(self.open.get(index).live);
             self.lines.turn(of.line, LineState::Full, width);
             self.resets.set_used(of.line, self.live[of.line as usize]);
             self.notes.close(of.line);
             self.open.remove(index);
+            true
+        } else {
+            is_newer
         }
     }
 
@@ -276,6 +289,7 @@ impl Core {
         ensures each { HasEachLine self.new }
         ensures map { self.new.map ≡ self.old.map }
         ensures collection { self.new.collection ≡ self.old.collection }
+        ensures brings { BringsNone self.old self.new }
     {
         let of = match self.placer.under_way(stripe.unit()) {
             Some(of) => of,

@@ -1,27 +1,24 @@
 //! Entries that a core takes.
 
-ghost use Rattle.std.specs.Prelude.{ℕ, ◌≡◌, ◌+◌, ◌%◌, ◌<◌, ◌≤◌, ◌^◌, ◌++◌, true, false, [], ◌∷◌, length, slice_set, Some, None, max};
+ghost use Rattle.std.specs.Prelude.{ℕ, ◌≡◌, ◌+◌, ◌%◌, ◌<◌, ◌≤◌, ◌^◌, ◌++◌, true, false, [], ◌∷◌, length, slice_set, Some, None, IfSome, max};
 ghost use Rattle.std.specs.List.{All, Contains};
 ghost use Rattle.line_table.specs.declared.row.Row.{Row};
 ghost use Rattle.line_table.specs.Rows.{IsRow};
 ghost use Rattle.core_laws.specs.ChangedTables.{lose_in};
-ghost use Rattle.pblk_model.specs.Chunk.{IsBlock};
 ghost use Rattle.pblk_world.specs.Events.{Take};
-ghost use Rattle.pblk_world.specs.Taking.{MayTake};
-ghost use Rattle.pblk_world.specs.World.{log_of};
 ghost use Rattle.sector_pool.specs.declared.entry.Class.TheVariants.{User, Copy};
 ghost use Rattle.l2p_map.specs.declared.slot.Slot.TheVariants.{Cached, Media};
 ghost use Rattle.std.specs.FinMap as fin;
-ghost use Rattle.pblk_core.specs.Collecting.{CollectsAfter, HasPassed, IsCollecting};
+ghost use Rattle.pblk_core.specs.Collecting.{BringsNone, BringsNoneBut, CollectsAfter, HasPassed, IsCollecting};
 ghost use Rattle.pblk_core.specs.Copies.{is_copying, victim_asks};
 ghost use Rattle.stripe_placer.specs.Placing.{held, waits};
 ghost use Rattle.write_window.specs.Window as view;
-ghost use Rattle.write_window.specs.declared.held.Progress.TheVariants.{Waiting};
 ghost use Rattle.pblk_core.specs.Holds.{has_landed_in, line_of_slot, rows_with_taker};
 ghost use Rattle.pblk_core.specs.Named.{pad_of};
-ghost use Rattle.pblk_core.specs.Mounts.{InItsMount, StandsAfter};
+ghost use Rattle.pblk_core.specs.Mounts.{StandsAfter};
 ghost use Rattle.pblk_core.specs.Stands.{IsStanding};
-ghost use Rattle.pblk_core.specs.Taken.{HasItsSector, IsClassed, entry_of, is_latest_in, is_source, mark_of, users_in};
+ghost use Rattle.pblk_core.specs.Taken.{IsClassed, entry_of, is_latest_in, is_source, mark_of, users_in};
+ghost use Rattle.pblk_core.specs.Taking.{CanTake, IsLegalTake, with_waiting};
 
 use crate::hold::{Hold, Holds};
 use crate::target_core::Core;
@@ -32,14 +29,21 @@ use sector_pool::{Class, Entry, Source};
 use write_window::Window;
 
 // Notes that the entry at position `by` takes over from what was the latest of its sector. The line
-// in which that was live has one live sector less. Where it has landed there, the entry took it
-// from the line.
-fn supersede(slot: Slot, window: &Window, lines: &mut Lines, holds: &mut Holds, by: u64)
+// in which that was live has one live sector less, and is given. Where it has landed there, the
+// entry took it from the line.
+fn supersede(
+    slot: Slot,
+    window: &Window,
+    lines: &mut Lines,
+    holds: &mut Holds,
+    by: u64,
+) -> Option<u32>
     requires room { 0 < length holds.old.rows.items }
     requires inside { (line : ℕ) → line_of_slot holds.old.rows.items slot ≡ Some line
         → line < length lines.old.rows }
     requires live { (line : ℕ) (row : Row) → line_of_slot holds.old.rows.items slot ≡ Some line
         → IsRow lines.old line row → 0 < row.live }
+    ensures line { result ≡ line_of_slot holds.old.rows.items slot }
     ensures lines { lines.new ≡ lose_in (line_of_slot holds.old.rows.items slot)
         (has_landed_in window.now slot) by lines.old }
     ensures holds { holds.new.rows.items ≡ rows_with_taker slot by holds.old.rows.items }
@@ -58,6 +62,7 @@ fn supersede(slot: Slot, window: &Window, lines: &mut Lines, holds: &mut Holds, 
             lines.lower(line);
         }
     }
+    line
 }
 
 // The line in which the content of a slot is live, if it is in one.
@@ -102,14 +107,8 @@ impl Core {
             in StandsAfter self.old (Take (entry_of entry) mark) self.new }
         ensures collects { let mark = mark_of self.old.map entry
             in CollectsAfter self.old (Take (entry_of entry) mark) self.new }
-        ensures legal { InItsMount self.old (λ i w. let mark = mark_of self.old.map entry
-            in IsBlock i.shape (record { sector = entry.frame.bytes; mark = mark })
-            → HasItsSector i (log_of w) (entry_of entry) (entry_of entry).source
-            → MayTake i (log_of w) (entry_of entry) mark) }
-        ensures pushed { self.new.window ≡ record self.old.window {
-          entries = self.old.window.entries
-              ++ record { entry = entry; progress = Waiting } ∷ [];
-        } }
+        ensures legal { IsLegalTake self.old entry }
+        ensures pushed { self.new.window ≡ with_waiting self.old.window entry }
         ensures copying { entry.class ≡ Copy → is_copying self.new ≡ false }
         ensures copying_still { entry.class ≡ User
             → is_copying self.new ≡ is_copying self.old }
@@ -118,38 +117,33 @@ impl Core {
         ensures rows { self.new.placer.units ≡ self.old.placer.units }
     {
         let class = entry.class;
-        self.enter(entry);
+        let loser = self.enter(entry);
+        let may_be = self.may_collect(loser);
+        self.look_again(may_be);
         self.end_copy(class);
         self.choose();
     }
 
-    // Takes an entry into the tables.
-    fn enter(&mut self, entry: Entry)
+    // Takes an entry into the tables. Gives the line that has one live sector less, if one has.
+    fn enter(&mut self, entry: Entry) -> Option<u32>
         requires standing { IsStanding self.old }
-        requires next { entry.position ≡ view.taken self.old.window }
-        requires position { entry.position < 2 ^ 62 }
-        requires room { length self.old.window.entries < self.old.window.size }
-        requires class { IsClassed self.old.map entry entry.class entry.source }
-        requires lba { entry.lba < self.old.layout.capacity }
-        ensures legal { InItsMount self.old (λ i w. let mark = mark_of self.old.map entry
-            in IsBlock i.shape (record { sector = entry.frame.bytes; mark = mark })
-            → HasItsSector i (log_of w) (entry_of entry) (entry_of entry).source
-            → MayTake i (log_of w) (entry_of entry) mark) }
+        requires can { CanTake self.old entry }
+        ensures legal { IsLegalTake self.old entry }
         ensures stands { let mark = mark_of self.old.map entry
             in StandsAfter self.old (Take (entry_of entry) mark) self.new }
-        ensures pushed { self.new.window ≡ record self.old.window {
-          entries = self.old.window.entries
-              ++ record { entry = entry; progress = Waiting } ∷ [];
-        } }
+        ensures pushed { self.new.window ≡ with_waiting self.old.window entry }
         ensures pad { pad_of self.new ≡ pad_of self.old }
         ensures rows { self.new.placer.units ≡ self.old.placer.units }
         ensures collection { self.new.collection ≡ self.old.collection }
         ensures passed { HasPassed self.old → HasPassed self.new }
+        ensures inside { IfSome result (λ line. line < self.new.layout.chunks) }
+        ensures brings { BringsNoneBut result self.old self.new }
     {
         if self.is_latest(&entry) {
-            self.take_latest(entry);
+            self.take_latest(entry)
         } else {
             self.take_stale(entry);
+            None
         }
     }
 
@@ -178,34 +172,27 @@ impl Core {
         }
     }
 
-    // Takes an entry that becomes the latest of its sector into the tables.
-    fn take_latest(&mut self, entry: Entry)
+    // Takes an entry that becomes the latest of its sector into the tables. Gives the line that has
+    // one live sector less, if one has.
+    fn take_latest(&mut self, entry: Entry) -> Option<u32>
         requires standing { IsStanding self.old }
-        requires next { entry.position ≡ view.taken self.old.window }
-        requires position { entry.position < 2 ^ 62 }
-        requires room { length self.old.window.entries < self.old.window.size }
-        requires class { IsClassed self.old.map entry entry.class entry.source }
-        requires lba { entry.lba < self.old.layout.capacity }
+        requires can { CanTake self.old entry }
         requires latest { is_latest_in self.old.map entry ≡ true }
-        ensures legal { InItsMount self.old (λ i w. let mark = mark_of self.old.map entry
-            in IsBlock i.shape (record { sector = entry.frame.bytes; mark = mark })
-            → HasItsSector i (log_of w) (entry_of entry) (entry_of entry).source
-            → MayTake i (log_of w) (entry_of entry) mark) }
+        ensures legal { IsLegalTake self.old entry }
         ensures stands { let mark = mark_of self.old.map entry
             in StandsAfter self.old (Take (entry_of entry) mark) self.new }
-        ensures pushed { self.new.window ≡ record self.old.window {
-          entries = self.old.window.entries
-              ++ record { entry = entry; progress = Waiting } ∷ [];
-        } }
+        ensures pushed { self.new.window ≡ with_waiting self.old.window entry }
         ensures pad { pad_of self.new ≡ pad_of self.old }
         ensures rows { self.new.placer.units ≡ self.old.placer.units }
         ensures map { self.new.map ≡ fin.insert self.old.map entry.lba (Cached entry.position) }
         ensures collection { self.new.collection ≡ self.old.collection }
+        ensures inside { IfSome result (λ line. line < self.new.layout.chunks) }
+        ensures brings { BringsNoneBut result self.old self.new }
     {
         let position = entry.position;
         let lba = entry.lba;
         self.users += users_in(&entry.class);
-        supersede(
+        let loser = supersede(
             self.map.get(lba),
             &self.window,
             &mut self.lines,
@@ -214,30 +201,23 @@ impl Core {
         );
         self.map.set(lba, Slot::Cached(position));
         self.keep(entry, Mark { lba, position });
+        loser
     }
 
     // Takes a copy whose source has become stale into the tables.
     fn take_stale(&mut self, entry: Entry)
         requires standing { IsStanding self.old }
-        requires next { entry.position ≡ view.taken self.old.window }
-        requires position { entry.position < 2 ^ 62 }
-        requires room { length self.old.window.entries < self.old.window.size }
-        requires class { IsClassed self.old.map entry entry.class entry.source }
-        requires lba { entry.lba < self.old.layout.capacity }
+        requires can { CanTake self.old entry }
         requires stale { is_latest_in self.old.map entry ≡ false }
-        ensures legal { InItsMount self.old (λ i w. let mark = mark_of self.old.map entry
-            in IsBlock i.shape (record { sector = entry.frame.bytes; mark = mark })
-            → MayTake i (log_of w) (entry_of entry) mark) }
+        ensures legal { IsLegalTake self.old entry }
         ensures stands { let mark = mark_of self.old.map entry
             in StandsAfter self.old (Take (entry_of entry) mark) self.new }
-        ensures pushed { self.new.window ≡ record self.old.window {
-          entries = self.old.window.entries
-              ++ record { entry = entry; progress = Waiting } ∷ [];
-        } }
+        ensures pushed { self.new.window ≡ with_waiting self.old.window entry }
         ensures pad { pad_of self.new ≡ pad_of self.old }
         ensures rows { self.new.placer.units ≡ self.old.placer.units }
         ensures map { self.new.map ≡ self.old.map }
         ensures collection { self.new.collection ≡ self.old.collection }
+        ensures brings { BringsNone self.old self.new }
     {
         let mark = Mark {
             lba: Mark::VOID_LBA,
@@ -255,10 +235,7 @@ impl Core {
         requires waits_room { length (held self.old.placer) < self.old.placer.shape.ring }
         requires another { ¬ Contains (held self.old.placer) entry.position }
         requires rises { All (λ q. q < entry.position) self.old.placer.entries.fresh }
-        ensures window { self.new.window ≡ record self.old.window {
-          entries = self.old.window.entries
-              ++ record { entry = entry; progress = Waiting } ∷ [];
-        } }
+        ensures window { self.new.window ≡ with_waiting self.old.window entry }
         ensures placer { self.new.placer ≡ waits self.old.placer entry.position false }
         ensures holds { let rows = self.old.holds.rows.items in self.new.holds.rows.items
             ≡ slice_set rows (entry.position % length rows)

@@ -1,5 +1,5 @@
 -- What an author who knows all logs knows, and the next step of such an author.
-use Rattle.std.proofs.Common.{◌≡◌, ℕ, ◌+◌, ◌<◌, ◌≤◌, ◌⊎◌, zero, suc, Some, List, [], ◌∷◌, length, take, get_or, refl, sym, subst, ap, ◌∙◌, arith, inl, inr}
+use Rattle.std.proofs.Common.{◌≡◌, ℕ, ◌+◌, ◌<◌, ◌≤◌, ◌⊎◌, zero, suc, Some, List, [], ◌∷◌, length, take, get_or, sym, subst, ap, ◌∙◌, arith, inl, inr}
 use Rattle.std.specs.Prelude.{slice_get, slice_index}
 use Rattle.std.proofs.lemmas.Bool.{cases_order}
 use Rattle.std.proofs.lemmas.List.{get_or_past}
@@ -12,16 +12,8 @@ use Rattle.pblk_world.specs.World.{World, Logs, log_of, known, cut_logs}
 use Rattle.pblk_world.specs.Legal.{IsAllowed, IsKnowledge, IsLegalStep, IsLegal}
 use Rattle.step_laws.specs.Whole.{knows_all}
 use Rattle.lemmas.proofs.Numbers.{fun_same}
-use Rattle.pblk_world.proofs.WorldLemmas.{log_elsewhere}
 use Rattle.world_laws.proofs.Made.{known_within}
-
--- there are no authors beyond the last unit
-pub none_beyond : (i : Image) (w : World) → IsLegal i w → (author : ℕ) → units i.shape < author → log_of w author ≡ []
-unfolding IsLegal
-none_beyond i [] legal author far = refl
-none_beyond i (s ∷ w) legal author far =
-    let within : s.author ≤ units i.shape = legal.0.author in
-    log_elsewhere s w author (λ e. absurd (omega arith)) ∙ none_beyond i w legal.1 author far
+use Rattle.core_laws.proofs.NextWorlds.{none_beyond}
 
 pub known_whole : (i : Image) (w : World) → IsLegal i w → (author : ℕ) → slice_index (knows_all i.shape w) author ≡ length (log_of w author)
 known_whole i w legal author = go (cases_order author (units i.shape + 1))

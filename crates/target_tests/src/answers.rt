@@ -73,14 +73,16 @@ static ANSWERED: [(&Shape, bool, &str, &str); 20] = [
         "placed 0 16\nplaced 16 16\nplaced 32 16\nplaced 48 16\nplaced 64 16\nplaced 80 16\nplaced 96 16\nplaced 112 16\nplaced 128 16\nsynced 144 144\nwords 144 144 2 2 2 2 2 2 2 2 2 2 2 2 2 2 2 2\nclosed\nevents 30 closed 24 closed 24 closed 24 open 16\nevents 29 closed 24 closed 24 closed 24 open 12\n",
     ),
     // Each full line keeps a live sector, and the first one keeps two. Of those that keep one the
-    // oldest is collected first: the sectors 2, 3, 4 and 6 are copied, each at a position of its own.
+    // oldest is collected first: the sectors 2, 3, 4 and 6 are copied, each at a position of its
+    // own.
     (
         &SMALL,
         false,
         "thread\nw 0 2 1\nw 40 12 100\nw 40 13 101\nw 40 13 102\nw 2 1 2\nw 40 13 103\nw 40 13 104\nw 40 13 105\nw 3 1 3\nw 40 13 106\nw 40 13 107\nw 40 13 108\nw 4 1 4\nw 40 13 109\nw 40 13 110\nw 40 13 111\nw 5 1 5\nw 40 13 112\nw 40 13 113\nw 40 13 114\nw 6 1 6\nw 40 13 115\nw 40 13 116\nw 40 13 117\nw 7 1 7\nw 40 13 118\nw 40 13 119\nw 40 13 120\nf\nr 0 16\n",
         "placed 0 2\nplaced 2 12\nplaced 14 13\nplaced 27 13\nplaced 40 1\nplaced 41 13\nplaced 54 13\nplaced 67 13\nplaced 80 1\nplaced 81 13\nplaced 94 13\nplaced 107 13\nplaced 120 1\nplaced 121 13\nplaced 134 13\nplaced 147 13\nplaced 160 1\nplaced 161 13\nplaced 174 13\nplaced 188 13\nplaced 201 1\nplaced 202 13\nplaced 215 13\nplaced 228 13\nplaced 241 1\nplaced 243 13\nplaced 256 13\nplaced 270 13\nsynced 280 283\nwords 280 283 1 1 2 3 4 5 6 7 0 0 0 0 0 0 0 0\nclosed\nevents 49 closed 24 open 8 closed 24 closed 24\nevents 59 closed 24 open 8 closed 24 closed 24\n",
     ),
-    // A line is full to its last address: a close leaves its end record where there are Free lines enough.
+    // A line is full to its last address: a close leaves its end record where there are Free lines
+    // enough.
     (
         &SMALL,
         false,

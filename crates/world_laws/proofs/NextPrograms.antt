@@ -72,7 +72,7 @@ free_is states.Closed empty online = absurd cc
 free_is states.Offline empty online = absurd cc
 
 -- what is answered and wasn't lost has landed
-landed_of_answered : (log : List Logged) (p : Placed) → is_answered log p ≡ true → was_lost log p ≡ false → has_landed log p ≡ true
+pub landed_of_answered : (log : List Logged) (p : Placed) → is_answered log p ≡ true → was_lost log p ≡ false → has_landed log p ≡ true
 landed_of_answered log p answered kept = go (answer_of log p) answered kept
   where
     go : (a : Option Answer) → is_some a ≡ true → is_loss a ≡ false → is_land a ≡ true

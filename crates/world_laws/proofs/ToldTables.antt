@@ -67,7 +67,7 @@ seq_told i a b h line = ap (λ (log : List Logged). seq_in i b (life_of log line
 
 -- ---- room
 
-free_addresses_told : (i : Image) (a b : Logs) → AreSameTold i a b → free_addresses i b ≡ free_addresses i a
+pub free_addresses_told : (i : Image) (a b : Logs) → AreSameTold i a b → free_addresses i b ≡ free_addresses i a
 free_addresses_told i a b h = ap (λ f. sum_by f (range_with_len 0 i.shape.chunks))
     (fun_same (λ line. if is_free_line i b line then line_data (known_image i b) line else 0)
     (λ line. if is_free_line i a line then line_data (known_image i a) line else 0)
@@ -76,7 +76,7 @@ free_addresses_told i a b h = ap (λ f. sum_by f (range_with_len 0 i.shape.chunk
 pub open_told : (i : Image) (a b : Logs) → AreSameTold i a b → open_addresses i b ≡ open_addresses i a
 open_told i a b h = ap (λ (log : List Logged). sum_by (λ line. unplaced_in i.shape log (life_of log line)) (range_with_len 0 i.shape.chunks)) h.own
 
-addresses_told : (i : Image) (a b : Logs) → AreSameTold i a b → addresses i b ≡ addresses i a
+pub addresses_told : (i : Image) (a b : Logs) → AreSameTold i a b → addresses i b ≡ addresses i a
 addresses_told i a b h = ap₂ (λ m n. m + n) (open_told i a b h) (free_addresses_told i a b h)
 
 pub due_told : (i : Image) (a b : Logs) → AreSameTold i a b → is_due i b ≡ is_due i a

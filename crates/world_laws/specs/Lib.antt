@@ -13,3 +13,4 @@ pub mod EarlyLogs
 pub mod SealedLines
 pub mod Finding
 pub mod MountBeginnings
+pub mod Reasons

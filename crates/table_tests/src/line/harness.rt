@@ -29,6 +29,8 @@ pub(crate) enum Asked {
     Note(u32, u64),
     /// The line, its new state and its new width.
     Turn(u32, LineState, u32),
+    /// From which line on.
+    OutlivedFrom(u32),
 }
 
 /// What it told.
@@ -37,6 +39,7 @@ pub(crate) enum Told {
     State(LineState),
     Live(u32),
     Taker(Option<u64>),
+    Line(Option<u32>),
     Done,
     Refused,
 }
@@ -152,6 +155,7 @@ pub(crate) fn ask(bench: &mut Bench, asked: Asked) -> Told {
         Asked::Lower(line) if line < LINES => lower(bench, line),
         Asked::Note(line, by) if line < LINES => note(bench, line, by),
         Asked::Turn(line, to, width) if line < LINES => turn(bench, line, to, width),
+        Asked::OutlivedFrom(from) => Told::Line(bench.lines.outlived_from(from)),
         _ => Told::Refused,
     }
 }

@@ -25,6 +25,7 @@ const STEPS: &[(Asked, Told, u64, Option<u32>)] = &[
     (Asked::Turn(2, LineState::Open, 2), Told::Done, 240, Some(1)),
     (Asked::Turn(1, LineState::Open, 2), Told::Done, 200, Some(3)),
     (Asked::State(1), Told::State(LineState::Open), 200, Some(3)),
+    (Asked::OutlivedFrom(0), Told::Line(None), 200, Some(3)),
     // live sectors, and what takes them
     (Asked::Live(0), Told::Live(0), 200, Some(3)),
     (Asked::Lose(0, 1), Told::Refused, 200, Some(3)),
@@ -48,8 +49,11 @@ const STEPS: &[(Asked, Told, u64, Option<u32>)] = &[
     (Asked::Note(1, 4), Told::Done, 200, Some(3)),
     (Asked::Live(1), Told::Live(0), 200, Some(3)),
     (Asked::Taker(1), Told::Taker(Some(6)), 200, Some(3)),
+    (Asked::OutlivedFrom(0), Told::Line(None), 200, Some(3)),
     // full, freed and free again
     (Asked::Turn(0, LineState::Full, 2), Told::Done, 200, Some(3)),
+    (Asked::OutlivedFrom(0), Told::Line(Some(0)), 200, Some(3)),
+    (Asked::OutlivedFrom(1), Told::Line(None), 200, Some(3)),
     (Asked::State(0), Told::State(LineState::Full), 200, Some(3)),
     (Asked::State(1), Told::State(LineState::Open), 200, Some(3)),
     (
@@ -72,10 +76,23 @@ const STEPS: &[(Asked, Told, u64, Option<u32>)] = &[
     ),
     (Asked::Turn(0, LineState::Free, 2), Told::Done, 240, Some(0)),
     (Asked::Taker(0), Told::Taker(Some(7)), 240, Some(0)),
+    (Asked::OutlivedFrom(0), Told::Line(None), 240, Some(0)),
     // failed, and with a chunk less
     (
         Asked::Turn(1, LineState::Failed, 2),
         Told::Done,
+        240,
+        Some(0),
+    ),
+    (Asked::OutlivedFrom(0), Told::Line(Some(1)), 240, Some(0)),
+    (Asked::Gain(1), Told::Done, 240, Some(0)),
+    (Asked::OutlivedFrom(0), Told::Line(None), 240, Some(0)),
+    (Asked::Lower(1), Told::Done, 240, Some(0)),
+    (Asked::OutlivedFrom(1), Told::Line(Some(1)), 240, Some(0)),
+    (Asked::OutlivedFrom(2), Told::Line(None), 240, Some(0)),
+    (
+        Asked::OutlivedFrom(u32::MAX),
+        Told::Line(None),
         240,
         Some(0),
     ),
@@ -146,7 +163,8 @@ fn a_line_goes_through_its_states(rt: HostRuntime) -> Result<(), Fail> {
     Ok(())
 }
 
-// Of a drive with lines of every kind, the state of each line, its live sectors, and what took one from it.
+// Of a drive with lines of every kind, the state of each line, its live sectors, what took one from it, and
+// which Full or Failed line has none.
 const OPENED: &[(Asked, Told)] = &[
     (Asked::State(0), Told::State(LineState::Full)),
     (Asked::State(1), Told::State(LineState::Failed)),
@@ -164,6 +182,8 @@ const OPENED: &[(Asked, Told)] = &[
     (Asked::Live(7), Told::Live(0)),
     (Asked::Taker(0), Told::Taker(None)),
     (Asked::Taker(7), Told::Taker(None)),
+    (Asked::OutlivedFrom(0), Told::Line(Some(1))),
+    (Asked::OutlivedFrom(2), Told::Line(None)),
 ];
 
 // Line 4 has one chunk and so 16 data addresses, and the three behind it have 40 each.

@@ -14,6 +14,7 @@ renewed c = record {
   own = c.renew.ensures.own;
   out = c.renew.ensures.out;
   region = c.renew.ensures.region;
+  pad = c.renew.ensures.pad;
 }
 
 pub landed-requires-clause-collecting : goal.landed-requires-clause-collecting
@@ -35,7 +36,7 @@ pub returns-clause-beats : goal.returns-clause-beats
 returns-clause-beats c = λ i w event knows mount is may legal.
     beats_later i w (Landed c.args.stripe.now.stripe.unit event) knows c.args.self.now c.landed.new.self c.renew.new.self mount is legal
     (c.landed.ensures.stands i w event knows mount is.stands may) (c.landed.ensures.collects i w event knows mount is.stands is.collects may) refl
-    c.landed.ensures.count (renewed c)
+    c.landed.ensures.count c.landed.ensures.pad_most (renewed c)
 
 pub returns-clause-rows : goal.returns-clause-rows
 returns-clause-rows c = λ other apart.

@@ -14,6 +14,7 @@ renewed c = record {
   own = c.renew.ensures.own;
   out = c.renew.ensures.out;
   region = c.renew.ensures.region;
+  pad = c.renew.ensures.pad;
 }
 
 pub renew-requires-clause-standing : goal.renew-requires-clause-standing
@@ -30,7 +31,7 @@ returns-clause-beats c = λ i w knows mount is legal.
     let start = next_start c.args.self.now.core in
     beats_later i w (Open start.line start) knows c.args.self.now c.open_line.new.self c.renew.new.self mount is legal
     (c.open_line.ensures.stands i w knows mount is.stands) (c.open_line.ensures.collects i w knows mount is.stands is.collects) refl
-    (ap (λ (x : window.WindowView). length x.entries) c.open_line.ensures.window) (renewed c)
+    (ap (λ (x : window.WindowView). length x.entries) c.open_line.ensures.window) c.open_line.ensures.pad_most (renewed c)
 
 pub returns-clause-granted : goal.returns-clause-granted
 returns-clause-granted c =

@@ -16,6 +16,7 @@ renewed c = record {
   own = c.renew.ensures.own;
   out = c.renew.ensures.out;
   region = c.renew.ensures.region;
+  pad = c.renew.ensures.pad;
 }
 
 -- no entry came into the window
@@ -30,17 +31,21 @@ renew-requires-clause-standing c =
 pub returns-clause-legal : goal.returns-clause-legal
 returns-clause-legal c = λ new i w mount is. c.place.ensures.legal new i w mount is.stands
 
+pub returns-clause-due : goal.returns-clause-due
+returns-clause-due c = λ new i w mount is. c.place.ensures.due new i w mount is.stands
+
 pub returns-clause-beats : goal.returns-clause-beats
 returns-clause-beats c = λ new i w knows mount is legal.
     beats_later i w (Place c.place.new.into.stripe) knows c.args.self.now c.place.new.self c.renew.new.self mount is legal
-    (c.place.ensures.stands new i w knows mount is.stands) (c.place.ensures.collects new i w knows mount is.stands is.collects) refl (as_many c) (renewed c)
+    (c.place.ensures.stands new i w knows mount is.stands) (c.place.ensures.collects new i w knows mount is.stands is.collects) refl (as_many c)
+    c.place.ensures.pad_most (renewed c)
 
 pub returns-clause-again : goal.returns-clause-again
 returns-clause-again c = λ again i w mount is.
     let kept = c.place.ensures.again again i w mount is.stands in (
       kept.0,
       beats_still i w c.args.self.now c.place.new.self c.renew.new.self mount is kept.1
-          (c.place.ensures.collects_again again i (log_of w) is.collects) (as_many c) (renewed c),
+          (c.place.ensures.collects_again again i (log_of w) is.collects) (as_many c) c.place.ensures.pad_most (renewed c),
     )
 
 pub returns-clause-rows : goal.returns-clause-rows

@@ -13,6 +13,7 @@ renewed c = record {
   own = c.renew.ensures.own;
   out = c.renew.ensures.out;
   region = c.renew.ensures.region;
+  pad = c.renew.ensures.pad;
 }
 
 pub reset_done-requires-clause-collecting : goal.reset_done-requires-clause-collecting
@@ -35,7 +36,7 @@ pub returns-clause-beats : goal.returns-clause-beats
 returns-clause-beats c = λ i w event knows mount is may legal.
     beats_later i w (ResetDone c.args.unit event) knows c.args.self.now c.reset_done.new.self c.renew.new.self mount is legal
     (c.reset_done.ensures.stands i w event knows mount is.stands may) (c.reset_done.ensures.collects i w event knows mount is.stands is.collects may) refl
-    (ap (λ (x : window.WindowView). length x.entries) c.reset_done.ensures.window) (renewed c)
+    (ap (λ (x : window.WindowView). length x.entries) c.reset_done.ensures.window) c.reset_done.ensures.pad_most (renewed c)
 
 pub returns-clause-granted : goal.returns-clause-granted
 returns-clause-granted c =

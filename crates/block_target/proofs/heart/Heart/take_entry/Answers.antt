@@ -37,4 +37,5 @@ returns-clause-beats c =
       region = c.take.ensures.same_region;
       out = c.in-Some.ensures.more_out;
       own = c.fill.ensures.region ∙ c.in-Some.ensures.region;
+      pads = c.take-2.ensures.pad_most;
     }) c.fill.ensures.bytes

@@ -1,6 +1,6 @@
 use Rattle.std.proofs.Common.{◌≡◌, ◌≤◌, ◌+◌, max, length, subst, ap, ap₂, refl, arith, ◌∙◌}
 use Rattle.pblk_model.specs.declared.run.Front.{Front}
-use Rattle.block_target.specs.Granted.{WasRoom}
+use Rattle.world_laws.specs.Reasons.{WasRoom}
 use Rattle.block_target.specs.Mount.{MountView, IsSound, engine_log, logs_in, taken_in}
 use Rattle.block_target.proofs.MountLemmas.{same_then}
 use Rattle.block_target.proofs.SameMounts.{IsWorked, stuck_claimed, waits_lost, worked_more, worked_none}

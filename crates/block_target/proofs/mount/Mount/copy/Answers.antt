@@ -1,4 +1,4 @@
-use Rattle.std.proofs.Common.{◌≡◌, ◌⊎◌, inl, inr, ◌++◌, [], ◌∷◌, ℕ, List, Bool, true, false, length, map, refl, sym, subst, ap, ap₂, ◌∙◌}
+use Rattle.std.proofs.Common.{◌≡◌, ◌<◌, ◌⊎◌, inl, inr, ◌++◌, [], ◌∷◌, ℕ, List, Bool, true, false, length, map, refl, sym, subst, ap, ap₂, ◌∙◌}
 use Rattle.std.specs.Prelude.{take, drop}
 use Rattle.std.proofs.lemmas.List.{with_items_is}
 use Rattle.pblk_core.specs.Collecting.{IsReady}
@@ -7,17 +7,19 @@ use Rattle.pblk_core.specs.declared.collecting.CopyJob.{CopyJob}
 use Rattle.pblk_model.specs.Marks.{sector_mark}
 use Rattle.pblk_world.specs.AtRest.{IsCopyDue}
 use Rattle.pblk_world.specs.Events.{Take}
+use Rattle.pblk_world.specs.World.{log_of}
 use Rattle.scan_recovery.specs.Lost.{IsLostAt, NoneLost}
 use Rattle.step_laws.specs.SlotBlocks.{IsBlockOfSlot}
 use Rattle.write_window.specs.Window as window
 use Rattle.unit_port.specs.Unit.{ModelUnit}
 use Rattle.pblk_model.specs.Chunk.{Block}
-use Rattle.block_target.specs.Deeds.{Decides}
+use Rattle.block_target.specs.Deeds.{Decides, world_of}
 use Rattle.block_target.specs.Heart.{copy_entry}
-use Rattle.block_target.specs.Mount.{MountView, IsFetchable, IsMount, logs_in, mount_view, work_in, world_in}
-use Rattle.block_target.proofs.CopiedMount.{job_block, leaves_both}
+use Rattle.block_target.specs.Mount.{MountView, IsFetchable, IsMount, IsRingFull, engine_log, logs_in, mount_view, work_in, world_in}
+use Rattle.block_target.proofs.CopiedMount.{copied_more, job_block, leaves_both}
 use Rattle.block_target.proofs.GoingOn.{Leaves, moved_on}
 use Rattle.block_target.proofs.MountLemmas.{same_from}
+use Rattle.block_target.proofs.TakenMount.{ring_full}
 use Rattle.block_target.proofs.NothingLeft.{copy_named}
 use Rattle.block_target.proofs.ReadFetch.{before_of, fetch_kept, fetch_lost, its_block, its_unit, leaves_fetched, readable_there, sized}
 use Rattle.block_target.proofs.ReadLook.{at_inside, fetchable, line_inside, line_live}
@@ -25,6 +27,7 @@ use Rattle.block_target.proofs.SameMounts.{tells_lost}
 use Rattle.block_target.proofs.mount.Mount.copy.Given.{Over}
 use Rattle.block_target.proofs.mount.Mount.copy.Goals.{After-copy_ready, After-fetch_block, After-take_copy}
 use Rattle.block_target.proofs.mount.Mount.copy.Goals as goal
+use Rattle.lemmas.proofs.Tests.{not_both}
 
 not_copying : {b : Bool} {X : Type 0} → b ≡ false → (b ≡ true) ⊎ (¬ X) → X → ⊥
 not_copying calm (inl is) x = absurd cc
@@ -97,6 +100,14 @@ fetch_block-requires-clause-there g c =
       before_of (m g d) c.address-unit.result.0 job.line c.address-unit.result.1 is unit.0 unit.1,
       readable_there (m g d) c.address-unit.result.0 job.line c.address-unit.result.1 is,
     )
+
+pub returns-then-not-has_frame-clause-more : goal.returns-then-not-has_frame-clause-more
+returns-then-not-has_frame-clause-more g c = λ ok.
+    inr (subst IsRingFull c.self.view_is (ring_full c.self.invariant.mount (λ held.
+    not_both c.has_frame.result (c.has_frame.ensures.1 held) c.if-not-has_frame.true)))
+
+pub take_copy-requires-clause-room : goal.take_copy-requires-clause-room
+take_copy-requires-clause-room g c = c.has_frame.ensures.0 c.if-not-has_frame.false
 
 -- ---- once it was fetched
 
@@ -192,6 +203,11 @@ module _ (g : Over) (c : After-take_copy g) where
       c.fetch_block.ensures.wear c.take_copy.new.self c.add.new.self c.deref-2.result.now content done c.take_copy.ensures.legal
       c.take_copy.ensures.beats c.take_copy.ensures.rows c.take_copy.ensures.idle c.take_copy.ensures.pad c.take_copy.ensures.granted
 
+  more_copy : length (engine_log (v_before g e)) < length (log_of (world_of (v_before g e).image.shape c.add.new.self) 0)
+  unfolding block
+  more_copy = copied_more (m_before g e) (job g e) (ready g e) c.address-unit.result (is g e) c.fetch_block.ensures.fetched (wear g e)
+      c.fetch_block.ensures.wear c.take_copy.new.self c.add.new.self c.deref-2.result.now content done
+
 pub invariant_of-self-2 : goal.invariant_of-self-2
 invariant_of-self-2 g c =
     let d = (goal.at.invariant_of-self-2 g c).After-take_copy in
@@ -205,3 +221,9 @@ returns-clause-done g c = λ ok.
     let d = (goal.at.returns-clause-done g c).After-fetch_block in
     subst (λ (old : MountView). NoneLost old.units (us g d)) c.self.view_is
     (fetch_kept (m_before g d) c.address-unit.result.0 c.in-Some.job.line c.address-unit.result.1 (is g d) c.in_ok-fetch_block.ensures.fetched refl)
+
+pub returns-clause-more : goal.returns-clause-more
+returns-clause-more g c = λ ok. inl
+    (let d = (goal.at.returns-clause-more g c).After-take_copy in
+    subst (λ (old : MountView). length (engine_log old) < length (log_of (world_of (v_before g (e g d)).image.shape c.add.new.self) 0)) c.self.view_is
+    (more_copy g d))

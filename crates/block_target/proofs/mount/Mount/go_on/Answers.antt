@@ -1,5 +1,5 @@
 use Rattle.std.proofs.Common.{length, subst}
-use Rattle.block_target.specs.Granted.{WasRoom}
+use Rattle.world_laws.specs.Reasons.{WasRoom}
 use Rattle.block_target.specs.Mount.{MountView, IsSound, engine_log, logs_in}
 use Rattle.block_target.proofs.mount.Mount.go_on.Goals as goal
 

@@ -1,15 +1,17 @@
-use Rattle.std.proofs.Common.{◌≡◌, List, Some, map, subst, ap, ◌∙◌}
+use Rattle.std.proofs.Common.{length, ◌<◌, ◌≡◌, List, Some, map, sym, subst, ap, ◌∙◌}
 use Rattle.pblk_model.specs.StartRecord.{StartRecord}
 use Rattle.pblk_core.specs.Named.{next_start, pad_of}
 use Rattle.pblk_core.specs.declared.work.Work.TheVariants as works
 use Rattle.pblk_world.specs.EngineLog.{Begun, begun}
 use Rattle.pblk_world.specs.Opening.{MayOpen}
-use Rattle.block_target.specs.Deeds.{Deed}
+use Rattle.pblk_world.specs.World.{log_of}
+use Rattle.block_target.specs.Deeds.{Deed, world_of}
 use Rattle.block_target.specs.Freed.{HaveFreed}
 use Rattle.block_target.specs.Mount.{MountView, IsMount, work_in, world_in, logs_in, engine_log, mount_view}
+use Rattle.block_target.proofs.FreedMounts.{longer_freed}
 use Rattle.block_target.proofs.GoingOn.{Leaves, moved_on}
 use Rattle.block_target.proofs.MountLemmas.{beating_in, is_named, same_from}
-use Rattle.block_target.proofs.PumpedOpen.{beating_opened, leaves_opened}
+use Rattle.block_target.proofs.PumpedOpen.{beating_opened, leaves_opened, more_opened}
 use Rattle.block_target.proofs.mount.Mount.open_line.Given.{Over}
 use Rattle.block_target.proofs.mount.Mount.open_line.Goals.{After-free_lines, After-open_line}
 use Rattle.block_target.proofs.mount.Mount.open_line.Goals as goal
@@ -59,3 +61,11 @@ returns-clause-same g c = same_from c.self.view_is (leaves g c).same
 
 pub returns-clause-asked : goal.returns-clause-asked
 returns-clause-asked g c = (leaves g c).asked ∙ ap (λ (x : MountView). x.asked) c.self.view_is
+
+pub returns-clause-more : goal.returns-clause-more
+returns-clause-more g c =
+    let e = (goal.at.returns-clause-more g c).After-open_line in
+    subst (λ (old : MountView). length (engine_log old) < length (log_of (world_of (v g e).image.shape c.free_lines.new.deeds) 0)) c.self.view_is
+    (longer_freed (v g e) c.add.new.self c.free_lines.new.deeds c.open_line.new.self c.free_lines.new.heart c.free_lines.ensures
+    (subst (λ (ds : List Deed). length (engine_log (v g e)) < length (log_of (world_of (v g e).image.shape ds) 0)) (sym c.add.ensures)
+    (more_opened (m g e) (start g e).line (start g e) (may g e))))

@@ -2,6 +2,7 @@ use Rattle.std.proofs.Common.{◌≡◌, ◌≤◌, ◌<◌, ◌++◌, [], ◌�
 use Rattle.std.specs.Prelude.{slice_get, slice_set}
 use Rattle.pblk_model.specs.ChunkStep.{Done, Write}
 use Rattle.pblk_model.specs.UnitLog.{Answered, Stopped}
+use Rattle.pblk_world.specs.World.{log_of}
 use Rattle.step_laws.specs.Whole.{next_maker}
 use Rattle.pblk_core.specs.Filling.{Filling}
 use Rattle.pblk_core.specs.Named.{pad_of}
@@ -10,11 +11,12 @@ use Rattle.unit_port.specs.Unit.{ModelUnit, TellsDone}
 use Rattle.block_target.specs.Arm.{WasGiven, last_of}
 use Rattle.block_target.specs.Deeds.{Deed, Does, Lands, Offers, world_of}
 use Rattle.scan_recovery.specs.Lost.{IsLostAt, NoneLost}
-use Rattle.block_target.specs.Mount.{IsMount, MountView, mount_view, work_in}
+use Rattle.block_target.specs.Mount.{IsMount, MountView, engine_log, mount_view, work_in}
+use Rattle.block_target.proofs.FreedMounts.{longer_freed}
 use Rattle.block_target.proofs.GivenCommands.{was_done, was_halted}
 use Rattle.block_target.proofs.GoingOn.{Leaves, moved_on}
 use Rattle.block_target.proofs.MountLemmas.{is_named, same_from}
-use Rattle.block_target.proofs.PumpedProgram.{IsToProgram, WerePlaced, beating_landed, beating_programmed, beating_stopped, before_of, landed_done, leaves_landed, leaves_stopped, may_be_landed, placed_more, rests_idle, rests_offered, stopped_lost, stripe_there, to_program, unit_within, with_answer}
+use Rattle.block_target.proofs.PumpedProgram.{IsToProgram, WerePlaced, beating_landed, beating_programmed, beating_stopped, before_of, landed_done, landed_more, leaves_landed, leaves_stopped, may_be_landed, placed_more, rests_idle, rests_offered, stopped_lost, stopped_more, stripe_there, to_program, unit_within, with_answer}
 use Rattle.block_target.proofs.UnitLists.{unit_inside_all, unit_there, units_set, wear_kept}
 use Rattle.block_target.proofs.mount.Mount.program.Given.{Over}
 use Rattle.block_target.proofs.mount.Mount.program.Goals.{After-add, After-free_lines, After-free_lines-in-Err}
@@ -35,7 +37,7 @@ index_mut-unit-requires g c =
     let deeds = c.add_placed.new.deeds in
     let were : WerePlaced v into deeds = record { new = c.add_placed.ensures.new; again = c.add_placed.ensures.again } in
     let ready = to_program m c.place.new.self into
-    (record { legal = c.place.ensures.legal; beats = c.place.ensures.beats; again = c.place.ensures.again }) deeds were in
+    (record { legal = c.place.ensures.legal; due = c.place.ensures.due; beats = c.place.ensures.beats; again = c.place.ensures.again }) deeds were in
     let len : c.self.inside.units.len ≡ length c.self.inside.units.items = c.self.inside.units.ok.0 in
     let low : c.unit-number.result < length c.self.inside.units.items =
     unit_inside_all g.U.Unit.model c.self.inside.units.items c.unit-number.result into.stripe.unit c.unit-number.ensures (unit_within m deeds ready) in
@@ -51,7 +53,7 @@ program-answer-requires g c =
     let deeds = c.add_placed.new.deeds in
     let were : WerePlaced v into deeds = record { new = c.add_placed.ensures.new; again = c.add_placed.ensures.again } in
     let ready = to_program m c.place.new.self into
-    (record { legal = c.place.ensures.legal; beats = c.place.ensures.beats; again = c.place.ensures.again }) deeds were in
+    (record { legal = c.place.ensures.legal; due = c.place.ensures.due; beats = c.place.ensures.beats; again = c.place.ensures.again }) deeds were in
     let was = g.U.Unit.model c.index_mut-unit.result.now in
     let there : slice_get v.units into.stripe.unit ≡ Some was =
     unit_there g.U.Unit.model c.self.inside.units.items c.unit-number.result into.stripe.unit c.index_mut-unit.result.now c.unit-number.ensures
@@ -84,7 +86,7 @@ module _ (g : Over) (c : After-add g) where
 
   ready : IsToProgram v c.place.new.self into.stripe (world_of v.image.shape deeds)
   ready = to_program m c.place.new.self into
-      (record { legal = c.place.ensures.legal; beats = c.place.ensures.beats; again = c.place.ensures.again }) deeds were
+      (record { legal = c.place.ensures.legal; due = c.place.ensures.due; beats = c.place.ensures.beats; again = c.place.ensures.again }) deeds were
 
   within : into.stripe.unit < length v.units
   within = unit_within m deeds ready
@@ -182,6 +184,13 @@ returns-in-Ok-clause-done g c = λ ok.
     subst (λ (old : MountView). NoneLost old.units (us g d)) c.self.view_is
     (landed_done (m g d) (deeds g d) (ready g d) (was g d) (new g d) (there g d) (given g d) (done g c) (us g d) (units_are g d))
 
+pub returns-in-Ok-clause-more : goal.returns-in-Ok-clause-more
+returns-in-Ok-clause-more g c =
+    let d = (goal.at.returns-in-Ok-clause-more g c).After-add in
+    subst (λ (old : MountView). length (engine_log old) < length (log_of (world_of (v g d).image.shape c.free_lines.new.deeds) 0)) c.self.view_is
+    (longer_freed (v g d) c.add-in-Ok.new.self c.free_lines.new.deeds c.landed.new.self c.free_lines.new.heart c.free_lines.ensures
+    (landed_more (m g d) (deeds g d) (ready g d) (was g d) (new g d) (there g d) (given g d) (done g c) c.add-in-Ok.new.self (last g c)))
+
 -- ---- it was stopped
 
 pub stopped-requires-clause-beating : goal.stopped-requires-clause-beating
@@ -238,3 +247,11 @@ returns-in-Err-clause-lost g c =
     (subst (λ (old : MountView). IsLostAt old.units (us g d) (into g d).stripe.unit c.events-event.result) c.self.view_is
     (stopped_lost (m g d) (deeds g d) (ready g d) (was g d) (new g d) (there g d) (given g d) (stops g c).0 (stops g c).1 (us g d)
     c.events-event.result (units_are g d) c.events-event.ensures.count))
+
+pub returns-in-Err-clause-more : goal.returns-in-Err-clause-more
+returns-in-Err-clause-more g c =
+    let d = (goal.at.returns-in-Err-clause-more g c).After-add in
+    subst (λ (old : MountView). length (engine_log old) < length (log_of (world_of (v g d).image.shape c.free_lines-in-Err.new.deeds) 0)) c.self.view_is
+    (longer_freed (v g d) c.add-in-Err.new.self c.free_lines-in-Err.new.deeds c.stopped.new.self c.free_lines-in-Err.new.heart c.free_lines-in-Err.ensures
+    (stopped_more (m g d) (deeds g d) (ready g d) (was g d) (new g d) (there g d) (given g d) (stops g c).0 (stops g c).1 c.add-in-Err.new.self
+    (last_err g c)))

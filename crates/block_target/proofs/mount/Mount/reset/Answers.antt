@@ -2,6 +2,7 @@ use Rattle.std.proofs.Common.{◌≡◌, ◌<◌, ◌++◌, [], ◌∷◌, List,
 use Rattle.std.specs.Prelude.{slice_get, slice_set}
 use Rattle.pblk_model.specs.ChunkStep.{Done, Reset}
 use Rattle.pblk_model.specs.UnitLog.{Answered, Stopped}
+use Rattle.pblk_world.specs.World.{log_of}
 use Rattle.step_laws.specs.Whole.{next_maker}
 use Rattle.pblk_core.specs.Named.{pad_of}
 use Rattle.pblk_core.specs.Resets.{IsToReset}
@@ -9,12 +10,13 @@ use Rattle.pblk_core.specs.declared.work.Work.TheVariants as works
 use Rattle.unit_port.specs.Unit.{ModelUnit, TellsDone}
 use Rattle.scan_recovery.specs.Lost.{IsLostAt, NoneLost}
 use Rattle.block_target.specs.Arm.{WasGiven}
-use Rattle.block_target.specs.Deeds.{Deed, NotesReset}
-use Rattle.block_target.specs.Mount.{MountView, IsMount, logs_in, mount_view, work_in, world_in}
+use Rattle.block_target.specs.Deeds.{Deed, NotesReset, world_of}
+use Rattle.block_target.specs.Mount.{MountView, IsMount, engine_log, logs_in, mount_view, work_in, world_in}
+use Rattle.block_target.proofs.FreedMounts.{longer_freed}
 use Rattle.block_target.proofs.GivenCommands.{was_done, was_halted}
 use Rattle.block_target.proofs.GoingOn.{Leaves, moved_on}
 use Rattle.block_target.proofs.MountLemmas.{is_named, same_from}
-use Rattle.block_target.proofs.PumpedReset.{beating_noted, before_of, has_line, leaves_reset, leaves_stopped, may_be_noted, reset_deeds, reset_kept, reset_there, stopped_lost, unit_within}
+use Rattle.block_target.proofs.PumpedReset.{beating_noted, before_of, has_line, leaves_reset, leaves_stopped, may_be_noted, reset_deeds, reset_kept, reset_longer, reset_there, stopped_lost, unit_within}
 use Rattle.block_target.proofs.UnitLists.{unit_inside_all, unit_there, units_set, wear_kept}
 use Rattle.block_target.proofs.mount.Mount.reset.Given.{Over}
 use Rattle.block_target.proofs.mount.Mount.reset.Goals.{After-add, After-free_lines}
@@ -172,3 +174,10 @@ returns-clause-done g c = λ ok.
 
 pub returns-clause-asked : goal.returns-clause-asked
 returns-clause-asked g c = (leaves_ok g c).asked ∙ ap (λ (x : MountView). x.asked) c.self.view_is
+
+pub returns-clause-more : goal.returns-clause-more
+returns-clause-more g c = λ ok.
+    let d = (goal.at.returns-clause-more g c).After-add in
+    subst (λ (old : MountView). length (engine_log old) < length (log_of (world_of (v g d).image.shape c.free_lines.new.deeds) 0)) c.self.view_is
+    (longer_freed (v g d) c.add-2.new.self c.free_lines.new.deeds c.reset_done.new.self c.free_lines.new.heart c.free_lines.ensures
+    (reset_longer (m g d) c.args.line c.args.unit (is g d) (was g d) (new g d) (there g d) (given g d) (done g c) c.add-2.new.self (last g c)))

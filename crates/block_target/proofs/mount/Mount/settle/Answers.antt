@@ -18,6 +18,11 @@ loop-preserved g c =
     (ap (λ (f : Front). f.position) c.front-wanted.ensures.front) c.ask_pad.ensures.same c.ask_pad.ensures.asked
     c.go_on.new.self c.go_on.ensures.same c.go_on.ensures.asked (c.in_ok-go_on.ensures.done refl)
 
+pub ask_pad-requires : goal.ask_pad-requires
+ask_pad-requires g c =
+    let same : c.front-wanted.result.position ≡ taken_in c.loop.self = ap (λ (f : Front). f.position) c.front-wanted.ensures.front in
+    omega arith
+
 -- ---- all that was taken is there, and collection isn't due
 
 pub returns-then-not-is_due-clause-same : goal.returns-then-not-is_due-clause-same

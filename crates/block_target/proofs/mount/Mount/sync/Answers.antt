@@ -1,4 +1,4 @@
-use Rattle.std.proofs.Common.{◌≡◌, ◌≤◌, max, refl, ap, arith, le_refl, ◌∙◌}
+use Rattle.std.proofs.Common.{◌≡◌, ◌≤◌, max, refl, ap, arith, le_refl, le_trans, ◌∙◌}
 use Rattle.scan_recovery.specs.Units.{image_of}
 use Rattle.block_target.specs.Deeds.{world_of, drive_before}
 use Rattle.block_target.specs.Mount.{front_synced, synced_in}
@@ -14,6 +14,9 @@ loop-preserved g c =
     worked_more c.args.self.now c.ask_pad.new.self c.go_on.new.self c.args.wanted c.args.wanted
     (worked_asked c.args.self.now c.loop.self c.ask_pad.new.self c.args.wanted c.loop.invariant c.ask_pad.ensures.same c.ask_pad.ensures.asked)
     c.go_on.ensures.same c.go_on.ensures.asked (c.in_ok-go_on.ensures.done refl) (le_refl c.args.wanted)
+
+pub ask_pad-requires : goal.ask_pad-requires
+ask_pad-requires g c = le_trans c.requires c.loop.invariant.same.taken
 
 -- ---- all of it is there
 

@@ -9,8 +9,8 @@ invariant_of-self c =
     let inside : c.args.line < length c.self.inside.rows.items = omega (arith, c.requires.inside, ap (λ (t : Table). length t.rows) c.self.view_is) in
     let here : slice_get c.self.inside.rows.items c.args.line ≡ Some c.index_mut-row.result.now =
     slice_get_read c.self.inside.rows.items _ c.args.line c.index_mut-row.result.now refl inside c.index_mut-row.ensures.value in
-    keeps_same c.self.inside.layout c.self.inside.free c.self.inside.free_addresses c.self.inside.rows.items c.args.line c.index_mut-row.result.now _
-    c.self.invariant here refl refl
+    keeps_same c.self.inside.layout c.self.inside.free c.self.inside.outlived c.self.inside.free_addresses c.self.inside.rows.items c.args.line
+    c.index_mut-row.result.now _ c.self.invariant here refl refl refl
 
 pub returns : goal.returns
 returns c =

@@ -31,7 +31,8 @@ overflow_sub-row c =
 pub returns-then-row-eq0-clause-rows : goal.returns-then-row-eq0-clause-rows
 returns-then-row-eq0-clause-rows c = λ row there.
     let is = its_row (goal.at.returns-then-row-eq0-clause-rows c).After-index_mut-row row there in
-    ap₂ (λ b (r : LineNote). slice_set c.args.self.now.rows.items c.args.line (note_landed b r)) (sym c.if-not-is_start.false) is
+    c.set_newer.ensures.rows
+    ∙ ap₂ (λ b (r : LineNote). slice_set c.args.self.now.rows.items c.args.line (note_landed b r)) (sym c.if-not-is_start.false) is
 
 pub returns-else-row-eq0-clause-rows : goal.returns-else-row-eq0-clause-rows
 returns-else-row-eq0-clause-rows c = λ row there.
@@ -48,7 +49,7 @@ some_left row newest some = sym (ap (λ b. if b then Some (newer_note newest (st
 pub returns-then-row-eq0-clause-newest : goal.returns-then-row-eq0-clause-newest
 returns-then-row-eq0-clause-newest c = λ row there.
     let is = its_row (goal.at.returns-then-row-eq0-clause-newest c).After-index_mut-row row there in
-    ap Some c.newer_of.ensures
+    c.set_newer.ensures.newest
     ∙ all_landed (note_started c.index_mut-row.result.now) c.args.self.now.newest c.if-row-eq0.true
     ∙ ap₂ (λ b (r : LineNote). newest_landed b r c.args.self.now.newest) (sym c.if-not-is_start.false) is
 

@@ -13,8 +13,11 @@ returns-then-is_latest-clause-passed c = λ passed lba line at position below at
     (sym (ap (λ m. fin.get m lba) c.take_latest.ensures.map) ∙ there))
 
 pub returns-else-is_latest-clause-legal : goal.returns-else-is_latest-clause-legal
-returns-else-is_latest-clause-legal c = λ i w mount st block sector. c.take_stale.ensures.legal i w mount st block
+returns-else-is_latest-clause-legal c = c.take_stale.ensures.legal
 
 pub returns-else-is_latest-clause-passed : goal.returns-else-is_latest-clause-passed
 returns-else-is_latest-clause-passed c = λ passed.
     passed_same c.args.self.now c.take_stale.new.self passed c.take_stale.ensures.map c.take_stale.ensures.collection
+
+pub returns-else-is_latest-clause-brings : goal.returns-else-is_latest-clause-brings
+returns-else-is_latest-clause-brings c = λ line apart none. c.take_stale.ensures.brings line none

@@ -8,8 +8,9 @@ use Rattle.core_laws.specs.Stepping.{after}
 use Rattle.lemmas.proofs.Tests.{not_both, same, same_number}
 use Rattle.pblk_core.specs.declared.collecting.Collection.{Collection}
 use Rattle.pblk_core.specs.declared.target_core.Core.{Core}
-use Rattle.pblk_core.specs.Collecting.{HasPassed}
+use Rattle.pblk_core.specs.Collecting.{HasPassed, IsBarrenRightly, weighed}
 use Rattle.pblk_core.specs.Stands.{Stands}
+use Rattle.pblk_core.proofs.BarrenLines.{barren_kept}
 use Rattle.pblk_core.proofs.Collected.{HasChosen, collected, collected_freed, passed_same}
 use Rattle.pblk_core.proofs.SmallCalls.{collecting_stands}
 use Rattle.pblk_core.proofs.TabledLines.{tabled_by_logs}
@@ -48,6 +49,11 @@ left_passed line mid new (inl gone) was = λ lba other at position low is there.
     none-some other (sym (ap (λ (x : Core). x.collection.victim) gone.1) ∙ is)
 left_passed line mid new (inr kept) was = subst HasPassed (sym kept.1) was
 
+left_barren : (line : ℕ) (mid new : Core) → Leaves line mid new → IsBarrenRightly mid → IsBarrenRightly new
+left_barren line mid new (inl gone) was = λ barren other.
+    ap (λ (x : Core). weighed x other) gone.1 ∙ was (sym (ap (λ (x : Core). x.collection.barren) gone.1) ∙ barren) other
+left_barren line mid new (inr kept) was = subst IsBarrenRightly (sym kept.1) was
+
 -- the line that an event frees
 abbrev freed_line : EngineEvent → ℕ
 freed_line (Free line) = line
@@ -68,6 +74,8 @@ choose-requires c =
           (left_stands is.image _ line mid c.if-eq.self leaves (c.in_ok-line.ensures.stands is.image is.world knows is.legal is.stands refl))
           (left_count line mid c.if-eq.self leaves ∙ ap (λ (x : Collection). length x.lines) c.free_spent.ensures.collection)
           (λ other at_work. sym (ap (λ (x : Collection). x.victim) c.free_spent.ensures.collection) ∙ left_victim line mid c.if-eq.self leaves other at_work);
+      barren = left_barren line mid c.if-eq.self leaves (barren_kept c.args.self.now mid is.collects.barren c.in_ok-line.ensures.brings
+          (ap (λ (x : Collection). x.barren) c.free_spent.ensures.collection));
     }
 
 pub returns-clause-stands : goal.returns-clause-stands
@@ -99,6 +107,7 @@ returns-clause-collects c = λ i w knows mount st was own.
       victim = c.choose.ensures.victim i w _ mount now;
       passed = c.choose.ensures.passed (left_passed line mid left leaves
           (passed_same old mid was.passed c.free_spent.ensures.map c.free_spent.ensures.collection));
+      barren = c.choose.ensures.barren;
       asked = c.choose.ensures.asked;
     } in
     elim leaves [

@@ -1,4 +1,5 @@
 use Rattle.std.proofs.Common.{◌≡◌, ℕ, ◌<◌, ◌≤◌, List, get_or, length, refl, sym, subst, ap, ◌∙◌, rules}
+use Rattle.std.specs.Prelude.{slice_get}
 use Rattle.std.specs.List.{filter}
 use Rattle.std.specs.Option.{IfNone}
 use Rattle.std.proofs.lemmas.Option.{get_or_from_slice_get, slice_get-get_or}
@@ -10,6 +11,8 @@ use Rattle.line_table.specs.declared.row.LineState.TheVariants.{Freed}
 use Rattle.line_table.specs.Rows.{Changes, turned}
 use Rattle.pblk_core.specs.declared.line_notes.LineNote.{LineNote}
 use Rattle.pblk_core.specs.Mounts.{InItsMount}
+use Rattle.lemmas.proofs.Parts.{get_set_other}
+use Rattle.pblk_core.proofs.BarrenLines.{brings_none, set_unclosed, turned_elsewhere}
 use Rattle.pblk_core.proofs.FreedConditions.{fewer_closed, may_give_up}
 use Rattle.pblk_core.proofs.SpentTables.{freed_where_spent, spent_where_freed}
 use Rattle.pblk_core.proofs.StandsFreed.{freed_stands}
@@ -96,3 +99,20 @@ returns-clause-fewer c =
     length (filter (λ (r : LineNote). r.closed) rows) < length (filter (λ (r : LineNote). r.closed) c.args.self.now.notes.rows.items))
     (sym (c.free.ensures.rows spent.note spent.is_note))
     (fewer_closed c.args.self.now.notes.rows.items c.in_ok-line.line spent.note spent.is_note spent.spent.closed)
+
+-- the line that is freed isn't closed any more
+pub returns-clause-brings : goal.returns-clause-brings
+returns-clause-brings c =
+    let line : ℕ = c.in_ok-line.line in
+    let spent = c.in_ok-line.ensures.found in
+    let may = may_give_up c.args.self.now line c.requires.standing spent in
+    let rows = c.free.ensures.rows spent.note spent.is_note in
+    brings_none c.args.self.now (record c.args.self.now { notes = c.free.new.self; lines = c.turn.new.self }) line (record {
+      layout = refl;
+      newest = c.free.ensures.newest;
+      others = λ other apart. record {
+        notes = ap (λ (rs : List LineNote). slice_get rs other) rows ∙ get_set_other c.args.self.now.notes.rows.items line other _ apart;
+        rows = turned_elsewhere c.args.self.now.lines c.turn.new.self line other _ may.line_row c.turn.ensures apart;
+        live = refl;
+      };
+    }) (set_unclosed c.args.self.now.notes.rows.items c.free.new.self.rows.items line _ may.noted rows refl)

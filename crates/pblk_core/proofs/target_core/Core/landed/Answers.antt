@@ -1,34 +1,80 @@
-use Rattle.std.proofs.Common.{length, sym, subst, ap}
+use Rattle.std.proofs.Common.{◌≡◌, ◌<◌, ◌&&◌, not, Bool, length, sym, subst, ap, ◌∙◌}
+use Rattle.std.specs.FinMap as fin
 use Rattle.std.proofs.lemmas.Option.{none-some}
+use Rattle.pblk_model.specs.Image.{Image}
 use Rattle.pblk_world.specs.Events.{Landed}
+use Rattle.pblk_world.specs.World.{Logs}
 use Rattle.write_window.specs.Window.{WindowView}
 use Rattle.write_window.specs.Window as view
 use Rattle.pblk_core.specs.declared.collecting.Collection.{Collection}
+use Rattle.pblk_core.specs.declared.target_core.Core.{Core}
+use Rattle.pblk_core.specs.Collecting.{HasEachLine, HasPassed, weighed}
+use Rattle.pblk_core.specs.Stands.{Stands}
+use Rattle.pblk_core.proofs.BarrenLines.{barren_if}
 use Rattle.pblk_core.proofs.Collected.{collected, passed_landed}
-use Rattle.pblk_core.proofs.TabledLines.{tabled_kept}
+use Rattle.pblk_core.proofs.SmallCalls.{collecting_stands}
+use Rattle.pblk_core.proofs.TabledLines.{tabled}
 use Rattle.pblk_core.proofs.target_core.Core.landed.Goals as goal
+
+-- where what is collected alone is another
+each_looked : (landed looked : Core) (col : Collection) → looked ≡ record landed { collection = col } → HasEachLine landed → HasEachLine looked
+each_looked landed looked col look each =
+    subst HasEachLine (sym look) (record { rows = each.rows; noted = each.noted; online = each.online; few = each.few })
+
+looked_stands : (i : Image) (logs : Logs) (landed looked : Core) (col : Collection) → looked ≡ record landed { collection = col } → Stands i logs landed
+    → Stands i logs looked
+looked_stands i logs landed looked col look st = subst (Stands i logs) (sym look) (collecting_stands i logs landed col st)
+
+looked_passed : (landed looked : Core) (barren : Bool) → looked ≡ record landed { collection = record landed.collection { barren = barren } }
+    → HasPassed landed → HasPassed looked
+looked_passed landed looked barren look was = λ lba line at position low at_work there. was lba line at position
+    (subst (λ (x : Core). lba < x.collection.cursor) look low) (sym (ap (λ (x : Core). x.collection.victim) look) ∙ at_work)
+    (sym (ap (λ (x : Core). fin.get x.map lba) look) ∙ there)
 
 pub choose-requires : goal.choose-requires
 choose-requires c =
-    let mid = c.note_landed.ensures in
-    record { tabled = tabled_kept c.args.self.now c.note_landed.new.self c.requires.collecting mid.each mid.layout mid.collection }
+    let mid = c.note_landed-may_be.ensures in
+    let old : Core = c.args.self.now in
+    let landed : Core = c.note_landed-may_be.new.self in
+    let looked : Core = c.look_again.new.self in
+    let look : looked ≡ record landed { collection = record landed.collection { barren = landed.collection.barren && not c.note_landed-may_be.result } } =
+    c.look_again.ensures in
+    record {
+      tabled = tabled old looked c.requires.collecting (each_looked landed looked _ look mid.each)
+          (ap (λ (x : Core). x.layout) look ∙ mid.layout)
+          (ap (λ (x : Core). length x.collection.lines) look ∙ ap (λ (x : Collection). length x.lines) mid.collection)
+          (λ line at_work. sym (ap (λ (x : Collection). x.victim) mid.collection) ∙ sym (ap (λ (x : Core). x.collection.victim) look) ∙ at_work);
+      barren = barren_if old landed looked c.note_landed-may_be.result c.requires.collecting.collects.barren mid.brings
+          (ap (λ (x : Core). x.collection.barren) look ∙ ap (λ (x : Collection). x.barren && not c.note_landed-may_be.result) mid.collection)
+          (λ line none. ap (λ (x : Core). weighed x line) look ∙ none);
+    }
 
 pub returns-clause-stands : goal.returns-clause-stands
-returns-clause-stands c = λ i w event knows mount st may. c.choose.ensures.stands i _ (c.note_landed.ensures.stands i w event knows mount st may)
+returns-clause-stands c = λ i w event knows mount st may. c.choose.ensures.stands i _
+    (looked_stands i _ c.note_landed-may_be.new.self c.look_again.new.self _ c.look_again.ensures
+    (c.note_landed-may_be.ensures.stands i w event knows mount st may))
 
 pub returns-clause-collects : goal.returns-clause-collects
 returns-clause-collects c = λ i w event knows mount st was may.
-    let mid = c.note_landed.ensures.stands i w event knows mount st may in
-    let same = c.note_landed.ensures.collection in
-    collected c.args.self.now c.note_landed.new.self c.choose.new.self i w (Landed c.args.stripe.now.stripe.unit event) knows mount st was
+    let landed : Core = c.note_landed-may_be.new.self in
+    let looked : Core = c.look_again.new.self in
+    let look : looked ≡ record landed { collection = record landed.collection { barren = landed.collection.barren && not c.note_landed-may_be.result } } =
+    c.look_again.ensures in
+    let mid = looked_stands i _ landed looked _ look (c.note_landed-may_be.ensures.stands i w event knows mount st may) in
+    let same = c.note_landed-may_be.ensures.collection in
+    collected c.args.self.now looked c.choose.new.self i w (Landed c.args.stripe.now.stripe.unit event) knows mount st was
     (λ t is. absurd (none-some t is)) (λ line at_work freed. absurd cc)
-    (ap (λ (x : Collection). length x.lines) same) (ap (λ (x : Collection). x.victim) same) (record {
+    (ap (λ (x : Core). length x.collection.lines) look ∙ ap (λ (x : Collection). length x.lines) same)
+    (ap (λ (x : Core). x.collection.victim) look ∙ ap (λ (x : Collection). x.victim) same) (record {
       stands = c.choose.ensures.stands i _ mid;
       count = c.choose.ensures.count;
       victim = c.choose.ensures.victim i w _ mount mid;
-      passed = c.choose.ensures.passed (passed_landed c.args.self.now c.note_landed.new.self i w mount st was same c.note_landed.ensures.map);
+      passed = c.choose.ensures.passed (looked_passed landed looked _ look
+          (passed_landed c.args.self.now landed i w mount st was same c.note_landed-may_be.ensures.map));
+      barren = c.choose.ensures.barren;
       asked = c.choose.ensures.asked;
     })
 
 pub returns-clause-own : goal.returns-clause-own
-returns-clause-own c = λ r own. subst (λ (v : WindowView). view.AreOf r v.entries) (sym c.choose.ensures.window) (c.note_landed.ensures.own r own)
+returns-clause-own c = λ r own. subst (λ (v : WindowView). view.AreOf r v.entries) (sym (c.choose.ensures.window ∙ ap (λ (x : Core). x.window) c.look_again.ensures))
+    (c.note_landed-may_be.ensures.own r own)

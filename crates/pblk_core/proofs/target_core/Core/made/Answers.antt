@@ -77,6 +77,7 @@ returns c = record {
   in_flight = refl;
   none_answered = c.in_ok-answers.ensures ∙ ap (λ n. replicate n 0) c.units.ensures;
   lines_held = ap length c.in_ok-collection.ensures.lines ∙ length_replicate c.args.shape.now.chunks None;
+  none_weighed = c.in_ok-collection.ensures.fresh;
   none_at_work = c.in_ok-collection.ensures.victim;
   from_start = c.in_ok-collection.ensures.cursor;
   none_copied = c.in_ok-collection.ensures.idle;

@@ -1,4 +1,4 @@
-use Rattle.std.proofs.Common.{◌≡◌, List, max, arith, sym, ap, ◌∙◌}
+use Rattle.std.proofs.Common.{◌≡◌, true, false, List, max, arith, sym, ap, ◌∙◌}
 use Rattle.std.specs.Prelude.{slice_get}
 use Rattle.std.proofs.lemmas.Option.{none-some}
 use Rattle.line_table.specs.Rows.{Table}
@@ -15,7 +15,10 @@ use Rattle.pblk_core.proofs.UnitRows.{made_resting}
 use Rattle.pblk_core.proofs.target_core.Core.new.Goals as goal
 
 pub choose-requires : goal.choose-requires
-choose-requires c = record { tabled = made_tabled c.args.shape.now c.args.found c.in_ok-core.core c.requires.fit c.in_ok-core.ensures }
+choose-requires c = record {
+  tabled = made_tabled c.args.shape.now c.args.found c.in_ok-core.core c.requires.fit c.in_ok-core.ensures;
+  barren = λ barren line. let wrong : false ≡ true = sym c.in_ok-core.ensures.none_weighed ∙ barren in absurd cc;
+}
 
 pub returns-clause-stands : goal.returns-clause-stands
 returns-clause-stands c = λ i w knows same mount none found closed.
@@ -32,6 +35,7 @@ returns-clause-collects c = λ i w knows same mount none found closed.
       count = c.choose.ensures.count;
       victim = c.choose.ensures.victim i w _ mount mid;
       passed = c.choose.ensures.passed (λ lba line at position low at_work there. none-some line (sym is.none_at_work ∙ at_work));
+      barren = c.choose.ensures.barren;
       asked = c.choose.ensures.asked;
     })
 

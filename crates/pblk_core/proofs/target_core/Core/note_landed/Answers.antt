@@ -1,4 +1,4 @@
-use Rattle.std.proofs.Common.{◌≡◌, ◌≢◌, ℕ, ◌+◌, ◌-◌, ◌^◌, ◌<◌, ◌≤◌, true, false, Some, List, [], length, refl, sym, subst, ap, ◌∙◌, arith, rules}
+use Rattle.std.proofs.Common.{◌≡◌, ◌≢◌, ℕ, ◌+◌, ◌-◌, ◌^◌, ◌<◌, ◌≤◌, Bool, true, false, Some, List, [], length, refl, sym, subst, ap, ◌∙◌, arith, rules}
 use Rattle.std.specs.Prelude.{◌↔◌, IsTrue, min, slice_get, slice_set}
 use Rattle.pblk_model.specs.declared.shape.Shape.{Shape}
 use Rattle.pblk_model.specs.Shape.{units}
@@ -32,7 +32,7 @@ use Rattle.pblk_core.proofs.LandedNow.{read_now}
 use Rattle.pblk_core.proofs.LandedReads.{IsRange, range_is}
 use Rattle.pblk_core.proofs.LandedTables.{reads_held}
 use Rattle.line_table.specs.declared.row.LineState.{LineState}
-use Rattle.line_table.specs.declared.row.LineState.TheVariants.{Full, Open}
+use Rattle.line_table.specs.declared.row.LineState.TheVariants.{Failed, Full, Open}
 use Rattle.line_table.specs.declared.row.Row.{Row}
 use Rattle.line_table.specs.Rows.{Table, IsChange, IsRow}
 use Rattle.core_laws.specs.ChangedTables.{with_row, full_if}
@@ -50,10 +50,11 @@ use Rattle.pblk_core.proofs.KeptFrames.{both_frames}
 use Rattle.pblk_core.proofs.StandsLanded.{IsLandedInto, landed_stands}
 use Rattle.pblk_core.proofs.target_core.Core.note_landed.Goals as goal
 use Rattle.std.proofs.lemmas.Option.{slice_get_within}
-use Rattle.lemmas.proofs.Parts.{get_set_same}
+use Rattle.lemmas.proofs.Parts.{get_set_other, get_set_same}
+use Rattle.pblk_core.proofs.BarrenLines.{brings_none, noted_elsewhere, set_unclosed, unclosed_by_state}
 use Rattle.pblk_core.proofs.TabledLines.{each_kept, each_line}
 use Rattle.pblk_core.proofs.UnitRows.{row_beside}
-use Rattle.pblk_core.proofs.target_core.Core.note_landed.Goals.{In-Some, After-positions-positions, After-get, After-eq, After-land-2, After-get-then-land-eq0}
+use Rattle.pblk_core.proofs.target_core.Core.note_landed.Goals.{In-Some, After-positions-positions, After-get, After-eq, After-land, After-get-then-land-eq0}
 
 pub under_way-requires : goal.under_way-requires
 under_way-requires c =
@@ -227,10 +228,10 @@ overflow_sub-self c =
     let now : c.args.self.now.under_way ≡ under_way sd.image.shape (log_of sd.world 0) = sd.stands.in_flight in
     omega arith
 
-pub land-requires-2-clause-some : goal.land-requires-2-clause-some
-land-requires-2-clause-some c =
+pub land-requires-clause-some : goal.land-requires-clause-some
+land-requires-clause-some c =
     let sd = c.requires.standing in
-    let at = goal.at.land-requires-2-clause-some c in
+    let at = goal.at.land-requires-clause-some c in
     let its = its_core at.In-Some sd.image sd.world (its_simple sd) sd.stands in
     let got_is = its_slot at.After-get sd.image sd.world sd.stands its in
     λ slot there.
@@ -246,26 +247,26 @@ its_kind c = (
 )
 
 -- there is place for two lines
-two_slots : (c : After-land-2) → length c.args.self.now.open.slots.items ≡ 2 → length c.land-2.new.self.slots.items ≡ 2
+two_slots : (c : After-land) → length c.args.self.now.open.slots.items ≡ 2 → length c.land.new.self.slots.items ≡ 2
 two_slots c two =
-    ap length (c.land-2.ensures.slots c.get.result.now c.get.ensures)
+    ap length (c.land.ensures.slots c.get.result.now c.get.ensures)
     ∙ set_length c.args.self.now.open.slots.items c.find-index.result (landed_slot c.get.result.now) ∙ two
 
-mid_slots : (c : After-land-2) → IsLandedIn c.args.self.now.open c.land-2.new.self c.find-index.result c.get.result.now
-mid_slots c = record { slots = c.land-2.ensures.slots c.get.result.now c.get.ensures; count = c.land-2.ensures.count }
+mid_slots : (c : After-land) → IsLandedIn c.args.self.now.open c.land.new.self c.find-index.result c.get.result.now
+mid_slots c = record { slots = c.land.ensures.slots c.get.result.now c.get.ensures; count = c.land.ensures.count }
 
 pub get-requires-then-land-eq0 : goal.get-requires-then-land-eq0
 get-requires-then-land-eq0 c =
-    let two : length c.land-2.new.self.slots.items ≡ 2 =
-    two_slots (goal.at.get-requires-then-land-eq0 c).After-land-2 c.requires.standing.stands.open_lines.two in
+    let two : length c.land.new.self.slots.items ≡ 2 =
+    two_slots (goal.at.get-requires-then-land-eq0 c).After-land c.requires.standing.stands.open_lines.two in
     let inside : c.find-index.result < 2 = c.find-index.ensures.inside in
     omega arith
 
-same_slot : (c : After-get-then-land-eq0) → IsLandedIn c.args.self.now.open c.land-2.new.self c.find-index.result c.get.result.now
+same_slot : (c : After-get-then-land-eq0) → IsLandedIn c.args.self.now.open c.land.new.self c.find-index.result c.get.result.now
     → landed_slot c.get.result.now ≡ c.get-then-land-eq0.result.now
 same_slot c mid =
     same_Some (landed_slot c.get.result.now) c.get-then-land-eq0.result.now
-    (sym (slot_of_mid c.args.self.now.open c.land-2.new.self c.find-index.result c.get.result.now mid c.get.ensures) ∙ c.get-then-land-eq0.ensures)
+    (sym (slot_of_mid c.args.self.now.open c.land.new.self c.find-index.result c.get.result.now mid c.get.ensures) ∙ c.get-then-land-eq0.ensures)
 
 pub width-width-requires : goal.width-width-requires
 width-width-requires c =
@@ -274,7 +275,7 @@ width-width-requires c =
     let its = its_core at.In-Some sd.image sd.world (its_simple sd) sd.stands in
     let got_is = its_slot at.After-get sd.image sd.world sd.stands its in
     let few = live_few sd.image sd.world c.args.self.now (unit_in at.In-Some) (program_in at.In-Some) (its_simple sd) its.is its.has in
-    subst (λ (l : OpenLine). l.live < 2 ^ units c.args.self.now.layout) (same_slot at.After-get-then-land-eq0 (mid_slots at.After-land-2))
+    subst (λ (l : OpenLine). l.live < 2 ^ units c.args.self.now.layout) (same_slot at.After-get-then-land-eq0 (mid_slots at.After-land))
     (subst (λ s. c.get.result.now.live < 2 ^ units s) (sym sd.stands.layout)
     (subst (λ (l : OpenLine). l.live < 2 ^ units sd.image.shape) (sym got_is.slot) few))
 
@@ -313,7 +314,7 @@ turn-requires-clause-change c =
 
 pub remove-requires-clause-two : goal.remove-requires-clause-two
 remove-requires-clause-two c =
-    two_slots (goal.at.remove-requires-clause-two c).After-land-2 c.requires.standing.stands.open_lines.two
+    two_slots (goal.at.remove-requires-clause-two c).After-land c.requires.standing.stands.open_lines.two
 
 pub remove-requires-clause-inside : goal.remove-requires-clause-inside
 remove-requires-clause-inside c =
@@ -321,12 +322,12 @@ remove-requires-clause-inside c =
     let at = goal.at.remove-requires-clause-inside c in
     let its = its_core at.In-Some sd.image sd.world (its_simple sd) sd.stands in
     let got_is = its_slot at.After-get sd.image sd.world sd.stands its in
-    subst (λ n. c.find-index.result < n) (sym c.land-2.ensures.count)
+    subst (λ n. c.find-index.result < n) (sym c.land.ensures.count)
     (subst (λ n. n < c.args.self.now.open.count) (sym got_is.index) its.has.below)
 
 pub remove-requires-clause-few : goal.remove-requires-clause-few
 remove-requires-clause-few c =
-    subst (λ n. n ≤ 2) (sym c.land-2.ensures.count) c.requires.standing.stands.open_lines.few
+    subst (λ n. n ≤ 2) (sym c.land.ensures.count) c.requires.standing.stands.open_lines.few
 
 pub returns-then-land-eq0-clause-stands : goal.returns-then-land-eq0-clause-stands
 returns-then-land-eq0-clause-stands c =
@@ -337,18 +338,18 @@ returns-then-land-eq0-clause-stands c =
     let from : ℕ = c.readable_range-from.result.0 in
     let to : ℕ = c.readable_range-from.result.1 in
     let told = its_positions at.After-positions-positions (on_its_unit at.In-Some) in
-    let mid = mid_slots at.After-land-2 in
+    let mid = mid_slots at.After-land in
     λ i w event knows mount st may. let simple = simple_in i w mount st in
     let its = its_core at.In-Some i w simple st in
     let got_is = its_slot at.After-get i w st its in
     let reach = its_range at.After-get i w simple st its.is in
     let chunk = chunk_is_read i w unit of its.has.slot simple its.is its.has.is in
-    let less : c.land-2.result + 1 ≡ c.get.result.now.stripes_left = c.land-2.ensures.left c.get.result.now c.get.ensures in
+    let less : c.land.result + 1 ≡ c.get.result.now.stripes_left = c.land.ensures.left c.get.result.now c.get.ensures in
     let left : c.get.result.now.stripes_left ≡ its.has.slot.stripes_left = ap (λ (l : OpenLine). l.stripes_left) got_is.slot in
-    let last : its.has.slot.stripes_left - 1 ≡ 0 = (let z : c.land-2.result ≡ 0 = c.if-land-eq0.true in omega arith) in
+    let last : its.has.slot.stripes_left - 1 ≡ 0 = (let z : c.land.result ≡ 0 = c.if-land-eq0.true in omega arith) in
     let same = same_slot at.After-get-then-land-eq0 mid in
     let row = its_row i w core unit of c.get-then-land-eq0.result.now.live st its (ap (λ (l : OpenLine). l.live) (sym same ∙ ap landed_slot got_is.slot)) in
-    let removed : IsRemoved c.land-2.new.self c.remove.new.self c.find-index.result = record {
+    let removed : IsRemoved c.land.new.self c.remove.new.self c.find-index.result = record {
       count = c.remove.ensures.count;
       first = λ s. c.remove.ensures.first s;
       second = λ s. c.remove.ensures.second s;
@@ -357,8 +358,8 @@ returns-then-land-eq0-clause-stands c =
     } in
     let noted = c.note_takers.ensures ∙ ap (noted_lines core.holds.rows.items of.line core.lines) told in
     let now = noted_row core.holds.rows.items of.line of.positions core.lines row.0 row.1 in
-    let put = subst (λ k. IsLandedIn core.open c.land-2.new.self k c.get.result.now) got_is.index mid in
-    let into : IsLandedInto core _ of its.has.k its.has.slot c.land-2.new.self true from to = record {
+    let put = subst (λ k. IsLandedIn core.open c.land.new.self k c.get.result.now) got_is.index mid in
+    let into : IsLandedInto core _ of its.has.k its.has.slot c.land.new.self true from to = record {
       layout = refl;
       map = c.make_readable.ensures.map
           ∙ ap (λ (l : OpenLine). all_moved core.layout.capacity l.records.line core.map (reads_of l of.unit from to)) got_is.slot;
@@ -371,9 +372,9 @@ returns-then-land-eq0-clause-stands c =
           ∙ ap (λ (l : OpenLine). all_readable (all_landed core.window of.positions) (reads_of l of.unit from to)) got_is.slot;
       placer = c.landed.ensures;
       holds = refl;
-      in_slot = subst (λ (l : OpenLine). IsLandedIn core.open c.land-2.new.self its.has.k l) got_is.slot put;
+      in_slot = subst (λ (l : OpenLine). IsLandedIn core.open c.land.new.self its.has.k l) got_is.slot put;
       stay = λ e. absurd (let f : true ≡ false = e in cc);
-      gone = λ e. subst (λ k. IsRemoved c.land-2.new.self c.remove.new.self k) got_is.index removed;
+      gone = λ e. subst (λ k. IsRemoved c.land.new.self c.remove.new.self k) got_is.index removed;
       left = λ e. refl;
       none_left = λ e. last;
       live = refl;
@@ -385,9 +386,9 @@ returns-then-land-eq0-clause-stands c =
       start_is = its_kind at.After-eq;
       notes = λ row there.
           let inside = slice_get_within core.notes.rows.items of.line row there in
-          set_closed core.notes.rows.items c.land.new.self.rows.items c.close.new.self.rows.items of.line (note_landed c.eq.result row) inside
-          (c.land.ensures.rows row there) c.close.ensures.rows;
-      newest = λ row there. c.close.ensures.newest ∙ c.land.ensures.newest row there;
+          set_closed core.notes.rows.items c.land-is_newer.new.self.rows.items c.close.new.self.rows.items of.line (note_landed c.eq.result row) inside
+          (c.land-is_newer.ensures.rows row there) c.close.ensures.rows;
+      newest = λ row there. c.close.ensures.newest ∙ c.land-is_newer.ensures.newest row there;
       start = refl;
       first = refl;
       placed = refl;
@@ -398,8 +399,8 @@ returns-then-land-eq0-clause-stands c =
           c.add_answer.ensures;
       users = refl;
     } in
-    landed_stands i w unit event knows core _ of c.land-2.new.self true from to simple st its.is (its.waits st.again st.placing) may its.has into
-    (read_now i w unit event knows core _ of c.land-2.new.self true from to simple st its.is its.has into reach chunk)
+    landed_stands i w unit event knows core _ of c.land.new.self true from to simple st its.is (its.waits st.again st.placing) may its.has into
+    (read_now i w unit event knows core _ of c.land.new.self true from to simple st its.is its.has into reach chunk)
 
 pub returns-else-land-eq0-clause-stands : goal.returns-else-land-eq0-clause-stands
 returns-else-land-eq0-clause-stands c =
@@ -410,20 +411,20 @@ returns-else-land-eq0-clause-stands c =
     let from : ℕ = c.readable_range-from.result.0 in
     let to : ℕ = c.readable_range-from.result.1 in
     let told = its_positions at.After-positions-positions (on_its_unit at.In-Some) in
-    let mid = mid_slots at.After-land-2 in
+    let mid = mid_slots at.After-land in
     λ i w event knows mount st may. let simple = simple_in i w mount st in
     let its = its_core at.In-Some i w simple st in
     let got_is = its_slot at.After-get i w st its in
     let reach = its_range at.After-get i w simple st its.is in
     let chunk = chunk_is_read i w unit of its.has.slot simple its.is its.has.is in
-    let less : c.land-2.result + 1 ≡ c.get.result.now.stripes_left = c.land-2.ensures.left c.get.result.now c.get.ensures in
+    let less : c.land.result + 1 ≡ c.get.result.now.stripes_left = c.land.ensures.left c.get.result.now c.get.ensures in
     let left : c.get.result.now.stripes_left ≡ its.has.slot.stripes_left = ap (λ (l : OpenLine). l.stripes_left) got_is.slot in
-    let more : its.has.slot.stripes_left - 1 ≢ 0 = λ z. c.if-land-eq0.false (let n : c.land-2.result ≡ 0 = omega arith in n) in
+    let more : its.has.slot.stripes_left - 1 ≢ 0 = λ z. c.if-land-eq0.false (let n : c.land.result ≡ 0 = omega arith in n) in
     let row = its_row i w core unit of its.has.slot.live st its refl in
     let noted = c.note_takers.ensures ∙ ap (noted_lines core.holds.rows.items of.line core.lines) told in
     let now = noted_row core.holds.rows.items of.line of.positions core.lines row.0 row.1 in
-    let put = subst (λ k. IsLandedIn core.open c.land-2.new.self k c.get.result.now) got_is.index mid in
-    let into : IsLandedInto core _ of its.has.k its.has.slot c.land-2.new.self false from to = record {
+    let put = subst (λ k. IsLandedIn core.open c.land.new.self k c.get.result.now) got_is.index mid in
+    let into : IsLandedInto core _ of its.has.k its.has.slot c.land.new.self false from to = record {
       layout = refl;
       map = c.make_readable.ensures.map
           ∙ ap (λ (l : OpenLine). all_moved core.layout.capacity l.records.line core.map (reads_of l of.unit from to)) got_is.slot;
@@ -435,7 +436,7 @@ returns-else-land-eq0-clause-stands c =
           ∙ ap (λ (l : OpenLine). all_readable (all_landed core.window of.positions) (reads_of l of.unit from to)) got_is.slot;
       placer = c.landed.ensures;
       holds = refl;
-      in_slot = subst (λ (l : OpenLine). IsLandedIn core.open c.land-2.new.self its.has.k l) got_is.slot put;
+      in_slot = subst (λ (l : OpenLine). IsLandedIn core.open c.land.new.self its.has.k l) got_is.slot put;
       stay = λ e. refl;
       gone = λ e. absurd (let f : false ≡ true = e in cc);
       left = λ e. absurd (more e);
@@ -447,8 +448,8 @@ returns-else-land-eq0-clause-stands c =
       used_others = λ other apart. refl;
       is_start = c.eq.result;
       start_is = its_kind at.After-eq;
-      notes = c.land.ensures.rows;
-      newest = c.land.ensures.newest;
+      notes = c.land-is_newer.ensures.rows;
+      newest = c.land-is_newer.ensures.newest;
       start = refl;
       first = refl;
       placed = refl;
@@ -459,8 +460,8 @@ returns-else-land-eq0-clause-stands c =
           c.add_answer.ensures;
       users = refl;
     } in
-    landed_stands i w unit event knows core _ of c.land-2.new.self false from to simple st its.is (its.waits st.again st.placing) may its.has into
-    (read_now i w unit event knows core _ of c.land-2.new.self false from to simple st its.is its.has into reach chunk)
+    landed_stands i w unit event knows core _ of c.land.new.self false from to simple st its.is (its.waits st.again st.placing) may its.has into
+    (read_now i w unit event knows core _ of c.land.new.self false from to simple st its.is its.has into reach chunk)
 
 pub returns-then-land-eq0-clause-own : goal.returns-then-land-eq0-clause-own
 returns-then-land-eq0-clause-own c =
@@ -530,17 +531,17 @@ returns-else-land-eq0-clause-rows c = λ other apart.
     ap (λ (p : Placing). slice_get p.units other) c.landed.ensures
     ∙ row_beside c.args.self.now.placer (program_in at.In-Some) Idle c.args.stripe.now.stripe.unit other (its_unit at.In-Some) apart
 
-pub land-requires-clause-inside : goal.land-requires-clause-inside
-land-requires-clause-inside c =
+pub land-is_newer-requires-clause-inside : goal.land-is_newer-requires-clause-inside
+land-is_newer-requires-clause-inside c =
     let sd = c.requires.standing in
-    let at = (goal.at.land-requires-clause-inside c).In-Some in
+    let at = (goal.at.land-is_newer-requires-clause-inside c).In-Some in
     let its = its_core at sd.image sd.world (its_simple sd) sd.stands in
     line_noted sd.image sd.world c.args.self.now (unit_in at) (program_in at) (its_simple sd) sd.stands its.is
 
-pub land-requires-clause-some : goal.land-requires-clause-some
-land-requires-clause-some c =
+pub land-is_newer-requires-clause-some : goal.land-is_newer-requires-clause-some
+land-is_newer-requires-clause-some c =
     let sd = c.requires.standing in
-    let at = (goal.at.land-requires-clause-some c).In-Some in
+    let at = (goal.at.land-is_newer-requires-clause-some c).In-Some in
     let its = its_core at sd.image sd.world (its_simple sd) sd.stands in
     some_starts sd.image sd.world c.args.self.now (unit_in at) (program_in at) (its_simple sd) sd.stands its.is c.eq.result (its_kind c)
 
@@ -573,7 +574,7 @@ close-requires c =
     let its = its_core at sd.image sd.world (its_simple sd) sd.stands in
     let low = line_noted sd.image sd.world c.args.self.now (unit_in at) (program_in at) (its_simple sd) sd.stands its.is in
     let row = got_within c.args.self.now.notes.rows.items c.in-Some.of.line low in
-    subst (λ n. c.in-Some.of.line < n) (sym (ap length (c.land.ensures.rows row.0 row.1)
+    subst (λ n. c.in-Some.of.line < n) (sym (ap length (c.land-is_newer.ensures.rows row.0 row.1)
     ∙ set_length c.args.self.now.notes.rows.items c.in-Some.of.line (note_landed c.eq.result row.0))) low
 
 -- ---- each line has its rows still
@@ -603,8 +604,8 @@ returns-then-land-eq0-clause-each c =
     let inside = slice_get_within c.args.self.now.notes.rows.items c.in-Some.of.line note.0 note.1 in
     each_kept c.args.self.now _ (each_was at) refl refl
     (c.turn.ensures.lines ∙ noted_length at c.positions-positions.result.now c.note_takers.new.lines c.note_takers.ensures)
-    (ap (λ (rows : List LineNote). length rows) (set_closed c.args.self.now.notes.rows.items c.land.new.self.rows.items c.close.new.self.rows.items
-    c.in-Some.of.line (note_landed c.eq.result note.0) inside (c.land.ensures.rows note.0 note.1) c.close.ensures.rows)
+    (ap (λ (rows : List LineNote). length rows) (set_closed c.args.self.now.notes.rows.items c.land-is_newer.new.self.rows.items c.close.new.self.rows.items
+    c.in-Some.of.line (note_landed c.eq.result note.0) inside (c.land-is_newer.ensures.rows note.0 note.1) c.close.ensures.rows)
     ∙ set_length c.args.self.now.notes.rows.items c.in-Some.of.line _)
 
 pub returns-else-land-eq0-clause-each : goal.returns-else-land-eq0-clause-each
@@ -613,7 +614,7 @@ returns-else-land-eq0-clause-each c =
     let note = its_note at in
     each_kept c.args.self.now _ (each_was at) refl refl
     (noted_length at c.positions-positions.result.now c.note_takers.new.lines c.note_takers.ensures)
-    (ap (λ (rows : List LineNote). length rows) (c.land.ensures.rows note.0 note.1)
+    (ap (λ (rows : List LineNote). length rows) (c.land-is_newer.ensures.rows note.0 note.1)
     ∙ set_length c.args.self.now.notes.rows.items c.in-Some.of.line _)
 
 -- ---- what is on the drive in a line that isn't Open was there
@@ -653,3 +654,38 @@ returns-else-land-eq0-clause-map c = λ lba line at position row there other nam
     from_elsewhere c.args.self.now.layout.capacity c.get.result.now.records.line line lba at position
     (reads_of c.get.result.now c.in-Some.of.unit c.readable_range-from.result.0 c.readable_range-from.result.1) c.args.self.now.map
     (λ same. apart steps.In-Some line row there other (same ∙ into)) (ap (λ m. fin.get m lba) (sym c.make_readable.ensures.map) ∙ named)
+
+-- ---- where the line isn't closed yet, and the same start record is the newest
+
+pub returns-then-land-eq0-clause-brings : goal.returns-then-land-eq0-clause-brings
+returns-then-land-eq0-clause-brings c = λ none. absurd (let wrong : true ≡ false = none in cc)
+
+same_closed : (start : Bool) (row : LineNote) → (note_landed start row).closed ≡ row.closed
+same_closed true row = refl
+same_closed false row = refl
+
+pub returns-else-land-eq0-clause-brings : goal.returns-else-land-eq0-clause-brings
+returns-else-land-eq0-clause-brings c = λ none.
+    let at = (goal.at.returns-else-land-eq0-clause-brings c).In-Some in
+    let sd = c.requires.standing in
+    let core : Core = c.args.self.now in
+    let line : ℕ = c.in-Some.of.line in
+    let note = its_note at in
+    let inside = slice_get_within core.notes.rows.items line note.0 note.1 in
+    let rows = c.land-is_newer.ensures.rows note.0 note.1 in
+    let its = its_core at sd.image sd.world (its_simple sd) sd.stands in
+    let unclosed = unclosed_by_state sd.image sd.world core line sd.legal sd.stands (λ row there.
+    let is_open : row.state ≡ Open = row_is_open sd.image sd.world core (unit_in at) (program_in at) row (its_simple sd) sd.stands its.is
+    (ap (slice_get core.lines.rows) (line_of_way sd.image sd.world (unit_in at) (program_in at) its.is) ∙ there) in
+    (λ full. (let both : Open ≡ Full = sym is_open ∙ full in cc), λ failed. (let both : Open ≡ Failed = sym is_open ∙ failed in cc))) in
+    brings_none core (record core { notes = c.land-is_newer.new.self; lines = c.note_takers.new.lines }) line (record {
+      layout = refl;
+      newest = c.land-is_newer.ensures.same none;
+      others = λ other apart. record {
+        notes = ap (λ (rs : List LineNote). slice_get rs other) rows ∙ get_set_other core.notes.rows.items line other _ apart;
+        rows = ap (λ (t : Table). slice_get t.rows other) c.note_takers.ensures
+            ∙ noted_elsewhere core.holds.rows.items line other c.positions-positions.result.now core.lines apart;
+        live = refl;
+      };
+    }) (set_unclosed core.notes.rows.items c.land-is_newer.new.self.rows.items line _ inside rows
+    (same_closed c.eq.result note.0 ∙ unclosed note.0 note.1))

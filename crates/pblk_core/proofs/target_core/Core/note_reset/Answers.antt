@@ -1,4 +1,4 @@
-use Rattle.std.proofs.Common.{◌≡◌, ◌<◌, ◌≤◌, is_some, true, false, length, refl, sym, subst, ap, ◌∙◌, rules}
+use Rattle.std.proofs.Common.{◌≡◌, ℕ, ◌<◌, ◌≤◌, is_some, true, false, length, refl, sym, subst, ap, ◌∙◌, rules}
 use Rattle.std.specs.Prelude.{slice_get}
 use Rattle.std.specs.List.{slice_index_or}
 use Rattle.std.proofs.lemmas.Option.{get_or_from_slice_get, slice_get_within}
@@ -6,12 +6,17 @@ use Rattle.pblk_model.specs.declared.shape.Shape.{Shape}
 use Rattle.pblk_model.specs.Shape.{units}
 use Rattle.pblk_model.specs.LineOrder.{data_len}
 use Rattle.pblk_layout.specs.Live.{units_in}
-use Rattle.line_table.specs.declared.row.LineState.TheVariants.{Freed}
+use Rattle.line_table.specs.declared.row.LineState.TheVariants.{Failed, Freed, Full}
 use Rattle.line_table.specs.Rows.{Changes, IsChange, turned}
+use Rattle.pblk_core.specs.declared.target_core.Core.{Core}
+use Rattle.pblk_core.specs.declared.work.Work.TheVariants.{Reset}
+use Rattle.pblk_core.specs.Named.{named}
 use Rattle.pblk_core.specs.Resets.{emptied}
+use Rattle.pblk_core.specs.Stands.{IsStanding}
+use Rattle.pblk_core.proofs.BarrenLines.{IsUnclosed, brings_none, turned_elsewhere, unclosed_by_state}
 use Rattle.pblk_core.proofs.SimpleLogs.{simple_in}
 use Rattle.pblk_core.proofs.NamedReset.{named_first}
-use Rattle.pblk_core.proofs.ResetConditions.{each_reset, reset_next, kept_few, kept_there, emptied_change, table_shape}
+use Rattle.pblk_core.proofs.ResetConditions.{each_reset, reset_next, kept_beside, kept_few, kept_there, emptied_change, table_shape}
 use Rattle.pblk_core.proofs.StandsReset.{reset_stands}
 use Rattle.pblk_core.proofs.target_core.Core.note_reset.Goals as goal
 
@@ -120,3 +125,36 @@ returns-then-not-is_at-clause-each c =
 pub returns-else-not-is_at-clause-each : goal.returns-else-not-is_at-clause-each
 returns-else-not-is_at-clause-each c =
     each_reset c.args.self.now _ c.args.line c.args.unit c.args.state c.requires.standing refl refl refl c.keep_unit.ensures
+
+-- the line whose chunk is reset isn't closed
+unclosed : (c : Core) (line unit : ℕ) → IsStanding c → named c ≡ Reset line unit → IsUnclosed c line
+unclosed c line unit sd names = unclosed_by_state sd.image sd.world c line sd.legal sd.stands (λ row there.
+    let freed = (reset_next c line unit sd names).freed row there in
+    (λ full. (let both : Freed ≡ Full = sym freed ∙ full in cc), λ failed. (let both : Freed ≡ Failed = sym freed ∙ failed in cc)))
+
+pub returns-then-not-is_at-clause-brings : goal.returns-then-not-is_at-clause-brings
+returns-then-not-is_at-clause-brings c =
+    brings_none c.args.self.now (record c.args.self.now { live = c.keep_unit.new.live; lines = c.turn.new.self }) c.args.line (record {
+      layout = refl;
+      newest = refl;
+      others = λ other apart. record {
+        notes = refl;
+        rows = turned_elsewhere c.args.self.now.lines c.turn.new.self c.args.line other _
+            (reset_next c.args.self.now c.args.line c.args.unit c.requires.standing c.requires.named).line_row c.turn.ensures apart;
+        live = ap (λ us. slice_get us other) c.keep_unit.ensures
+            ∙ kept_beside c.args.self.now.live.items c.args.line c.args.unit other c.args.state apart;
+      };
+    }) (unclosed c.args.self.now c.args.line c.args.unit c.requires.standing c.requires.named)
+
+pub returns-else-not-is_at-clause-brings : goal.returns-else-not-is_at-clause-brings
+returns-else-not-is_at-clause-brings c =
+    brings_none c.args.self.now (record c.args.self.now { live = c.keep_unit.new.live }) c.args.line (record {
+      layout = refl;
+      newest = refl;
+      others = λ other apart. record {
+        notes = refl;
+        rows = refl;
+        live = ap (λ us. slice_get us other) c.keep_unit.ensures
+            ∙ kept_beside c.args.self.now.live.items c.args.line c.args.unit other c.args.state apart;
+      };
+    }) (unclosed c.args.self.now c.args.line c.args.unit c.requires.standing c.requires.named)

@@ -1,5 +1,5 @@
-use Rattle.std.proofs.Common.{◌≡◌, ℕ, ◌+◌, ◌*◌, ◌/◌, ◌<◌, ◌≤◌, ◌^◌, arith, rules, length, refl, sym, subst, ap, ap₂, ◌∙◌, IsTrue}
-use Rattle.std.specs.Prelude.{slice_set}
+use Rattle.std.proofs.Common.{◌≡◌, ℕ, ◌+◌, ◌*◌, ◌/◌, ◌<◌, ◌≤◌, ◌^◌, arith, rules, List, length, refl, sym, subst, ap, ap₂, ◌∙◌, IsTrue}
+use Rattle.std.specs.Prelude.{slice_get, slice_set}
 use Rattle.std.specs.List.{slice_index_or}
 use Rattle.std.proofs.lemmas.Option.{none-some}
 use Rattle.pblk_model.specs.declared.shape.Shape.{Shape}
@@ -16,14 +16,18 @@ use Rattle.line_table.specs.declared.row.LineState.TheVariants as states
 use Rattle.line_table.specs.Rows.{Changes, turned}
 use Rattle.stripe_placer.specs.Placing.{Placing, begun as line_begun}
 use Rattle.core_laws.specs.OpenedLines.{open_lines}
+use Rattle.lemmas.proofs.Parts.{get_set_other}
+use Rattle.pblk_core.specs.declared.line_notes.LineNote.{LineNote}
 use Rattle.pblk_core.specs.LineNotes.{note_opened}
 use Rattle.pblk_core.specs.Slots.{opened_slot}
 use Rattle.pblk_core.specs.Named.{next_line, next_start}
+use Rattle.pblk_core.proofs.BarrenLines.{brings_none, set_unclosed, turned_elsewhere}
 use Rattle.pblk_core.proofs.SimpleLogs.{its_simple, simple_in}
 use Rattle.pblk_core.proofs.OpeningFacts.{open_is_named, next_line_is, next_may_open, chosen, chosen_few, none_open, stripes_few}
 use Rattle.pblk_core.proofs.ResetConditions.{table_shape}
 use Rattle.pblk_core.proofs.OpeningNumbers.{next_fits}
 use Rattle.pblk_core.proofs.StandsOpened.{opened_stands}
+use Rattle.pblk_core.proofs.TabledLines.{each_line}
 use Rattle.pblk_core.proofs.WorkOf.{open_count}
 use Rattle.pblk_core.proofs.target_core.Core.open_least.Goals as goal
 
@@ -252,3 +256,27 @@ returns-clause-stands c = λ i w knows mount st. let simple = simple_in i w moun
 
 pub returns-clause-rows : goal.returns-clause-rows
 returns-clause-rows c = ap (λ (p : Placing). p.units) c.begin-2.ensures
+
+-- the line that is opened isn't closed
+pub returns-clause-brings : goal.returns-clause-brings
+returns-clause-brings c =
+    let st = c.requires.standing in
+    let may = open_is_named c.args.self.now c.requires.named in
+    let is = next_line_is st.image st.world c.args.self.now (its_simple st) st.stands may in
+    let it = chosen st.image st.world c.args.self.now c.in-Some.line c.index-live.result.now c.index-live.result.now (its_simple st) st.stands may
+    (sym c.least_free.ensures.least ∙ c.in-Some.is) c.index-live.ensures in
+    let each = each_line st.image st.world (log_of st.world) st.legal st.stands in
+    let inside : c.in-Some.line < c.args.self.now.layout.chunks = subst (λ n. n < c.args.self.now.layout.chunks) it.0
+    (subst (λ (s : Shape). next_line c.args.self.now < s.chunks) (sym st.stands.layout) is.least.in_range) in
+    brings_none c.args.self.now (record c.args.self.now { notes = c.«open».new.self; lines = c.turn.new.self }) c.in-Some.line (record {
+      layout = refl;
+      newest = c.«open».ensures.newest;
+      others = λ other apart. record {
+        notes = ap (λ (rs : List LineNote). slice_get rs other) c.«open».ensures.rows
+            ∙ get_set_other c.args.self.now.notes.rows.items c.in-Some.line other _ apart;
+        rows = turned_elsewhere c.args.self.now.lines c.turn.new.self c.in-Some.line other _
+            (subst (λ n. c.in-Some.line < n) (sym each.rows) inside) c.turn.ensures apart;
+        live = refl;
+      };
+    }) (set_unclosed c.args.self.now.notes.rows.items c.«open».new.self.rows.items c.in-Some.line _
+    (subst (λ n. c.in-Some.line < n) (sym each.noted) inside) c.«open».ensures.rows refl)

@@ -3,6 +3,7 @@ use Rattle.std.proofs.lemmas.Option.{none-some}
 use Rattle.pblk_world.specs.Events.{Open}
 use Rattle.pblk_core.specs.declared.collecting.Collection.{Collection}
 use Rattle.pblk_core.specs.Named.{next_start}
+use Rattle.pblk_core.proofs.BarrenLines.{barren_kept}
 use Rattle.pblk_core.proofs.Collected.{collected, passed_same}
 use Rattle.pblk_core.proofs.TabledLines.{tabled_same}
 use Rattle.pblk_core.proofs.target_core.Core.open_line.Goals as goal
@@ -13,6 +14,8 @@ choose-requires c =
     record {
       tabled = tabled_same c.args.self.now c.open_least.new.self is _ (c.open_least.ensures.stands is.image is.world [] is.legal is.stands)
           c.open_least.ensures.collection;
+      barren = barren_kept c.args.self.now c.open_least.new.self is.collects.barren c.open_least.ensures.brings
+          (ap (λ (x : Collection). x.barren) c.open_least.ensures.collection);
     }
 
 pub returns-clause-stands : goal.returns-clause-stands
@@ -30,5 +33,6 @@ returns-clause-collects c = λ i w knows mount st was.
       count = c.choose.ensures.count;
       victim = c.choose.ensures.victim i w _ mount mid;
       passed = c.choose.ensures.passed (passed_same c.args.self.now c.open_least.new.self was.passed c.open_least.ensures.map same);
+      barren = c.choose.ensures.barren;
       asked = c.choose.ensures.asked;
     })

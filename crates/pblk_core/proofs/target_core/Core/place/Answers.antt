@@ -6,6 +6,7 @@ use Rattle.stripe_placer.specs.Placing.{UnitRow, next_stripe, program}
 use Rattle.stripe_placer.proofs.NextUnits.{its_idle, its_stop}
 use Rattle.pblk_core.specs.declared.collecting.Collection.{Collection}
 use Rattle.pblk_core.specs.Named.{pad_of}
+use Rattle.pblk_core.proofs.BarrenLines.{barren_kept}
 use Rattle.pblk_core.proofs.Collected.{collected, collects_same, passed_same}
 use Rattle.pblk_core.proofs.TabledLines.{tabled_same}
 use Rattle.pblk_core.proofs.WorkOf.{program_named}
@@ -28,6 +29,9 @@ place_again-requires-clause-stopped c =
 pub returns-then-is_stopped-clause-legal : goal.returns-then-is_stopped-clause-legal
 returns-then-is_stopped-clause-legal c = λ first. let wrong : true ≡ false = sym c.place_again.ensures.again ∙ first in absurd cc
 
+pub returns-then-is_stopped-clause-due : goal.returns-then-is_stopped-clause-due
+returns-then-is_stopped-clause-due c = λ first. let wrong : true ≡ false = sym c.place_again.ensures.again ∙ first in absurd cc
+
 pub returns-then-is_stopped-clause-stands : goal.returns-then-is_stopped-clause-stands
 returns-then-is_stopped-clause-stands c = λ first. let wrong : true ≡ false = sym c.place_again.ensures.again ∙ first in absurd cc
 
@@ -37,7 +41,8 @@ returns-then-is_stopped-clause-again c = λ again i w mount st. (c.place_again.e
 pub returns-then-is_stopped-clause-collects_again : goal.returns-then-is_stopped-clause-collects_again
 returns-then-is_stopped-clause-collects_again c = λ again i logs was.
     let pad : pad_of c.place_again.new.self ≡ pad_of c.args.self.now = c.place_again.ensures.pad in
-    collects_same c.args.self.now c.place_again.new.self i logs was c.place_again.ensures.map c.place_again.ensures.collection (omega arith)
+    collects_same c.args.self.now c.place_again.new.self i logs was c.place_again.ensures.map c.place_again.ensures.collection
+    c.place_again.ensures.brings (omega arith)
 
 -- ---- a new stripe
 
@@ -48,12 +53,17 @@ place_new-requires-clause-idle c =
 pub returns-else-is_stopped-clause-legal : goal.returns-else-is_stopped-clause-legal
 returns-else-is_stopped-clause-legal c = λ first. c.place_new.ensures.legal
 
+pub returns-else-is_stopped-clause-due : goal.returns-else-is_stopped-clause-due
+returns-else-is_stopped-clause-due c = λ first. c.place_new.ensures.due
+
 pub choose-requires : goal.choose-requires
 choose-requires c =
     let is = c.requires.collecting in
     record {
       tabled = tabled_same c.args.self.now c.place_new.new.self is _ (c.place_new.ensures.stands is.image is.world [] is.legal is.stands)
           c.place_new.ensures.collection;
+      barren = barren_kept c.args.self.now c.place_new.new.self is.collects.barren c.place_new.ensures.brings
+          (ap (λ (x : Collection). x.barren) c.place_new.ensures.collection);
     }
 
 pub returns-else-is_stopped-clause-stands : goal.returns-else-is_stopped-clause-stands
@@ -70,6 +80,7 @@ returns-else-is_stopped-clause-collects c = λ first i w knows mount st was.
       count = c.choose.ensures.count;
       victim = c.choose.ensures.victim i w _ mount mid;
       passed = c.choose.ensures.passed (passed_same c.args.self.now c.place_new.new.self was.passed c.place_new.ensures.map same);
+      barren = c.choose.ensures.barren;
       asked = c.choose.ensures.asked;
     })
 

@@ -21,6 +21,7 @@ use Rattle.pblk_core.specs.declared.target_core.Core.{Core}
 use Rattle.pblk_core.proofs.KeptFrames.{placed_pad}
 use Rattle.pblk_core.proofs.PlacedStripe.{IsInPart}
 use Rattle.pblk_core.proofs.PlacingConditions.{padded_is, stripe_of, unit_inside}
+use Rattle.pblk_core.proofs.BarrenLines.{brings_kept}
 use Rattle.pblk_core.proofs.SimpleLogs.{its_simple, simple_in}
 use Rattle.pblk_core.proofs.StandsAgain.{IsPlacedAgain, again_into, again_stands}
 use Rattle.pblk_core.proofs.StoppedConditions.{IsStopped, end_again_within, few_again, from_again, held_again, its_stopped, line_there, marks_again, says_stopped, slot_kept, slot_there, start_within}
@@ -307,3 +308,9 @@ returns-clause-turn c = λ i w mount st.
     (the_filling at i w its slot).turn
     ∙ count_told i (log_of w) c.args.self.now c.args.of.now.unit c.index-turn.result.now st its.is.row.inside c.index-turn.ensures
     ∙ ap (answer_count (log_of w 0)) (sym unit)
+
+pub returns-clause-brings : goal.returns-clause-brings
+returns-clause-brings c =
+    let at = (goal.at.returns-clause-brings c).Joined-of in
+    let rest = the_rest at c.placed.new.self c.placed.ensures.placed in
+    brings_kept c.args.self.now (record c.match-of.self { placer = c.placed.new.self }) rest.layout rest.notes rest.lines rest.live

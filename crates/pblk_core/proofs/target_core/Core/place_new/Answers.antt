@@ -5,6 +5,7 @@ use Rattle.pblk_model.specs.declared.chunk.Mark.{Mark}
 use Rattle.pblk_model.specs.Chunk.{Block}
 use Rattle.stripe_placer.specs.declared.placement.StripeKind.{StripeKind}
 use Rattle.stripe_placer.specs.declared.placement.StripeKind.TheVariants as kinds
+use Rattle.line_table.specs.Rows.{Table}
 use Rattle.core_laws.specs.ClosedLines.{top_of}
 use Rattle.core_laws.specs.StripeFor.{IsStripeFor}
 use Rattle.pblk_core.specs.Entries.{entry_blocks, placed_lines, placed_rows}
@@ -12,9 +13,13 @@ use Rattle.pblk_core.specs.Filling.{Filling, followed_by}
 use Rattle.pblk_core.specs.LineNotes.{note_placed}
 use Rattle.pblk_core.specs.LineRecords.{blocks_at_start, blocks_at_end, end_begins}
 use Rattle.pblk_core.specs.Slots.{IsSlot, with_marks}
+use Rattle.lemmas.proofs.Parts.{get_set_other, got_within}
+use Rattle.pblk_core.specs.declared.line_notes.LineNote.{LineNote}
+use Rattle.pblk_core.proofs.BarrenLines.{brings_none, placed_elsewhere, set_unclosed, unclosed_by_logs}
 use Rattle.pblk_core.proofs.SimpleLogs.{its_simple, simple_in}
 use Rattle.pblk_core.proofs.KeptFrames.{placed_pad}
-use Rattle.pblk_core.proofs.StandsPlaced.{entries_for, slots_for, placed_stands}
+use Rattle.pblk_core.proofs.PlacedStripe.{due_now}
+use Rattle.pblk_core.proofs.StandsPlaced.{entries_for, line_unclosed, slots_for, placed_stands}
 use Rattle.pblk_model.specs.LineOrder.{start_len}
 use Rattle.pblk_model.specs.Image.{Image}
 use Rattle.pblk_world.specs.World.{World, log_of}
@@ -327,6 +332,13 @@ returns-clause-legal c = λ i v mount st. let simple = simple_in i v mount st in
     let f = its_line all.After-find-index i v simple st in
     f.now.may c.match-of.into.stripe (the_stripe at i v simple st f)
 
+pub returns-clause-due : goal.returns-clause-due
+returns-clause-due c = λ i v mount st. let simple = simple_in i v mount st in
+    let all = goal.at.returns-clause-due c in
+    let at = all.Joined-of in
+    let f = its_line all.After-find-index i v simple st in
+    due_now i v c.args.self.now.placer.entries.pad f.o (program_in at) c.match-of.into.stripe simple f.now (the_stripe at i v simple st f)
+
 pub returns-clause-stands : goal.returns-clause-stands
 returns-clause-stands c = λ i v knows mount st. let simple = simple_in i v mount st in
     let all = goal.at.returns-clause-stands c in
@@ -446,3 +458,28 @@ returns-clause-turn c = λ i w mount st.
     ] in
     told ∙ count_told i (log_of w) c.args.self.now c.args.of.now.unit c.index-turn.result.now st f.now.unit c.index-turn.ensures
     ∙ ap (answer_count (log_of w 0)) (sym for.unit)
+
+-- the line of the stripe isn't closed
+pub returns-clause-brings : goal.returns-clause-brings
+returns-clause-brings c =
+    let all = goal.at.returns-clause-brings c in
+    let at = all.Joined-of in
+    let sd = c.requires.standing in
+    let core : Core = core_in at in
+    let of : Program = program_in at in
+    let f = its_line all.After-find-index sd.image sd.world (its_simple sd) sd.stands in
+    let rest = the_rest at sd.image sd.world (its_simple sd) sd.stands f in
+    let inside : of.line < length core.notes.rows.items = subst (λ n. of.line < n) (sym sd.stands.notes.count) f.now.line in
+    let row = got_within core.notes.rows.items of.line inside in
+    let unclosed = unclosed_by_logs sd.image sd.world core of.line sd.stands
+    (line_unclosed sd.image sd.world core.placer.entries.pad f.o of (its_simple sd) f.now) in
+    brings_none core c.match-of.self of.line (record {
+      layout = rest.layout;
+      newest = rest.newest;
+      others = λ other apart. record {
+        notes = ap (λ (rs : List LineNote). slice_get rs other) (rest.note_rows row.0 row.1)
+            ∙ get_set_other core.notes.rows.items of.line other _ apart;
+        rows = ap (λ (t : Table). slice_get t.rows other) rest.lines ∙ placed_elsewhere core.holds.rows.items of.line other of.positions core.lines apart;
+        live = ap (λ us. slice_get us.items other) rest.live;
+      };
+    }) (set_unclosed core.notes.rows.items c.match-of.self.notes.rows.items of.line _ inside (rest.note_rows row.0 row.1) (unclosed row.0 row.1))

@@ -2,6 +2,7 @@ use Rattle.std.proofs.Common.{length, ap}
 use Rattle.std.proofs.lemmas.Option.{none-some}
 use Rattle.pblk_world.specs.Events.{Again}
 use Rattle.pblk_core.specs.declared.collecting.Collection.{Collection}
+use Rattle.pblk_core.proofs.BarrenLines.{barren_kept}
 use Rattle.pblk_core.proofs.Collected.{collected, passed_same}
 use Rattle.pblk_core.proofs.TabledLines.{tabled_kept}
 use Rattle.pblk_core.proofs.target_core.Core.stopped.Goals as goal
@@ -9,7 +10,11 @@ use Rattle.pblk_core.proofs.target_core.Core.stopped.Goals as goal
 pub choose-requires : goal.choose-requires
 choose-requires c =
     let mid = c.note_stopped.ensures in
-    record { tabled = tabled_kept c.args.self.now c.note_stopped.new.self c.requires.collecting mid.each mid.layout mid.collection }
+    record {
+      tabled = tabled_kept c.args.self.now c.note_stopped.new.self c.requires.collecting mid.each mid.layout mid.collection;
+      barren = barren_kept c.args.self.now c.note_stopped.new.self c.requires.collecting.collects.barren mid.brings
+          (ap (λ (x : Collection). x.barren) mid.collection);
+    }
 
 pub returns-clause-stands : goal.returns-clause-stands
 returns-clause-stands c = λ i w event knows mount st may. c.choose.ensures.stands i _ (c.note_stopped.ensures.stands i w event knows mount st may)
@@ -25,5 +30,6 @@ returns-clause-collects c = λ i w event knows mount st was may.
       count = c.choose.ensures.count;
       victim = c.choose.ensures.victim i w _ mount mid;
       passed = c.choose.ensures.passed (passed_same c.args.self.now c.note_stopped.new.self was.passed c.note_stopped.ensures.map same);
+      barren = c.choose.ensures.barren;
       asked = c.choose.ensures.asked;
     })

@@ -1,4 +1,4 @@
-use Rattle.std.proofs.Common.{ℕ, ◌≡◌, ◌<◌, ◌≤◌, ◌^◌, max, Some, List, [], length, sym, subst, ap, ◌∙◌, arith}
+use Rattle.std.proofs.Common.{ℕ, ◌≡◌, ◌<◌, ◌≤◌, ◌^◌, ◌&&◌, not, max, Bool, Some, List, [], length, sym, subst, ap, ◌∙◌, arith}
 use Rattle.std.specs.FinMap as fin
 use Rattle.std.proofs.lemmas.Option.{same_Some}
 use Rattle.pblk_model.specs.Image.{Image}
@@ -7,7 +7,7 @@ use Rattle.pblk_world.specs.Events.{EngineEvent, Decides, Take}
 use Rattle.pblk_world.specs.World.{World, Logs, log_of}
 use Rattle.world_laws.specs.LegalMounts.{IsLegalMount}
 use Rattle.core_laws.specs.Stepping.{after}
-use Rattle.pblk_core.specs.Collecting.{HasPassed}
+use Rattle.pblk_core.specs.Collecting.{HasPassed, weighed}
 use Rattle.pblk_core.specs.Copies.{victim_asks}
 use Rattle.pblk_core.specs.Named.{pad_of}
 use Rattle.pblk_core.specs.Stands.{Stands}
@@ -16,13 +16,15 @@ use Rattle.pblk_core.specs.declared.collecting.Collection.{Collection}
 use Rattle.pblk_core.specs.declared.target_core.Core.{Core}
 use Rattle.pblk_core.proofs.Collected.{collected}
 use Rattle.pblk_core.proofs.SmallCalls.{collecting_stands}
-use Rattle.pblk_core.proofs.TabledLines.{tabled_by_logs}
+use Rattle.pblk_core.proofs.BarrenLines.{barren_but}
+use Rattle.pblk_core.proofs.TabledLines.{tabled_by_logs, tabled_same}
 use Rattle.pblk_core.proofs.target_core.Core.take.Goals as goal
 
--- What is collected once the entry is in the tables: all but whether a copy is under way is as it was.
+-- What is collected once the entry is in the tables: all but whether a copy is under way, and whether
+-- it is known that no line may be collected, is as it was.
 record IsEnded (old entered ended : Core) : Type 0 where
   whole : ended ≡ record entered { collection = ended.collection }
-  own : ended.collection ≡ record entered.collection { under_way = ended.collection.under_way }
+  own : ended.collection ≡ record entered.collection { under_way = ended.collection.under_way; barren = ended.collection.barren }
   same : entered.collection ≡ old.collection
 
 module _ (old entered ended : Core) (is : IsEnded old entered ended) where
@@ -41,6 +43,20 @@ module _ (old entered ended : Core) (is : IsEnded old entered ended) where
       (sym (ap (λ (k : Collection). k.victim) is.own) ∙ at_work)
       (sym (ap (λ (x : Core). fin.get x.map lba) is.whole) ∙ there)
 
+-- by what the calls before the choice left
+ended_by : (old entered looked ended : Core) (barren : Bool) → entered.collection ≡ old.collection
+    → looked ≡ record entered { collection = record entered.collection { barren = barren } }
+    → ended ≡ record looked { collection = ended.collection }
+    → ended.collection ≡ record looked.collection { under_way = ended.collection.under_way } → IsEnded old entered ended
+ended_by old entered looked ended barren same look whole own =
+    let told : ended.collection.barren ≡ barren = ap (λ (k : Collection). k.barren) own ∙ ap (λ (x : Core). x.collection.barren) look in
+    record {
+      whole = whole ∙ ap (λ (x : Core). record x { collection = ended.collection }) look;
+      own = own ∙ ap (λ (x : Core). record x.collection { under_way = ended.collection.under_way }) look
+          ∙ ap (λ b. record entered.collection { under_way = ended.collection.under_way; barren = b }) (sym told);
+      same = same;
+    }
+
 pub returns : goal.returns
 returns c = record {
   stands = λ i w knows mount st. c.choose.ensures.stands i (new_logs w knows) (stands_now i w knows mount st);
@@ -49,23 +65,25 @@ returns c = record {
         stands = c.choose.ensures.stands i (new_logs w knows) (stands_now i w knows mount st);
         count = c.choose.ensures.count;
         victim = c.choose.ensures.victim i w (new_logs w knows) mount (stands_now i w knows mount st);
-        passed = c.choose.ensures.passed (passed_ended old entered ended is (c.enter.ensures.passed was.passed));
+        passed = c.choose.ensures.passed (passed_ended old entered ended is (c.enter-loser.ensures.passed was.passed));
+        barren = c.choose.ensures.barren;
         asked = c.choose.ensures.asked;
       });
-  legal = c.enter.ensures.legal;
-  pushed = c.choose.ensures.window ∙ ap (λ (x : Core). x.window) c.end_copy.ensures.unchanged ∙ c.enter.ensures.pushed;
+  legal = c.enter-loser.ensures.legal;
+  pushed = c.choose.ensures.window ∙ ap (λ (x : Core). x.window) is.whole ∙ c.enter-loser.ensures.pushed;
   copying = λ copy. c.choose.ensures.copying ∙ c.end_copy.ensures.copy copy;
-  copying_still = λ user. c.choose.ensures.copying ∙ c.end_copy.ensures.user user ∙ ap (λ (k : Collection). k.under_way) c.enter.ensures.collection;
+  copying_still = λ user. c.choose.ensures.copying ∙ c.end_copy.ensures.user user ∙ ap (λ (x : Core). x.collection.under_way) c.look_again.ensures
+      ∙ ap (λ (k : Collection). k.under_way) c.enter-loser.ensures.collection;
   pad = pads;
   pad_most = pads_most;
-  rows = c.choose.ensures.rows ∙ ap (λ (x : Core). x.placer.units) c.end_copy.ensures.unchanged ∙ c.enter.ensures.rows;
+  rows = c.choose.ensures.rows ∙ ap (λ (x : Core). x.placer.units) is.whole ∙ c.enter-loser.ensures.rows;
 }
   where
     old : Core
     old = c.args.self.now
 
     entered : Core
-    entered = c.enter.new.self
+    entered = c.enter-loser.new.self
 
     ended : Core
     ended = c.end_copy.new.self
@@ -74,7 +92,8 @@ returns c = record {
     chosen = c.choose.new.self
 
     is : IsEnded old entered ended
-    is = record { whole = c.end_copy.ensures.unchanged; own = c.end_copy.ensures.collection; same = c.enter.ensures.collection }
+    is = ended_by old entered c.look_again.new.self ended _ c.enter-loser.ensures.collection c.look_again.ensures
+        c.end_copy.ensures.unchanged c.end_copy.ensures.collection
 
     event : EngineEvent
     event = Take (entry_of c.args.entry) (mark_of c.args.self.now.map c.args.entry)
@@ -84,7 +103,7 @@ returns c = record {
 
     stands_now : (i : Image) (w : World) (knows : List ℕ) → IsLegalMount i w → Stands i (log_of w) c.args.self.now
         → Stands i (after (log_of w) (Take (entry_of c.args.entry) (mark_of c.args.self.now.map c.args.entry)) knows) c.end_copy.new.self
-    stands_now i w knows mount st = stands_ended old entered ended is i (new_logs w knows) (c.enter.ensures.stands i w knows mount st)
+    stands_now i w knows mount st = stands_ended old entered ended is i (new_logs w knows) (c.enter-loser.ensures.stands i w knows mount st)
 
     few : (t : Taken) → taken_by (Decides (Take (entry_of c.args.entry) (mark_of c.args.self.now.map c.args.entry))) ≡ Some t → t.entry.position < 2 ^ 62
     few t one = subst (λ (u : Taken). u.entry.position < 2 ^ 62) (same_Some _ t one) c.requires.position
@@ -92,21 +111,30 @@ returns c = record {
     pads : pad_of c.args.self.now ≤ pad_of c.choose.new.self
     pads =
         let more : pad_of c.choose.new.self ≡ max (pad_of c.end_copy.new.self) (victim_asks c.choose.new.self) = c.choose.ensures.asked in
-        let same : pad_of c.end_copy.new.self ≡ pad_of c.args.self.now = ap (λ (x : Core). pad_of x) c.end_copy.ensures.unchanged ∙ c.enter.ensures.pad in
+        let same : pad_of c.end_copy.new.self ≡ pad_of c.args.self.now = ap (λ (x : Core). pad_of x) is.whole ∙ c.enter-loser.ensures.pad in
         omega arith
 
     pads_most : pad_of c.choose.new.self ≤ max (pad_of c.args.self.now) (victim_asks c.choose.new.self)
     pads_most =
         let more : pad_of c.choose.new.self ≡ max (pad_of c.end_copy.new.self) (victim_asks c.choose.new.self) = c.choose.ensures.asked in
-        let same : pad_of c.end_copy.new.self ≡ pad_of c.args.self.now = ap (λ (x : Core). pad_of x) c.end_copy.ensures.unchanged ∙ c.enter.ensures.pad in
+        let same : pad_of c.end_copy.new.self ≡ pad_of c.args.self.now = ap (λ (x : Core). pad_of x) is.whole ∙ c.enter-loser.ensures.pad in
         omega arith
 
-pub enter-requires-clause-standing : goal.enter-requires-clause-standing
-enter-requires-clause-standing c = record {
+pub enter-loser-requires-clause-standing : goal.enter-loser-requires-clause-standing
+enter-loser-requires-clause-standing c = record {
   image = c.requires.collecting.image;
   world = c.requires.collecting.world;
   legal = c.requires.collecting.legal;
   stands = c.requires.collecting.stands;
+}
+
+pub enter-loser-requires-clause-can : goal.enter-loser-requires-clause-can
+enter-loser-requires-clause-can c = record {
+  next = c.requires.next;
+  position = c.requires.position;
+  room = c.requires.room;
+  class = c.requires.class;
+  lba = c.requires.lba;
 }
 
 pub choose-requires : goal.choose-requires
@@ -114,12 +142,27 @@ choose-requires c =
     let was = c.requires.collecting in
     let logs : Logs = after (log_of was.world) (Take (entry_of c.args.entry) (mark_of c.args.self.now.map c.args.entry)) [] in
     let old : Core = c.args.self.now in
-    let entered : Core = c.enter.new.self in
+    let entered : Core = c.enter-loser.new.self in
     let ended : Core = c.end_copy.new.self in
-    let is : IsEnded old entered ended =
-    record { whole = c.end_copy.ensures.unchanged; own = c.end_copy.ensures.collection; same = c.enter.ensures.collection } in
+    let is : IsEnded old entered ended = ended_by old entered c.look_again.new.self ended _ c.enter-loser.ensures.collection c.look_again.ensures
+    c.end_copy.ensures.unchanged c.end_copy.ensures.collection in
     record {
       tabled = tabled_by_logs old ended was logs
-          (stands_ended old entered ended is was.image logs (c.enter.ensures.stands was.image was.world [] was.legal was.stands))
+          (stands_ended old entered ended is was.image logs (c.enter-loser.ensures.stands was.image was.world [] was.legal was.stands))
           (same_count old entered ended is) (λ line at_work. sym (same_victim old entered ended is) ∙ at_work);
+      barren = barren_but old entered ended c.enter-loser.result c.may_collect-may_be.result was.collects.barren c.enter-loser.ensures.brings
+          (λ was_barren. c.may_collect-may_be.ensures (ap (λ (k : Collection). k.barren) c.enter-loser.ensures.collection ∙ was_barren))
+          (ap (λ (k : Collection). k.barren) c.end_copy.ensures.collection ∙ ap (λ (x : Core). x.collection.barren) c.look_again.ensures
+          ∙ ap (λ (k : Collection). k.barren && not c.may_collect-may_be.result) c.enter-loser.ensures.collection)
+          (λ line none. ap (λ (x : Core). weighed x line) is.whole ∙ none);
+    }
+
+-- the line that lost a sector is weighed
+pub may_collect-may_be-requires : goal.may_collect-may_be-requires
+may_collect-may_be-requires c =
+    let was = c.requires.collecting in
+    record {
+      tabled = tabled_same c.args.self.now c.enter-loser.new.self was _
+          (c.enter-loser.ensures.stands was.image was.world [] was.legal was.stands) c.enter-loser.ensures.collection;
+      inside = c.enter-loser.ensures.inside;
     }

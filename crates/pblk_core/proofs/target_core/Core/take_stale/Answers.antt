@@ -11,6 +11,8 @@ use Rattle.sector_pool.specs.declared.entry.Class.{Class}
 use Rattle.sector_pool.specs.declared.entry.Class.TheVariants.{User, Copy}
 use Rattle.sector_pool.specs.declared.entry.Source.{Source as EntrySource}
 use Rattle.core_laws.specs.Stepping.{after}
+use Rattle.pblk_core.specs.declared.target_core.Core.{Core}
+use Rattle.pblk_core.specs.Collecting.{weighed}
 use Rattle.pblk_core.specs.Stands.{Stands}
 use Rattle.pblk_core.specs.Taken.{IsClassed, entry_of, is_latest_from, mark_of, users_in}
 use Rattle.pblk_core.proofs.SimpleLogs.{its_simple, simple_in}
@@ -23,7 +25,7 @@ pub returns : goal.returns
 returns c = record {
   stands = λ i w knows mount st. subst (λ (m : Mark). Stands i (after (log_of w) (Take (entry_of c.args.entry) m) knows) c.keep.new.self) (sym mark)
       (stale_stands i w knows c.args.self.now c.keep.new.self c.args.entry (simple_in i w mount st) st
-      (record { position = c.requires.next; room = c.requires.room; class = c.requires.class }) (record {
+      c.requires.can (record {
         kept = record {
           layout = ap (λ s. s.layout) c.keep.ensures.unchanged;
           capacity = ap (λ s. fin.len s.map) c.keep.ensures.unchanged;
@@ -50,10 +52,11 @@ returns c = record {
   rows = ap (λ p. p.units) c.keep.ensures.placer;
   map = ap (λ s. s.map) c.keep.ensures.unchanged;
   collection = ap (λ s. s.collection) c.keep.ensures.unchanged;
-  legal = λ i w mount st block. subst (λ (m : Mark). MayTake i (log_of w) (entry_of c.args.entry) m) (sym mark)
+  brings = λ line none. ap (λ (x : Core). weighed x line) c.keep.ensures.unchanged ∙ none;
+  legal = λ i w mount st block sector. subst (λ (m : Mark). MayTake i (log_of w) (entry_of c.args.entry) m) (sym mark)
       (may_take_stale i w c.args.self.now c.args.entry mount st
-      (record { position = c.requires.next; room = c.requires.room; class = c.requires.class }) c.requires.position
-      (subst (λ s. c.args.entry.lba < s.capacity) st.layout c.requires.lba) c.requires.stale
+      c.requires.can c.requires.can.position
+      (subst (λ s. c.args.entry.lba < s.capacity) st.layout c.requires.can.lba) c.requires.stale
       (subst (λ (m : Mark). IsBlock i.shape (record { sector = c.args.entry.frame.bytes; mark = m })) mark block));
 }
   where
@@ -62,7 +65,7 @@ returns c = record {
 
     -- it is a copy
     no_user : users_in c.args.entry.class ≡ 0
-    no_user = go c.args.entry.class c.args.entry.source c.requires.class c.requires.stale
+    no_user = go c.args.entry.class c.args.entry.source c.requires.can.class c.requires.stale
       where
         go : (class : Class) (source : Option EntrySource) → IsClassed c.args.self.now.map c.args.entry class source
             → is_latest_from (fin.get c.args.self.now.map c.args.entry.lba) source ≡ false → users_in class ≡ 0
@@ -81,14 +84,14 @@ keep-requires-clause-holds c =
 pub keep-requires-clause-waits_room : goal.keep-requires-clause-waits_room
 keep-requires-clause-waits_room c =
     let st = c.requires.standing in
-    held_room st.image st.world c.args.self.now (its_simple st) st.stands c.requires.room
+    held_room st.image st.world c.args.self.now (its_simple st) st.stands c.requires.can.room
 
 pub keep-requires-clause-another : goal.keep-requires-clause-another
 keep-requires-clause-another c =
     let st = c.requires.standing in
-    held_another st.image st.world c.args.self.now c.args.entry.position (its_simple st) st.stands c.requires.next
+    held_another st.image st.world c.args.self.now c.args.entry.position (its_simple st) st.stands c.requires.can.next
 
 pub keep-requires-clause-rises : goal.keep-requires-clause-rises
 keep-requires-clause-rises c =
     let st = c.requires.standing in
-    held_rises st.image st.world c.args.self.now c.args.entry.position (its_simple st) st.stands c.requires.next
+    held_rises st.image st.world c.args.self.now c.args.entry.position (its_simple st) st.stands c.requires.can.next

@@ -1,7 +1,7 @@
 use Rattle.std.proofs.Common.{ℕ, ◌≡◌, ◌<◌, Some, length}
 use Rattle.std.specs.Prelude.{slice_get}
 use Rattle.pblk_core.specs.Collecting.{weighed}
-use Rattle.pblk_core.proofs.target_core.Core.next_victim.Given as goal
+use Rattle.pblk_core.proofs.target_core.Core.best_line.Given as goal
 
 abbrev pub invariant-loop-line : goal.invariant-loop-line
 invariant-loop-line l = record {
