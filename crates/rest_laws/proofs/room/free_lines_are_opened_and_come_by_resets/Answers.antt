@@ -1,0 +1,15 @@
+use Rattle.core_laws.proofs.BegunOnce.{begun_once}
+use Rattle.rest_laws.proofs.FreeChanges.{engine_keeps, open_takes, reset_gives, unit_keeps}
+use Rattle.rest_laws.proofs.FreeCounts.{free_are}
+use Rattle.rest_laws.proofs.RoomChanges.{before}
+use Rattle.rest_laws.proofs.room.free_lines_are_opened_and_come_by_resets.Goals as goal
+
+pub returns : goal.returns
+returns c = record {
+  whole = λ i logs wide. free_are i logs wide;
+  unit = λ i s w unit mount own. unit_keeps i s w mount unit own;
+  kept = λ i s w e mount some own is. let b = begun_once i w (before i s w mount).legal some in engine_keeps i s w mount own b.0 b.1 e is;
+  opened = λ i s w line start mount some own is. let b = begun_once i w (before i s w mount).legal some in open_takes i s w mount own b.0 b.1 line start is;
+  reset = λ i s w unit number e mount some own is.
+      let b = begun_once i w (before i s w mount).legal some in reset_gives i s w mount own b.0 b.1 unit number e is;
+}

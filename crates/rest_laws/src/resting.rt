@@ -1,0 +1,81 @@
+//! Laws on a mount at rest: each is the contract of a function that does nothing.
+
+ghost use Rattle.std.specs.Prelude.{◌≡◌, ◌+◌, ◌-◌, ◌*◌, ◌≤◌, ◌<◌, ℕ, true, false, [], length};
+ghost use Rattle.std.specs.List.{Contains, filter, range_with_len};
+ghost use Rattle.pblk_model.specs.Image.{Image, width};
+ghost use Rattle.pblk_model.specs.Shape.{units};
+ghost use Rattle.pblk_world.specs.AtRest.{pad_target};
+ghost use Rattle.pblk_world.specs.EngineLog.{Opened, Opening, life_of, openings};
+ghost use Rattle.pblk_world.specs.EngineLog.{Placed, is_answered, placements};
+ghost use Rattle.pblk_world.specs.Events.{Stripe};
+ghost use Rattle.pblk_world.specs.Fronts.{synced, taken, waiting};
+ghost use Rattle.pblk_world.specs.Lines.{are_over, found_image, known_image};
+ghost use Rattle.pblk_world.specs.Placing.{IsEnd};
+ghost use Rattle.pblk_world.specs.Space.{addresses, freed, is_due, position_limit, room};
+ghost use Rattle.pblk_world.specs.World.{World, log_of};
+ghost use Rattle.world_laws.specs.LegalMounts.{IsLegalMount, NoneLost};
+ghost use Rattle.core_laws.specs.Spent.{OpensWhenFull};
+ghost use Rattle.rest_laws.specs.NewestOpened.{IsLastOpened};
+ghost use Rattle.rest_laws.specs.RestingMounts.{IsRestingMount};
+ghost use Rattle.rest_laws.specs.Tidy.{has_free_chunks};
+
+/// Where no stripe is under way and none of a line's end record is left to be placed, nothing more
+/// is written to that line before it is reset, unless it was opened last.
+pub fn only_the_last_line_is_open()
+    ensures { (i : Image) (w : World) (last o : Opening)
+        → IsLegalMount i w → NoneLost (log_of w 0) → OpensWhenFull i (log_of w)
+        → IsLastOpened (log_of w 0) last → o.number < last.number
+        → life_of (log_of w 0) o.line ≡ Opened o
+        → ((p : Placed) → Contains (placements (log_of w 0)) p → is_answered (log_of w 0) p ≡ true)
+        → ((stripe : Stripe) → stripe.line ≡ o.line → ¬ IsEnd i (log_of w) o stripe)
+        → are_over i (log_of w) o.line ≡ true }
+{}
+
+/// How far the front taken is beyond the front freed, where no stripe is under way and only the line
+/// that was opened last may be written to. What was placed and can't be read yet stands in that
+/// line, in the last MW_CUNITS blocks of its chunks, and in stripes with such blocks: clause `near`.
+/// Beside it there is what waits. Where no line was opened all that was taken waits: clause
+/// `unopened`.
+pub fn the_front_freed_is_near()
+    ensures near { (i : Image) (w : World) (last : Opening)
+        → IsLegalMount i w → NoneLost (log_of w 0) → OpensWhenFull i (log_of w)
+        → IsLastOpened (log_of w 0) last → width (known_image i (log_of w)) last.line ≡ units i.shape
+        → ((p : Placed) → Contains (placements (log_of w 0)) p → is_answered (log_of w 0) p ≡ true)
+        → ((o : Opening) → o.number < last.number → life_of (log_of w 0) o.line ≡ Opened o
+        → are_over i (log_of w) o.line ≡ true)
+        → taken (log_of w 0) ≤ freed i.shape (log_of w 0)
+        + units i.shape * (i.shape.mw_cunits + (i.shape.ws_opt - 1))
+        + length (waiting i.shape (log_of w 0)) }
+    ensures unopened { (i : Image) (w : World) → IsLegalMount i w → NoneLost (log_of w 0)
+        → openings (log_of w 0) ≡ []
+        → taken (log_of w 0) ≤ freed i.shape (log_of w 0) + length (waiting i.shape (log_of w 0)) }
+{}
+
+/// A mount at rest has done all that was asked, as long as a data address is left. Less than a
+/// stripe waits (clause `few`). All that was taken and is below the pad target has landed (clause
+/// `synced`), so a flush that asked for it is not refused.
+pub fn at_rest_all_is_done()
+    ensures few { (i : Image) (w : World) (asked : ℕ) → IsRestingMount i w asked
+        → 0 < addresses i (log_of w) → length (waiting i.shape (log_of w 0)) < i.shape.ws_opt }
+    ensures synced { (i : Image) (w : World) (asked position : ℕ) → IsRestingMount i w asked
+        → 0 < addresses i (log_of w) → position ≤ pad_target i (log_of w) asked
+        → position ≤ taken (log_of w 0) → position ≤ synced i.shape (log_of w 0) }
+{}
+
+/// A mount at rest has room for sixteen more sectors, if it found four lines with Free chunks alone,
+/// more addresses are left than entries wait, and positions aren't near their end (clause `room`).
+/// Collection isn't due (clause `due`): a victim at work would have a sector to copy, or could be
+/// freed.
+pub fn at_rest_there_is_room()
+    ensures due { (i : Image) (w : World) (asked : ℕ) → IsRestingMount i w asked
+        → 4 ≤ length (filter (has_free_chunks (found_image i (log_of w)))
+        (range_with_len 0 i.shape.chunks))
+        → length (waiting i.shape (log_of w 0)) < addresses i (log_of w)
+        → taken (log_of w 0) < position_limit (log_of w 0) → is_due i (log_of w) ≡ false }
+    ensures room { (i : Image) (w : World) (asked : ℕ) → IsRestingMount i w asked
+        → 4 ≤ length (filter (has_free_chunks (found_image i (log_of w)))
+        (range_with_len 0 i.shape.chunks))
+        → length (waiting i.shape (log_of w 0)) < addresses i (log_of w)
+        → taken (log_of w 0) + 16 ≤ position_limit (log_of w 0)
+        → taken (log_of w 0) + 16 ≤ room i (log_of w) }
+{}
