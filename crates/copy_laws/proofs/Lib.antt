@@ -1,0 +1,14 @@
+pub mod LengthLogs
+pub mod Overtaken
+pub mod Latest
+pub mod BegunCopies
+pub mod OneCopy
+pub mod VictimStripes
+pub mod FewerLive
+pub mod CountedCopies
+pub mod StaleSources
+pub mod CameToWork
+pub mod LivesAtWork
+pub mod CopiesOfVictim
+pub mod StillLive
+pub mod ClosedViews
