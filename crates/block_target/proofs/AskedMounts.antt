@@ -31,6 +31,7 @@ sound_asked v pad asked sound = record {
   each = sound.each;
   begun = sound.begun;
   urgent = sound.urgent;
+  in_order = sound.in_order;
 }
 
 -- pads may be asked for up to what was taken, where no copy is due
@@ -62,6 +63,7 @@ mount_asked {v} {h} {f} m new asked to may beats rows copying within = record {
   asked = within;
   granted = refl;
   level = m.level;
+  noted = m.noted;
   known = m.known;
   resting = λ unit of is. m.resting unit of (ap (λ us. slice_get us unit) (sym rows) ∙ is);
   idle = copying ∙ m.idle;

@@ -51,12 +51,15 @@ use Rattle.block_target.specs.Deeds.{Deed, drive_before, drive_found, world_of}
 use Rattle.block_target.specs.Freed.{HaveFreed, freed_deeds}
 use Rattle.block_target.specs.Heart.{Begins, CanBegin, HasBegun, IsBeating}
 use Rattle.block_target.specs.Mount.{MountView, IsMount, IsSound, IsUnitIn, engine_log, logs_in, mount_view}
-use Rattle.block_target.specs.NothingLeft.{AreRefusals}
+use Rattle.block_target.specs.Orders.{AreInOrder}
+use Rattle.block_target.specs.Refusals.{AreRefusals}
 use Rattle.block_target.specs.Opened.{AreReadied, IsOpened, first_deeds, readied_world}
 use Rattle.block_target.specs.Serial.{AreNamed, IsSerial}
 use Rattle.block_target.specs.declared.heart.Heart.{Heart}
 use Rattle.block_target.proofs.FreedMounts.{mount_freed, takes_then, world_freed}
 use Rattle.block_target.proofs.GoingOn.{goes_none}
+use Rattle.block_target.proofs.InOrder.{in_order_decided}
+use Rattle.block_target.proofs.NotedResets.{noted_before, noted_decided}
 use Rattle.block_target.proofs.GrantedTakes.{none_taken}
 use Rattle.block_target.proofs.Reasoned.{begun_decided, urgent_decided}
 
@@ -204,6 +207,13 @@ module _ (s : Shape) (us new : List ModelUnit) (f : Found) (accepted : IsAccepte
             (sym (ap (λ (log : List Logged). slice_get log k) none_before) ∙ at));
       })
 
+  none_ordered : AreInOrder i (log_of first_world)
+  none_ordered = in_order_decided i before legal_before.mount.legal (Begin b) tt
+      (record {
+        each = λ k knows e some at. absurd (none-some (record { event = Event e; knows = knows })
+            (sym (ap (λ (log : List Logged). slice_get log k) none_before) ∙ at));
+      })
+
   first_sound : (wear : List (List ℕ)) (granted pad : ℕ) → IsSound (first_view wear granted pad)
   first_sound wear granted pad = record {
     legal = first_legal;
@@ -216,6 +226,7 @@ module _ (s : Shape) (us new : List ModelUnit) (f : Found) (accepted : IsAccepte
     each = λ number u there. unit_begins wear granted pad number u there;
     begun = none_begun;
     urgent = none_placed;
+    in_order = none_ordered;
   }
 
   pub first_beating : (h : Heart) → HasBegun s f h → IsBeating h
@@ -237,6 +248,7 @@ module _ (s : Shape) (us new : List ModelUnit) (f : Found) (accepted : IsAccepte
         let sound : IsSound (first_view wear h.granted (pad_of h.core)) = first_sound wear h.granted (pad_of h.core) in
         mount_freed sound (goes_none (first_view wear h.granted (pad_of h.core)) sound) (first_deeds us new f) wear h end filling all refl
         (has i before (knows_all s before) begins_there).0 frees (begins_level i before b legal_before.mount.legal none_before)
+        (noted_decided s (Begin b) before (noted_before i before legal_before.mount.legal none_before))
         (known_is i before b legal_before.mount.legal none_before) resting idle stripe (omega arith)
 
     -- by the lists that are kept of it

@@ -1,23 +1,22 @@
--- Where nothing is left to do each placed stripe is answered, and so the end of the media is the
--- front synced.
+-- At rest each placed stripe is answered, and so the end of the media is the front synced.
 use Rattle.std.proofs.Common.{◌≡◌, ◌≤◌, ℕ, true, List, length, subst, arith}
 use Rattle.std.specs.List.{Contains}
 use Rattle.std.proofs.Math.Seq.{take-length}
 use Rattle.pblk_model.specs.Contents.{end}
 use Rattle.pblk_model.specs.Sealed.{IsSealed}
+use Rattle.pblk_world.specs.AtRest.{IsAtRest}
 use Rattle.pblk_world.specs.Events.{Logged}
 use Rattle.pblk_world.specs.World.{media}
 use Rattle.pblk_world.specs.EngineLog.{Placed, is_answered, placements}
 use Rattle.prefix_law.proofs.Prefix.{end_where_answered}
 use Rattle.block_target.specs.Mount.{MountView, IsSound, engine_log, logs_in, synced_in, taken_in, world_in}
-use Rattle.block_target.specs.NothingLeft.{HasNothingLeftAt}
 
-pub end_left : (v : MountView) (asked : ℕ) → IsSound v → HasNothingLeftAt v.image (logs_in v) asked (length (engine_log v)) → IsSealed v.image
+pub end_at_rest : (v : MountView) (asked : ℕ) → IsSound v → IsAtRest v.image (logs_in v) asked (length (engine_log v)) → IsSealed v.image
     → end (media v.image (logs_in v)) ≡ synced_in v
-end_left v asked sound left sealed = end_where_answered v.image (world_in v) sound.beginning sound.legal.mount sealed sound.has_begun
+end_at_rest v asked sound rests sealed = end_where_answered v.image (world_in v) sound.beginning sound.legal.mount sealed sound.has_begun
     sound.legal.engine.lost
     (subst (λ (log : List Logged). (p : Placed) → Contains (placements log) p → is_answered log p ≡ true) (take-length (engine_log v))
-    left.nothing_left.stripes)
+    rests.resting.stripes)
 
 -- where all that was taken is there
 pub end_whole : (v : MountView) → synced_in v ≡ taken_in v → synced_in v ≤ end (media v.image (logs_in v)) → end (media v.image (logs_in v)) ≤ taken_in v

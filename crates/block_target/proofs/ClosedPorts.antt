@@ -8,16 +8,17 @@ use Rattle.block_port.specs.Own.{lines_of}
 use Rattle.block_port.specs.declared.rows.WornAnswer.{WornAnswer}
 use Rattle.scan_recovery.specs.Lost.{IsLostAt, NoneLost}
 use Rattle.step_laws.specs.FreedWorlds.{NoneToFree}
-use Rattle.block_target.specs.Mount.{MountView, IsCollectionOver, IsSameMount, IsSound, IsStuckAt, logs_in, synced_in, taken_in}
-use Rattle.block_target.specs.NothingLeft.{AreRefusals}
+use Rattle.block_target.specs.Mount.{MountView, IsCollectionOver, IsSameMount, IsSound, IsStuckAt, logs_in, synced_in, taken_in, world_in}
+use Rattle.block_target.specs.Refusals.{AreRefusals}
 use Rattle.block_target.specs.Serial.{SerialView, AreNamed, IsClosed, IsSerial, SettleAsks, Settles, is_settled, settle_faults, settle_worns}
 use Rattle.block_target.specs.Waiting.{AsksUpTo}
 use Rattle.block_target.specs.declared.opening.SettleErr.{SettleErr}
 use Rattle.block_target.specs.declared.opening.SettleErr.TheVariants as settle
 use Rattle.block_target.specs.declared.opening.WaitErr.TheVariants.{Drive, Stuck}
-use Rattle.block_target.proofs.ClosedEnd.{end_left, end_whole}
+use Rattle.block_target.proofs.ClosedEnd.{end_at_rest, end_whole}
 use Rattle.block_target.proofs.DeviceFronts.{all_synced}
 use Rattle.block_target.proofs.GrantedTakes.{granted_same}
+use Rattle.block_target.proofs.InOrder.{after_resets, none_was_left, opened_full}
 use Rattle.block_target.proofs.NamedAnswers.{all_named_later, named_with}
 use Rattle.block_target.proofs.Refusals.{flush_refused, refusals_grown, refusals_more}
 use Rattle.block_target.proofs.Written.{users_later}
@@ -51,6 +52,9 @@ module _ (s : SerialView) (v : MountView) (is : Closes s v) where
     granted = granted_same s.mount v is.serial.sound is.same is.serial.granted;
     begun = is.sound.begun;
     urgent = is.sound.urgent;
+    after_resets = after_resets v.image (world_in v) is.sound.beginning is.sound.has_begun is.sound.in_order;
+    opened_full = opened_full v.image (world_in v) is.sound.beginning is.sound.has_begun is.sound.in_order;
+    none_was_left = none_was_left v.image (world_in v) is.sound.beginning is.sound.has_begun is.sound.in_order is.sound.legal.mount.legal;
     asked = asked;
     from_synced = λ sealed. (is.between sealed).0;
     to_taken = λ sealed. (is.between sealed).1;
@@ -85,4 +89,4 @@ module _ (s : SerialView) (v : MountView) (is : Closes s v) where
       (refusals_more v.image (logs_in v) 0 s.worns (record { written = length (flat_map lines_of s.own); count = 0; wanted = wanted; have = have })
       (omega arith) refusals (record { written = users_later s v is.serial is.same; cause = cause }))
       (omega arith)
-      (λ sealed settled. end_left v wanted is.sound cause.nothing_left sealed)
+      (λ sealed settled. end_at_rest v wanted is.sound cause.at_rest sealed)

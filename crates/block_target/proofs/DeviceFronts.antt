@@ -15,7 +15,7 @@ use Rattle.block_port.specs.declared.rows.WornAnswer.{WornAnswer}
 use Rattle.block_port.specs.Own.{PlacedSector, lines_of}
 use Rattle.block_port.specs.Port.{Learns, IsFront, IsSeen, positions}
 use Rattle.block_target.specs.Mount.{MountView, IsSound, IsSameMount, engine_log, logs_in, world_in, taken_in, synced_in, front_taken, front_synced}
-use Rattle.block_target.specs.NothingLeft.{AreRefusals}
+use Rattle.block_target.specs.Refusals.{AreRefusals}
 use Rattle.block_target.specs.Serial.{SerialView, AreNamed, IsSerial, lines_in, device}
 use Rattle.block_target.proofs.GrantedTakes.{granted_same}
 use Rattle.block_target.proofs.NamedAnswers.{all_named_later}

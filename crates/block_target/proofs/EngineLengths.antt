@@ -130,20 +130,10 @@ none_left i simple = record {
     each zero = refl
     each (suc unit) = refl
 
-engine_left : (i : Image) (w : World) (e : EngineEvent) → IsSimpleMount i (engine_step i.shape e w ∷ w) → IsLeft i (engine_step i.shape e w ∷ w)
-engine_left i w e simple = record {
-  left = next;
-  simple = simple;
-  own = refl;
-  logs = fun_same (logs_at (length (log_of next 0)) (log_of next)) (log_of next) each;
-  work = λ pad. refl;
-  pads = λ asked. refl;
-  victim = refl;
-  copies = refl;
-  slots = λ lba. refl;
-  room = refl;
-  spent = λ line is. is;
-}
+-- after an event of the engine it is the world
+pub whole_decided : (i : Image) (w : World) (e : EngineEvent) → IsSimpleMount i (engine_step i.shape e w ∷ w)
+    → logs_at (length (log_of (engine_step i.shape e w ∷ w) 0)) (log_of (engine_step i.shape e w ∷ w)) ≡ log_of (engine_step i.shape e w ∷ w)
+whole_decided i w e simple = fun_same (logs_at (length (log_of next 0)) (log_of next)) (log_of next) each
   where
     next : World
     next = engine_step i.shape e w ∷ w
@@ -170,6 +160,21 @@ engine_left i w e simple = record {
         ap (λ (o : Option Logged). take (knows_last o (suc unit)) (log_of next (suc unit))) last
         ∙ ap₂ (λ k (log : List Logged). take k log) all still
         ∙ take-length (log_of w (suc unit)) ∙ sym still
+
+engine_left : (i : Image) (w : World) (e : EngineEvent) → IsSimpleMount i (engine_step i.shape e w ∷ w) → IsLeft i (engine_step i.shape e w ∷ w)
+engine_left i w e simple = record {
+  left = engine_step i.shape e w ∷ w;
+  simple = simple;
+  own = refl;
+  logs = whole_decided i w e simple;
+  work = λ pad. refl;
+  pads = λ asked. refl;
+  victim = refl;
+  copies = refl;
+  slots = λ lba. refl;
+  room = refl;
+  spent = λ line is. is;
+}
 
 unit_left : (i : Image) (w : World) (unit : ℕ) (e : UnitEvent) (maker : Maker) → IsSimpleMount i w → IsLeft i w
     → IsLeft i (unit_step i.shape unit e maker w ∷ w)

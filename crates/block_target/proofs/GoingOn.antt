@@ -19,6 +19,7 @@ use Rattle.pblk_core.specs.Named.{pad_of}
 use Rattle.pblk_world.proofs.EngineLogLemmas.{takes_more}
 use Rattle.pblk_world.proofs.Growing.{grows}
 use Rattle.pblk_world.proofs.WorldLemmas.{log_here}
+use Rattle.pblk_world.specs.AtRest.{logs_at}
 use Rattle.pblk_world.specs.EngineLog.{Begun, begun, begun_by, Taken, taken_by, takes}
 use Rattle.pblk_world.specs.Events.{Decides as Event, EngineEvent, Logged, Maker}
 use Rattle.pblk_world.specs.Fronts.{first_position, is_users, synced, taken, user_takes}
@@ -37,7 +38,9 @@ use Rattle.block_target.specs.Arm.{IsArm}
 use Rattle.block_target.specs.Deeds.{Deed, world_of}
 use Rattle.block_target.specs.Heart.{IsHeart}
 use Rattle.block_target.specs.declared.heart.Heart.{Heart}
-use Rattle.block_target.specs.Mount.{HaveGrown, IsMount, IsSameMount, IsSound, MountView, engine_log, logs_in, world_in}
+use Rattle.block_target.specs.Mount.{HaveGrown, IsMount, IsSameMount, IsSound, AreResetsNoted, MountView, engine_log, logs_in, world_in}
+use Rattle.block_target.specs.Orders.{AreInOrder, IsInOrder}
+use Rattle.block_target.proofs.InOrder.{in_order_beside, in_order_decided}
 use Rattle.block_target.proofs.Reasoned.{HasReason, begun_beside, begun_decided, urgent_beside, urgent_decided}
 use Rattle.lemmas.proofs.Parts.{get_set_other, get_set_same, got_within}
 
@@ -84,6 +87,7 @@ pub record GoesOn (v : MountView) (w : World) (us : List ModelUnit) : Type 0 whe
   pub each : (number : ℕ) (u : ModelUnit) → slice_get us number ≡ Some u → IsUnitAt v w number u
   pub begun : AreBegun v.image (logs_in v) → AreBegun v.image (log_of w)
   pub urgent : AreUrgent v.image (logs_in v) → AreUrgent v.image (log_of w)
+  pub in_order : AreInOrder v.image (logs_in v) → AreInOrder v.image (log_of w)
 
 abbrev pub goes_none : (v : MountView) → IsSound v → GoesOn v (world_in v) v.units
 goes_none v sound = record {
@@ -95,6 +99,7 @@ goes_none v sound = record {
   each = sound.each;
   begun = λ were. were;
   urgent = λ were. were;
+  in_order = λ were. were;
 }
 
 module _ {v : MountView} {w : World} {us : List ModelUnit} (goes : GoesOn v w us) where
@@ -114,8 +119,9 @@ module _ {v : MountView} {w : World} {us : List ModelUnit} (goes : GoesOn v w us
 
   pub goes_decided : (e : EngineEvent) → IsSimpleMount v.image (engine_step v.image.shape e w ∷ w)
       → ((knows : List ℕ) → begun_by knows (Event e) ≡ None) → HasReason v.image (log_of w) e
+      → IsInOrder v.image (logs_at (length (log_of w 0)) (log_of w)) e
       → GoesOn v (engine_step v.image.shape e w ∷ w) us
-  goes_decided e legal begins reason = record {
+  goes_decided e legal begins reason order = record {
     later = engine_step v.image.shape e w ∷ goes.later;
     whole = ap (λ (x : World). engine_step v.image.shape e w ∷ x) goes.whole;
     legal = legal;
@@ -127,6 +133,7 @@ module _ {v : MountView} {w : World} {us : List ModelUnit} (goes : GoesOn v w us
         (was.0, was.1, arm_decided v.image w e number was.0 u was.2);
     begun = λ were. begun_decided v.image w goes.legal.mount.legal e reason (goes.begun were);
     urgent = λ were. urgent_decided v.image w goes.legal.mount.legal e reason (goes.urgent were);
+    in_order = λ were. in_order_decided v.image w goes.legal.mount.legal e order (goes.in_order were);
   }
 
   pub goes_given : (number : ℕ) (was new : ModelUnit) (e : UnitEvent) (maker : Maker) → (there : slice_get us number ≡ Some was)
@@ -142,6 +149,7 @@ module _ {v : MountView} {w : World} {us : List ModelUnit} (goes : GoesOn v w us
     each = each;
     begun = λ were. begun_beside v.image w goes.legal.mount.legal number e maker (goes.begun were);
     urgent = λ were. urgent_beside v.image w goes.legal.mount.legal number e maker (goes.urgent were);
+    in_order = λ were. in_order_beside v.image w goes.legal.mount.legal number e maker (goes.in_order were);
   }
     where
       next : World
@@ -219,6 +227,7 @@ module _ {v : MountView} {w : World} {us : List ModelUnit} (sound : IsSound v) (
     each = λ number u there. subst (λ (x : World). IsUnitAt v x number u) (sym is) (goes.each number u there);
     begun = subst (λ (x : World). AreBegun v.image (log_of x)) (sym is) (goes.begun sound.begun);
     urgent = subst (λ (x : World). AreUrgent v.image (log_of x)) (sym is) (goes.urgent sound.urgent);
+    in_order = subst (λ (x : World). AreInOrder v.image (log_of x)) (sym is) (goes.in_order sound.in_order);
   }
 
   -- the units' logs have grown
@@ -275,15 +284,16 @@ module _ {v : MountView} {w : World} {us : List ModelUnit} (sound : IsSound v) (
 
   -- with a heart that stands for it
   pub mount_on : (deeds : List Deed) (wear : List (List ℕ)) (h : Heart) (f : Filling) → world_of v.image.shape deeds ≡ w → IsHeart v.image (log_of w) h
-      → IsLevel w → IsKnown v.image w → IsResting h.core → is_copying h.core ≡ false → NoneToFree v.image (log_of w) → f.shape ≡ v.image.shape
-      → v.asked ≤ pad_of h.core → IsMount (moved_on v deeds us wear h.granted (pad_of h.core)) h f
-  mount_on deeds wear h f is stands level known rests idle settled shape pads = record {
+      → IsLevel w → AreResetsNoted (log_of w) → IsKnown v.image w → IsResting h.core → is_copying h.core ≡ false → NoneToFree v.image (log_of w)
+      → f.shape ≡ v.image.shape → v.asked ≤ pad_of h.core → IsMount (moved_on v deeds us wear h.granted (pad_of h.core)) h f
+  mount_on deeds wear h f is stands level noted known rests idle settled shape pads = record {
     sound = sound_on deeds wear h.granted (pad_of h.core) is;
     heart = subst (λ (x : World). IsHeart v.image (log_of x) h) (sym is) stands;
     pad = refl;
     asked = pads;
     granted = refl;
     level = subst IsLevel (sym is) level;
+    noted = subst (λ (x : World). AreResetsNoted (log_of x)) (sym is) noted;
     known = subst (IsKnown v.image) (sym is) known;
     resting = rests;
     idle = idle;
@@ -292,11 +302,12 @@ module _ {v : MountView} {w : World} {us : List ModelUnit} (sound : IsSound v) (
   }
 
   pub leaves_on : (deeds more : List Deed) (wear : List (List ℕ)) (h : Heart) (f : Filling) → deeds ≡ v.deeds ++ more → world_of v.image.shape deeds ≡ w
-      → IsHeart v.image (log_of w) h → IsLevel w → IsKnown v.image w → IsResting h.core → is_copying h.core ≡ false → NoneToFree v.image (log_of w)
+      → IsHeart v.image (log_of w) h → IsLevel w → AreResetsNoted (log_of w) → IsKnown v.image w → IsResting h.core → is_copying h.core ≡ false
+      → NoneToFree v.image (log_of w)
       → f.shape ≡ v.image.shape → KeepsUsers (engine_log v) (log_of w 0) → wear ≡ v.wear → v.granted ≤ h.granted → v.asked ≤ pad_of h.core
       → Leaves v (moved_on v deeds us wear h.granted (pad_of h.core)) h f
-  leaves_on deeds more wear h f grown is stands level known rests idle settled shape keeps same_wear grants pads = record {
-    mount = mount_on deeds wear h f is stands level known rests idle settled shape pads;
+  leaves_on deeds more wear h f grown is stands level noted known rests idle settled shape keeps same_wear grants pads = record {
+    mount = mount_on deeds wear h f is stands level noted known rests idle settled shape pads;
     same = subst (λ (ds : List Deed). IsSameMount v (moved_on v ds us wear h.granted (pad_of h.core))) (sym grown)
         (same_on more wear h.granted (pad_of h.core) (sym (ap (world_of v.image.shape) grown) ∙ is) keeps same_wear grants);
     asked = refl;

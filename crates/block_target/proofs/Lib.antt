@@ -12,7 +12,10 @@ pub mod GrantedTakes
 pub mod UnitLists
 pub mod Moments
 pub mod NamedAnswers
-pub mod NothingLeft
+pub mod InOrder
+pub mod NotedResets
+pub mod OrderedMounts
+pub mod PlacedSpent
 pub mod PumpedFrames
 pub mod PumpedOpen
 pub mod PumpedProgram
@@ -24,6 +27,7 @@ pub mod Reasoned
 pub mod ReadLook
 pub mod ReadSectors
 pub mod Refusals
+pub mod Resting
 pub mod Settled
 pub mod SameMounts
 pub mod Spent

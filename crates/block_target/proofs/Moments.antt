@@ -6,6 +6,7 @@ use Rattle.std.proofs.Math.Seq.{take-length}
 use Rattle.std.proofs.lemmas.Bool.{cases_order}
 use Rattle.std.proofs.lemmas.List.{take-append-le}
 use Rattle.pblk_model.specs.Image.{Image}
+use Rattle.pblk_world.specs.AtRest.{IsWornFlush}
 use Rattle.pblk_world.specs.Events.{Step, Logged}
 use Rattle.pblk_world.specs.World.{World, log_of}
 use Rattle.pblk_world.specs.EngineLog.{Begun, begun, Placed, placements, is_answered}
@@ -14,7 +15,6 @@ use Rattle.pblk_world.proofs.EngineLogLemmas.{begun_taken}
 use Rattle.pblk_world.proofs.Growing.{grows}
 use Rattle.core_laws.specs.SimpleMounts.{IsSimpleMount}
 use Rattle.block_target.specs.Moments.{IsMoment}
-use Rattle.block_target.specs.NothingLeft.{IsFlushRefusal}
 use Rattle.block_target.proofs.EngineLengths.{simple_earlier}
 
 one_more : (s : Step) (w : World) → length (log_of (s ∷ w) 0) ≤ length (log_of w 0) + 1
@@ -55,16 +55,16 @@ pub record IsRefusedThen (i : Image) (w : World) (b : Begun) (n wanted have : �
   pub is_synced : have ≡ synced i.shape (log_of past 0)
 
 pub refused_then : (i : Image) (w : World) (b : Begun) (n wanted have : ℕ) → IsSimpleMount i w → begun (log_of w 0) ≡ Some b
-    → IsFlushRefusal i (log_of w) n wanted have → (past : World) × IsRefusedThen i w b n wanted have past
+    → IsWornFlush i (log_of w) n wanted have → (past : World) × IsRefusedThen i w b n wanted have past
 refused_then i w b n wanted have simple begins is =
-    let m = moment w n is.nothing_left.within in
+    let m = moment w n is.at_rest.within in
     let log : take n (log_of w 0) ≡ log_of m.0 0 = log_then w n m.0 m.1 in (
       m.0,
       record {
         moment = m.1;
         simple = simple_earlier i m.1.later m.0 (subst (IsSimpleMount i) m.1.whole simple);
-        begins = sym (ap begun log) ∙ begun_taken n (log_of w 0) is.nothing_left.has_begun ∙ begins;
-        answered = subst (λ ls. (p : Placed) → Contains (placements ls) p → is_answered ls p ≡ true) log is.nothing_left.nothing_left.stripes;
+        begins = sym (ap begun log) ∙ begun_taken n (log_of w 0) is.at_rest.has_begun ∙ begins;
+        answered = subst (λ ls. (p : Placed) → Contains (placements ls) p → is_answered ls p ≡ true) log is.at_rest.resting.stripes;
         all_taken = subst (λ ls. wanted ≤ taken ls) log is.all_taken;
         is_synced = is.is_synced ∙ ap (synced i.shape) log;
       },

@@ -1,11 +1,12 @@
 -- The logs at a length of the engine's log stay as the world grows. So does what there once was
 -- room for.
-use Rattle.std.proofs.Common.{◌≡◌, ◌⊎◌, inl, inr, ℕ, ◌-◌, ◌<◌, ◌≤◌, max, zero, suc, Some, None, Option, List, ◌++◌, length, take, refl, sym, subst, ap, ap₂, ◌∙◌, arith, le_trans, le_refl}
+use Rattle.std.proofs.Common.{◌≡◌, ◌⊎◌, inl, inr, ℕ, ◌-◌, ◌<◌, ◌≤◌, max, zero, suc, Some, None, Option, List, [], ◌∷◌, ◌++◌, length, take, refl, sym, subst, ap, ap₂, ◌∙◌, arith, le_trans, le_refl}
 use Rattle.std.specs.Prelude.{slice_get}
 use Rattle.std.proofs.lemmas.Bool.{cases_order}
 use Rattle.std.proofs.lemmas.List.{take-append-le}
 use Rattle.pblk_model.specs.Image.{Image}
-use Rattle.pblk_world.specs.Events.{Logged}
+use Rattle.pblk_model.specs.UnitLog.{UnitEvent}
+use Rattle.pblk_world.specs.Events.{Logged, Maker}
 use Rattle.pblk_world.specs.World.{World, Logs, log_of}
 use Rattle.pblk_world.specs.Legal.{IsLegal}
 use Rattle.pblk_world.specs.AtRest.{knows_last, logs_at}
@@ -13,6 +14,8 @@ use Rattle.pblk_world.specs.Space.{room}
 use Rattle.pblk_world.proofs.Growing.{grows}
 use Rattle.core_laws.specs.StripePrograms.{HasHappened}
 use Rattle.core_laws.proofs.Happened.{happened}
+use Rattle.step_laws.specs.Whole.{unit_step}
+use Rattle.step_laws.proofs.UnitSteps.{engine_log}
 use Rattle.world_laws.specs.Reasons.{WasRoom}
 use Rattle.lemmas.proofs.Numbers.{fun_same}
 use Rattle.lemmas.proofs.Parts.{get_first}
@@ -42,6 +45,14 @@ same_lengths i later w n legal some within = fun_same (logs_at n (log_of (later 
         let more : (more : List Logged) × (log_of (later ++ w) (suc unit) ≡ log_of w (suc unit) ++ more) = grows later w (suc unit) in
         ap₂ (λ (o : Option Logged) (log : List Logged). take (knows_last o (suc unit)) log) last more.1
         ∙ take-append-le (knows_last (slice_get (log_of w 0) (n - 1)) (suc unit)) (log_of w (suc unit)) more.0 (last_within i w (n - 1) (suc unit) legal)
+
+-- at the whole length they stay where a unit does something
+pub same_beside : (i : Image) (w : World) (unit : ℕ) (e : UnitEvent) (maker : Maker) → IsLegal i w → 0 < length (log_of w 0)
+    → logs_at (length (log_of (unit_step i.shape unit e maker w ∷ w) 0)) (log_of (unit_step i.shape unit e maker w ∷ w))
+    ≡ logs_at (length (log_of w 0)) (log_of w)
+same_beside i w unit e maker legal some =
+    ap (λ (log : List Logged). logs_at (length log) (log_of (unit_step i.shape unit e maker w ∷ w))) (engine_log i.shape unit e maker w)
+    ∙ same_lengths i (unit_step i.shape unit e maker w ∷ []) w (length (log_of w 0)) legal some (le_refl (length (log_of w 0)))
 
 -- ---- what there was room for
 

@@ -4,6 +4,7 @@ use Rattle.std.specs.Prelude.{slice_get}
 use Rattle.pblk_core.specs.Copies.{is_copying}
 use Rattle.pblk_core.specs.Filling.{Filling}
 use Rattle.pblk_core.specs.Named.{pad_of}
+use Rattle.pblk_core.specs.declared.work.Work.TheVariants as works
 use Rattle.pblk_model.specs.StartRecord.{StartRecord}
 use Rattle.pblk_world.specs.EngineLog.{Begun, begun}
 use Rattle.pblk_world.specs.Events.{Open}
@@ -18,15 +19,17 @@ use Rattle.stripe_placer.specs.Placing.{UnitRow}
 use Rattle.block_target.specs.Deeds.{Decides, Deed, world_of}
 use Rattle.block_target.specs.Freed.{HaveFreed}
 use Rattle.block_target.specs.Heart.{BeatsAfter, IsBeating, IsHeart}
-use Rattle.block_target.specs.Mount.{IsMount, MountView, engine_log, logs_in, world_in}
+use Rattle.block_target.specs.Mount.{IsMount, MountView, engine_log, logs_in, work_in, world_in}
 use Rattle.block_target.specs.declared.heart.Heart.{Heart}
 use Rattle.block_target.proofs.DeedsLemmas.{world_more}
 use Rattle.block_target.proofs.FreedMounts.{leaves_freed}
+use Rattle.block_target.proofs.NotedResets.{noted_decided}
+use Rattle.block_target.proofs.OrderedMounts.{lacks_address_now, none_to_free_now, none_to_reset_now}
 use Rattle.block_target.proofs.GoingOn.{GoesOn, Leaves, goes_decided, goes_none, longer_decided, moved_on, takes_still}
 use Rattle.block_target.proofs.MountLemmas.{asked_within}
 
 module _ {v : MountView} {h : Heart} {f : Filling} (m : IsMount v h f) (line : ℕ) (start : StartRecord)
-    (may : (b : Begun) → begun (engine_log v) ≡ Some b → MayOpen v.image (logs_in v) b line start) where
+    (may : (b : Begun) → begun (engine_log v) ≡ Some b → MayOpen v.image (logs_in v) b line start) (named : work_in v ≡ works.Open) where
   abbrev next : World
   next = engine_step v.image.shape (Open line start) (world_in v) ∷ world_in v
 
@@ -39,6 +42,7 @@ module _ {v : MountView} {h : Heart} {f : Filling} (m : IsMount v h f) (line : �
 
   goes : GoesOn v next v.units
   goes = goes_decided (goes_none v m.sound) (Open line start) legal (λ knows. refl) tt
+      (none_to_free_now m, none_to_reset_now m works.Open (λ line unit e. absurd cc) named, lacks_address_now m named)
 
   its_world : world_of v.image.shape done ≡ next
   its_world = world_more v.image.shape v.deeds (Decides (Open line start))
@@ -57,6 +61,7 @@ module _ {v : MountView} {h : Heart} {f : Filling} (m : IsMount v h f) (line : �
   leaves_opened mid new last beats rows copying grants pads frees =
       leaves_freed m.sound goes done v.wear mid new f last its_world (stands mid beats) frees (Decides (Open line start) ∷ []) refl
       (level_by v.image.shape (Open line start) (world_in v) (λ unit. refl) m.level)
+      (noted_decided v.image.shape (Open line start) (world_in v) m.noted)
       (known_still v.image (world_in v) (Open line start) refl (λ unit. refl) m.known)
       (λ unit of is. m.resting unit of (ap (λ (us : List UnitRow). slice_get us unit) (sym rows) ∙ is)) (copying ∙ m.idle) m.stripe
       (takes_still v.image.shape (Open line start) (world_in v) refl) refl grants (asked_within m (pad_of mid.core) pads)

@@ -8,6 +8,8 @@ use Rattle.pblk_model.specs.UnitLog.{Answered, Stopped, UnitEvent, UnitOutcome}
 use Rattle.pblk_world.proofs.Answered.{answers_fit}
 use Rattle.pblk_world.proofs.WorldLemmas.{log_here}
 use Rattle.pblk_world.specs.Answering.{MayLand, MayOfferAgain}
+use Rattle.pblk_world.specs.AtRest.{logs_at}
+use Rattle.pblk_world.specs.Commanding.{is_reset}
 use Rattle.pblk_world.specs.EngineLog.{Answer, Placed, answers, placed_on, takes}
 use Rattle.pblk_world.specs.Events.{Again, EngineEvent, Landed, Logged, Place, Stripe}
 use Rattle.pblk_world.specs.Placing.{MayPlace}
@@ -23,7 +25,9 @@ use Rattle.step_laws.proofs.Known.{known_still}
 use Rattle.step_laws.proofs.Levels.{level_by}
 use Rattle.step_laws.proofs.Noted.{landing_known, landing_legal, landing_level, stopping_known, stopping_legal, stopping_level}
 use Rattle.step_laws.proofs.Programs.{may_land, may_offer_again, unit_in_range}
+use Rattle.step_laws.specs.FreedWorlds.{NoneToFree}
 use Rattle.step_laws.specs.NextEvents.{CanProgram}
+use Rattle.step_laws.proofs.UnitSteps.{engine_longer}
 use Rattle.step_laws.specs.Whole.{IsKnown, IsLevel, after_unit, engine_step, knows_all, next_event, next_maker, noted}
 use Rattle.stripe_placer.specs.Placing.{Program}
 use Rattle.stripe_placer.specs.Placing.UnitRow.{UnderWay}
@@ -34,20 +38,26 @@ use Rattle.pblk_core.specs.Filling.{Filling}
 use Rattle.pblk_core.specs.Landing.{AreKeptBeside, IsIdleOn, IsOfferedOn, IsResting, WasStopped}
 use Rattle.pblk_core.specs.Named.{pad_of}
 use Rattle.pblk_core.specs.declared.target_core.Core.{Core}
+use Rattle.pblk_core.specs.declared.work.Work.TheVariants as works
 use Rattle.block_target.specs.Arm.{IsStripeThere, WasGiven, last_of}
 use Rattle.block_target.specs.Deeds.{Decides, Deed, Does, Lands, Offers, world_of}
 use Rattle.block_target.specs.Freed.{HaveFreed}
 use Rattle.block_target.specs.Heart.{BeatsAfter, IsBeating, IsHeart, OfItsMount, decided}
 use Rattle.scan_recovery.specs.Lost.{IsLostAt, NoneLost, is_fetch}
-use Rattle.block_target.specs.Mount.{IsMount, MountView, engine_log, world_in}
+use Rattle.block_target.specs.Mount.{AreResetsNoted, IsMount, MountView, engine_log, work_in, world_in}
 use Rattle.block_target.specs.declared.heart.Heart.{Heart}
 use Rattle.block_target.proofs.DeedsLemmas.{landed_world, stopped_world, world_more}
 use Rattle.block_target.proofs.FreedMounts.{leaves_freed}
 use Rattle.block_target.proofs.GivenCommands.{can_program}
-use Rattle.block_target.proofs.GoingOn.{GoesOn, Leaves, goes_decided, goes_given, goes_none, longer_decided, moved_on, no_less, one_more, takes_beside, takes_still}
+use Rattle.block_target.proofs.EngineLengths.{whole_decided}
+use Rattle.block_target.proofs.OnceRoom.{same_beside}
+use Rattle.block_target.proofs.OrderedMounts.{none_to_free_now, none_to_reset_now}
+use Rattle.block_target.proofs.PlacedSpent.{none_placed}
+use Rattle.block_target.proofs.GoingOn.{GoesOn, Leaves, begun_on, goes_decided, goes_given, goes_none, longer_decided, moved_on, no_less, one_more, takes_beside, takes_still}
 use Rattle.block_target.proofs.HeartBeside.{heart_beside}
 use Rattle.block_target.proofs.MountLemmas.{asked_within}
 use Rattle.block_target.proofs.LostCommands.{is_lost_one, none_lost_one}
+use Rattle.block_target.proofs.NotedResets.{no_reset, noted_beside, noted_decided}
 use Rattle.block_target.proofs.Reasoned.{PlacesFor}
 use Rattle.block_target.proofs.UrgentStripes.{placed_for}
 use Rattle.pblk_model.proofs.MarksLemmas.{accepted_small}
@@ -87,6 +97,8 @@ pub record IsToProgram (v : MountView) (mid : Heart) (stripe : Stripe) (w : Worl
   pub goes : GoesOn v w v.units
   pub heart : IsHeart v.image (log_of w) mid
   pub level : IsLevel w
+  pub noted : AreResetsNoted (log_of w)
+  pub none_left : NoneToFree v.image (logs_at (length (log_of w 0)) (log_of w))
   pub known : IsKnown v.image w
   pub takes : takes (log_of w 0) ≡ takes (engine_log v)
   pub placed : Placed
@@ -105,7 +117,8 @@ placed_more v into deeds were = go into.again refl
     go false fresh = (Decides (Place into.stripe) ∷ [], were.new fresh)
     go true again = ([], were.again again ∙ sym (append-nil v.deeds))
 
-module _ {v : MountView} {h : Heart} {f : Filling} (m : IsMount v h f) (mid : Heart) (into : Filling) (placed : IsPlacedBy h into mid) where
+module _ {v : MountView} {h : Heart} {f : Filling} (m : IsMount v h f) (named : work_in v ≡ works.Program) (mid : Heart) (into : Filling)
+    (placed : IsPlacedBy h into mid) where
   module _ (fresh : into.again ≡ false) where
     may : MayPlace v.image (log_of (world_in v)) into.stripe
     may = placed.legal fresh v.image (world_in v) m.sound.legal.mount m.heart
@@ -148,9 +161,14 @@ module _ {v : MountView} {h : Heart} {f : Filling} (m : IsMount v h f) (mid : He
 
     to_program_new : IsToProgram v mid into.stripe next
     to_program_new = record {
-      goes = goes_decided (goes_none v m.sound) (Place into.stripe) legal (λ knows. refl) reason;
+      goes = goes_decided (goes_none v m.sound) (Place into.stripe) legal (λ knows. refl) reason
+          (none_to_free_now m, none_to_reset_now m works.Program (λ line unit e. absurd cc) named);
       heart = placed.beats fresh v.image (world_in v) knows m.sound.legal.mount m.heart legal.mount;
       level = level_by v.image.shape (Place into.stripe) (world_in v) (λ unit. refl) m.level;
+      noted = noted_decided v.image.shape (Place into.stripe) (world_in v) m.noted;
+      none_left = subst (NoneToFree v.image) (sym (whole_decided v.image (world_in v) (Place into.stripe) legal))
+          (none_placed v.image (world_in v) m.sound.beginning into.stripe m.sound.legal.mount legal.mount m.sound.has_begun may m.heart.stands.full
+          m.settled);
       known = known_still v.image (world_in v) (Place into.stripe) refl (λ unit. refl) m.known;
       takes = takes_still v.image.shape (Place into.stripe) (world_in v) refl;
       placed = now_placed;
@@ -164,6 +182,8 @@ module _ {v : MountView} {h : Heart} {f : Filling} (m : IsMount v h f) (mid : He
         goes = goes_none v m.sound;
         heart = was.1;
         level = m.level;
+        noted = m.noted;
+        none_left = none_to_free_now m;
         known = m.known;
         takes = refl;
         placed = was.0.placed;
@@ -250,6 +270,14 @@ module _ {v : MountView} {h : Heart} {f : Filling} (m : IsMount v h f) {mid : He
     no_fetch : is_fetch e.command ≡ false
     no_fetch = ap is_fetch given.command_is
 
+    noted_programmed : AreResetsNoted (log_of programmed)
+    noted_programmed = noted_beside v.image.shape stripe.unit e (next_maker w) w (no_reset e (ap is_reset given.command_is)) ready.noted
+
+    none_programmed : NoneToFree v.image (logs_at (length (log_of programmed 0)) (log_of programmed))
+    none_programmed = subst (NoneToFree v.image)
+        (sym (same_beside v.image w stripe.unit e (next_maker w) ready.goes.legal.mount.legal
+        (engine_longer w m.sound.beginning (begun_on ready.goes m.sound.beginning m.sound.has_begun)))) ready.none_left
+
     -- it was done
     module _ (done : given.event.outcome ≡ Answered Done) where
       abbrev note : EngineEvent
@@ -276,7 +304,7 @@ module _ {v : MountView} {h : Heart} {f : Filling} (m : IsMount v h f) {mid : He
       may_be_landed = (v.image, programmed, given.legal.mount, heart_programmed, its_number, landing)
 
       goes_landed : GoesOn v (noted v.image.shape note programmed) (slice_set v.units stripe.unit new)
-      goes_landed = goes_decided goes note landed_legal (λ knows. refl) tt
+      goes_landed = goes_decided goes note landed_legal (λ knows. refl) tt none_programmed
 
       takes_landed : takes (log_of (noted v.image.shape note programmed) 0) ≡ takes (engine_log v)
       takes_landed = takes_still v.image.shape note programmed refl ∙ takes_beside v.image.shape stripe.unit e (next_maker w) w ∙ ready.takes
@@ -298,6 +326,7 @@ module _ {v : MountView} {h : Heart} {f : Filling} (m : IsMount v h f) {mid : He
           (beats v.image programmed its_number (knows_all v.image.shape programmed) given.legal.mount heart_programmed landing landed_legal.mount)
           frees more.0 (is ∙ more.1)
           (landing_level v.image w stripe.unit ready.placed e (next_maker w) ready.goes.legal can done ready.level)
+          (noted_decided v.image.shape note programmed noted_programmed)
           (landing_known v.image w stripe.unit ready.placed e (next_maker w) ready.goes.legal can done ready.known)
           rests (copying ∙ m.idle) shape takes_landed same_wear grants (asked_within m (pad_of after.core) pads))
 
@@ -338,7 +367,7 @@ module _ {v : MountView} {h : Heart} {f : Filling} (m : IsMount v h f) {mid : He
       }
 
       goes_stopped : GoesOn v (noted v.image.shape again programmed) (slice_set v.units stripe.unit new)
-      goes_stopped = goes_decided goes again stopped_legal (λ knows. refl) tt
+      goes_stopped = goes_decided goes again stopped_legal (λ knows. refl) tt none_programmed
 
       takes_stopped : takes (log_of (noted v.image.shape again programmed) 0) ≡ takes (engine_log v)
       takes_stopped = takes_still v.image.shape again programmed refl ∙ takes_beside v.image.shape stripe.unit e (next_maker w) w ∙ ready.takes
@@ -361,6 +390,7 @@ module _ {v : MountView} {h : Heart} {f : Filling} (m : IsMount v h f) {mid : He
           (beats v.image programmed its_number (knows_all v.image.shape programmed) given.legal.mount heart_programmed offer stopped_legal.mount)
           frees more.0 (is ∙ more.1)
           (stopping_level v.image w stripe.unit ready.placed e (next_maker w) ready.goes.legal can k stops ready.level)
+          (noted_decided v.image.shape again programmed noted_programmed)
           (stopping_known v.image w stripe.unit ready.placed e (next_maker w) ready.goes.legal can k stops ready.known)
           rests (copying ∙ m.idle) shape takes_stopped same_wear grants (asked_within m (pad_of after.core) pads))
 

@@ -23,7 +23,8 @@ use Rattle.step_laws.proofs.GivenUp.{may_note, noted_known, noted_legal, noted_l
 use Rattle.step_laws.proofs.Known.{known_as_is, used_or_stopped}
 use Rattle.step_laws.proofs.SpentStays.{none_beside}
 use Rattle.step_laws.proofs.UnitStays.{known_stays}
-use Rattle.step_laws.proofs.UnitSteps.{chunk_now, running}
+use Rattle.step_laws.proofs.UnitSteps.{chunk_now, engine_longer, running}
+use Rattle.step_laws.specs.FreedWorlds.{NoneToFree}
 use Rattle.step_laws.specs.NextEvents.{CanReset}
 use Rattle.step_laws.specs.Whole.{after_unit, knows_all, next_event, next_maker, noted}
 use Rattle.stripe_placer.specs.Placing.{UnitRow}
@@ -47,6 +48,9 @@ use Rattle.block_target.proofs.GoingOn.{GoesOn, Leaves, goes_decided, goes_given
 use Rattle.block_target.proofs.HeartBeside.{heart_beside}
 use Rattle.block_target.proofs.MountLemmas.{asked_within}
 use Rattle.block_target.proofs.LostCommands.{is_lost_one, none_lost_one}
+use Rattle.block_target.proofs.NotedResets.{noted_beside, noted_reset}
+use Rattle.block_target.proofs.OnceRoom.{same_beside}
+use Rattle.block_target.proofs.OrderedMounts.{none_to_free_now}
 
 is_used : (state : ChunkState) → is_used_state state ≡ true → IsUsed state
 is_used states.Free e = absurd cc
@@ -138,6 +142,7 @@ module _ {v : MountView} {h : Heart} {f : Filling} (m : IsMount v h f) (line uni
           (leaves_on m.sound goes last (Does unit (last_of new) ∷ []) wear h f done
           (ap (world_of i.shape) done ∙ given_world i.shape v.deeds unit (last_of new) e given.last) heart_left
           (reset_level i w unit e (next_maker w) can m.level)
+          (noted_beside i.shape unit e (next_maker w) w (λ reset. ap was_stopped stops) m.noted)
           (reset_stopped i w unit e (next_maker w) can (ap was_stopped stops) m.sound.legal.mount.legal m.known)
           m.resting m.idle (none_beside i w m.sound.beginning unit e (next_maker w) m.sound.legal.mount given.legal.mount m.sound.has_begun m.heart.stands.full
           m.settled) m.stripe (none_taken m.sound goes takes_left) same_wear low (asked_within m (pad_of h.core) (le_refl (pad_of h.core))))
@@ -194,6 +199,8 @@ module _ {v : MountView} {h : Heart} {f : Filling} (m : IsMount v h f) (line uni
 
       goes_noted : GoesOn v (noted i.shape note left) (slice_set v.units unit new)
       goes_noted = goes_decided goes note noted_mount (λ knows. refl) tt
+          (subst (NoneToFree i) (sym (same_beside i w unit e (next_maker w) m.sound.legal.mount.legal (engine_longer w m.sound.beginning m.sound.has_begun)))
+          (none_to_free_now m))
 
       takes_noted : takes (log_of (noted i.shape note left) 0) ≡ takes (engine_log v)
       takes_noted = takes_still i.shape note left refl ∙ takes_beside i.shape unit e (next_maker w) w
@@ -217,6 +224,7 @@ module _ {v : MountView} {h : Heart} {f : Filling} (m : IsMount v h f) (line uni
           (Does unit (last_of new) ∷ NotesReset unit ∷ [])
           (lasts ∙ append_assoc v.deeds (Does unit (last_of new) ∷ []) (NotesReset unit ∷ []))
           (noted_level i w unit e (next_maker w) can m.level)
+          (noted_reset i.shape unit e (next_maker w) w m.noted)
           (noted_known i w unit e (next_maker w) can ends m.sound.legal m.known)
           (λ other of there. m.resting other of (ap (λ (us : List UnitRow). slice_get us other) (sym rows) ∙ there)) (copying ∙ m.idle) m.stripe takes_noted
           same_wear grants (asked_within m (pad_of after.core) pads))

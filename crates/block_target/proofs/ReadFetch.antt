@@ -16,7 +16,7 @@ use Rattle.pblk_model.specs.Chunk.{Block, Chunk, IsChunk, IsReadable, PointerFit
 use Rattle.pblk_model.specs.ChunkStep.{ChunkCommand, Empty, Gave, Read, read_refusal_in}
 use Rattle.pblk_model.specs.UnitLog.{Answered, IsOutcome, UnitEvent, UnitOutcome}
 use Rattle.pblk_laws.specs.LineBlocks.{chunk_in}
-use Rattle.pblk_world.specs.Commanding.{is_program}
+use Rattle.pblk_world.specs.Commanding.{is_program, is_reset}
 use Rattle.pblk_world.specs.Events.{Maker}
 use Rattle.pblk_world.specs.World.{World, log_of, media}
 use Rattle.step_laws.proofs.Fetches.{media_stays}
@@ -43,6 +43,7 @@ use Rattle.block_target.proofs.GivenCommands.{can_do}
 use Rattle.block_target.proofs.GoingOn.{GoesOn, Leaves, goes_given, goes_none, leaves_on, moved_on, none_taken, one_more, takes_beside}
 use Rattle.block_target.proofs.MountLemmas.{asked_within}
 use Rattle.block_target.proofs.HeartBeside.{heart_beside}
+use Rattle.block_target.proofs.NotedResets.{no_reset, noted_beside}
 use Rattle.block_target.proofs.LostCommands.{is_lost_one, none_lost_one}
 use Rattle.lemmas.proofs.Parts.{all_get, got_within}
 use Rattle.lemmas.proofs.Tests.{lt_true}
@@ -208,6 +209,7 @@ module _ {v : MountView} {h : Heart} {f : Filling} (m : IsMount v h f) (unit chu
         (leaves_on m.sound goes last (Does unit (last_of new) ∷ []) wear h f fetched.deeds its_world
         (heart_beside v.image w unit e (next_maker w) h m.sound.legal.mount m.heart)
         (level_unit v.image.shape unit e (next_maker w) w (ends_by_command e (ap is_program given.command_is)) m.level)
+        (noted_beside v.image.shape unit e (next_maker w) w (no_reset e (ap is_reset given.command_is)) m.noted)
         (known_at_fetch v.image w unit e (next_maker w) m.sound.legal.mount.legal number given.command_is m.known)
         m.resting m.idle (none_beside v.image w m.sound.beginning unit e (next_maker w) m.sound.legal.mount given.legal.mount m.sound.has_begun
         m.heart.stands.full m.settled) m.stripe (none_taken m.sound goes (takes_beside v.image.shape unit e (next_maker w) w)) same_wear low

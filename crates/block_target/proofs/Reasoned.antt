@@ -7,6 +7,7 @@ use Rattle.std.proofs.lemmas.Bool.{cases_lt}
 use Rattle.std.proofs.lemmas.List.{take-append-le}
 use Rattle.std.proofs.lemmas.Option.{same_Some, slice_get_within}
 use Rattle.pblk_model.specs.declared.chunk.Mark.{Mark}
+use Rattle.pblk_model.specs.declared.shape.Shape.{Shape}
 use Rattle.pblk_model.specs.Image.{Image}
 use Rattle.pblk_model.specs.UnitLog.{UnitEvent}
 use Rattle.lemmas.proofs.Parts.{get_first, get_last}
@@ -35,7 +36,7 @@ module _ (i : Image) (later w : World) (legal : IsLegal i w) where
   engine : (more : List Logged) × (log_of (later ++ w) 0 ≡ log_of w 0 ++ more)
   engine = grows later w 0
 
-  at_before : (k : ℕ) → k < length (log_of w 0) → slice_get (log_of (later ++ w) 0) k ≡ slice_get (log_of w 0) k
+  pub at_before : (k : ℕ) → k < length (log_of w 0) → slice_get (log_of (later ++ w) 0) k ≡ slice_get (log_of w 0) k
   at_before k low = ap (λ (log : List Logged). slice_get log k) engine.1 ∙ get_first (log_of w 0) engine.0 k low
 
   pub begun_later : (n lba : ℕ) (source : Source) → n ≤ length (log_of w 0) → WasBegun i (log_of w) n lba source
@@ -117,70 +118,57 @@ abbrev ReasonOf : Image → Logs → Event → Type 0
 ReasonOf i logs (Decides e) = HasReason i logs e
 ReasonOf i logs (Does e maker) = ⊤
 
+-- the event that a step of the engine adds to its log
+pub added : (s : Shape) (e : EngineEvent) (w : World) (k : ℕ) (l : Logged) → length (log_of w 0) ≤ k
+    → slice_get (log_of (engine_step s e w ∷ w) 0) k ≡ Some l → (k ≡ length (log_of w 0)) × ((engine_step s e w).logged ≡ l)
+added s e w k l from at = (
+  same,
+  same_Some step.logged l
+      (sym (get_last (log_of w 0) step.logged) ∙ ap₂ (λ (log : List Logged) n. slice_get log n) (sym log_now) (sym same) ∙ at),
+)
+  where
+    step : Step
+    step = engine_step s e w
+
+    log_now : log_of (engine_step s e w ∷ w) 0 ≡ log_of w 0 ++ (engine_step s e w).logged ∷ []
+    log_now = log_here (engine_step s e w) w 0 refl
+
+    same : k ≡ length (log_of w 0)
+    same =
+        let long : length (log_of (engine_step s e w ∷ w) 0) ≡ length (log_of w 0) + 1 =
+        ap (λ (log : List Logged). length log) log_now ∙ length-append (log_of w 0) ((engine_step s e w).logged ∷ []) in
+        let within : k < length (log_of (engine_step s e w ∷ w) 0) = slice_get_within (log_of (engine_step s e w ∷ w) 0) k l at in
+        omega (arith, long)
+
+-- a step of a unit adds none
+pub none_added : (s : Shape) (unit : ℕ) (e : UnitEvent) (maker : Maker) (w : World) (k : ℕ) (l : Logged) → length (log_of w 0) ≤ k
+    → slice_get (log_of (unit_step s unit e maker w ∷ w) 0) k ≡ Some l → ⊥
+none_added s unit e maker w k l from at =
+    let within : k < length (log_of (unit_step s unit e maker w ∷ w) 0) = slice_get_within (log_of (unit_step s unit e maker w ∷ w) 0) k l at in
+    let same : length (log_of (unit_step s unit e maker w ∷ w) 0) ≡ length (log_of w 0) =
+    ap (λ (log : List Logged). length log) (engine_log s unit e maker w) in
+    omega (arith, same)
+
 module _ (i : Image) (w : World) (legal : IsLegal i w) where
   pub begun_decided : (e : EngineEvent) → HasReason i (log_of w) e → AreBegun i (log_of w) → AreBegun i (log_of (engine_step i.shape e w ∷ w))
-  begun_decided e reason = are_begun_later i (step ∷ []) w legal news
-    where
-      step : Step
-      step = engine_step i.shape e w
-
-      log_now : log_of (step ∷ w) 0 ≡ log_of w 0 ++ step.logged ∷ []
-      log_now = log_here step w 0 refl
-
-      long : length (log_of (step ∷ w) 0) ≡ length (log_of w 0) + 1
-      long = ap (λ (log : List Logged). length log) log_now ∙ length-append (log_of w 0) (step.logged ∷ [])
-
-      news : (k : ℕ) (knows : List ℕ) (entry : Entry) (mark : Mark) (source : Source) → length (log_of w 0) ≤ k
-          → slice_get (log_of (step ∷ w) 0) k ≡ Some (record { event = Decides (Take entry mark); knows = knows }) → entry.source ≡ Some source
-          → WasBegun i (log_of (step ∷ w)) k entry.lba source
-      news k knows entry mark source from at of =
-          let within : k < length (log_of (step ∷ w) 0) = slice_get_within (log_of (step ∷ w) 0) k (record { event = Decides (Take entry mark); knows = knows }) at in
-          let same : k ≡ length (log_of w 0) = omega (arith, long) in
-          let is : step.logged ≡ record { event = Decides (Take entry mark); knows = knows } =
-          same_Some step.logged (record { event = Decides (Take entry mark); knows = knows })
-          (sym (get_last (log_of w 0) step.logged) ∙ ap₂ (λ (log : List Logged) n. slice_get log n) (sym log_now) (sym same) ∙ at) in
-          let its : TakesFor i (log_of w) entry.lba entry.source = subst (λ (l : Logged). ReasonOf i (log_of w) l.event) is reason in
-          let was : WasBegun i (log_of w) (length (log_of w 0)) entry.lba source = subst (TakesFor i (log_of w) entry.lba) of its in
-          subst (λ n. WasBegun i (log_of (step ∷ w)) n entry.lba source) (sym same)
-          (begun_later i (step ∷ []) w legal (length (log_of w 0)) entry.lba source (le_refl (length (log_of w 0))) was)
+  begun_decided e reason = are_begun_later i (engine_step i.shape e w ∷ []) w legal (λ k knows entry mark source from at of.
+      let is = added i.shape e w k (record { event = Decides (Take entry mark); knows = knows }) from at in
+      let its : TakesFor i (log_of w) entry.lba entry.source = subst (λ (l : Logged). ReasonOf i (log_of w) l.event) is.1 reason in
+      let was : WasBegun i (log_of w) (length (log_of w 0)) entry.lba source = subst (TakesFor i (log_of w) entry.lba) of its in
+      subst (λ n. WasBegun i (log_of (engine_step i.shape e w ∷ w)) n entry.lba source) (sym is.0)
+      (begun_later i (engine_step i.shape e w ∷ []) w legal (length (log_of w 0)) entry.lba source (le_refl (length (log_of w 0))) was))
 
   pub urgent_decided : (e : EngineEvent) → HasReason i (log_of w) e → AreUrgent i (log_of w) → AreUrgent i (log_of (engine_step i.shape e w ∷ w))
-  urgent_decided e reason = are_urgent_later i (step ∷ []) w legal news
-    where
-      step : Step
-      step = engine_step i.shape e w
-
-      log_now : log_of (step ∷ w) 0 ≡ log_of w 0 ++ step.logged ∷ []
-      log_now = log_here step w 0 refl
-
-      long : length (log_of (step ∷ w) 0) ≡ length (log_of w 0) + 1
-      long = ap (λ (log : List Logged). length log) log_now ∙ length-append (log_of w 0) (step.logged ∷ [])
-
-      news : (k : ℕ) (knows : List ℕ) (stripe : Stripe) (position : ℕ) → length (log_of w 0) ≤ k
-          → slice_get (log_of (step ∷ w) 0) k ≡ Some (record { event = Decides (Place stripe); knows = knows })
-          → list_any (bears_position i.shape position) stripe.blocks ≡ true → WasUrgent i (log_of (step ∷ w)) k
-      news k knows stripe position from at bears =
-          let within : k < length (log_of (step ∷ w) 0) = slice_get_within (log_of (step ∷ w) 0) k (record { event = Decides (Place stripe); knows = knows }) at in
-          let same : k ≡ length (log_of w 0) = omega (arith, long) in
-          let is : step.logged ≡ record { event = Decides (Place stripe); knows = knows } =
-          same_Some step.logged (record { event = Decides (Place stripe); knows = knows })
-          (sym (get_last (log_of w 0) step.logged) ∙ ap₂ (λ (log : List Logged) n. slice_get log n) (sym log_now) (sym same) ∙ at) in
-          let its : PlacesFor i (log_of w) stripe = subst (λ (l : Logged). ReasonOf i (log_of w) l.event) is reason in
-          subst (WasUrgent i (log_of (step ∷ w))) (sym same)
-          (urgent_later i (step ∷ []) w legal (length (log_of w 0)) (le_refl (length (log_of w 0))) (its position bears))
+  urgent_decided e reason = are_urgent_later i (engine_step i.shape e w ∷ []) w legal (λ k knows stripe position from at bears.
+      let is = added i.shape e w k (record { event = Decides (Place stripe); knows = knows }) from at in
+      let its : PlacesFor i (log_of w) stripe = subst (λ (l : Logged). ReasonOf i (log_of w) l.event) is.1 reason in
+      subst (WasUrgent i (log_of (engine_step i.shape e w ∷ w))) (sym is.0)
+      (urgent_later i (engine_step i.shape e w ∷ []) w legal (length (log_of w 0)) (le_refl (length (log_of w 0))) (its position bears)))
 
   pub urgent_beside : (unit : ℕ) (e : UnitEvent) (maker : Maker) → AreUrgent i (log_of w) → AreUrgent i (log_of (unit_step i.shape unit e maker w ∷ w))
   urgent_beside unit e maker = are_urgent_later i (unit_step i.shape unit e maker w ∷ []) w legal (λ k knows stripe position from at bears.
-      let within : k < length (log_of (unit_step i.shape unit e maker w ∷ w) 0) =
-      slice_get_within (log_of (unit_step i.shape unit e maker w ∷ w) 0) k (record { event = Decides (Place stripe); knows = knows }) at in
-      let same : length (log_of (unit_step i.shape unit e maker w ∷ w) 0) ≡ length (log_of w 0) =
-      ap (λ (log : List Logged). length log) (engine_log i.shape unit e maker w) in
-      absurd (omega (arith, same)))
+      absurd (none_added i.shape unit e maker w k (record { event = Decides (Place stripe); knows = knows }) from at))
 
   pub begun_beside : (unit : ℕ) (e : UnitEvent) (maker : Maker) → AreBegun i (log_of w) → AreBegun i (log_of (unit_step i.shape unit e maker w ∷ w))
   begun_beside unit e maker = are_begun_later i (unit_step i.shape unit e maker w ∷ []) w legal (λ k knows entry mark source from at of.
-      let within : k < length (log_of (unit_step i.shape unit e maker w ∷ w) 0) =
-      slice_get_within (log_of (unit_step i.shape unit e maker w ∷ w) 0) k (record { event = Decides (Take entry mark); knows = knows }) at in
-      let same : length (log_of (unit_step i.shape unit e maker w ∷ w) 0) ≡ length (log_of w 0) =
-      ap (λ (log : List Logged). length log) (engine_log i.shape unit e maker w) in
-      absurd (omega (arith, same)))
+      absurd (none_added i.shape unit e maker w k (record { event = Decides (Take entry mark); knows = knows }) from at))

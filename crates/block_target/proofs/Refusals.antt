@@ -1,5 +1,5 @@
--- What is refused where there is nothing left to do, and that it stays so as the world grows.
-use Rattle.std.proofs.Common.{◌≡◌, ℕ, ◌+◌, ◌<◌, ◌≤◌, zero, suc, List, [], ◌∷◌, ◌++◌, length, sym, subst, ap, ◌∙◌, arith, le_trans, append-nil, append_assoc}
+-- What is refused at rest, and that it stays so as the world grows.
+use Rattle.std.proofs.Common.{◌≡◌, ℕ, ◌+◌, ◌<◌, ◌≤◌, zero, suc, List, [], ◌∷◌, ◌++◌, length, take, sym, subst, ap, ◌∙◌, arith, le_trans, append-nil, append_assoc}
 use Rattle.std.proofs.Math.Seq.{take-length}
 use Rattle.pblk_model.specs.Image.{Image}
 use Rattle.pblk_model.specs.Marks.{sector_mark}
@@ -8,11 +8,11 @@ use Rattle.pblk_world.specs.World.{World, Logs, log_of}
 use Rattle.pblk_world.specs.Fronts.{taken, synced, user_takes}
 use Rattle.pblk_world.specs.Legal.{IsLegal}
 use Rattle.pblk_world.specs.Space.{room}
-use Rattle.pblk_world.specs.AtRest.{logs_at}
+use Rattle.pblk_world.specs.AtRest.{logs_at, IsResting, IsAtRest, IsWornFlush}
 use Rattle.block_port.specs.declared.rows.WornAnswer.{WornAnswer}
 use Rattle.block_target.specs.Deeds.{Deed, Decides, world_of}
 use Rattle.world_laws.specs.Reasons.{WasRoom}
-use Rattle.block_target.specs.NothingLeft.{HasNothingLeft, HasNothingLeftAt, IsFlushRefusal, IsWriteRefusal, IsRefusal, IsRefusedAt, AreRefusals}
+use Rattle.block_target.specs.Refusals.{IsWriteRefusal, IsRefusal, IsRefusedAt, AreRefusals}
 use Rattle.block_target.specs.Mount.{MountView, IsSound, IsStuckAt, logs_in, engine_log, taken_in, synced_in, next_entry, with_entry, with_entries}
 use Rattle.block_target.proofs.EngineLengths.{no_shorter, world_grown}
 use Rattle.block_target.proofs.OnceRoom.{room_later, same_lengths}
@@ -20,35 +20,38 @@ use Rattle.block_target.proofs.OnceRoom.{room_later, same_lengths}
 -- ---- one refusal
 
 refused_within : (i : Image) (logs : Logs) (n count wanted have : ℕ) → IsRefusal i logs n count wanted have → (0 < n) × (n ≤ length (logs 0))
-refused_within i logs n zero wanted have is = (is.nothing_left.has_begun, is.nothing_left.within)
-refused_within i logs n (suc others) wanted have is = (is.nothing_left.has_begun, is.nothing_left.within)
+refused_within i logs n zero wanted have is = (is.at_rest.has_begun, is.at_rest.within)
+refused_within i logs n (suc others) wanted have is = (is.worn.at_rest.has_begun, is.worn.at_rest.within)
 
 module _ (i : Image) (later w : World) (n : ℕ) (legal : IsLegal i w) where
-  same : (asked : ℕ) → HasNothingLeftAt i (log_of w) asked n → logs_at n (log_of (later ++ w)) ≡ logs_at n (log_of w)
+  same : (asked : ℕ) → IsAtRest i (log_of w) asked n → logs_at n (log_of (later ++ w)) ≡ logs_at n (log_of w)
   same asked at = same_lengths i later w n legal at.has_begun at.within
 
-  nothing_left_later : (asked : ℕ) → HasNothingLeftAt i (log_of w) asked n → HasNothingLeftAt i (log_of (later ++ w)) asked n
-  nothing_left_later asked at = record {
+  at_rest_later : (asked : ℕ) → IsAtRest i (log_of w) asked n → IsAtRest i (log_of (later ++ w)) asked n
+  at_rest_later asked at = record {
     has_begun = at.has_begun;
     within = le_trans at.within (no_shorter later w 0);
-    nothing_left = subst (λ (logs : Logs). HasNothingLeft i logs asked) (sym (same asked at)) at.nothing_left;
+    resting = subst (λ (logs : Logs). IsResting i logs asked) (sym (same asked at)) at.resting;
   }
 
-  flush_later : (wanted have : ℕ) → IsFlushRefusal i (log_of w) n wanted have → IsFlushRefusal i (log_of (later ++ w)) n wanted have
+  flush_later : (wanted have : ℕ) → IsWornFlush i (log_of w) n wanted have → IsWornFlush i (log_of (later ++ w)) n wanted have
   flush_later wanted have is = record {
-    nothing_left = nothing_left_later wanted is.nothing_left;
+    at_rest = at_rest_later wanted is.at_rest;
     above = is.above;
-    is_synced = is.is_synced ∙ ap (λ (logs : Logs). synced i.shape (logs 0)) (sym (same wanted is.nothing_left));
-    all_taken = subst (λ (logs : Logs). wanted ≤ taken (logs 0)) (sym (same wanted is.nothing_left)) is.all_taken;
+    is_synced = is.is_synced ∙ ap (λ (logs : Logs). synced i.shape (logs 0)) (sym (same wanted is.at_rest));
+    all_taken = subst (λ (logs : Logs). wanted ≤ taken (logs 0)) (sym (same wanted is.at_rest)) is.all_taken;
   }
 
   write_later : (count wanted have : ℕ) → IsWriteRefusal i (log_of w) n count wanted have → IsWriteRefusal i (log_of (later ++ w)) n count wanted have
   write_later count wanted have is = record {
-    nothing_left = nothing_left_later 0 is.nothing_left;
-    above = is.above;
-    room = subst (λ (logs : Logs). room i logs ≤ have) (sym (same 0 is.nothing_left)) is.room;
-    granted = room_later i later w n have legal is.nothing_left.within is.granted;
-    own_count = is.own_count ∙ ap (λ (logs : Logs). taken (logs 0) + count) (sym (same 0 is.nothing_left));
+    worn = record {
+      at_rest = at_rest_later 0 is.worn.at_rest;
+      above = is.worn.above;
+      room = subst (λ (logs : Logs). room i logs ≤ have) (sym (same 0 is.worn.at_rest)) is.worn.room;
+      own_count = subst (λ (logs : Logs). wanted ≤ taken (logs 0) + count) (sym (same 0 is.worn.at_rest)) is.worn.own_count;
+    };
+    granted = room_later i later w n have legal is.worn.at_rest.within is.granted;
+    own_count = is.own_count ∙ ap (λ (logs : Logs). taken (logs 0) + count) (sym (same 0 is.worn.at_rest));
   }
 
   refusal_later : (count wanted have : ℕ) → IsRefusal i (log_of w) n count wanted have → IsRefusal i (log_of (later ++ w)) n count wanted have
@@ -110,9 +113,9 @@ entries_more v lba (sector ∷ sectors) =
 -- ---- what is refused
 
 pub flush_refused : (v : MountView) (wanted have : ℕ) → IsStuckAt v wanted have → have ≡ synced_in v → wanted ≤ v.asked → wanted ≤ taken_in v
-    → IsFlushRefusal v.image (logs_in v) (length (engine_log v)) wanted have
+    → IsWornFlush v.image (logs_in v) (length (engine_log v)) wanted have
 flush_refused v wanted have stuck at asked low = record {
-  nothing_left = stuck.spent.nothing_left wanted asked;
+  at_rest = stuck.spent.at_rest wanted asked;
   above = stuck.short;
   is_synced = at ∙ ap (synced v.image.shape) (sym (take-length (engine_log v)));
   all_taken = subst (λ (log : List Logged). wanted ≤ taken log) (sym (take-length (engine_log v))) low;
@@ -121,13 +124,18 @@ flush_refused v wanted have stuck at asked low = record {
 pub write_refused : (v : MountView) (count wanted have : ℕ) → IsStuckAt v (taken_in v + count) have → have ≡ v.granted
     → WasRoom v.image (logs_in v) (length (engine_log v)) v.granted → wanted ≡ taken_in v + count
     → IsWriteRefusal v.image (logs_in v) (length (engine_log v)) count wanted have
-write_refused v count wanted have stuck at once own = record {
-  nothing_left = stuck.spent.nothing_left 0 (omega arith);
-  above = subst (λ n. have < n) (sym own) stuck.short;
-  room = subst (λ n. room v.image (logs_at (length (engine_log v)) (logs_in v)) ≤ n) (sym at) stuck.spent.no_room;
-  granted = subst (λ n. WasRoom v.image (logs_in v) (length (engine_log v)) n) (sym at) once;
-  own_count = own ∙ ap (λ (log : List Logged). taken log + count) (sym (take-length (engine_log v)));
-}
+write_refused v count wanted have stuck at once own =
+    let count_is : wanted ≡ taken (take (length (engine_log v)) (engine_log v)) + count =
+    own ∙ ap (λ (log : List Logged). taken log + count) (sym (take-length (engine_log v))) in record {
+      worn = record {
+        at_rest = stuck.spent.at_rest 0 (omega arith);
+        above = subst (λ n. have < n) (sym own) stuck.short;
+        room = subst (λ n. room v.image (logs_at (length (engine_log v)) (logs_in v)) ≤ n) (sym at) stuck.spent.no_room;
+        own_count = omega (arith, count_is);
+      };
+      granted = subst (λ n. WasRoom v.image (logs_in v) (length (engine_log v)) n) (sym at) once;
+      own_count = count_is;
+    }
 
 -- a write is of one sector at least
 pub refusal_of_write : (i : Image) (logs : Logs) (n count wanted have : ℕ) → 1 ≤ count → IsWriteRefusal i logs n count wanted have

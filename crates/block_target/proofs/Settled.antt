@@ -39,7 +39,7 @@ module _ (a v p : MountView) (position : ℕ) (was : IsWorked a v (taken_in v)) 
     pub asks_lost : {T : Type 0} (r : Result T WaitErr) (unit event : ℕ) → IsErrAnd r (λ w. w ≡ Drive unit event) → AsksUpTo a new (taken_in new) r
     asks_lost r unit event made = record { at_least = at_least; at_most = at_most; all = none_stuck a new (taken_in new) unit event r made }
 
-    -- nothing was left to do
+    -- it was at rest
     module _ (rest : (new ≡ p) × IsSpent p) where
       taken_still : taken_in new ≡ position
       taken_still = ap taken_in rest.0 ∙ taken_same ∙ sym wants
@@ -51,7 +51,7 @@ module _ (a v p : MountView) (position : ℕ) (was : IsWorked a v (taken_in v)) 
           omega arith
 
       pub over : IsCollectionOver new
-      over = subst IsCollectionOver (sym rest.0) (inr (rest.1.nothing_left 0 (omega arith)))
+      over = subst IsCollectionOver (sym rest.0) (inr (rest.1.at_rest 0 (omega arith)))
 
       pub asks_stuck : {T : Type 0} (wanted have : ℕ) → AsksUpTo {T = T} a new (taken_in new) (Err (Stuck wanted have))
       asks_stuck wanted have = record {

@@ -37,6 +37,8 @@ use Rattle.block_target.specs.declared.heart.Heart.{Heart}
 use Rattle.block_target.proofs.DeedsLemmas.{world_more}
 use Rattle.block_target.proofs.GoingOn.{GoesOn, KeepsUsers, Leaves, begun_on, goes_decided, goes_none, leaves_on, mount_on, moved_on}
 use Rattle.block_target.proofs.MountLemmas.{asked_within}
+use Rattle.block_target.proofs.NotedResets.{noted_decided}
+use Rattle.block_target.proofs.OrderedMounts.{none_to_free_now}
 use Rattle.block_target.proofs.Reasoned.{HasReason}
 
 -- what its heart asks of the sector, and where it puts it
@@ -77,7 +79,7 @@ module _ {v : MountView} {h : Heart} {f : Filling} (m : IsMount v h f) where
     legal = engine_next v.image (world_in v) m.sound.beginning event m.sound.legal m.sound.has_begun may refl
 
     goes : GoesOn v next v.units
-    goes = goes_decided (goes_none v m.sound) event legal (λ knows. refl) reason
+    goes = goes_decided (goes_none v m.sound) event legal (λ knows. refl) reason (none_to_free_now m)
 
     -- it leaves none to be freed
     none_to_free : NoneToFree v.image (log_of next)
@@ -118,6 +120,7 @@ module _ {v : MountView} {h : Heart} {f : Filling} (m : IsMount v h f) where
       pub mount_taken : IsMount (moved_on v deeds v.units v.wear new.granted (pad_of new.core)) new f
       mount_taken = mount_on m.sound goes deeds v.wear new f its_world stands
           (level_by v.image.shape event (world_in v) (λ unit. refl) m.level)
+          (noted_decided v.image.shape event (world_in v) m.noted)
           (known_still v.image (world_in v) event refl (λ unit. refl) m.known)
           (λ unit of is. m.resting unit of (ap (λ (us : List UnitRow). slice_get us unit) (sym rows) ∙ is)) idle none_to_free m.stripe
           (asked_within m (pad_of new.core) pads)
@@ -127,6 +130,7 @@ module _ {v : MountView} {h : Heart} {f : Filling} (m : IsMount v h f) where
           → Leaves v (moved_on v deeds v.units v.wear new.granted (pad_of new.core)) new f
       leaves_copied source is grants = leaves_on m.sound goes deeds (Decides event ∷ []) v.wear new f done its_world stands
           (level_by v.image.shape event (world_in v) (λ unit. refl) m.level)
+          (noted_decided v.image.shape event (world_in v) m.noted)
           (known_still v.image (world_in v) event refl (λ unit. refl) m.known)
           (λ unit of there. m.resting unit of (ap (λ (us : List UnitRow). slice_get us unit) (sym rows) ∙ there)) idle none_to_free m.stripe
           (copies_keep source is) refl grants (asked_within m (pad_of new.core) pads)

@@ -24,7 +24,7 @@ use Rattle.block_port.specs.Port.{AreSectors, Learns, IsSameTarget, Rise}
 use Rattle.scan_recovery.specs.Lost.{NoneLost}
 use Rattle.block_target.specs.Deeds.{Deed}
 use Rattle.block_target.specs.Mount.{MountView, IsSound, IsSameMount, logs_in, world_in, engine_log, taken_in, synced_in, front_taken, next_entry, with_entry, with_entries, with_pad}
-use Rattle.block_target.specs.NothingLeft.{IsRefusal, IsRefusedAt, AreRefusals}
+use Rattle.block_target.specs.Refusals.{IsRefusal, IsRefusedAt, AreRefusals}
 use Rattle.block_target.specs.Serial.{SerialView, AreNamed, IsSerial, lines_in, device}
 use Rattle.block_target.proofs.NamedAnswers.{all_named_by, all_named_later}
 use Rattle.block_target.proofs.Refusals.{refusals_grown, entries_more}

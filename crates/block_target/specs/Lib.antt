@@ -2,8 +2,9 @@ pub mod Deeds
 pub mod Fetched
 pub mod Freed
 pub mod Moments
-pub mod NothingLeft
+pub mod Refusals
 pub mod Mount
+pub mod Orders
 pub mod Opened
 pub mod Serial
 pub mod Heart

@@ -16,7 +16,7 @@ use Rattle.pblk_world.specs.EngineLog.{Begun, begun}
 use Rattle.pblk_world.specs.Fronts.{taken, synced, user_takes, history}
 use Rattle.pblk_world.specs.Lines.{found_image}
 use Rattle.pblk_world.specs.Space.{freed, is_due, room}
-use Rattle.pblk_world.specs.AtRest.{IsCopyDue, logs_at}
+use Rattle.pblk_world.specs.AtRest.{IsAtRest, IsCopyDue, IsUnnotedReset, logs_at}
 use Rattle.world_laws.specs.Reasons.{AreBegun, AreUrgent}
 use Rattle.core_laws.specs.SimpleMounts.{IsSimpleMount}
 use Rattle.core_laws.specs.WindowOf.{users_below}
@@ -32,8 +32,8 @@ use Rattle.block_target.specs.Arm.{IsArm}
 use Rattle.step_laws.specs.SlotBlocks.{IsBlockOfSlot}
 use Rattle.block_target.specs.Deeds.{Deed, Decides, drive_before, drive_found, world_of}
 use Rattle.block_target.specs.Heart.{IsHeart, user_entry}
+use Rattle.block_target.specs.Orders.{AreInOrder}
 use Rattle.block_target.specs.declared.heart.Heart.{Heart}
-use Rattle.block_target.specs.NothingLeft.{HasNothingLeftAt}
 
 pub record MountView : Type 0 where
   -- the drive as it was handed in, and its units
@@ -101,7 +101,8 @@ IsUnitIn v number u = (old : ModelUnit) × (slice_get v.handed number ≡ Some o
     × IsArm v.image (logs_in v) number old u
 
 -- What was done is a simple mount that has begun, and the units are as it leaves them. Each copy that
--- was taken had been begun, and each stripe with an entry was placed where it was urgent.
+-- was taken had been begun, and each stripe with an entry was placed where it was urgent. The work was
+-- done in its order.
 pub record IsSound (v : MountView) : Type 0 where
   pub legal : IsSimpleMount v.image (world_in v)
   pub beginning : Begun
@@ -113,6 +114,11 @@ pub record IsSound (v : MountView) : Type 0 where
   pub each : (number : ℕ) (u : ModelUnit) → slice_get v.units number ≡ Some u → IsUnitIn v number u
   pub begun : AreBegun v.image (logs_in v)
   pub urgent : AreUrgent v.image (logs_in v)
+  pub in_order : AreInOrder v.image (logs_in v)
+
+-- The engine has noted each reset that wasn't stopped.
+abbrev pub AreResetsNoted : Logs → Type 0
+AreResetsNoted logs = (unit number : ℕ) → ¬ IsUnnotedReset logs unit number
 
 -- Besides, the heart stands for what was done. No program is in flight, no copy is begun, and the
 -- engine has noted all that the units did but resets that were stopped. No line is left that may be
@@ -124,6 +130,7 @@ pub record IsMount (v : MountView) (h : Heart) (filling : Filling) : Type 0 wher
   pub asked : v.asked ≤ v.pad
   pub granted : v.granted ≡ h.granted
   pub level : IsLevel (world_in v)
+  pub noted : AreResetsNoted (logs_in v)
   pub known : IsKnown v.image (world_in v)
   pub resting : IsResting h.core
   pub idle : is_copying h.core ≡ false
@@ -214,21 +221,21 @@ work_in v = work_of v.image (logs_in v) v.pad [] false
 abbrev pub IsRingFull : MountView → Type 0
 IsRingFull v = freed v.image.shape (engine_log v) + v.image.shape.ring ≤ taken_in v
 
--- There is nothing left to do where as much is asked for as is here, or less, and no room that isn't
+-- It is at rest where as much is asked for as is here, or less, and there is no room that isn't
 -- granted.
 pub record IsSpent (v : MountView) : Type 0 where
-  pub nothing_left : (asked : ℕ) → asked ≤ v.asked
-      → HasNothingLeftAt v.image (logs_in v) asked (length (engine_log v))
+  pub at_rest : (asked : ℕ) → asked ≤ v.asked
+      → IsAtRest v.image (logs_in v) asked (length (engine_log v))
   pub no_room : room v.image (logs_at (length (engine_log v)) (logs_in v)) ≤ v.granted
   -- no sector is to be copied
   pub no_copy : ¬ IsCopyDue v.image (logs_in v)
 
--- Collection isn't due, or nothing is left to do.
+-- Collection isn't due, or it is at rest.
 abbrev pub IsCollectionOver : MountView → Type 0
 IsCollectionOver v = (is_due v.image (logs_in v) ≡ false)
-    ⊎ HasNothingLeftAt v.image (logs_in v) 0 (length (engine_log v))
+    ⊎ IsAtRest v.image (logs_in v) 0 (length (engine_log v))
 
--- a front that isn't reached, with nothing left to do
+-- a front that isn't reached, at rest
 pub record IsStuckAt (v : MountView) (wanted have : ℕ) : Type 0 where
   pub spent : IsSpent v
   pub short : have < wanted

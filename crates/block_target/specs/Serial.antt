@@ -6,6 +6,7 @@ use Rattle.pblk_model.specs.declared.run.Place.{Place}
 use Rattle.pblk_model.specs.Contents.{contents, end}
 use Rattle.pblk_model.specs.Sealed.{IsSealed}
 use Rattle.pblk_world.specs.Fronts.{user_takes}
+use Rattle.pblk_world.specs.AtRest.{IsWornFlush}
 use Rattle.pblk_world.specs.World.{media}
 use Rattle.block_port.specs.Own.{PlacedSector, OwnWrite, lines_of}
 use Rattle.block_port.specs.Port.{ModelPort}
@@ -23,7 +24,8 @@ use Rattle.unit_port.specs.Unit.{ModelUnit}
 use Rattle.block_target.specs.Mount.{MountView, IsSound, IsSameMount, IsCollectionOver, logs_in, engine_log, taken_in, synced_in}
 use Rattle.world_laws.specs.Reasons.{WasRoom, AreBegun, AreGranted, AreUrgent}
 use Rattle.scan_recovery.specs.Lost.{IsLostAt, NoneLost, was_lost}
-use Rattle.block_target.specs.NothingLeft.{IsFlushRefusal, IsWriteRefusal, AreRefusals}
+use Rattle.block_target.specs.Orders.{AreAfterResets, AreOpenedFull, NoneWasLeft}
+use Rattle.block_target.specs.Refusals.{IsWriteRefusal, AreRefusals}
 use Rattle.block_target.specs.declared.opening.SettleErr.{SettleErr}
 use Rattle.block_target.specs.declared.opening.SettleErr.TheVariants as settle
 
@@ -108,7 +110,7 @@ IsGrantedPlace v place =
 -- unit's last event. And only then: where it answers anything else each of its commands was done.
 
 -- Why a write of so many sectors answers Worn, and why a flush does: at the end of the engine's
--- log, as the call leaves it, there is nothing left to do. What a write is told that there is was
+-- log, as the call leaves it, the target is at rest. What a write is told that there is was
 -- granted.
 abbrev pub WriteCause : MountView → MountView → ℕ → Result Place WriteErr → Type 0
 WriteCause old v count (Ok place) = NoneLost old.units v.units
@@ -126,7 +128,7 @@ abbrev pub FlushCause : MountView → MountView → Result Front FlushErr → Ty
 FlushCause old v (Ok front) = NoneLost old.units v.units
 FlushCause old v (Err (flush.Drive unit event)) = IsLostAt old.units v.units unit event
 FlushCause old v (Err (flush.Worn wanted have)) = NoneLost old.units v.units
-    × IsFlushRefusal v.image (logs_in v) (length (engine_log v)) wanted have
+    × IsWornFlush v.image (logs_in v) (length (engine_log v)) wanted have
 
 -- Up to where a flush asks for pads: at most to what was taken before it. Where it answers Worn it
 -- wanted just that, and asked for it.
@@ -141,12 +143,12 @@ SettleAsks before wanted asked (Ok x) = (before ≤ asked) × (asked ≤ max bef
 SettleAsks before wanted asked (Err (settle.Drive unit event)) = (before ≤ asked) × (asked ≤ max before wanted)
 SettleAsks before wanted asked (Err (settle.Worn upto have)) = asked ≡ max before wanted
 
--- All that was taken is on the drive, and collection isn't due or there is nothing left to do; or
--- not all is there, where there is nothing left to do; or a command was stopped, or a fetch failed.
+-- All that was taken is on the drive, and collection isn't due or the target is at rest; or not all
+-- is there, where it is at rest; or a command was stopped, or a fetch failed.
 abbrev pub Settles : MountView → Result Unit SettleErr → MountView → Type 0
 Settles old (Ok x) v = NoneLost old.units v.units × (synced_in v ≡ taken_in v) × IsCollectionOver v
 Settles old (Err (settle.Worn wanted have)) v = NoneLost old.units v.units × (wanted ≡ taken_in v)
-    × (have ≡ synced_in v) × IsFlushRefusal v.image (logs_in v) (length (engine_log v)) wanted have
+    × (have ≡ synced_in v) × IsWornFlush v.image (logs_in v) (length (engine_log v)) wanted have
 Settles old (Err (settle.Drive unit event)) v = IsLostAt old.units v.units unit event
 
 -- where no command of the close was lost
@@ -185,6 +187,11 @@ pub record IsClosed (target : SerialView) (settled : Result Unit SettleErr) (v :
   pub granted : AreGranted v.image (logs_in v)
   pub begun : AreBegun v.image (logs_in v)
   pub urgent : AreUrgent v.image (logs_in v)
+  -- Resets came first. Each line was opened where an entry waited and no open line had an address
+  -- left. And no line might be freed before an event, unless that event frees one.
+  pub after_resets : AreAfterResets v.image (logs_in v)
+  pub opened_full : AreOpenedFull v.image (logs_in v)
+  pub none_was_left : NoneWasLeft v.image (logs_in v)
   -- pads were asked for up to what was taken, or by an earlier call
   pub asked : SettleAsks target.mount.asked (taken_in v) v.asked settled
   -- What is now found on a drive that was sealed ends between the front synced and the front taken.

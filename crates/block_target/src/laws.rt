@@ -6,14 +6,14 @@ ghost use Rattle.pblk_model.specs.Accepted.{IsAccepted};
 ghost use Rattle.pblk_model.specs.Contents.{end};
 ghost use Rattle.pblk_model.specs.Image.{Image};
 ghost use Rattle.pblk_model.specs.Sealed.{IsSealed};
-ghost use Rattle.pblk_world.specs.AtRest.{logs_at};
+ghost use Rattle.pblk_world.specs.AtRest.{logs_at, IsWornFlush};
 ghost use Rattle.pblk_world.specs.EngineLog.{Begun, begun};
 ghost use Rattle.pblk_world.specs.Fronts.{taken};
 ghost use Rattle.pblk_world.specs.Space.{room};
 ghost use Rattle.pblk_world.specs.World.{World, Logs, log_of, media};
 ghost use Rattle.core_laws.specs.SimpleMounts.{IsSimpleMount};
 ghost use Rattle.block_target.specs.Moments.{IsMoment};
-ghost use Rattle.block_target.specs.NothingLeft.{IsFlushRefusal, IsWriteRefusal};
+ghost use Rattle.block_target.specs.Refusals.{IsWriteRefusal};
 ghost use Rattle.block_target.specs.Opened.{AreReadied};
 ghost use Rattle.scan_recovery.specs.MayStop.{AllMayStop};
 ghost use Rattle.scan_recovery.specs.Readying.{AreHandedBack};
@@ -35,7 +35,7 @@ pub fn a_refused_write_has_no_room()
 pub fn a_refused_flush_tells_the_end()
     ensures { (i : Image) (w : World) (b : Begun) (n wanted have : ℕ)
         → IsSimpleMount i w → IsSealed i → begun (log_of w 0) ≡ Some b
-        → IsFlushRefusal i (log_of w) n wanted have
+        → IsWornFlush i (log_of w) n wanted have
         → (past : World) × IsMoment w n past × (wanted ≤ taken (log_of past 0))
         × (end (media i (log_of past)) ≡ have) }
 {

@@ -30,7 +30,7 @@ pub(crate) struct DriveErr {
 pub(crate) enum WaitErr {
     /// This event of this unit, made in this call, was a stopped command or a fetch that failed.
     Drive { unit: u32, event: u64 },
-    /// All below `wanted` is waited for, there is what is below `have`, and nothing is left to do.
+    /// All below `wanted` is waited for, there is what is below `have`, and the mount is at rest.
     Stuck { wanted: u64, have: u64 },
 }
 
@@ -61,8 +61,8 @@ pub enum SettleErr {
     /// Units are numbered from 0, and the events of a unit's log from 1.
     #[error("event {event} of unit {unit} failed or was stopped")]
     Drive { unit: u32, event: u64 },
-    /// All positions below `wanted` were asked for, those below `have` are on the drive, and
-    /// nothing is left to do.
+    /// All positions below `wanted` were asked for, those below `have` are on the drive, and the
+    /// target is at rest.
     #[error("{wanted} is wanted, and there is {have}")]
     Worn { wanted: u64, have: u64 },
 }

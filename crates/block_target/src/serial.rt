@@ -6,7 +6,7 @@ ghost use Rattle.block_port.specs.Own.{lines_of, sectors_of};
 ghost use Rattle.block_port.specs.Port.{AreSectors, IsPastEnd, IsSameTarget, Learns, IsWritten, IsSeen, AreShort, count_in, sectors_at, written_by};
 ghost use Rattle.block_port.specs.Port.{write_faults, write_worns, read_faults, flush_faults, flush_worns};
 ghost use Rattle.scan_recovery.specs.Units.{AreFit};
-ghost use Rattle.block_target.specs.NothingLeft.{IsRefusal};
+ghost use Rattle.block_target.specs.Refusals.{IsRefusal};
 ghost use Rattle.scan_recovery.specs.MayStop.{AllMayStop};
 ghost use Rattle.scan_recovery.specs.Lost.{IsLostAt, NoneLost};
 ghost use Rattle.scan_recovery.specs.Readying.{AreHandedBack};
@@ -132,10 +132,11 @@ impl<U: Unit> Serial<U> {
     /// own writes, and each of these was granted before it was taken.
     ///
     /// `Drive` comes where a command of this call was stopped, or a fetch failed, and names it.
-    /// `Worn` comes where not all of it is there and nothing is left to do: `wanted` is the front
-    /// taken, and `have` is the front synced. Each call that answered `Drive` names an event of its
-    /// own. Each that answered `Worn` had its cause at a length of the engine's log, and these
-    /// lengths never fall from one call to the next.
+    /// `Worn` comes where not all of it is there and the target is at rest: there is no work left
+    /// that it could do, and nothing is unanswered. `wanted` is then the front taken, and `have` is
+    /// the front synced. Each call that answered `Drive` names an event of its own. Each that
+    /// answered `Worn` had its cause at a length of the engine's log, and these lengths never fall
+    /// from one call to the next.
     pub fn close<R: Wait>(mut self, rt: &R) -> (Vec<U>, Result<(), SettleErr>)
         ensures closed { (v : MountView) × IsClosed self result.1 v
             × (map U.model result.0.items ≡ v.units) × (map U.wear result.0.items ≡ v.wear) }

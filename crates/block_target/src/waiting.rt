@@ -30,10 +30,10 @@ impl<U: Unit> Mount<U> {
         did
     }
 
-    /// Works until so many positions behind the front taken are granted. `Stuck` comes where there
-    /// is nothing left to do, and tells which of them are wanted then, and up to which position
-    /// they are granted. `Drive` comes where a command of this call was stopped, or a fetch failed.
-    /// No more is granted than there once was room for.
+    /// Works until so many positions behind the front taken are granted. `Stuck` comes where the
+    /// mount is at rest, and tells which of them are wanted then, and up to which position they are
+    /// granted. `Drive` comes where a command of this call was stopped, or a fetch failed. No more
+    /// is granted than there once was room for.
     pub(crate) fn claim<R: Wait>(&mut self, rt: &R, count: u32) -> Result<(), WaitErr>
         ensures same { IsSameMount self.old self.new }
         ensures asked { self.new.asked ≡ self.old.asked }
@@ -63,8 +63,8 @@ impl<U: Unit> Mount<U> {
 
     /// Asks for pads up to a position, below which all was taken, as soon as no sector is to be
     /// copied. It works until all below it is on the drive, and gives the front synced. `Stuck`
-    /// comes where there is nothing left to do, and tells up to which position all is there.
-    /// `Drive` comes where a command of this call was stopped, or a fetch failed.
+    /// comes where the mount is at rest, and tells up to which position all is there. `Drive` comes
+    /// where a command of this call was stopped, or a fetch failed.
     pub(crate) fn sync<R: Wait>(&mut self, rt: &R, wanted: u64) -> Result<Front, WaitErr>
         requires { wanted ≤ taken_in self.old }
         ensures same { IsSameMount self.old self.new }
@@ -91,11 +91,11 @@ impl<U: Unit> Mount<U> {
         unreachable!()
     }
 
-    /// Works until all that was taken is on the drive, and collection isn't due or nothing is left
-    /// to do. As soon as no sector is to be copied it asks for pads up to all that was taken.
-    /// `Stuck` comes where not all of it is there and nothing is left to do, and tells up to which
-    /// position it was taken, and up to which all is there. `Drive` comes where a command of this
-    /// call was stopped, or a fetch failed.
+    /// Works until all that was taken is on the drive, and collection isn't due or the mount is at
+    /// rest. As soon as no sector is to be copied it asks for pads up to all that was taken. `Stuck`
+    /// comes where not all of it is there and the mount is at rest, and tells up to which position
+    /// it was taken, and up to which all is there. `Drive` comes where a command of this call was
+    /// stopped, or a fetch failed.
     pub(crate) fn settle<R: Wait>(&mut self, rt: &R) -> Result<(), WaitErr>
         ensures same { IsSameMount self.old self.new }
         ensures asked { AsksUpTo self.old self.new (taken_in self.new) result }

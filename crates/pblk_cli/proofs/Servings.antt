@@ -37,7 +37,7 @@ use Rattle.block_port.specs.Port.{Footing, IsSameTarget, ModelPort, positions}
 use Rattle.block_target.specs.Arm.{IsArm}
 use Rattle.world_laws.specs.Reasons.{AreBegun, AreGranted, AreUrgent}
 use Rattle.block_target.specs.Mount.{MountView, synced_in, taken_in, world_in}
-use Rattle.block_target.specs.NothingLeft.{AreRefusals}
+use Rattle.block_target.specs.Refusals.{AreRefusals}
 use Rattle.block_target.specs.Opened.{AreReadied, IsOpened, OpenCause, readied_world}
 use Rattle.block_target.specs.Serial.{SerialView, Settles, device, lines_in, settle_faults, settle_worns}
 use Rattle.block_target.specs.declared.opening.OpenErr.{OpenErr}

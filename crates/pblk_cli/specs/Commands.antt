@@ -19,7 +19,7 @@ use Rattle.pblk_world.specs.Lines.{found_image}
 use Rattle.core_laws.specs.SimpleMounts.{IsSimpleMount}
 use Rattle.unit_port.specs.declared.armed.Fuse.{Fuse}
 use Rattle.world_laws.specs.Reasons.{AreBegun, AreGranted, AreUrgent}
-use Rattle.block_target.specs.NothingLeft.{AreRefusals}
+use Rattle.block_target.specs.Refusals.{AreRefusals}
 use Rattle.command_text.specs.Says.{Says}
 use Rattle.pblk_cli.specs.Contents.{numbers_text, show_text}
 use Rattle.pblk_cli.specs.Status.{status_of_run}
@@ -92,7 +92,7 @@ pub record SameNumbers (old new : Drive) : Type 0 where
 -- it. The media are the image left, and the history is the printed one. The outcomes of the units'
 -- commands are those that the named stop gives, and no others. Each `e` line names an event of its
 -- own in it: a command that was stopped, or a fetch that failed. Each answer for want of room was
--- given at a length of the engine's log at which nothing was left to do. These lengths never fall
+-- given at a length of the engine's log at which the target was at rest. These lengths never fall
 -- from one answer to the next, and the users' sectors that were taken by then are those that the
 -- thread had written. And no user's sector was taken but where there had been room for it, nor a copy
 -- but one that had been begun. And no stripe with an entry was placed but where it was urgent.

@@ -29,7 +29,7 @@ use Rattle.block_port.specs.Own.{lines_of}
 use Rattle.block_port.specs.Port.{IsSameTarget, ModelPort}
 use Rattle.world_laws.specs.Reasons.{AreBegun, AreGranted, AreUrgent}
 use Rattle.block_target.specs.Mount.{MountView}
-use Rattle.block_target.specs.NothingLeft.{AreRefusals}
+use Rattle.block_target.specs.Refusals.{AreRefusals}
 use Rattle.block_target.specs.Opened.{IsOpened}
 use Rattle.block_target.specs.Serial as target_port
 use Rattle.block_target.specs.Serial.{SerialView, device, lines_in}

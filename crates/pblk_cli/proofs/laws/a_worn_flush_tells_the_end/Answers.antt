@@ -2,13 +2,14 @@ use Rattle.std.proofs.Common.{◌≡◌, ◌⊎◌, inl, inr, ℕ, ◌<◌, ◌�
 use Rattle.std.specs.List.{Contains}
 use Rattle.pblk_model.specs.Image.{Image}
 use Rattle.pblk_model.specs.ImageFile.{image_of}
+use Rattle.pblk_world.specs.AtRest.{IsWornFlush}
 use Rattle.pblk_world.specs.EngineLog.{Begun, begun}
 use Rattle.pblk_world.specs.Events.{Logged}
 use Rattle.pblk_world.specs.Legal.{IsLegal}
 use Rattle.pblk_world.specs.World.{Logs, World, log_of}
 use Rattle.world_laws.proofs.Beginnings.{has_begun}
 use Rattle.block_port.specs.declared.rows.WornAnswer.{WornAnswer}
-use Rattle.block_target.specs.NothingLeft.{AreRefusals, IsFlushRefusal, IsRefusal, IsRefusedAt}
+use Rattle.block_target.specs.Refusals.{AreRefusals, IsRefusal, IsRefusedAt}
 use Rattle.lemmas.proofs.Lists.{contains_cases}
 use Rattle.pblk_cli.specs.Worn.{worns_of}
 use Rattle.pblk_cli.proofs.laws.a_worn_flush_tells_the_end.Goals as goal
@@ -27,9 +28,9 @@ one i logs from (b ∷ worns) a are among = go (λ more. one i logs are.0 worns 
 begins : (i : Image) (w : World) (n : ℕ) (a : WornAnswer) → IsLegal i w → IsRefusedAt i (log_of w) n a → a.count ≡ 0
     → (b : Begun) × (begun (log_of w 0) ≡ Some b)
 begins i w n a legal refused flush =
-    let is : IsFlushRefusal i (log_of w) n a.wanted a.have = subst (λ count. IsRefusal i (log_of w) n count a.wanted a.have) flush refused.cause in
-    let some : 0 < n = is.nothing_left.has_begun in
-    let within : n ≤ length (log_of w 0) = is.nothing_left.within in
+    let is : IsWornFlush i (log_of w) n a.wanted a.have = subst (λ count. IsRefusal i (log_of w) n count a.wanted a.have) flush refused.cause in
+    let some : 0 < n = is.at_rest.has_begun in
+    let within : n ≤ length (log_of w 0) = is.at_rest.within in
     go (log_of w 0) refl (omega arith)
   where
     go : (log : List Logged) → log_of w 0 ≡ log → 0 < length (log_of w 0) → (b : Begun) × (begun (log_of w 0) ≡ Some b)

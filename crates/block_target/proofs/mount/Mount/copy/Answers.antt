@@ -20,7 +20,7 @@ use Rattle.block_target.proofs.CopiedMount.{copied_more, job_block, leaves_both}
 use Rattle.block_target.proofs.GoingOn.{Leaves, moved_on}
 use Rattle.block_target.proofs.MountLemmas.{same_from}
 use Rattle.block_target.proofs.TakenMount.{ring_full}
-use Rattle.block_target.proofs.NothingLeft.{copy_named}
+use Rattle.block_target.proofs.Resting.{copy_named}
 use Rattle.block_target.proofs.ReadFetch.{before_of, fetch_kept, fetch_lost, its_block, its_unit, leaves_fetched, readable_there, sized}
 use Rattle.block_target.proofs.ReadLook.{at_inside, fetchable, line_inside, line_live}
 use Rattle.block_target.proofs.SameMounts.{tells_lost}

@@ -37,10 +37,13 @@ module _ (g : Over) (c : After-open_line g) where
   may : (b : Begun) → begun (engine_log v) ≡ Some b → MayOpen v.image (logs_in v) b start.line start
   may b has = c.open_line.ensures.legal v.image (world_in v) b m.sound.legal.mount m.heart has
 
+  its_work : work_in v ≡ works.Open
+  its_work = ap work_in c.self.view_is ∙ c.requires
+
 pub free_lines-requires : goal.free_lines-requires
 free_lines-requires g c =
     let d = (goal.at.free_lines-requires g c).After-open_line in
-    record { beating = beating_opened (m g d) (start g d).line (start g d) (may g d) c.open_line.new.self c.open_line.ensures.beats }
+    record { beating = beating_opened (m g d) (start g d).line (start g d) (may g d) (its_work g d) c.open_line.new.self c.open_line.ensures.beats }
 
 module _ (g : Over) (c : After-free_lines g) where
   abbrev d : After-open_line g
@@ -49,7 +52,7 @@ module _ (g : Over) (c : After-free_lines g) where
   leaves : Leaves (v g d) (moved_on (v g d) c.free_lines.new.deeds (v g d).units (v g d).wear c.free_lines.new.heart.granted
       (pad_of c.free_lines.new.heart.core)) c.free_lines.new.heart c.self.inside.stripe
   leaves =
-      leaves_opened (m g d) (start g d).line (start g d) (may g d) c.open_line.new.self c.free_lines.new.heart c.free_lines.new.deeds
+      leaves_opened (m g d) (start g d).line (start g d) (may g d) (its_work g d) c.open_line.new.self c.free_lines.new.heart c.free_lines.new.deeds
       c.open_line.ensures.beats c.open_line.ensures.rows c.open_line.ensures.copying c.open_line.ensures.granted c.open_line.ensures.pad
       (subst (λ (ds : List Deed). HaveFreed c.open_line.new.self ds c.free_lines.new.heart c.free_lines.new.deeds) c.add.ensures c.free_lines.ensures)
 
@@ -68,4 +71,4 @@ returns-clause-more g c =
     subst (λ (old : MountView). length (engine_log old) < length (log_of (world_of (v g e).image.shape c.free_lines.new.deeds) 0)) c.self.view_is
     (longer_freed (v g e) c.add.new.self c.free_lines.new.deeds c.open_line.new.self c.free_lines.new.heart c.free_lines.ensures
     (subst (λ (ds : List Deed). length (engine_log (v g e)) < length (log_of (world_of (v g e).image.shape ds) 0)) (sym c.add.ensures)
-    (more_opened (m g e) (start g e).line (start g e) (may g e))))
+    (more_opened (m g e) (start g e).line (start g e) (may g e) (its_work g e))))

@@ -36,7 +36,7 @@ index_mut-unit-requires g c =
     let into = c.place.new.into in
     let deeds = c.add_placed.new.deeds in
     let were : WerePlaced v into deeds = record { new = c.add_placed.ensures.new; again = c.add_placed.ensures.again } in
-    let ready = to_program m c.place.new.self into
+    let ready = to_program m (ap work_in c.self.view_is ∙ c.requires) c.place.new.self into
     (record { legal = c.place.ensures.legal; due = c.place.ensures.due; beats = c.place.ensures.beats; again = c.place.ensures.again }) deeds were in
     let len : c.self.inside.units.len ≡ length c.self.inside.units.items = c.self.inside.units.ok.0 in
     let low : c.unit-number.result < length c.self.inside.units.items =
@@ -52,7 +52,7 @@ program-answer-requires g c =
     let into = c.place.new.into in
     let deeds = c.add_placed.new.deeds in
     let were : WerePlaced v into deeds = record { new = c.add_placed.ensures.new; again = c.add_placed.ensures.again } in
-    let ready = to_program m c.place.new.self into
+    let ready = to_program m (ap work_in c.self.view_is ∙ c.requires) c.place.new.self into
     (record { legal = c.place.ensures.legal; due = c.place.ensures.due; beats = c.place.ensures.beats; again = c.place.ensures.again }) deeds were in
     let was = g.U.Unit.model c.index_mut-unit.result.now in
     let there : slice_get v.units into.stripe.unit ≡ Some was =
@@ -85,7 +85,7 @@ module _ (g : Over) (c : After-add g) where
   were = record { new = c.add_placed.ensures.new; again = c.add_placed.ensures.again }
 
   ready : IsToProgram v c.place.new.self into.stripe (world_of v.image.shape deeds)
-  ready = to_program m c.place.new.self into
+  ready = to_program m (ap work_in c.self.view_is ∙ c.requires) c.place.new.self into
       (record { legal = c.place.ensures.legal; due = c.place.ensures.due; beats = c.place.ensures.beats; again = c.place.ensures.again }) deeds were
 
   within : into.stripe.unit < length v.units

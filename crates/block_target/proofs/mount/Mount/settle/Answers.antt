@@ -81,7 +81,7 @@ returns-in_err-go_on-clause-refused g c =
     (worked_here c.args.self.now c.loop.self c.ask_pad.new.self c.front-wanted.result.position c.loop.invariant
     (ap (λ (f : Front). f.position) c.front-wanted.ensures.front) c.ask_pad.ensures.same c.ask_pad.ensures.asked) c.in_err-go_on.ensures.lost
 
--- ---- nothing is left to do
+-- ---- it is at rest
 
 pub returns-then-wanted-have-2-clause-same : goal.returns-then-wanted-have-2-clause-same
 returns-then-wanted-have-2-clause-same g c =

@@ -41,7 +41,7 @@ returns-then-wanted-synced-clause-synced g c =
       c.if-wanted-synced.true,
     )
 
--- ---- nothing is left to do
+-- ---- it is at rest
 
 pub returns-then-not-branch-clause-same : goal.returns-then-not-branch-clause-same
 returns-then-not-branch-clause-same g c =

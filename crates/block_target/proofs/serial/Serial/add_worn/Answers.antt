@@ -1,7 +1,7 @@
 use Rattle.std.proofs.Common.{[], ◌∷◌, ◌++◌, ℕ, List, length, ap, sym, subst, ◌∙◌, arith}
 use Rattle.block_port.specs.Port.{written_by}
 use Rattle.block_port.specs.declared.rows.WornAnswer.{WornAnswer}
-use Rattle.block_target.specs.NothingLeft.{IsRefusal, AreRefusals}
+use Rattle.block_target.specs.Refusals.{IsRefusal, AreRefusals}
 use Rattle.block_target.specs.Mount.{engine_log, logs_in}
 use Rattle.block_target.specs.Serial.{SerialView, device}
 use Rattle.block_target.proofs.Refusals.{refusals_more}

@@ -3,7 +3,7 @@ use Rattle.pblk_model.specs.declared.run.Front.{Front}
 use Rattle.block_port.specs.Port.{Learns}
 use Rattle.unit_port.specs.Unit.{ModelUnit}
 use Rattle.scan_recovery.specs.Lost.{IsLostAt, NoneLost}
-use Rattle.block_target.specs.NothingLeft.{IsFlushRefusal}
+use Rattle.pblk_world.specs.AtRest.{IsWornFlush}
 use Rattle.block_target.specs.Mount.{MountView, logs_in, engine_log, synced_in, taken_in}
 use Rattle.block_target.specs.Serial.{SerialView, device}
 use Rattle.block_target.specs.Waiting.{AsksUpTo, Waits}
@@ -71,7 +71,7 @@ returns-in-Err-Stuck-clause-cause g c =
     let all = all_taken c.self.inside.mount c.sync.new.self c.front-wanted.result.position c.sync.ensures.same
     (ap (λ f. f.position) c.front-wanted.ensures.front) in
     subst (λ (s : SerialView). NoneLost c.args.self.now.mount.units s.mount.units
-    × IsFlushRefusal s.mount.image (logs_in s.mount) (length (engine_log s.mount)) c.front-wanted.result.position c.in-Err-Stuck.have)
+    × IsWornFlush s.mount.image (logs_in s.mount) (length (engine_log s.mount)) c.front-wanted.result.position c.in-Err-Stuck.have)
     (sym c.add_worn.ensures) (
       subst (λ (s : SerialView). NoneLost s.mount.units c.sync.new.self.units) c.self.view_is waits.0,
       flush_refused c.sync.new.self c.front-wanted.result.position c.in-Err-Stuck.have waits.3 waits.2 asked all,

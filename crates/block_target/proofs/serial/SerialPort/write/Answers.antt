@@ -7,7 +7,7 @@ use Rattle.block_port.specs.Own.{lines_of, sectors_of}
 use Rattle.block_port.specs.Port.{AreSectors, Learns}
 use Rattle.unit_port.specs.Unit.{ModelUnit}
 use Rattle.scan_recovery.specs.Lost.{IsLostAt, NoneLost}
-use Rattle.block_target.specs.NothingLeft.{IsWriteRefusal}
+use Rattle.block_target.specs.Refusals.{IsWriteRefusal}
 use Rattle.block_target.specs.Mount.{MountView, logs_in, engine_log, taken_in}
 use Rattle.block_target.specs.Serial.{SerialView, device}
 use Rattle.block_target.specs.Waiting.{Waits}

@@ -1,10 +1,10 @@
--- Where the logs name no work, and no stripe is under way, there is nothing left to do.
+-- Where the logs name no work, no stripe is under way, and each reset was noted, a mount is at rest.
 use Rattle.std.proofs.Common.{◌≡◌, ◌≢◌, ◌⊎◌, inl, inr, ℕ, ◌+◌, ◌<◌, ◌≤◌, ◌^◌, ◌==◌, ◌&&◌, ◌||◌, not, nat_lt, Bool, true, false, Some, None, Option, List, [], ◌∷◌, length, refl, sym, ap, ap₂, ◌∙◌, arith}
 use Rattle.std.specs.Prelude.{nat_eq, slice_get, position}
 use Rattle.std.specs.List.{Contains, filter_map}
 use Rattle.std.proofs.lemmas.Nat.Bits.{bit_at-zero}
 use Rattle.std.specs.Option.{is_some, option_map_or}
-use Rattle.std.proofs.lemmas.Bool.{cases_order}
+use Rattle.std.proofs.lemmas.Bool.{cases_order, eqb-true}
 use Rattle.std.proofs.lemmas.List.{length-map}
 use Rattle.pblk_model.specs.Image.{Image, line_units}
 use Rattle.pblk_model.specs.Shape.{units}
@@ -13,10 +13,10 @@ use Rattle.pblk_world.specs.Events.{Stripe}
 use Rattle.pblk_world.specs.World.{World, log_of}
 use Rattle.pblk_world.specs.EngineLog.{Begun, begun, Opening, openings, Opened, life_of, Placed, placements, is_answered}
 use Rattle.pblk_world.specs.Fronts.{synced, waiting}
-use Rattle.pblk_world.specs.Lines.{known_image, are_empty, is_free_line, is_given_up, has_stripe_left}
+use Rattle.pblk_world.specs.Lines.{known_image, is_free_line, has_stripe_left}
 use Rattle.pblk_world.specs.Opening.{MayOpen}
 use Rattle.pblk_world.specs.Space.{open_addresses}
-use Rattle.pblk_world.specs.AtRest.{IsCopyDue, IsDue, pad_target}
+use Rattle.pblk_world.specs.AtRest.{IsCopyDue, IsDue, IsResting, pad_target}
 use Rattle.line_table.specs.Rows.{is_free}
 use Rattle.stripe_placer.specs.OpenLines.{has_left}
 use Rattle.stripe_placer.specs.Placing.{Placing, Program, UnitRow, is_ready, is_under_way, next_in, next_stripe, offers, stopped_in}
@@ -36,7 +36,7 @@ use Rattle.core_laws.proofs.IdleRows.{its_row, row_there}
 use Rattle.core_laws.proofs.PlainOpenings.{opened_lines}
 use Rattle.step_laws.specs.FreedWorlds.{NoneToFree}
 use Rattle.pblk_core.specs.Copies.{is_copy_due}
-use Rattle.pblk_core.specs.Named.{choice, reset_or, work_of, first_seq_of}
+use Rattle.pblk_core.specs.Named.{choice, reset_or, work_beside, work_of, first_seq_of}
 use Rattle.pblk_core.specs.Resets.{resets_of}
 use Rattle.pblk_core.specs.Stands.{under_way}
 use Rattle.pblk_core.specs.declared.work.Work.{Work}
@@ -44,13 +44,15 @@ use Rattle.pblk_core.proofs.CopiesDue.{copy_by_test, test_of_copy}
 use Rattle.pblk_core.proofs.Laws.{reset_empty}
 use Rattle.pblk_core.specs.declared.work.Work.TheVariants as works
 use Rattle.pblk_core.specs.declared.work.Why.{Why}
-use Rattle.block_target.specs.NothingLeft.{HasNothingLeft}
+use Rattle.block_target.specs.Mount.{AreResetsNoted}
+use Rattle.block_target.specs.Orders.{LacksAddress, NoneToReset}
 use Rattle.block_target.proofs.RestingCores.{is_way_on, way_of}
 use Rattle.lemmas.proofs.Lists.{IsAmong}
 use Rattle.lemmas.proofs.Maps.{given_at}
 use Rattle.lemmas.proofs.Options.{none_there}
 use Rattle.lemmas.proofs.Parts.{all_at, get_more, got_within}
-use Rattle.lemmas.proofs.Tests.{both, lt_true, not_both}
+use Rattle.lemmas.proofs.Tests.{both, lt_true, not_both, positive}
+use Rattle.world_laws.specs.LegalMounts.{IsLegalMount}
 
 -- ---- what is chosen
 
@@ -85,6 +87,12 @@ idle_of : (r : UnitRow) → is_under_way r ≡ false → stopped_in r ≡ None �
 idle_of Idle rests none = refl
 idle_of (UnderWay of) rests none = absurd cc
 idle_of (Stopped of) rests none = absurd cc
+
+-- where something is named that is no reset
+pub none_to_reset : (i : Image) (w : World) (pad : ℕ) (work : Work) → IsLegalMount i w → ((line unit : ℕ) → works.Reset line unit ≢ work)
+    → work_of i (log_of w) pad [] false ≡ work → NoneToReset i (log_of w)
+none_to_reset i w pad work mount apart is line range given = reset_empty i w line mount (none_first (resets_of i (log_of w))
+    (no_reset_named (slice_get (resets_of i (log_of w)) 0) (work_beside i (log_of w) pad [] false) work apart is).0) range given
 
 -- what is named where no chunk is to be reset
 abbrev beside : Image → World → ℕ → Work
@@ -122,6 +130,33 @@ copy_named i w pad is = copy_by_test i (log_of w) (both (is_copy_due i (log_of w
     named : beside i w pad ≡ works.Copy
     named = (no_reset_named (slice_get (resets_of i (log_of w)) 0) (beside i w pad) works.Copy (λ line unit e. absurd cc) is).1
 
+-- where a line is to be opened an entry lacks an address
+asked : (has_stripe asks_line has_free may_open has_copy in_flight : Bool)
+    → choice has_stripe asks_line has_free may_open has_copy in_flight ≡ works.Open → asks_line ≡ true
+asked true a h m k f e = absurd cc
+asked false true h m k f e = refl
+asked false false h m true f e = absurd cc
+asked false false h m false f e = absurd cc
+
+pub lacks_address : (i : Image) (w : World) (pad : ℕ) → work_of i (log_of w) pad [] false ≡ works.Open → LacksAddress i (log_of w)
+lacks_address i w pad is = record {
+  waits = positive (length (waiting i.shape (log_of w 0))) asks.0;
+  full = eqb-true (open_addresses i (log_of w)) 0 asks.1;
+}
+  where
+    named : beside i w pad ≡ works.Open
+    named = (no_reset_named (slice_get (resets_of i (log_of w)) 0) (beside i w pad) works.Open (λ line unit e. absurd cc) is).1
+
+    asks : (nat_lt 0 (length (waiting i.shape (log_of w 0))) ≡ true) × ((open_addresses i (log_of w) == 0) ≡ true)
+    asks = both (nat_lt 0 (length (waiting i.shape (log_of w 0)))) (open_addresses i (log_of w) == 0) (asked
+        (is_some (next_stripe (placing_of i (log_of w) pad []) 0))
+        (nat_lt 0 (length (waiting i.shape (log_of w 0))) && (open_addresses i (log_of w) == 0))
+        (is_some (position is_free (rows_of i (log_of w)).rows))
+        (nat_lt (length (open_lines i (log_of w))) 2 &&
+        (nat_lt (first_seq_of (log_of w) + length (openings (log_of w 0))) (2 ^ 61) && nat_lt (synced i.shape (log_of w 0)) (2 ^ 61)))
+        (is_copy_due i (log_of w) && not false)
+        (nat_lt 0 (under_way i.shape (log_of w 0)) || false) named)
+
 module _ (i : Image) (w : World) (pad : ℕ) (reason : Why) (simple : IsSimpleMount i w)
     (rests : (unit : ℕ) → unit < units i.shape → is_way_on (log_of w 0) unit ≡ false)
     (none : work_of i (log_of w) pad [] false ≡ works.Nothing reason) where
@@ -131,8 +166,8 @@ module _ (i : Image) (w : World) (pad : ℕ) (reason : Why) (simple : IsSimpleMo
   named : (slice_get (resets_of i (log_of w)) 0 ≡ None) × (otherwise ≡ works.Nothing reason)
   named = no_reset_named (slice_get (resets_of i (log_of w)) 0) otherwise (works.Nothing reason) (λ line unit e. absurd cc) none
 
-  none_reset : (line : ℕ) → line < i.shape.chunks → is_given_up (log_of w 0) line ≡ true → are_empty (known_image i (log_of w)) line ≡ true
-  none_reset line range given = reset_empty i w line simple.mount (none_first (resets_of i (log_of w)) named.0) range given
+  none_reset : NoneToReset i (log_of w)
+  none_reset = none_to_reset i w pad (works.Nothing reason) simple.mount (λ line unit e. absurd cc) none
 
   chosen : (is_some (next_stripe (placing_of i (log_of w) pad []) 0) ≡ false)
       × ((nat_lt 0 (length (waiting i.shape (log_of w 0))) && (open_addresses i (log_of w) == 0)) ≡ true
@@ -250,12 +285,15 @@ module _ (i : Image) (w : World) (pad : ℕ) (reason : Why) (simple : IsSimpleMo
           (none_free i (log_of w) line (none_there (position is_free (rows_of i (log_of w)).rows) no_free) may.in_range)
       go (inr not_open) = not_both _ opens not_open
 
-  pub nothing_left : (asked : ℕ) → pad_target i (log_of w) asked ≤ pad → NoneToFree i (log_of w) → HasNothingLeft i (log_of w) asked
-  nothing_left asked within settled = record {
+  pub is_resting : (asked : ℕ) → pad_target i (log_of w) asked ≤ pad → AreResetsNoted (log_of w) → NoneToFree i (log_of w) → IsResting i (log_of w) asked
+  is_resting asked within noted settled = record {
+    no_work = record {
+      no_reset = none_reset;
+      no_program = λ stripe. none_due_now (pad_target i (log_of w) asked) stripe within;
+      no_opening = none_opened;
+      no_copy = none_copied;
+    };
     stripes = answered;
-    no_reset = none_reset;
-    no_program = λ stripe. none_due_now (pad_target i (log_of w) asked) stripe within;
-    no_opening = none_opened;
-    no_copy = none_copied;
+    resets = noted;
     none_to_free = settled;
   }
