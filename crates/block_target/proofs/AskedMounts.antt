@@ -29,6 +29,7 @@ sound_asked v pad asked sound = record {
   handed = sound.handed;
   count = sound.count;
   each = sound.each;
+  none_lost = sound.none_lost;
   begun = sound.begun;
   urgent = sound.urgent;
   in_order = sound.in_order;
@@ -52,13 +53,14 @@ may_ask {v} m to within none = record {
 
 pub mount_asked : {v : MountView} {h : Heart} {f : Filling} (m : IsMount v h f) (new : Heart) (asked to : ℕ)
     → WasAsked v.image (logs_in v) (length (engine_log v)) to
-    → OfItsMount h (λ i w. WasAsked i (log_of w) (length (log_of w 0)) to → IsHeart i (log_of w) new) → new.core.placer.units ≡ h.core.placer.units → is_copying new.core ≡ is_copying h.core
+    → OfItsMount h (λ i w. WasAsked i (log_of w) (length (log_of w 0)) to → IsHeart i (log_of w) new) → new.core.placer.units ≡ h.core.placer.units
+    → is_copying new.core ≡ is_copying h.core
     → asked ≤ pad_of new.core
     → IsMount (with_asked (moved_on v v.deeds v.units v.wear new.granted (pad_of new.core)) (pad_of new.core) asked) new f
 mount_asked {v} {h} {f} m new asked to may beats rows copying within = record {
   sound = sound_asked (moved_on v v.deeds v.units v.wear new.granted (pad_of new.core)) (pad_of new.core) asked
-      (sound_on m.sound (goes_none v m.sound) v.deeds v.wear new.granted (pad_of new.core) refl);
-  heart = beats v.image (world_in v) m.sound.legal.mount m.heart may;
+      (sound_on m.sound (goes_none v m.sound) v.deeds v.wear new.granted (pad_of new.core) refl m.sound.none_lost);
+  heart = beats v.image (world_in v) m.sound.legal m.heart may;
   pad = refl;
   asked = within;
   granted = refl;

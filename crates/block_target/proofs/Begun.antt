@@ -26,19 +26,18 @@ use Rattle.pblk_world.specs.Lines.{found_image}
 use Rattle.pblk_world.specs.Opening.{MayBegin}
 use Rattle.pblk_world.specs.World.{World, Logs, log_of, media, unit_events}
 use Rattle.pblk_world.specs.Space.{room}
-use Rattle.core_laws.specs.SimpleMounts.{IsSimpleMount}
+use Rattle.world_laws.specs.LegalMounts.{IsLegalMount, NoneLost}
 use Rattle.world_laws.specs.MountBeginnings.{beginning_of}
 use Rattle.world_laws.specs.Reasons.{AreBegun, AreUrgent}
 use Rattle.world_laws.specs.Finding.{IsFoundOf, NoneOpen}
 use Rattle.world_laws.proofs.MayBegin.{may_begin}
 use Rattle.world_laws.proofs.FoundFits.{found_fits}
-use Rattle.step_laws.specs.FreedWorlds.{NoneToFree}
 use Rattle.step_laws.specs.Opened.{new_events, after_units}
-use Rattle.step_laws.specs.Whole.{knows_all, after_begin}
+use Rattle.step_laws.specs.Whole.{knows_all, after_begin, engine_step}
 use Rattle.step_laws.proofs.Beginning.{mount_begins, begun_is, found_is, known_is, begins_level}
 use Rattle.step_laws.proofs.EngineSteps.{engine_logs, media_still}
 use Rattle.step_laws.proofs.FreedWorlds.{room_then}
-use Rattle.step_laws.proofs.Worlds.{logs_are, media_are, simple_mount, stops_there, units_quiet}
+use Rattle.step_laws.proofs.Worlds.{legal_mount, logs_are, media_are, stops_there, units_quiet}
 use Rattle.pblk_core.specs.Copies.{is_copying}
 use Rattle.pblk_core.specs.Filling.{Filling}
 use Rattle.pblk_core.specs.Landing.{IsResting}
@@ -51,7 +50,7 @@ use Rattle.block_target.specs.Deeds.{Deed, drive_before, drive_found, world_of}
 use Rattle.block_target.specs.Freed.{HaveFreed, freed_deeds}
 use Rattle.block_target.specs.Heart.{Begins, CanBegin, HasBegun, IsBeating}
 use Rattle.block_target.specs.Mount.{MountView, IsMount, IsSound, IsUnitIn, engine_log, logs_in, mount_view}
-use Rattle.block_target.specs.Orders.{AreInOrder}
+use Rattle.world_laws.specs.Orders.{AreInOrder, NoneToFree}
 use Rattle.block_target.specs.Refusals.{AreRefusals}
 use Rattle.block_target.specs.Opened.{AreReadied, IsOpened, first_deeds, readied_world}
 use Rattle.block_target.specs.Serial.{AreNamed, IsSerial}
@@ -62,6 +61,8 @@ use Rattle.block_target.proofs.InOrder.{in_order_decided}
 use Rattle.block_target.proofs.NotedResets.{noted_before, noted_decided}
 use Rattle.block_target.proofs.GrantedTakes.{none_taken}
 use Rattle.block_target.proofs.Reasoned.{begun_decided, urgent_decided}
+use Rattle.step_laws.proofs.Readied.{may_stop_armed}
+use Rattle.pblk_world.proofs.WorldLemmas.{log_here}
 
 -- ---- the world
 
@@ -94,14 +95,14 @@ module _ (s : Shape) (us new : List ModelUnit) (accepted : IsAccepted s) (fit : 
           log = logs_are s us new back.readied number was.0 u was.1 there;
           arms = was.2.armed;
           armed = may_stop_from was.0 u was.2.armed (may number was.0 was.1);
-          stopped = stops_there s us new accepted fit may back.readied number u there;
+          stopped = stops_there s us new accepted fit (may_stop_armed us may) back.readied number u there;
         },
       )
 
   -- what they did is of a legal world
   pub are_readied : AreReadied s us new
   are_readied = record {
-    legal = simple_mount s us new accepted fit may back.readied;
+    legal = legal_mount s us new accepted fit (may_stop_armed us may) back.readied;
     none = units_quiet s 0 [] (new_events us new);
     each = unit_readied;
   }
@@ -125,7 +126,7 @@ module _ (s : Shape) (us new : List ModelUnit) (f : Found) (accepted : IsAccepte
   readied : AreReadied s us new
   readied = are_readied s us new accepted fit may is.units
 
-  legal_before : IsSimpleMount i before
+  legal_before : IsLegalMount i before
   legal_before = readied.legal
 
   none_before : log_of before 0 ≡ []
@@ -138,11 +139,11 @@ module _ (s : Shape) (us new : List ModelUnit) (f : Found) (accepted : IsAccepte
   begins = may_begin i (log_of before) f none_before (subst NoneOpen (sym media_before) is.closed)
       (subst (λ (j : Image). IsFoundOf j f) (sym media_before) is.found_is)
 
-  first_legal : IsSimpleMount i first_world
+  first_legal : IsLegalMount i first_world
   first_legal = mount_begins i before b legal_before begins
 
   found_now : found_image i (log_of first_world) ≡ image_of s new
-  found_now = found_is i before b legal_before.mount.legal none_before ∙ media_before
+  found_now = found_is i before b legal_before.legal none_before ∙ media_before
 
   events_now : (number : ℕ) → unit_events (log_of first_world) number ≡ unit_events (log_of before) number
   events_now number = ap (λ (logs : Logs). unit_events logs number) (engine_logs s (Begin b) before)
@@ -159,8 +160,8 @@ module _ (s : Shape) (us new : List ModelUnit) (f : Found) (accepted : IsAccepte
   begins_there = record {
     shape = refl;
     nothing = none_before;
-    before = legal_before.mount;
-    legal = first_legal.mount;
+    before = legal_before;
+    legal = first_legal;
     found = subst (λ (j : Image). IsFoundOf j f) (sym found_now) is.found_is;
   }
 
@@ -194,21 +195,25 @@ module _ (s : Shape) (us new : List ModelUnit) (f : Found) (accepted : IsAccepte
 
   -- nothing was taken or placed yet
   none_begun : AreBegun i (log_of first_world)
-  none_begun = begun_decided i before legal_before.mount.legal (Begin b) tt
+  none_begun = begun_decided i before legal_before.legal (Begin b) tt
       (record {
         each = λ k knows entry mark source at of. absurd (none-some (record { event = Event (Take entry mark); knows = knows })
             (sym (ap (λ (log : List Logged). slice_get log k) none_before) ∙ at));
       })
 
+  none_lost : NoneLost (log_of first_world 0)
+  none_lost = subst NoneLost (sym (log_here (engine_step s (Begin b) before) before 0 refl
+      ∙ ap (λ (log : List Logged). log ++ (engine_step s (Begin b) before).logged ∷ []) none_before)) (refl, tt)
+
   none_placed : AreUrgent i (log_of first_world)
-  none_placed = urgent_decided i before legal_before.mount.legal (Begin b) tt
+  none_placed = urgent_decided i before legal_before.legal (Begin b) tt
       (record {
         each = λ k knows stripe position at bears. absurd (none-some (record { event = Event (Place stripe); knows = knows })
             (sym (ap (λ (log : List Logged). slice_get log k) none_before) ∙ at));
       })
 
   none_ordered : AreInOrder i (log_of first_world)
-  none_ordered = in_order_decided i before legal_before.mount.legal (Begin b) tt
+  none_ordered = in_order_decided i before legal_before.legal (Begin b) tt
       (record {
         each = λ k knows e some at. absurd (none-some (record { event = Event e; knows = knows })
             (sym (ap (λ (log : List Logged). slice_get log k) none_before) ∙ at));
@@ -224,6 +229,7 @@ module _ (s : Shape) (us new : List ModelUnit) (f : Found) (accepted : IsAccepte
     handed = refl;
     count = fit_new.count;
     each = λ number u there. unit_begins wear granted pad number u there;
+    none_lost = none_lost;
     begun = none_begun;
     urgent = none_placed;
     in_order = none_ordered;
@@ -233,7 +239,7 @@ module _ (s : Shape) (us new : List ModelUnit) (f : Found) (accepted : IsAccepte
   first_beating h has = record {
     image = i;
     world = first_world;
-    legal = first_legal.mount;
+    legal = first_legal;
     stands = (has i before (knows_all s before) begins_there).0;
   }
 
@@ -247,9 +253,9 @@ module _ (s : Shape) (us new : List ModelUnit) (f : Found) (accepted : IsAccepte
     begun_mount resting idle stripe =
         let sound : IsSound (first_view wear h.granted (pad_of h.core)) = first_sound wear h.granted (pad_of h.core) in
         mount_freed sound (goes_none (first_view wear h.granted (pad_of h.core)) sound) (first_deeds us new f) wear h end filling all refl
-        (has i before (knows_all s before) begins_there).0 frees (begins_level i before b legal_before.mount.legal none_before)
-        (noted_decided s (Begin b) before (noted_before i before legal_before.mount.legal none_before))
-        (known_is i before b legal_before.mount.legal none_before) resting idle stripe (omega arith)
+        (has i before (knows_all s before) begins_there).0 frees (begins_level i before b legal_before.legal none_before)
+        (noted_decided s (Begin b) before (noted_before i before legal_before.legal none_before))
+        (known_is i before b legal_before.legal none_before) resting idle stripe (omega arith)
 
     -- by the lists that are kept of it
     pub mount_opens : IsResting h.core → is_copying h.core ≡ false → filling.shape ≡ s
@@ -262,8 +268,8 @@ module _ (s : Shape) (us new : List ModelUnit) (f : Found) (accepted : IsAccepte
     room_now =
         frees.granted ∙ first_grant h has
         ∙ sym (ap (λ (x : World). room i (log_of x)) (world_freed s (first_deeds us new f) frees.lines)
-        ∙ room_then i first_world (record { beginning = b; knows = knows_all s before }) (begun_is s before b none_before) first_legal.mount frees.lines
-        (frees.freed i first_world first_legal.mount (has i before (knows_all s before) begins_there).0).might)
+        ∙ room_then i first_world (record { beginning = b; knows = knows_all s before }) (begun_is s before b none_before) first_legal frees.lines
+        (frees.freed i first_world first_legal (has i before (knows_all s before) begins_there).0).might)
 
     -- and nothing else was done
     pub opened_view : IsOpened s us (mount_view s drives all new wear end.granted (pad_of end.core) 0)
@@ -277,7 +283,7 @@ module _ (s : Shape) (us new : List ModelUnit) (f : Found) (accepted : IsAccepte
       deeds = frees.deeds;
       none_to_free = subst (λ (rs : List (List ModelUnit)). NoneToFree (image_of s (drive_before rs)) (log_of (world_of s all))) (sym rows)
           (subst (λ (x : World). NoneToFree i (log_of x)) (sym (ap (world_of s) frees.deeds ∙ world_freed s (first_deeds us new f) frees.lines))
-          (frees.none i first_world first_legal.mount (has i before (knows_all s before) begins_there).0));
+          (frees.none i first_world first_legal (has i before (knows_all s before) begins_there).0));
       granted = room_now
           ∙ ap₂ (λ (rs : List (List ModelUnit)) (ds : List Deed). room (image_of s (drive_before rs)) (log_of (world_of s ds))) (sym rows) (sym frees.deeds);
       asked = refl;

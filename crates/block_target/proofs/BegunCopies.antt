@@ -35,7 +35,7 @@ module _ {v : MountView} {h : Heart} {f : Filling} (m : IsMount v h f) (job : Co
 
   due : IsCopyDue v.image (log_of left.left)
   due = copy_by_test v.image (log_of left.left) (left.copies
-      ∙ sym (copy_due_is v.image (world_in v) h.core m.sound.legal.mount m.heart.stands m.heart.collects) ∙ ready.due)
+      ∙ sym (copy_due_is v.image (world_in v) h.core m.sound.legal m.heart.stands m.heart.collects) ∙ ready.due)
 
   of_victim : job.line ≡ due.line
   of_victim = same_Some job.line due.line (sym ready.at_work ∙ m.heart.collects.victim ∙ sym left.victim ∙ due.at_work)
@@ -44,7 +44,7 @@ module _ {v : MountView} {h : Heart} {f : Filling} (m : IsMount v h f) (job : Co
   source = record { line = job.line; at = job.at; position = job.position }
 
   latest : IsPlaceOfLatest v.image (log_of left.left) job.lba source (last_take (log_of left.left 0) job.lba)
-  latest = named_is_place v.image left.left left.simple.mount job.lba job.line job.at job.position inside (left.slots job.lba ∙ slot)
+  latest = named_is_place v.image left.left left.simple job.lba job.line job.at job.position inside (left.slots job.lba ∙ slot)
 
   pub copy_begun : WasBegun v.image (logs_in v) (length (engine_log v)) job.lba (record { line = job.line; at = job.at; position = job.position })
   copy_begun =
@@ -58,4 +58,5 @@ module _ {v : MountView} {h : Heart} {f : Filling} (m : IsMount v h f) (job : Co
         line = there.1;
         latest = there.2;
         alone = λ k l from below. absurd (omega arith);
+        granted = λ k knows entry mark from below its users. absurd (omega arith);
       }

@@ -4,10 +4,10 @@ use Rattle.std.specs.List.{flat_map}
 use Rattle.pblk_model.specs.Contents.{end}
 use Rattle.pblk_model.specs.Sealed.{IsSealed}
 use Rattle.pblk_world.specs.World.{media}
+use Rattle.world_laws.specs.Orders.{NoneToFree}
 use Rattle.block_port.specs.Own.{lines_of}
 use Rattle.block_port.specs.declared.rows.WornAnswer.{WornAnswer}
 use Rattle.scan_recovery.specs.Lost.{IsLostAt, NoneLost}
-use Rattle.step_laws.specs.FreedWorlds.{NoneToFree}
 use Rattle.block_target.specs.Mount.{MountView, IsCollectionOver, IsSameMount, IsSound, IsStuckAt, logs_in, synced_in, taken_in, world_in}
 use Rattle.block_target.specs.Refusals.{AreRefusals}
 use Rattle.block_target.specs.Serial.{SerialView, AreNamed, IsClosed, IsSerial, SettleAsks, Settles, is_settled, settle_faults, settle_worns}
@@ -22,6 +22,7 @@ use Rattle.block_target.proofs.InOrder.{after_resets, none_was_left, opened_full
 use Rattle.block_target.proofs.NamedAnswers.{all_named_later, named_with}
 use Rattle.block_target.proofs.Refusals.{flush_refused, refusals_grown, refusals_more}
 use Rattle.block_target.proofs.Written.{users_later}
+use Rattle.block_target.proofs.TidyCloses.{closes_tidy}
 
 -- what a close leaves, whatever it answers
 pub record Closes (s : SerialView) (v : MountView) : Type 0 where
@@ -54,7 +55,9 @@ module _ (s : SerialView) (v : MountView) (is : Closes s v) where
     urgent = is.sound.urgent;
     after_resets = after_resets v.image (world_in v) is.sound.beginning is.sound.has_begun is.sound.in_order;
     opened_full = opened_full v.image (world_in v) is.sound.beginning is.sound.has_begun is.sound.in_order;
-    none_was_left = none_was_left v.image (world_in v) is.sound.beginning is.sound.has_begun is.sound.in_order is.sound.legal.mount.legal;
+    none_was_left = none_was_left v.image (world_in v) is.sound.beginning is.sound.has_begun is.sound.in_order is.sound.legal.legal;
+    tidy = λ fine tidy numbers positions. closes_tidy v is.sound (granted_same s.mount v is.serial.sound is.same is.serial.granted) fine tidy numbers
+        positions s.mount settled settles;
     asked = asked;
     from_synced = λ sealed. (is.between sealed).0;
     to_taken = λ sealed. (is.between sealed).1;

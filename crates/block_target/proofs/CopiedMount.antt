@@ -52,7 +52,7 @@ module _ {v : MountView} {h : Heart} {f : Filling} (m : IsMount v h f) (job : Co
     has_sector position sector same = record {
       block = job_block.block;
       there = ap (λ (j : Image). block_at j job.line job.at) (media_fetched m place.0 job.line place.1 is fetched)
-          ∙ block_there v.image (world_in v) m.sound.beginning job.lba job.line job.at job.position m.sound.legal.mount m.sound.has_begun job_block;
+          ∙ block_there v.image (world_in v) m.sound.beginning job.lba job.line job.at job.position m.sound.legal m.sound.has_begun job_block;
       sector = same;
     }
 
@@ -70,9 +70,10 @@ module _ {v : MountView} {h : Heart} {f : Filling} (m : IsMount v h f) (job : Co
           → Leaves v (moved_on v deeds us wear new.granted (pad_of new.core)) new f
       leaves_both legal beats rows idle pads grants =
           let may : MayTake mid.image (logs_in mid) entry (sector_mark job.lba (window.taken h.core.window)) =
-          legal mid.image (world_in mid) first.mount.sound.legal.mount first.mount.heart (has_sector (window.taken h.core.window) sector same) in
+          legal mid.image (world_in mid) first.mount.sound.legal first.mount.heart (has_sector (window.taken h.core.window) sector same) in
           let second : Leaves mid (moved_on mid deeds us wear new.granted (pad_of new.core)) new f =
-          leaves_copied first.mount entry (sector_mark job.lba (window.taken h.core.window)) may (copy_begun first.mount job ready) new deeds done beats rows idle pads _ refl
+          leaves_copied first.mount entry (sector_mark job.lba (window.taken h.core.window)) may
+          (copy_begun first.mount job ready) new deeds done beats rows idle pads _ refl
           (omega (arith, grants)) in
           record { mount = second.mount; same = same_then v mid _ first.same second.same; asked = refl }
 

@@ -9,12 +9,12 @@ use Rattle.std.proofs.lemmas.List.Sums.{fold-append}
 use Rattle.pblk_model.specs.declared.shape.Shape.{Shape}
 use Rattle.pblk_model.specs.Image.{Image}
 use Rattle.pblk_model.specs.UnitLog.{UnitEvent}
-use Rattle.pblk_world.specs.Events.{EngineEvent, Again, Landed, ResetDone, Maker, Logged}
+use Rattle.pblk_world.specs.Events.{EngineEvent, Again, Landed, ResetDone, Maker, Logged, Step}
 use Rattle.pblk_world.specs.World.{World, log_of, known}
 use Rattle.pblk_world.specs.AtRest.{knows_last, logs_at, pad_target, victim_now}
 use Rattle.pblk_world.specs.Space.{room}
 use Rattle.pblk_world.proofs.Growing.{grows}
-use Rattle.core_laws.specs.SimpleMounts.{IsSimpleMount}
+use Rattle.world_laws.specs.LegalMounts.{IsLegalMount}
 use Rattle.core_laws.specs.SlotOf.{slot_of}
 use Rattle.core_laws.specs.Spent.{IsSpent}
 use Rattle.step_laws.specs.Whole.{engine_step, unit_step, next_maker, opening_maker}
@@ -29,10 +29,10 @@ use Rattle.block_target.specs.Deeds.{Deed, Readies, Decides, Does, Lands, NotesR
 use Rattle.block_target.proofs.CopiesTold.{copies_beside, pads_beside, victim_beside}
 use Rattle.block_target.proofs.OnceRoom.{last_within}
 use Rattle.block_target.proofs.UnitStands.{work_beside}
-use Rattle.core_laws.proofs.SimpleMounts.{simple_before as simple_tail}
 use Rattle.lemmas.proofs.Numbers.{fun_same}
 use Rattle.lemmas.proofs.Parts.{get_last}
 use Rattle.pblk_world.proofs.WorldLemmas.{log_elsewhere, log_here}
+use Rattle.pblk_world.specs.Legal.{IsLegal}
 
 -- ---- a longer world
 
@@ -83,15 +83,19 @@ world_grown i deeds more =
     let is : (later : World) × (with_deeds i (world_of i.shape deeds) more ≡ later ++ world_of i.shape deeds) = deeds_later i (world_of i.shape deeds) more in
     (is.0, fold-append (after_deed i.shape) [] deeds more ∙ is.1)
 
--- an earlier mount is as simple
-pub simple_earlier : (i : Image) (later w : World) → IsSimpleMount i (later ++ w) → IsSimpleMount i w
+-- an earlier mount is as legal
+simple_tail : (i : Image) (step : Step) (w : World) → IsLegalMount i (step ∷ w) → IsLegalMount i w
+unfolding IsLegal
+simple_tail i step w mount = record { accepted = mount.accepted; fit = mount.fit; legal = mount.legal.1 }
+
+pub simple_earlier : (i : Image) (later w : World) → IsLegalMount i (later ++ w) → IsLegalMount i w
 simple_earlier i [] w simple = simple
 simple_earlier i (step ∷ later) w simple = simple_earlier i later w (simple_tail i step (later ++ w) simple)
 
-simple_then : (i : Image) (w new : World) → (later : World) × (new ≡ later ++ w) → IsSimpleMount i new → IsSimpleMount i w
-simple_then i w new is simple = simple_earlier i is.0 w (subst (IsSimpleMount i) is.1 simple)
+simple_then : (i : Image) (w new : World) → (later : World) × (new ≡ later ++ w) → IsLegalMount i new → IsLegalMount i w
+simple_then i w new is simple = simple_earlier i is.0 w (subst (IsLegalMount i) is.1 simple)
 
-pub simple_before : (i : Image) (w : World) (deeds : List Deed) → IsSimpleMount i (with_deeds i w deeds) → IsSimpleMount i w
+pub simple_before : (i : Image) (w : World) (deeds : List Deed) → IsLegalMount i (with_deeds i w deeds) → IsLegalMount i w
 simple_before i w deeds simple = simple_then i w (with_deeds i w deeds) (deeds_later i w deeds) simple
 
 -- ---- as the engine's last event left the world
@@ -100,7 +104,7 @@ simple_before i w deeds simple = simple_then i w (with_deeds i w deeds) (deeds_l
 -- done.
 pub record IsLeft (i : Image) (w : World) : Type 0 where
   pub left : World
-  pub simple : IsSimpleMount i left
+  pub simple : IsLegalMount i left
   pub own : log_of left 0 ≡ log_of w 0
   pub logs : logs_at (length (log_of w 0)) (log_of w) ≡ log_of left
   pub work : (pad : ℕ) → work_of i (log_of left) pad [] false ≡ work_of i (log_of w) pad [] false
@@ -111,7 +115,7 @@ pub record IsLeft (i : Image) (w : World) : Type 0 where
   pub room : room i (log_of left) ≡ room i (log_of w)
   pub spent : (line : ℕ) → IsSpent i (log_of left) line → IsSpent i (log_of w) line
 
-none_left : (i : Image) → IsSimpleMount i [] → IsLeft i []
+none_left : (i : Image) → IsLegalMount i [] → IsLeft i []
 none_left i simple = record {
   left = [];
   simple = simple;
@@ -131,14 +135,14 @@ none_left i simple = record {
     each (suc unit) = refl
 
 -- after an event of the engine it is the world
-pub whole_decided : (i : Image) (w : World) (e : EngineEvent) → IsSimpleMount i (engine_step i.shape e w ∷ w)
+pub whole_decided : (i : Image) (w : World) (e : EngineEvent) → IsLegalMount i (engine_step i.shape e w ∷ w)
     → logs_at (length (log_of (engine_step i.shape e w ∷ w) 0)) (log_of (engine_step i.shape e w ∷ w)) ≡ log_of (engine_step i.shape e w ∷ w)
 whole_decided i w e simple = fun_same (logs_at (length (log_of next 0)) (log_of next)) (log_of next) each
   where
     next : World
     next = engine_step i.shape e w ∷ w
 
-    before : IsSimpleMount i w
+    before : IsLegalMount i w
     before = simple_tail i (engine_step i.shape e w) w simple
 
     log_now : log_of next 0 ≡ log_of w 0 ++ (engine_step i.shape e w).logged ∷ []
@@ -156,12 +160,12 @@ whole_decided i w e simple = fun_same (logs_at (length (log_of next 0)) (log_of 
     each (suc unit) =
         let still : log_of next (suc unit) ≡ log_of w (suc unit) =
         log_elsewhere (engine_step i.shape e w) w (suc unit) (λ same. let no : 0 ≡ suc unit = same in absurd (omega arith)) in
-        let all : known (engine_step i.shape e w).logged (suc unit) ≡ length (log_of w (suc unit)) = known_whole i w before.mount.legal (suc unit) in
+        let all : known (engine_step i.shape e w).logged (suc unit) ≡ length (log_of w (suc unit)) = known_whole i w before.legal (suc unit) in
         ap (λ (o : Option Logged). take (knows_last o (suc unit)) (log_of next (suc unit))) last
         ∙ ap₂ (λ k (log : List Logged). take k log) all still
         ∙ take-length (log_of w (suc unit)) ∙ sym still
 
-engine_left : (i : Image) (w : World) (e : EngineEvent) → IsSimpleMount i (engine_step i.shape e w ∷ w) → IsLeft i (engine_step i.shape e w ∷ w)
+engine_left : (i : Image) (w : World) (e : EngineEvent) → IsLegalMount i (engine_step i.shape e w ∷ w) → IsLeft i (engine_step i.shape e w ∷ w)
 engine_left i w e simple = record {
   left = engine_step i.shape e w ∷ w;
   simple = simple;
@@ -176,7 +180,7 @@ engine_left i w e simple = record {
   spent = λ line is. is;
 }
 
-unit_left : (i : Image) (w : World) (unit : ℕ) (e : UnitEvent) (maker : Maker) → IsSimpleMount i w → IsLeft i w
+unit_left : (i : Image) (w : World) (unit : ℕ) (e : UnitEvent) (maker : Maker) → IsLegalMount i w → IsLeft i w
     → IsLeft i (unit_step i.shape unit e maker w ∷ w)
 unit_left i w unit e maker simple was = record {
   left = was.left;
@@ -185,12 +189,12 @@ unit_left i w unit e maker simple was = record {
   logs = ap (λ n. logs_at n (log_of next)) (ap (λ (log : List Logged). length log) engine)
       ∙ fun_same (logs_at (length (log_of w 0)) (log_of next)) (logs_at (length (log_of w 0)) (log_of w)) each ∙ was.logs;
   work = λ pad. was.work pad ∙ sym (work_beside i w unit e maker pad simple);
-  pads = λ asked. was.pads asked ∙ sym (pads_beside i w unit e maker simple.mount asked);
-  victim = was.victim ∙ sym (victim_beside i w unit e maker simple.mount);
-  copies = was.copies ∙ sym (copies_beside i w unit e maker simple.mount);
-  slots = λ lba. was.slots lba ∙ sym (slot_stays i w unit e maker lba simple.mount.legal);
-  room = was.room ∙ sym (room_stays i w unit e maker simple.mount.legal);
-  spent = λ line is. spent_stays i w unit e maker line simple.mount (was.spent line is);
+  pads = λ asked. was.pads asked ∙ sym (pads_beside i w unit e maker simple asked);
+  victim = was.victim ∙ sym (victim_beside i w unit e maker simple);
+  copies = was.copies ∙ sym (copies_beside i w unit e maker simple);
+  slots = λ lba. was.slots lba ∙ sym (slot_stays i w unit e maker lba simple.legal);
+  room = was.room ∙ sym (room_stays i w unit e maker simple.legal);
+  spent = λ line is. spent_stays i w unit e maker line simple (was.spent line is);
 }
   where
     next : World
@@ -205,25 +209,25 @@ unit_left i w unit e maker simple was = record {
         let more : (more : List Logged) × (log_of next (suc u) ≡ log_of w (suc u) ++ more) = grows (unit_step i.shape unit e maker w ∷ []) w (suc u) in
         ap₂ (λ (own log : List Logged). take (knows_last (slice_get own (length (log_of w 0) - 1)) (suc u)) log) engine more.1
         ∙ take-append-le (knows_last (slice_get (log_of w 0) (length (log_of w 0) - 1)) (suc u)) (log_of w (suc u)) more.0
-        (last_within i w (length (log_of w 0) - 1) (suc u) simple.mount.legal)
+        (last_within i w (length (log_of w 0) - 1) (suc u) simple.legal)
 
-events_left : (i : Image) (unit : ℕ) (w : World) (events : List UnitEvent) → IsSimpleMount i (after_events i.shape unit w events) → IsLeft i w
+events_left : (i : Image) (unit : ℕ) (w : World) (events : List UnitEvent) → IsLegalMount i (after_events i.shape unit w events) → IsLeft i w
     → IsLeft i (after_events i.shape unit w events)
 events_left i unit w [] simple was = was
 events_left i unit w (e ∷ events) simple was =
     let next : World = unit_step i.shape unit e (opening_maker w) w ∷ w in
-    let before : IsSimpleMount i w = simple_then i w (after_events i.shape unit w (e ∷ events)) (events_later i.shape unit w (e ∷ events)) simple in
+    let before : IsLegalMount i w = simple_then i w (after_events i.shape unit w (e ∷ events)) (events_later i.shape unit w (e ∷ events)) simple in
     events_left i unit next events simple (unit_left i w unit e (opening_maker w) before was)
 
-units_left : (i : Image) (unit : ℕ) (w : World) (all : List (List UnitEvent)) → IsSimpleMount i (after_units i.shape unit w all) → IsLeft i w
+units_left : (i : Image) (unit : ℕ) (w : World) (all : List (List UnitEvent)) → IsLegalMount i (after_units i.shape unit w all) → IsLeft i w
     → IsLeft i (after_units i.shape unit w all)
 units_left i unit w [] simple was = was
 units_left i unit w (events ∷ all) simple was =
     let mid : World = after_events i.shape unit w events in
-    let before : IsSimpleMount i mid = simple_then i mid (after_units i.shape (suc unit) mid all) (units_later i.shape (suc unit) mid all) simple in
+    let before : IsLegalMount i mid = simple_then i mid (after_units i.shape (suc unit) mid all) (units_later i.shape (suc unit) mid all) simple in
     units_left i (suc unit) mid all simple (events_left i unit w events before was)
 
-one_left : (i : Image) (w : World) (d : Deed) → IsSimpleMount i (after_deed i.shape w d) → IsLeft i w → IsLeft i (after_deed i.shape w d)
+one_left : (i : Image) (w : World) (d : Deed) → IsLegalMount i (after_deed i.shape w d) → IsLeft i w → IsLeft i (after_deed i.shape w d)
 one_left i w (Readies all) simple was = units_left i 0 w all simple was
 one_left i w (Decides e) simple was = engine_left i w e simple
 one_left i w (Does unit None) simple was = was
@@ -233,10 +237,10 @@ one_left i w (Lands unit) simple was = engine_left i w (Landed unit (last_event 
 one_left i w (Offers unit) simple was = engine_left i w (Again unit (last_event w unit)) simple
 one_left i w (NotesReset unit) simple was = engine_left i w (ResetDone unit (last_event w unit)) simple
 
-all_left : (i : Image) (w : World) (deeds : List Deed) → IsSimpleMount i (with_deeds i w deeds) → IsLeft i w → IsLeft i (with_deeds i w deeds)
+all_left : (i : Image) (w : World) (deeds : List Deed) → IsLegalMount i (with_deeds i w deeds) → IsLeft i w → IsLeft i (with_deeds i w deeds)
 all_left i w [] simple was = was
 all_left i w (d ∷ deeds) simple was =
     all_left i (after_deed i.shape w d) deeds simple (one_left i w d (simple_before i (after_deed i.shape w d) deeds simple) was)
 
-pub deeds_left : (i : Image) (deeds : List Deed) → IsSimpleMount i (world_of i.shape deeds) → IsLeft i (world_of i.shape deeds)
+pub deeds_left : (i : Image) (deeds : List Deed) → IsLegalMount i (world_of i.shape deeds) → IsLeft i (world_of i.shape deeds)
 deeds_left i deeds simple = all_left i [] deeds simple (none_left i (simple_before i [] deeds simple))

@@ -71,7 +71,7 @@ module _ {v : MountView} {w : World} {us : List ModelUnit} (sound : IsSound v) (
       let before = goes_freed lines might.1 in
       goes_decided before (Free line)
       (engine_next v.image (freed_world v.image.shape w lines) sound.beginning (Free line) before.legal (begun_then v.image w sound.beginning begins lines)
-      might.0 refl)
+      might.0)
       (λ knows. refl) tt tt
 
   -- once its heart freed all lines that may be freed
@@ -85,7 +85,7 @@ module _ {v : MountView} {w : World} {us : List ModelUnit} (sound : IsSound v) (
         ∙ ap (λ (x : World). freed_world v.image.shape x frees.lines) is
 
     might : MightFree v.image w frees.lines
-    might = (frees.freed v.image w goes.legal.mount stands).might
+    might = (frees.freed v.image w goes.legal stands).might
 
     goes_then : GoesOn v (freed_world v.image.shape w frees.lines) us
     goes_then = goes_freed frees.lines might
@@ -93,21 +93,25 @@ module _ {v : MountView} {w : World} {us : List ModelUnit} (sound : IsSound v) (
     rests_still : IsResting h.core → IsResting new.core
     rests_still rests unit of at = rests unit of (ap (λ (rows : List UnitRow). slice_get rows unit) (sym frees.rows) ∙ at)
 
-    pub mount_freed : IsLevel w → AreResetsNoted (log_of w) → IsKnown v.image w → IsResting h.core → is_copying h.core ≡ false → f.shape ≡ v.image.shape → v.asked ≤ pad_of h.core
+    pub mount_freed : IsLevel w → AreResetsNoted (log_of w) → IsKnown v.image w → IsResting h.core → is_copying h.core ≡ false → f.shape ≡ v.image.shape
+        → v.asked ≤ pad_of h.core
         → IsMount (moved_on v after us wear new.granted (pad_of new.core)) new f
     mount_freed level noted known rests idle shape pads =
-        mount_on sound goes_then after wear new f its_world (frees.freed v.image w goes.legal.mount stands).stands
-        (level_then v.image.shape w frees.lines level) (noted_then v.image.shape w frees.lines noted) (known_then v.image w frees.lines known) (rests_still rests) (frees.copying ∙ idle)
-        (frees.none v.image w goes.legal.mount stands) shape (le_trans pads frees.pad)
+        mount_on sound goes_then after wear new f its_world (frees.freed v.image w goes.legal stands).stands
+        (level_then v.image.shape w frees.lines level) (noted_then v.image.shape w frees.lines noted) (known_then v.image w frees.lines known)
+        (rests_still rests) (frees.copying ∙ idle)
+        (frees.none v.image w goes.legal stands) shape (le_trans pads frees.pad)
 
-    pub leaves_freed : (more : List Deed) → deeds ≡ v.deeds ++ more → IsLevel w → AreResetsNoted (log_of w) → IsKnown v.image w → IsResting h.core → is_copying h.core ≡ false
+    pub leaves_freed : (more : List Deed) → deeds ≡ v.deeds ++ more → IsLevel w → AreResetsNoted (log_of w) → IsKnown v.image w → IsResting h.core
+        → is_copying h.core ≡ false
         → f.shape ≡ v.image.shape → takes (log_of w 0) ≡ takes (engine_log v) → wear ≡ v.wear → v.granted ≤ h.granted → v.asked ≤ pad_of h.core
         → Leaves v (moved_on v after us wear new.granted (pad_of new.core)) new f
     leaves_freed more grown level noted known rests idle shape untaken same_wear grants pads =
         leaves_on sound goes_then after (more ++ freed_deeds [] frees.lines) wear new f
         (frees.deeds ∙ freed_more deeds frees.lines ∙ ap (λ (ds : List Deed). ds ++ freed_deeds [] frees.lines) grown
         ∙ append_assoc v.deeds more (freed_deeds [] frees.lines))
-        its_world (frees.freed v.image w goes.legal.mount stands).stands
-        (level_then v.image.shape w frees.lines level) (noted_then v.image.shape w frees.lines noted) (known_then v.image w frees.lines known) (rests_still rests) (frees.copying ∙ idle)
-        (frees.none v.image w goes.legal.mount stands) shape (none_taken sound goes_then (takes_then v.image.shape w frees.lines ∙ untaken))
+        its_world (frees.freed v.image w goes.legal stands).stands
+        (level_then v.image.shape w frees.lines level) (noted_then v.image.shape w frees.lines noted) (known_then v.image w frees.lines known)
+        (rests_still rests) (frees.copying ∙ idle)
+        (frees.none v.image w goes.legal stands) shape (none_taken sound goes_then (takes_then v.image.shape w frees.lines ∙ untaken))
         same_wear (subst (λ n. v.granted ≤ n) (sym frees.granted) grants) (le_trans pads frees.pad)

@@ -39,7 +39,7 @@ was_halted o r x is unfailing tells = go x is (subst (λ (s : Result (Unit {0}) 
 module _ {i : Image} {w : World} {number : ℕ} {handed : ModelUnit} {maker : Maker} {chunk : ℕ} {command : ChunkCommand} {tells : UnitOutcome → Type 0}
     {new : ModelUnit} (given : WasGiven i w number handed maker chunk command tells new) where
   may_do : MayDo i (log_of w) number given.event
-  may_do = next_may i w number given.event maker given.legal.mount.legal
+  may_do = next_may i w number given.event maker given.legal.legal
 
   pub can_do : CanDo i (log_of w) number given.event
   can_do = record { chunks = may_do.chunks; has_chunks = may_do.has_chunks; event = may_do.event; stopped = may_do.stopped }

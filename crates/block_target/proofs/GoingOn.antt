@@ -8,7 +8,7 @@ use Rattle.std.specs.Prelude.{slice_get, slice_set}
 use Rattle.std.proofs.lemmas.List.Elements.{filter_map-append}
 use Rattle.core_laws.proofs.HistorySectors.{set_length}
 use Rattle.core_laws.proofs.SteppingLemmas.{found_kept}
-use Rattle.core_laws.specs.SimpleMounts.{IsSimpleMount}
+use Rattle.world_laws.specs.LegalMounts.{IsLegalMount, NoneLost}
 use Rattle.pblk_model.specs.declared.shape.Shape.{Shape}
 use Rattle.pblk_model.specs.Image.{Image}
 use Rattle.pblk_model.specs.UnitLog.{UnitEvent}
@@ -28,7 +28,6 @@ use Rattle.pblk_world.specs.World.{World, log_of, unit_event_of, unit_events}
 use Rattle.step_laws.proofs.EngineSteps.{engine_logs, events_still, media_still, stops_still}
 use Rattle.step_laws.proofs.UnitStays.{found_stays}
 use Rattle.step_laws.proofs.UnitSteps.{engine_log as engine_beside, events_elsewhere, events_now, media_elsewhere, stops_elsewhere}
-use Rattle.step_laws.specs.FreedWorlds.{NoneToFree}
 use Rattle.step_laws.specs.Whole.{IsKnown, IsLevel, engine_step, knows_all, unit_step}
 use Rattle.unit_port.specs.Unit.{ModelUnit}
 use Rattle.world_laws.proofs.Begun.{first_is as first_of}
@@ -39,7 +38,7 @@ use Rattle.block_target.specs.Deeds.{Deed, world_of}
 use Rattle.block_target.specs.Heart.{IsHeart}
 use Rattle.block_target.specs.declared.heart.Heart.{Heart}
 use Rattle.block_target.specs.Mount.{HaveGrown, IsMount, IsSameMount, IsSound, AreResetsNoted, MountView, engine_log, logs_in, world_in}
-use Rattle.block_target.specs.Orders.{AreInOrder, IsInOrder}
+use Rattle.world_laws.specs.Orders.{AreInOrder, IsInOrder, NoneToFree}
 use Rattle.block_target.proofs.InOrder.{in_order_beside, in_order_decided}
 use Rattle.block_target.proofs.Reasoned.{HasReason, begun_beside, begun_decided, urgent_beside, urgent_decided}
 use Rattle.lemmas.proofs.Parts.{get_set_other, get_set_same, got_within}
@@ -81,7 +80,7 @@ IsUnitAt v w number u = (old : ModelUnit) × (slice_get v.handed number ≡ Some
 pub record GoesOn (v : MountView) (w : World) (us : List ModelUnit) : Type 0 where
   pub later : World
   pub whole : w ≡ later ++ world_in v
-  pub legal : IsSimpleMount v.image w
+  pub legal : IsLegalMount v.image w
   pub found : found_image v.image (log_of w) ≡ found_image v.image (logs_in v)
   pub count : length us ≡ length v.units
   pub each : (number : ℕ) (u : ModelUnit) → slice_get us number ≡ Some u → IsUnitAt v w number u
@@ -117,7 +116,7 @@ module _ {v : MountView} {w : World} {us : List ModelUnit} (goes : GoesOn v w us
   pub begun_on : (b : Begun) → begun (engine_log v) ≡ Some b → begun (log_of w 0) ≡ Some b
   begun_on b has = ap (λ (log : List Logged). begun log) (longer 0).1 ∙ begun_later (engine_log v) (longer 0).0 b has
 
-  pub goes_decided : (e : EngineEvent) → IsSimpleMount v.image (engine_step v.image.shape e w ∷ w)
+  pub goes_decided : (e : EngineEvent) → IsLegalMount v.image (engine_step v.image.shape e w ∷ w)
       → ((knows : List ℕ) → begun_by knows (Event e) ≡ None) → HasReason v.image (log_of w) e
       → IsInOrder v.image (logs_at (length (log_of w 0)) (log_of w)) e
       → GoesOn v (engine_step v.image.shape e w ∷ w) us
@@ -131,25 +130,25 @@ module _ {v : MountView} {w : World} {us : List ModelUnit} (goes : GoesOn v w us
     each = λ number u there.
         let was = goes.each number u there in
         (was.0, was.1, arm_decided v.image w e number was.0 u was.2);
-    begun = λ were. begun_decided v.image w goes.legal.mount.legal e reason (goes.begun were);
-    urgent = λ were. urgent_decided v.image w goes.legal.mount.legal e reason (goes.urgent were);
-    in_order = λ were. in_order_decided v.image w goes.legal.mount.legal e order (goes.in_order were);
+    begun = λ were. begun_decided v.image w goes.legal.legal e reason (goes.begun were);
+    urgent = λ were. urgent_decided v.image w goes.legal.legal e reason (goes.urgent were);
+    in_order = λ were. in_order_decided v.image w goes.legal.legal e order (goes.in_order were);
   }
 
   pub goes_given : (number : ℕ) (was new : ModelUnit) (e : UnitEvent) (maker : Maker) → (there : slice_get us number ≡ Some was)
-      → IsSimpleMount v.image (unit_step v.image.shape number e maker w ∷ w)
+      → IsLegalMount v.image (unit_step v.image.shape number e maker w ∷ w)
       → IsArm v.image (log_of (unit_step v.image.shape number e maker w ∷ w)) number (goes.each number was there).0 new
       → GoesOn v (unit_step v.image.shape number e maker w ∷ w) (slice_set us number new)
   goes_given number was new e maker there legal arm = record {
     later = unit_step v.image.shape number e maker w ∷ goes.later;
     whole = ap (λ (x : World). unit_step v.image.shape number e maker w ∷ x) goes.whole;
     legal = legal;
-    found = found_stays v.image w number e maker goes.legal.mount.legal ∙ goes.found;
+    found = found_stays v.image w number e maker goes.legal.legal ∙ goes.found;
     count = set_length us number new ∙ goes.count;
     each = each;
-    begun = λ were. begun_beside v.image w goes.legal.mount.legal number e maker (goes.begun were);
-    urgent = λ were. urgent_beside v.image w goes.legal.mount.legal number e maker (goes.urgent were);
-    in_order = λ were. in_order_beside v.image w goes.legal.mount.legal number e maker (goes.in_order were);
+    begun = λ were. begun_beside v.image w goes.legal.legal number e maker (goes.begun were);
+    urgent = λ were. urgent_beside v.image w goes.legal.legal number e maker (goes.urgent were);
+    in_order = λ were. in_order_beside v.image w goes.legal.legal number e maker (goes.in_order were);
   }
     where
       next : World
@@ -214,10 +213,10 @@ pub record Leaves (v new : MountView) (h : Heart) (f : Filling) : Type 0 where
   pub asked : new.asked ≡ v.asked
 
 module _ {v : MountView} {w : World} {us : List ModelUnit} (sound : IsSound v) (goes : GoesOn v w us) where
-  pub sound_on : (deeds : List Deed) (wear : List (List ℕ)) (granted pad : ℕ) → world_of v.image.shape deeds ≡ w
+  pub sound_on : (deeds : List Deed) (wear : List (List ℕ)) (granted pad : ℕ) → world_of v.image.shape deeds ≡ w → NoneLost (log_of w 0)
       → IsSound (moved_on v deeds us wear granted pad)
-  sound_on deeds wear granted pad is = record {
-    legal = subst (IsSimpleMount v.image) (sym is) goes.legal;
+  sound_on deeds wear granted pad is none_lost = record {
+    legal = subst (IsLegalMount v.image) (sym is) goes.legal;
     beginning = sound.beginning;
     has_begun = ap (λ (x : World). begun (log_of x 0)) is ∙ begun_on goes sound.beginning sound.has_begun;
     first_low = sound.first_low;
@@ -225,6 +224,7 @@ module _ {v : MountView} {w : World} {us : List ModelUnit} (sound : IsSound v) (
     handed = sound.handed;
     count = goes.count ∙ sound.count;
     each = λ number u there. subst (λ (x : World). IsUnitAt v x number u) (sym is) (goes.each number u there);
+    none_lost = subst (λ (x : World). NoneLost (log_of x 0)) (sym is) none_lost;
     begun = subst (λ (x : World). AreBegun v.image (log_of x)) (sym is) (goes.begun sound.begun);
     urgent = subst (λ (x : World). AreUrgent v.image (log_of x)) (sym is) (goes.urgent sound.urgent);
     in_order = subst (λ (x : World). AreInOrder v.image (log_of x)) (sym is) (goes.in_order sound.in_order);
@@ -287,7 +287,7 @@ module _ {v : MountView} {w : World} {us : List ModelUnit} (sound : IsSound v) (
       → IsLevel w → AreResetsNoted (log_of w) → IsKnown v.image w → IsResting h.core → is_copying h.core ≡ false → NoneToFree v.image (log_of w)
       → f.shape ≡ v.image.shape → v.asked ≤ pad_of h.core → IsMount (moved_on v deeds us wear h.granted (pad_of h.core)) h f
   mount_on deeds wear h f is stands level noted known rests idle settled shape pads = record {
-    sound = sound_on deeds wear h.granted (pad_of h.core) is;
+    sound = sound_on deeds wear h.granted (pad_of h.core) is stands.stands.simple.lost;
     heart = subst (λ (x : World). IsHeart v.image (log_of x) h) (sym is) stands;
     pad = refl;
     asked = pads;

@@ -8,7 +8,7 @@ use Rattle.pblk_world.specs.Space.{room}
 use Rattle.pblk_world.specs.AtRest.{logs_at}
 use Rattle.pblk_world.specs.EngineLog.{Begun, begun}
 use Rattle.pblk_world.proofs.Growing.{grows}
-use Rattle.core_laws.specs.SimpleMounts.{IsSimpleMount}
+use Rattle.world_laws.specs.LegalMounts.{IsLegalMount}
 use Rattle.step_laws.proofs.UnitSteps.{engine_longer}
 use Rattle.block_target.specs.Deeds.{Deed, world_of}
 use Rattle.world_laws.specs.Reasons.{WasRoom}
@@ -17,7 +17,7 @@ use Rattle.block_target.proofs.EngineLengths.{IsLeft, deeds_left, world_grown}
 use Rattle.block_target.proofs.OnceRoom.{room_later, room_less}
 
 -- there is room now
-pub room_now : (i : Image) (deeds : List Deed) (b : Begun) → IsSimpleMount i (world_of i.shape deeds) → begun (log_of (world_of i.shape deeds) 0) ≡ Some b
+pub room_now : (i : Image) (deeds : List Deed) (b : Begun) → IsLegalMount i (world_of i.shape deeds) → begun (log_of (world_of i.shape deeds) 0) ≡ Some b
     → WasRoom i (log_of (world_of i.shape deeds)) (length (log_of (world_of i.shape deeds) 0)) (room i (log_of (world_of i.shape deeds)))
 room_now i deeds b simple has =
     let is : IsLeft i (world_of i.shape deeds) = deeds_left i deeds simple in

@@ -73,7 +73,7 @@ granted_grown old new deeds more upto sound image done longer were once below =
     subst (λ (i : Image). AreGranted i (log_of (world_of i.shape new.deeds))) (sym image)
     (subst (λ (ds : List Deed). AreGranted old.image (log_of (world_of old.image.shape ds))) (sym done)
     (subst (λ (w : World). AreGranted old.image (log_of w)) (sym grown.1)
-    (granted_later old.image grown.0 (world_in old) more upto sound.legal.mount.legal log_is were once below)))
+    (granted_later old.image grown.0 (world_in old) more upto sound.legal.legal log_is were once below)))
   where
     grown : (later : World) × (world_of old.image.shape (old.deeds ++ deeds) ≡ later ++ world_in old)
     grown = world_grown old.image old.deeds deeds
@@ -172,7 +172,7 @@ place_granted v new lba first sectors sound is from room once =
     let deeds = entries_more v lba sectors in
     subst (λ (x : MountView). WasRoom x.image (logs_in x) (length (engine_log x) - length sectors) (first + length sectors)) (sym is)
     (room_at v (with_entries v lba sectors) deeds.0 v.granted (length (engine_log (with_entries v lba sectors)) - length sectors)
-    (first + length sectors) sound.legal.mount.legal (image_all v lba sectors) deeds.1
+    (first + length sectors) sound.legal.legal (image_all v lba sectors) deeds.1
     (let long : length (engine_log (with_entries v lba sectors)) ≡ length (engine_log v) + length log.0 = ap (λ (x : List Logged). length x) log.1
     ∙ length-append (engine_log v) log.0 in
     let many : length log.0 ≡ length sectors = log.2 in omega arith)

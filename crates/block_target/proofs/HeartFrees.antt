@@ -6,11 +6,12 @@ use Rattle.pblk_world.specs.Events.{Free}
 use Rattle.pblk_world.specs.Freeing.{MayFree}
 use Rattle.pblk_world.specs.World.{World, log_of}
 use Rattle.world_laws.specs.LegalMounts.{IsLegalMount}
+use Rattle.world_laws.specs.Orders.{NoneToFree}
 use Rattle.core_laws.specs.Stepping.{after}
 use Rattle.core_laws.proofs.FreedLines.{room_freed}
 use Rattle.core_laws.proofs.FreedLives.{free_is_quiet}
 use Rattle.core_laws.proofs.QuietEvents.{quiet_freed}
-use Rattle.step_laws.specs.FreedWorlds.{MightFree, NoneToFree, freed_world}
+use Rattle.step_laws.specs.FreedWorlds.{MightFree, freed_world}
 use Rattle.step_laws.specs.Whole.{knows_all}
 use Rattle.step_laws.proofs.FreedWorlds.{legal_then}
 use Rattle.step_laws.proofs.Knowing.{known_whole}

@@ -36,8 +36,7 @@ use Rattle.pblk_core.specs.Mounts.{InItsMount, StandsAfter}
 use Rattle.pblk_core.specs.Named.{pad_of}
 use Rattle.pblk_core.specs.Stands.{Stands, IsStanding}
 use Rattle.pblk_core.specs.declared.target_core.Core.{Core}
-use Rattle.pblk_core.proofs.ChunkRows.{rows_of_chunks}
-use Rattle.pblk_core.proofs.SimpleLogs.{simple_in}
+use Rattle.core_laws.proofs.ChunksInRows.{rows_of_chunks}
 use Rattle.world_laws.specs.Reasons.{WasAsked, WasRoom}
 use Rattle.block_target.specs.Heart.{IsBeating, IsHeart, OfItsMount, decided}
 use Rattle.block_target.specs.declared.heart.Heart.{Heart}
@@ -175,8 +174,8 @@ module _ (i : Image) (w : World) (e : EngineEvent) (knows : List ℕ) where
       ap (λ n. take n (log_of w 0)) step.knowledge.own ∙ take-length (log_of w 0) in
       let d = decision e b own has step.allowed in
       subst (λ (logs : Logs). freed i.shape (log_of w 0) ≤ freed i.shape (logs 0)) (sym logs_are)
-      (freed_rises i (prefixes last (log_of w)) w d.0 e knows (simple_in i w mount st)
-      (λ o u. rows_of_chunks i w o u (simple_in i w mount st)) own plain d.1)
+      (freed_rises i (prefixes last (log_of w)) w d.0 e knows mount
+      (λ o u. rows_of_chunks i w o u mount) own d.1)
 
   -- the heart
   pub heart_later : (old new : Heart) → IsLegalMount i w → IsHeart i (log_of w) old → IsLegalMount i later

@@ -2,6 +2,7 @@ pub mod AskedMounts
 pub mod Begun
 pub mod BegunCopies
 pub mod ClosedEnd
+pub mod TidyCloses
 pub mod ClosedPorts
 pub mod CopiedMount
 pub mod CopiesTold

@@ -13,7 +13,7 @@ use Rattle.pblk_world.specs.EngineLog.{Begun, begun, Placed, placements, is_answ
 use Rattle.pblk_world.specs.Fronts.{taken, synced}
 use Rattle.pblk_world.proofs.EngineLogLemmas.{begun_taken}
 use Rattle.pblk_world.proofs.Growing.{grows}
-use Rattle.core_laws.specs.SimpleMounts.{IsSimpleMount}
+use Rattle.world_laws.specs.LegalMounts.{IsLegalMount}
 use Rattle.block_target.specs.Moments.{IsMoment}
 use Rattle.block_target.proofs.EngineLengths.{simple_earlier}
 
@@ -48,13 +48,13 @@ log_then w n past m =
 -- what is known of the moment of a refused flush
 pub record IsRefusedThen (i : Image) (w : World) (b : Begun) (n wanted have : ℕ) (past : World) : Type 0 where
   pub moment : IsMoment w n past
-  pub simple : IsSimpleMount i past
+  pub simple : IsLegalMount i past
   pub begins : begun (log_of past 0) ≡ Some b
   pub answered : (p : Placed) → Contains (placements (log_of past 0)) p → is_answered (log_of past 0) p ≡ true
   pub all_taken : wanted ≤ taken (log_of past 0)
   pub is_synced : have ≡ synced i.shape (log_of past 0)
 
-pub refused_then : (i : Image) (w : World) (b : Begun) (n wanted have : ℕ) → IsSimpleMount i w → begun (log_of w 0) ≡ Some b
+pub refused_then : (i : Image) (w : World) (b : Begun) (n wanted have : ℕ) → IsLegalMount i w → begun (log_of w 0) ≡ Some b
     → IsWornFlush i (log_of w) n wanted have → (past : World) × IsRefusedThen i w b n wanted have past
 refused_then i w b n wanted have simple begins is =
     let m = moment w n is.at_rest.within in
@@ -62,7 +62,7 @@ refused_then i w b n wanted have simple begins is =
       m.0,
       record {
         moment = m.1;
-        simple = simple_earlier i m.1.later m.0 (subst (IsSimpleMount i) m.1.whole simple);
+        simple = simple_earlier i m.1.later m.0 (subst (IsLegalMount i) m.1.whole simple);
         begins = sym (ap begun log) ∙ begun_taken n (log_of w 0) is.at_rest.has_begun ∙ begins;
         answered = subst (λ ls. (p : Placed) → Contains (placements ls) p → is_answered ls p ≡ true) log is.at_rest.resting.stripes;
         all_taken = subst (λ ls. wanted ≤ taken ls) log is.all_taken;

@@ -69,12 +69,12 @@ same_from {old} {v} {new} is same = subst (λ (x : MountView). IsSameMount x new
 -- ---- a mount
 
 pub taken_small : (v : MountView) → IsSound v → taken_in v ≤ 2 ^ 62
-taken_small v sound = taken_bounded v.image (world_in v) sound.legal
+taken_small v sound = taken_bounded v.image (world_in v) (record { mount = sound.legal; engine = record { lost = sound.none_lost } })
     (subst (λ n. n ≤ 2 ^ 62) (sym (first_of (engine_log v) sound.beginning sound.has_begun)) sound.first_low)
 
 module _ {v : MountView} {h : Heart} {f : Filling} (m : IsMount v h f) where
   pub beating_in : IsBeating h
-  beating_in = record { image = v.image; world = world_in v; legal = m.sound.legal.mount; stands = m.heart }
+  beating_in = record { image = v.image; world = world_in v; legal = m.sound.legal; stands = m.heart }
 
   pub collecting : IsCollecting h.core
   collecting = collecting_in h beating_in
@@ -92,4 +92,4 @@ module _ {v : MountView} {h : Heart} {f : Filling} (m : IsMount v h f) where
       ∙ ap₂ (λ pad copying. work_of v.image (logs_in v) pad [] copying) (sym m.pad) m.idle
 
   pub is_named : (work : Work) → work_in v ≡ work → named h.core ≡ work
-  is_named work is = work_is v.image (world_in v) h.core m.sound.legal.mount m.heart.stands m.heart.collects ∙ named_work ∙ is
+  is_named work is = work_is v.image (world_in v) h.core m.sound.legal m.heart.stands m.heart.collects ∙ named_work ∙ is

@@ -3,13 +3,12 @@
 use Rattle.std.proofs.Common.{◌≡◌, ◌≢◌, ℕ, length, sym, subst, ◌∙◌}
 use Rattle.pblk_world.specs.AtRest.{logs_at}
 use Rattle.pblk_world.specs.World.{log_of}
-use Rattle.step_laws.specs.FreedWorlds.{NoneToFree}
 use Rattle.step_laws.proofs.SpentStays.{none_by_spent}
 use Rattle.pblk_core.specs.Filling.{Filling}
 use Rattle.pblk_core.specs.declared.work.Work.{Work}
 use Rattle.pblk_core.specs.declared.work.Work.TheVariants as works
 use Rattle.block_target.specs.Mount.{MountView, IsMount, engine_log, logs_in, work_in, world_in}
-use Rattle.block_target.specs.Orders.{LacksAddress, NoneToReset}
+use Rattle.world_laws.specs.Orders.{AreReset, LacksAddress, NoneToFree}
 use Rattle.block_target.specs.declared.heart.Heart.{Heart}
 use Rattle.block_target.proofs.EngineLengths.{IsLeft, deeds_left}
 use Rattle.block_target.proofs.Resting.{lacks_address, none_to_reset}
@@ -21,7 +20,7 @@ module _ {v : MountView} {h : Heart} {f : Filling} (m : IsMount v h f) where
 
   pub none_to_free_then : NoneToFree v.image (log_of its_left.left)
   none_to_free_then =
-      none_by_spent v.image (world_in v) its_left.left m.sound.beginning m.sound.legal.mount its_left.simple.mount m.sound.has_begun m.heart.stands.full
+      none_by_spent v.image (world_in v) its_left.left m.sound.beginning m.sound.legal its_left.simple m.sound.has_begun m.heart.stands.full
       its_left.spent m.settled
 
   pub none_to_free_now : NoneToFree v.image (logs_at (length (engine_log v)) (logs_in v))
@@ -29,9 +28,9 @@ module _ {v : MountView} {h : Heart} {f : Filling} (m : IsMount v h f) where
 
   -- where its next work is no reset
   pub none_to_reset_now : (work : Work) → ((line unit : ℕ) → works.Reset line unit ≢ work) → work_in v ≡ work
-      → NoneToReset v.image (logs_at (length (engine_log v)) (logs_in v))
-  none_to_reset_now work apart named = subst (NoneToReset v.image) (sym its_left.logs)
-      (none_to_reset v.image its_left.left v.pad work its_left.simple.mount apart (its_left.work v.pad ∙ named))
+      → AreReset v.image (logs_at (length (engine_log v)) (logs_in v))
+  none_to_reset_now work apart named = subst (AreReset v.image) (sym its_left.logs)
+      (none_to_reset v.image its_left.left v.pad work its_left.simple apart (its_left.work v.pad ∙ named))
 
   -- where it is the opening of a line
   pub lacks_address_now : work_in v ≡ works.Open → LacksAddress v.image (logs_at (length (engine_log v)) (logs_in v))

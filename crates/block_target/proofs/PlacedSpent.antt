@@ -16,6 +16,7 @@ use Rattle.pblk_world.proofs.Answered.{answers_fit}
 use Rattle.pblk_world.proofs.Appending.{life_more}
 use Rattle.pblk_world.proofs.EngineLogLemmas.{takes_more}
 use Rattle.world_laws.specs.LegalMounts.{IsLegalMount}
+use Rattle.world_laws.specs.Orders.{NoneToFree}
 use Rattle.core_laws.specs.ClosedLines.{IsSpentBy, closed_line, newest_numbers}
 use Rattle.core_laws.specs.Spent.{IsSpent, OpensWhenFull}
 use Rattle.core_laws.specs.Stepping.{after}
@@ -30,7 +31,6 @@ use Rattle.core_laws.proofs.SpentBy.{is_spent, spent_by}
 use Rattle.core_laws.proofs.StandingLines.{IsStanding, line_stands, live_none, none_is_live, stands_in_line}
 use Rattle.core_laws.proofs.SteppingLemmas.{found_kept}
 use Rattle.core_laws.proofs.TakenNumbers.{first_stays}
-use Rattle.step_laws.specs.FreedWorlds.{NoneToFree}
 use Rattle.step_laws.specs.Whole.{engine_step, knows_all}
 use Rattle.step_laws.proofs.EngineSteps.{engine_logs}
 use Rattle.step_laws.proofs.SpentStays.{none_by_spent}
@@ -168,7 +168,8 @@ module _ (i : Image) (w : World) (b : Begun) (stripe : Stripe) (mount : IsLegalM
         below_front = by.below_front;
         none_live = live_none i w line (λ lba small. not_live line lba by.none_live small);
         takers_synced =
-            let takers : taken_up_to i (log_of (step ∷ w)) line ≡ taken_up_to i (log_of w) line = ap (λ (ls : Logs). taken_up_to i ls line) logs_now ∙ taken_same line in
+            let takers : taken_up_to i (log_of (step ∷ w)) line ≡ taken_up_to i (log_of w) line = ap (λ (ls : Logs). taken_up_to i ls line) logs_now
+            ∙ taken_same line in
             let front : synced i.shape (log_of (step ∷ w) 0) ≡ synced i.shape (log_of w 0) = ap (λ (ls : Logs). synced i.shape (ls 0)) logs_now ∙ synced_now in
             let low : taken_up_to i (log_of (step ∷ w)) line ≤ synced i.shape (log_of (step ∷ w) 0) = by.takers_synced in
             omega arith;

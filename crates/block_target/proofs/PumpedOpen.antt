@@ -10,7 +10,7 @@ use Rattle.pblk_world.specs.EngineLog.{Begun, begun}
 use Rattle.pblk_world.specs.Events.{Open}
 use Rattle.pblk_world.specs.Opening.{MayOpen}
 use Rattle.pblk_world.specs.World.{World, log_of}
-use Rattle.core_laws.specs.SimpleMounts.{IsSimpleMount}
+use Rattle.world_laws.specs.LegalMounts.{IsLegalMount}
 use Rattle.step_laws.proofs.EngineSteps.{engine_next}
 use Rattle.step_laws.proofs.Known.{known_still}
 use Rattle.step_laws.proofs.Levels.{level_by}
@@ -36,9 +36,9 @@ module _ {v : MountView} {h : Heart} {f : Filling} (m : IsMount v h f) (line : �
   abbrev done : List Deed
   done = v.deeds ++ Decides (Open line start) ∷ []
 
-  legal : IsSimpleMount v.image next
+  legal : IsLegalMount v.image next
   legal = engine_next v.image (world_in v) m.sound.beginning (Open line start) m.sound.legal m.sound.has_begun
-      (may m.sound.beginning m.sound.has_begun) refl
+      (may m.sound.beginning m.sound.has_begun)
 
   goes : GoesOn v next v.units
   goes = goes_decided (goes_none v m.sound) (Open line start) legal (λ knows. refl) tt
@@ -48,10 +48,10 @@ module _ {v : MountView} {h : Heart} {f : Filling} (m : IsMount v h f) (line : �
   its_world = world_more v.image.shape v.deeds (Decides (Open line start))
 
   stands : (mid : Heart) → BeatsAfter h (Open line start) mid → IsHeart v.image (log_of next) mid
-  stands mid beats = beats v.image (world_in v) (knows_all v.image.shape (world_in v)) m.sound.legal.mount m.heart legal.mount
+  stands mid beats = beats v.image (world_in v) (knows_all v.image.shape (world_in v)) m.sound.legal m.heart legal
 
   pub beating_opened : (mid : Heart) → BeatsAfter h (Open line start) mid → IsBeating mid
-  beating_opened mid beats = record { image = v.image; world = next; legal = legal.mount; stands = stands mid beats }
+  beating_opened mid beats = record { image = v.image; world = next; legal = legal; stands = stands mid beats }
 
   -- once lines were freed after that
   pub leaves_opened : (mid new : Heart) (last : List Deed) → BeatsAfter h (Open line start) mid → mid.core.placer.units ≡ h.core.placer.units

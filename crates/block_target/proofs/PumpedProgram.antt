@@ -8,7 +8,7 @@ use Rattle.pblk_model.specs.UnitLog.{Answered, Stopped, UnitEvent, UnitOutcome}
 use Rattle.pblk_world.proofs.Answered.{answers_fit}
 use Rattle.pblk_world.proofs.WorldLemmas.{log_here}
 use Rattle.pblk_world.specs.Answering.{MayLand, MayOfferAgain}
-use Rattle.pblk_world.specs.AtRest.{logs_at}
+use Rattle.pblk_world.specs.AtRest.{IsDue, logs_at}
 use Rattle.pblk_world.specs.Commanding.{is_reset}
 use Rattle.pblk_world.specs.EngineLog.{Answer, Placed, answers, placed_on, takes}
 use Rattle.pblk_world.specs.Events.{Again, EngineEvent, Landed, Logged, Place, Stripe}
@@ -18,14 +18,13 @@ use Rattle.core_laws.proofs.IdleUnits.{idle_fits}
 use Rattle.core_laws.proofs.Placing.{answers_now, new_placed, placed_on_now, with_place}
 use Rattle.core_laws.proofs.PlacedLines.{get_last as got_end}
 use Rattle.core_laws.specs.PlacerOf.{unanswered_on}
-use Rattle.core_laws.specs.SimpleMounts.{IsSimpleMount}
 use Rattle.world_laws.specs.LegalMounts.{IsLegalMount}
+use Rattle.world_laws.specs.Orders.{NoneToFree}
 use Rattle.step_laws.proofs.EngineSteps.{engine_next}
 use Rattle.step_laws.proofs.Known.{known_still}
 use Rattle.step_laws.proofs.Levels.{level_by}
 use Rattle.step_laws.proofs.Noted.{landing_known, landing_legal, landing_level, stopping_known, stopping_legal, stopping_level}
 use Rattle.step_laws.proofs.Programs.{may_land, may_offer_again, unit_in_range}
-use Rattle.step_laws.specs.FreedWorlds.{NoneToFree}
 use Rattle.step_laws.specs.NextEvents.{CanProgram}
 use Rattle.step_laws.proofs.UnitSteps.{engine_longer}
 use Rattle.step_laws.specs.Whole.{IsKnown, IsLevel, after_unit, engine_step, knows_all, next_event, next_maker, noted}
@@ -61,7 +60,6 @@ use Rattle.block_target.proofs.NotedResets.{no_reset, noted_beside, noted_decide
 use Rattle.block_target.proofs.Reasoned.{PlacesFor}
 use Rattle.block_target.proofs.UrgentStripes.{placed_for}
 use Rattle.pblk_model.proofs.MarksLemmas.{accepted_small}
-use Rattle.pblk_world.specs.AtRest.{IsDue}
 use Rattle.lemmas.proofs.Tests.{same_number}
 
 -- ---- no program is under way, but maybe on one unit
@@ -121,12 +119,12 @@ module _ {v : MountView} {h : Heart} {f : Filling} (m : IsMount v h f) (named : 
     (placed : IsPlacedBy h into mid) where
   module _ (fresh : into.again ≡ false) where
     may : MayPlace v.image (log_of (world_in v)) into.stripe
-    may = placed.legal fresh v.image (world_in v) m.sound.legal.mount m.heart
+    may = placed.legal fresh v.image (world_in v) m.sound.legal m.heart
 
     reason : PlacesFor v.image (log_of (world_in v)) into.stripe
     reason = placed_for v.image (log_of (world_in v)) (pad_of h.core) into.stripe
-        (accepted_small v.image.shape m.sound.legal.mount.accepted)
-        (placed.due fresh v.image (world_in v) m.sound.legal.mount m.heart) m.heart.pads
+        (accepted_small v.image.shape m.sound.legal.accepted)
+        (placed.due fresh v.image (world_in v) m.sound.legal m.heart) m.heart.pads
 
     abbrev next : World
     next = engine_step v.image.shape (Place into.stripe) (world_in v) ∷ world_in v
@@ -134,8 +132,8 @@ module _ {v : MountView} {h : Heart} {f : Filling} (m : IsMount v h f) (named : 
     abbrev knows : List ℕ
     knows = knows_all v.image.shape (world_in v)
 
-    legal : IsSimpleMount v.image next
-    legal = engine_next v.image (world_in v) m.sound.beginning (Place into.stripe) m.sound.legal m.sound.has_begun may refl
+    legal : IsLegalMount v.image next
+    legal = engine_next v.image (world_in v) m.sound.beginning (Place into.stripe) m.sound.legal m.sound.has_begun may
 
     log_now : log_of next 0 ≡ with_place (engine_log v) into.stripe knows
     log_now = log_here (engine_step v.image.shape (Place into.stripe) (world_in v)) (world_in v) 0 refl
@@ -143,7 +141,7 @@ module _ {v : MountView} {h : Heart} {f : Filling} (m : IsMount v h f) (named : 
     idle : length (answers (engine_log v) into.stripe.unit) ≡ length (placed_on (engine_log v) into.stripe.unit)
     idle =
         let few : length (answers (engine_log v) into.stripe.unit) ≤ length (placed_on (engine_log v) into.stripe.unit) =
-        answers_fit v.image (world_in v) into.stripe.unit m.sound.legal.mount.legal in
+        answers_fit v.image (world_in v) into.stripe.unit m.sound.legal.legal in
         let all : length (placed_on (engine_log v) into.stripe.unit) ≤ length (answers (engine_log v) into.stripe.unit) =
         idle_fits (engine_log v) into.stripe.unit may.idle in
         omega arith
@@ -163,11 +161,11 @@ module _ {v : MountView} {h : Heart} {f : Filling} (m : IsMount v h f) (named : 
     to_program_new = record {
       goes = goes_decided (goes_none v m.sound) (Place into.stripe) legal (λ knows. refl) reason
           (none_to_free_now m, none_to_reset_now m works.Program (λ line unit e. absurd cc) named);
-      heart = placed.beats fresh v.image (world_in v) knows m.sound.legal.mount m.heart legal.mount;
+      heart = placed.beats fresh v.image (world_in v) knows m.sound.legal m.heart legal;
       level = level_by v.image.shape (Place into.stripe) (world_in v) (λ unit. refl) m.level;
       noted = noted_decided v.image.shape (Place into.stripe) (world_in v) m.noted;
       none_left = subst (NoneToFree v.image) (sym (whole_decided v.image (world_in v) (Place into.stripe) legal))
-          (none_placed v.image (world_in v) m.sound.beginning into.stripe m.sound.legal.mount legal.mount m.sound.has_begun may m.heart.stands.full
+          (none_placed v.image (world_in v) m.sound.beginning into.stripe m.sound.legal legal m.sound.has_begun may m.heart.stands.full
           m.settled);
       known = known_still v.image (world_in v) (Place into.stripe) refl (λ unit. refl) m.known;
       takes = takes_still v.image.shape (Place into.stripe) (world_in v) refl;
@@ -178,7 +176,7 @@ module _ {v : MountView} {h : Heart} {f : Filling} (m : IsMount v h f) (named : 
 
   to_program_again : into.again ≡ true → IsToProgram v mid into.stripe (world_in v)
   to_program_again again =
-      let was = placed.again again v.image (world_in v) m.sound.legal.mount m.heart in record {
+      let was = placed.again again v.image (world_in v) m.sound.legal m.heart in record {
         goes = goes_none v m.sound;
         heart = was.1;
         level = m.level;
@@ -259,10 +257,10 @@ module _ {v : MountView} {h : Heart} {f : Filling} (m : IsMount v h f) {mid : He
     goes = goes_given ready.goes stripe.unit was new e (next_maker w) there given.legal given.arm
 
     heart_programmed : IsHeart v.image (log_of programmed) mid
-    heart_programmed = heart_beside v.image w stripe.unit e (next_maker w) mid ready.goes.legal.mount ready.heart
+    heart_programmed = heart_beside v.image w stripe.unit e (next_maker w) mid ready.goes.legal ready.heart
 
     pub beating_programmed : IsBeating mid
-    beating_programmed = record { image = v.image; world = programmed; legal = given.legal.mount; stands = heart_programmed }
+    beating_programmed = record { image = v.image; world = programmed; legal = given.legal; stands = heart_programmed }
 
     log_more : new.log ≡ was.log ++ e ∷ []
     log_more = one_more v.image w stripe.unit e (next_maker w) (before_of was there) was new (ready.goes.each stripe.unit was there).2 given.arm
@@ -275,7 +273,7 @@ module _ {v : MountView} {h : Heart} {f : Filling} (m : IsMount v h f) {mid : He
 
     none_programmed : NoneToFree v.image (logs_at (length (log_of programmed 0)) (log_of programmed))
     none_programmed = subst (NoneToFree v.image)
-        (sym (same_beside v.image w stripe.unit e (next_maker w) ready.goes.legal.mount.legal
+        (sym (same_beside v.image w stripe.unit e (next_maker w) ready.goes.legal.legal
         (engine_longer w m.sound.beginning (begun_on ready.goes m.sound.beginning m.sound.has_begun)))) ready.none_left
 
     -- it was done
@@ -283,11 +281,11 @@ module _ {v : MountView} {h : Heart} {f : Filling} (m : IsMount v h f) {mid : He
       abbrev note : EngineEvent
       note = Landed stripe.unit its_number
 
-      landed_legal : IsSimpleMount v.image (noted v.image.shape note programmed)
+      landed_legal : IsLegalMount v.image (noted v.image.shape note programmed)
       landed_legal = landing_legal v.image w stripe.unit ready.placed e (next_maker w) ready.goes.legal can done
 
       landing : MayLand (log_of programmed) stripe.unit its_number
-      landing = may_land v.image w stripe.unit ready.placed e (next_maker w) can ready.goes.legal.mount.legal done
+      landing = may_land v.image w stripe.unit ready.placed e (next_maker w) can ready.goes.legal.legal done
 
       pub beating_landed : (after : Heart)
           → ((i : Image) (w : World) (event : ℕ) (knows : List ℕ) → IsLegalMount i w → IsHeart i (log_of w) mid → MayLand (log_of w) stripe.unit event
@@ -296,12 +294,12 @@ module _ {v : MountView} {h : Heart} {f : Filling} (m : IsMount v h f) {mid : He
       beating_landed after beats = record {
         image = v.image;
         world = noted v.image.shape note programmed;
-        legal = landed_legal.mount;
-        stands = beats v.image programmed its_number (knows_all v.image.shape programmed) given.legal.mount heart_programmed landing landed_legal.mount;
+        legal = landed_legal;
+        stands = beats v.image programmed its_number (knows_all v.image.shape programmed) given.legal heart_programmed landing landed_legal;
       }
 
       pub may_be_landed : (i : Image) × (w : World) × IsLegalMount i w × IsHeart i (log_of w) mid × (event : ℕ) × MayLand (log_of w) stripe.unit event
-      may_be_landed = (v.image, programmed, given.legal.mount, heart_programmed, its_number, landing)
+      may_be_landed = (v.image, programmed, given.legal, heart_programmed, its_number, landing)
 
       goes_landed : GoesOn v (noted v.image.shape note programmed) (slice_set v.units stripe.unit new)
       goes_landed = goes_decided goes note landed_legal (λ knows. refl) tt none_programmed
@@ -323,7 +321,7 @@ module _ {v : MountView} {h : Heart} {f : Filling} (m : IsMount v h f) {mid : He
           subst (λ (xs : List ModelUnit). Leaves v (moved_on v all xs wear end.granted (pad_of end.core)) end into) (sym units_are)
           (leaves_freed m.sound goes_landed last wear after end into all
           (ap (world_of v.image.shape) is ∙ landed_world v.image.shape deeds stripe.unit (last_of new) e given.last)
-          (beats v.image programmed its_number (knows_all v.image.shape programmed) given.legal.mount heart_programmed landing landed_legal.mount)
+          (beats v.image programmed its_number (knows_all v.image.shape programmed) given.legal heart_programmed landing landed_legal)
           frees more.0 (is ∙ more.1)
           (landing_level v.image w stripe.unit ready.placed e (next_maker w) ready.goes.legal can done ready.level)
           (noted_decided v.image.shape note programmed noted_programmed)
@@ -348,11 +346,11 @@ module _ {v : MountView} {h : Heart} {f : Filling} (m : IsMount v h f) {mid : He
       abbrev again : EngineEvent
       again = Again stripe.unit its_number
 
-      stopped_legal : IsSimpleMount v.image (noted v.image.shape again programmed)
+      stopped_legal : IsLegalMount v.image (noted v.image.shape again programmed)
       stopped_legal = stopping_legal v.image w stripe.unit ready.placed e (next_maker w) ready.goes.legal can k stops
 
       offer : MayOfferAgain (log_of programmed) stripe.unit its_number
-      offer = may_offer_again v.image w stripe.unit ready.placed e (next_maker w) can k ready.goes.legal.mount.legal stops
+      offer = may_offer_again v.image w stripe.unit ready.placed e (next_maker w) can k ready.goes.legal.legal stops
 
       pub beating_stopped : (after : Heart)
           → ((i : Image) (w : World) (event : ℕ) (knows : List ℕ) → IsLegalMount i w → IsHeart i (log_of w) mid
@@ -362,8 +360,8 @@ module _ {v : MountView} {h : Heart} {f : Filling} (m : IsMount v h f) {mid : He
       beating_stopped after beats = record {
         image = v.image;
         world = noted v.image.shape again programmed;
-        legal = stopped_legal.mount;
-        stands = beats v.image programmed its_number (knows_all v.image.shape programmed) given.legal.mount heart_programmed offer stopped_legal.mount;
+        legal = stopped_legal;
+        stands = beats v.image programmed its_number (knows_all v.image.shape programmed) given.legal heart_programmed offer stopped_legal;
       }
 
       goes_stopped : GoesOn v (noted v.image.shape again programmed) (slice_set v.units stripe.unit new)
@@ -387,7 +385,7 @@ module _ {v : MountView} {h : Heart} {f : Filling} (m : IsMount v h f) {mid : He
           subst (λ (xs : List ModelUnit). Leaves v (moved_on v all xs wear end.granted (pad_of end.core)) end into) (sym units_are)
           (leaves_freed m.sound goes_stopped last wear after end into all
           (ap (world_of v.image.shape) is ∙ stopped_world v.image.shape deeds stripe.unit (last_of new) e given.last)
-          (beats v.image programmed its_number (knows_all v.image.shape programmed) given.legal.mount heart_programmed offer stopped_legal.mount)
+          (beats v.image programmed its_number (knows_all v.image.shape programmed) given.legal heart_programmed offer stopped_legal)
           frees more.0 (is ∙ more.1)
           (stopping_level v.image w stripe.unit ready.placed e (next_maker w) ready.goes.legal can k stops ready.level)
           (noted_decided v.image.shape again programmed noted_programmed)

@@ -17,14 +17,13 @@ use Rattle.pblk_world.specs.EngineLog.{takes}
 use Rattle.pblk_world.specs.Events.{EngineEvent, ResetDone}
 use Rattle.pblk_world.specs.Lines.{known_image}
 use Rattle.pblk_world.specs.World.{World, log_of, media, unit_events}
-use Rattle.core_laws.specs.SimpleMounts.{IsSimpleMount}
 use Rattle.world_laws.specs.LegalMounts.{IsLegalMount}
+use Rattle.world_laws.specs.Orders.{NoneToFree}
 use Rattle.step_laws.proofs.GivenUp.{may_note, noted_known, noted_legal, noted_level, reset_level, reset_stopped}
 use Rattle.step_laws.proofs.Known.{known_as_is, used_or_stopped}
 use Rattle.step_laws.proofs.SpentStays.{none_beside}
 use Rattle.step_laws.proofs.UnitStays.{known_stays}
 use Rattle.step_laws.proofs.UnitSteps.{chunk_now, engine_longer, running}
-use Rattle.step_laws.specs.FreedWorlds.{NoneToFree}
 use Rattle.step_laws.specs.NextEvents.{CanReset}
 use Rattle.step_laws.specs.Whole.{after_unit, knows_all, next_event, next_maker, noted}
 use Rattle.stripe_placer.specs.Placing.{UnitRow}
@@ -107,7 +106,7 @@ module _ {v : MountView} {h : Heart} {f : Filling} (m : IsMount v h f) (line uni
     goes = goes_given (goes_none v m.sound) unit was new e (next_maker w) there given.legal given.arm
 
     heart_left : IsHeart i (log_of left) h
-    heart_left = heart_beside i w unit e (next_maker w) h m.sound.legal.mount m.heart
+    heart_left = heart_beside i w unit e (next_maker w) h m.sound.legal m.heart
 
     log_more : new.log ≡ was.log ++ e ∷ []
     log_more = one_more i w unit e (next_maker w) (before_of was there) was new (m.sound.each unit was there).2 given.arm
@@ -143,8 +142,8 @@ module _ {v : MountView} {h : Heart} {f : Filling} (m : IsMount v h f) (line uni
           (ap (world_of i.shape) done ∙ given_world i.shape v.deeds unit (last_of new) e given.last) heart_left
           (reset_level i w unit e (next_maker w) can m.level)
           (noted_beside i.shape unit e (next_maker w) w (λ reset. ap was_stopped stops) m.noted)
-          (reset_stopped i w unit e (next_maker w) can (ap was_stopped stops) m.sound.legal.mount.legal m.known)
-          m.resting m.idle (none_beside i w m.sound.beginning unit e (next_maker w) m.sound.legal.mount given.legal.mount m.sound.has_begun m.heart.stands.full
+          (reset_stopped i w unit e (next_maker w) can (ap was_stopped stops) m.sound.legal.legal m.known)
+          m.resting m.idle (none_beside i w m.sound.beginning unit e (next_maker w) m.sound.legal given.legal m.sound.has_begun m.heart.stands.full
           m.settled) m.stripe (none_taken m.sound goes takes_left) same_wear low (asked_within m (pad_of h.core) (le_refl (pad_of h.core))))
 
       pub stopped_lost : (us : List ModelUnit) (n : ℕ) → us ≡ slice_set v.units unit new → n ≡ min (length new.log) (2 ^ 64 - 1)
@@ -161,17 +160,17 @@ module _ {v : MountView} {h : Heart} {f : Filling} (m : IsMount v h f) (line uni
       ends : was_stopped e.outcome ≡ false
       ends = ap was_stopped done
 
-      noted_mount : IsSimpleMount i (noted i.shape note left)
+      noted_mount : IsLegalMount i (noted i.shape note left)
       noted_mount = noted_legal i w unit e (next_maker w) can ends m.sound.legal
 
       -- the engine knew the chunk as it was
       known_then : chunk_in (known_image i (log_of left)) line unit ≡ Some found.0
-      known_then = ap (λ (j : Image). chunk_in j line unit) (known_stays i w unit e (next_maker w) m.sound.legal.mount.legal)
+      known_then = ap (λ (j : Image). chunk_in j line unit) (known_stays i w unit e (next_maker w) m.sound.legal.legal)
           ∙ known_as_is i (log_of w) unit line (running i (log_of w) unit e can.can ends) (m.known unit line) ∙ found.1
 
       is_reset : (state : ChunkState) (c : Chunk) → slice_get new.media line ≡ Some c → state ≡ c.state → IsResetTo i (log_of left) unit number line state
       is_reset state c at is_state =
-          let may = may_note i w unit e (next_maker w) can ends m.sound.legal.mount.legal in
+          let may = may_note i w unit e (next_maker w) can ends m.sound.legal.legal in
           let now : c ≡ after_outcome i.shape found.0 Reset e.outcome = same_Some c (after_outcome i.shape found.0 Reset e.outcome) (sym at ∙ left_chunk) in
           record {
             may = may.0;
@@ -184,7 +183,7 @@ module _ {v : MountView} {h : Heart} {f : Filling} (m : IsMount v h f) (line uni
 
       pub may_be_noted : (state : ChunkState) (c : Chunk) → slice_get new.media line ≡ Some c → state ≡ c.state
           → (i : Image) × (w : World) × IsLegalMount i w × IsHeart i (log_of w) h × (event : ℕ) × IsResetTo i (log_of w) unit event line state
-      may_be_noted state c at is_state = (i, left, given.legal.mount, heart_left, number, is_reset state c at is_state)
+      may_be_noted state c at is_state = (i, left, given.legal, heart_left, number, is_reset state c at is_state)
 
       pub beating_noted : (state : ChunkState) (c : Chunk) (after : Heart) → slice_get new.media line ≡ Some c → state ≡ c.state
           → ((i : Image) (w : World) (event : ℕ) (knows : List ℕ) → IsLegalMount i w → IsHeart i (log_of w) h → IsResetTo i (log_of w) unit event line state
@@ -193,13 +192,13 @@ module _ {v : MountView} {h : Heart} {f : Filling} (m : IsMount v h f) (line uni
       beating_noted state c after at is_state beats = record {
         image = i;
         world = noted i.shape note left;
-        legal = noted_mount.mount;
-        stands = beats i left number (knows_all i.shape left) given.legal.mount heart_left (is_reset state c at is_state) noted_mount.mount;
+        legal = noted_mount;
+        stands = beats i left number (knows_all i.shape left) given.legal heart_left (is_reset state c at is_state) noted_mount;
       }
 
       goes_noted : GoesOn v (noted i.shape note left) (slice_set v.units unit new)
       goes_noted = goes_decided goes note noted_mount (λ knows. refl) tt
-          (subst (NoneToFree i) (sym (same_beside i w unit e (next_maker w) m.sound.legal.mount.legal (engine_longer w m.sound.beginning m.sound.has_begun)))
+          (subst (NoneToFree i) (sym (same_beside i w unit e (next_maker w) m.sound.legal.legal (engine_longer w m.sound.beginning m.sound.has_begun)))
           (none_to_free_now m))
 
       takes_noted : takes (log_of (noted i.shape note left) 0) ≡ takes (engine_log v)
@@ -220,7 +219,7 @@ module _ {v : MountView} {h : Heart} {f : Filling} (m : IsMount v h f) (line uni
           subst (λ (xs : List ModelUnit). Leaves v (moved_on v all xs wear end.granted (pad_of end.core)) end f) (sym units_are)
           (leaves_freed m.sound goes_noted last wear after end f all
           (ap (world_of i.shape) lasts ∙ reset_world i.shape v.deeds unit (last_of new) e given.last)
-          (beats i left number (knows_all i.shape left) given.legal.mount heart_left (is_reset state c at is_state) noted_mount.mount) frees
+          (beats i left number (knows_all i.shape left) given.legal heart_left (is_reset state c at is_state) noted_mount) frees
           (Does unit (last_of new) ∷ NotesReset unit ∷ [])
           (lasts ∙ append_assoc v.deeds (Does unit (last_of new) ∷ []) (NotesReset unit ∷ []))
           (noted_level i w unit e (next_maker w) can m.level)

@@ -207,11 +207,11 @@ module _ {v : MountView} {h : Heart} {f : Filling} (m : IsMount v h f) (unit chu
         let low : v.granted ≤ h.granted = let same : v.granted ≡ h.granted = m.granted in omega arith in
         subst (λ (xs : List ModelUnit). Leaves v (moved_on v last xs wear h.granted (pad_of h.core)) h f) (sym fetched.units)
         (leaves_on m.sound goes last (Does unit (last_of new) ∷ []) wear h f fetched.deeds its_world
-        (heart_beside v.image w unit e (next_maker w) h m.sound.legal.mount m.heart)
+        (heart_beside v.image w unit e (next_maker w) h m.sound.legal m.heart)
         (level_unit v.image.shape unit e (next_maker w) w (ends_by_command e (ap is_program given.command_is)) m.level)
         (noted_beside v.image.shape unit e (next_maker w) w (no_reset e (ap is_reset given.command_is)) m.noted)
-        (known_at_fetch v.image w unit e (next_maker w) m.sound.legal.mount.legal number given.command_is m.known)
-        m.resting m.idle (none_beside v.image w m.sound.beginning unit e (next_maker w) m.sound.legal.mount given.legal.mount m.sound.has_begun
+        (known_at_fetch v.image w unit e (next_maker w) m.sound.legal.legal number given.command_is m.known)
+        m.resting m.idle (none_beside v.image w m.sound.beginning unit e (next_maker w) m.sound.legal given.legal m.sound.has_begun
         m.heart.stands.full m.settled) m.stripe (none_taken m.sound goes (takes_beside v.image.shape unit e (next_maker w) w)) same_wear low
         (asked_within m (pad_of h.core) (le_refl (pad_of h.core))))
 

@@ -23,7 +23,7 @@ use Rattle.pblk_world.proofs.WorldLemmas.{log_here}
 use Rattle.step_laws.specs.Whole.{engine_step, unit_step}
 use Rattle.step_laws.proofs.UnitSteps.{engine_log}
 use Rattle.world_laws.specs.Reasons.{AreBegun, AreUrgent, WasBegun, WasUrgent}
-use Rattle.block_target.proofs.OnceRoom.{same_lengths}
+use Rattle.block_target.proofs.OnceRoom.{room_later, same_lengths}
 use Rattle.block_target.proofs.PadsAsked.{asked_later}
 
 -- ---- a longer world
@@ -52,6 +52,9 @@ module _ (i : Image) (later w : World) (legal : IsLegal i w) where
         line = there.1;
         latest = there.2;
         alone = λ k l from below its. was.alone k l from below (sym (at_before k (omega arith)) ∙ its);
+        granted = λ k knows entry mark from below its users.
+            room_later i later w was.at (entry.position + 1) legal (le_trans was.within long)
+            (was.granted k knows entry mark from below (sym (at_before k (omega arith)) ∙ its) users);
       }
 
   -- where each copy that was taken since was begun

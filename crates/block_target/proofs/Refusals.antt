@@ -91,7 +91,7 @@ pub refusals_grown : (old new : MountView) (more : List Deed) (from : ℕ) (worn
 refusals_grown old new more from worns sound image deeds are =
     subst (λ (i : Image). AreRefusals i (log_of (world_of i.shape new.deeds)) from worns) (sym image)
     (subst (λ (ds : List Deed). AreRefusals old.image (log_of (world_of old.image.shape ds)) from worns) (sym deeds)
-    (refusals_with old.image old.deeds more from worns sound.legal.mount.legal are))
+    (refusals_with old.image old.deeds more from worns sound.legal.legal are))
 
 -- and one more, now
 pub refusals_more : (i : Image) (logs : Logs) (from : ℕ) (worns : List WornAnswer) (a : WornAnswer) → from ≤ length (logs 0) → AreRefusals i logs from worns

@@ -23,7 +23,6 @@ use Rattle.stripe_placer.specs.Placing.{Placing, Program, UnitRow, is_ready, is_
 use Rattle.stripe_placer.specs.Placing.UnitRow.{Idle, Stopped, UnderWay}
 use Rattle.core_laws.specs.OpenedLines.{open_line, open_lines, standing}
 use Rattle.core_laws.specs.PlacerOf.{placing_of, row_of}
-use Rattle.core_laws.specs.SimpleMounts.{IsSimpleMount}
 use Rattle.core_laws.specs.RowsOf.{rows_of}
 use Rattle.core_laws.proofs.UnitTurns.{filtered_is}
 use Rattle.core_laws.proofs.NextLine.{none_free}
@@ -34,7 +33,6 @@ use Rattle.core_laws.proofs.NoneDue.{none_at, none_due, idle_answered}
 use Rattle.core_laws.proofs.Followed.{follow}
 use Rattle.core_laws.proofs.IdleRows.{its_row, row_there}
 use Rattle.core_laws.proofs.PlainOpenings.{opened_lines}
-use Rattle.step_laws.specs.FreedWorlds.{NoneToFree}
 use Rattle.pblk_core.specs.Copies.{is_copy_due}
 use Rattle.pblk_core.specs.Named.{choice, reset_or, work_beside, work_of, first_seq_of}
 use Rattle.pblk_core.specs.Resets.{resets_of}
@@ -45,14 +43,15 @@ use Rattle.pblk_core.proofs.Laws.{reset_empty}
 use Rattle.pblk_core.specs.declared.work.Work.TheVariants as works
 use Rattle.pblk_core.specs.declared.work.Why.{Why}
 use Rattle.block_target.specs.Mount.{AreResetsNoted}
-use Rattle.block_target.specs.Orders.{LacksAddress, NoneToReset}
+use Rattle.world_laws.specs.Orders.{AreReset, LacksAddress, NoneToFree}
 use Rattle.block_target.proofs.RestingCores.{is_way_on, way_of}
 use Rattle.lemmas.proofs.Lists.{IsAmong}
 use Rattle.lemmas.proofs.Maps.{given_at}
 use Rattle.lemmas.proofs.Options.{none_there}
 use Rattle.lemmas.proofs.Parts.{all_at, get_more, got_within}
 use Rattle.lemmas.proofs.Tests.{both, lt_true, not_both, positive}
-use Rattle.world_laws.specs.LegalMounts.{IsLegalMount}
+use Rattle.world_laws.specs.LegalMounts.{IsLegalMount, NoneLost}
+use Rattle.core_laws.proofs.PlainLogs.{none_failed}
 
 -- ---- what is chosen
 
@@ -90,7 +89,7 @@ idle_of (Stopped of) rests none = absurd cc
 
 -- where something is named that is no reset
 pub none_to_reset : (i : Image) (w : World) (pad : ℕ) (work : Work) → IsLegalMount i w → ((line unit : ℕ) → works.Reset line unit ≢ work)
-    → work_of i (log_of w) pad [] false ≡ work → NoneToReset i (log_of w)
+    → work_of i (log_of w) pad [] false ≡ work → AreReset i (log_of w)
 none_to_reset i w pad work mount apart is line range given = reset_empty i w line mount (none_first (resets_of i (log_of w))
     (no_reset_named (slice_get (resets_of i (log_of w)) 0) (work_beside i (log_of w) pad [] false) work apart is).0) range given
 
@@ -157,7 +156,7 @@ lacks_address i w pad is = record {
         (is_copy_due i (log_of w) && not false)
         (nat_lt 0 (under_way i.shape (log_of w 0)) || false) named)
 
-module _ (i : Image) (w : World) (pad : ℕ) (reason : Why) (simple : IsSimpleMount i w)
+module _ (i : Image) (w : World) (pad : ℕ) (reason : Why) (simple : IsLegalMount i w) (lost : NoneLost (log_of w 0))
     (rests : (unit : ℕ) → unit < units i.shape → is_way_on (log_of w 0) unit ≡ false)
     (none : work_of i (log_of w) pad [] false ≡ works.Nothing reason) where
   abbrev otherwise : Work
@@ -166,8 +165,8 @@ module _ (i : Image) (w : World) (pad : ℕ) (reason : Why) (simple : IsSimpleMo
   named : (slice_get (resets_of i (log_of w)) 0 ≡ None) × (otherwise ≡ works.Nothing reason)
   named = no_reset_named (slice_get (resets_of i (log_of w)) 0) otherwise (works.Nothing reason) (λ line unit e. absurd cc) none
 
-  none_reset : NoneToReset i (log_of w)
-  none_reset = none_to_reset i w pad (works.Nothing reason) simple.mount (λ line unit e. absurd cc) none
+  none_reset : AreReset i (log_of w)
+  none_reset = none_to_reset i w pad (works.Nothing reason) simple (λ line unit e. absurd cc) none
 
   chosen : (is_some (next_stripe (placing_of i (log_of w) pad []) 0) ≡ false)
       × ((nat_lt 0 (length (waiting i.shape (log_of w 0))) && (open_addresses i (log_of w) == 0)) ≡ true
@@ -217,7 +216,7 @@ module _ (i : Image) (w : World) (pad : ℕ) (reason : Why) (simple : IsSimpleMo
 
   none_due_now : (asked : ℕ) (stripe : Stripe) → asked ≤ pad → ¬ IsDue i (log_of w) asked stripe
   none_due_now asked stripe within =
-      none_due i (line_units (known_image i (log_of w))) w pad [] asked stripe (follow i w simple)
+      none_due i (line_units (known_image i (log_of w))) w pad [] asked stripe (follow i w simple) (none_failed (log_of w 0) lost)
       (none_there (next_stripe (placing_of i (log_of w) pad []) 0) chosen.0) answered within
 
   -- where a line may be opened, at most one has a stripe left
@@ -234,7 +233,7 @@ module _ (i : Image) (w : World) (pad : ℕ) (reason : Why) (simple : IsSimpleMo
       left_at k o e = filtered_is (λ o. has_left (open_line i (log_of w) o)) (standing (log_of w 0)) k o e
 
       has_at : (k : ℕ) (o : Opening) → slice_get (left_openings i (log_of w)) k ≡ Some o → has_stripe_left i (log_of w) o.line ≡ true
-      has_at k o e = chunks_left i w o simple.mount (opened_at k o e) (left_at k o e)
+      has_at k o e = chunks_left i w o simple (opened_at k o e) (left_at k o e)
 
       range_of : (line : ℕ) (o : Opening) → life_of (log_of w 0) line ≡ Opened o → line < i.shape.chunks
       range_of line o life = (opened_lines i (line_units (known_image i (log_of w))) w (follow i w simple) line o life).in_range

@@ -19,13 +19,13 @@ use Rattle.pblk_world.specs.Fronts.{first_position, is_users, user_takes}
 use Rattle.pblk_world.specs.Space.{freed}
 use Rattle.pblk_world.specs.Taking.{MayTake}
 use Rattle.pblk_world.specs.World.{World, log_of}
-use Rattle.core_laws.specs.SimpleMounts.{IsSimpleMount}
+use Rattle.world_laws.specs.Orders.{NoneToFree}
+use Rattle.world_laws.specs.LegalMounts.{IsLegalMount}
 use Rattle.core_laws.proofs.SpentBy.{taking_spends_none}
 use Rattle.step_laws.proofs.EngineSteps.{engine_next}
 use Rattle.step_laws.proofs.Known.{known_still}
 use Rattle.step_laws.proofs.Levels.{level_by}
 use Rattle.step_laws.proofs.SpentStays.{none_by_spent}
-use Rattle.step_laws.specs.FreedWorlds.{NoneToFree}
 use Rattle.step_laws.specs.Whole.{engine_step, knows_all}
 use Rattle.stripe_placer.specs.Placing.{UnitRow}
 use Rattle.world_laws.proofs.Begun.{first_is as first_of}
@@ -75,17 +75,17 @@ module _ {v : MountView} {h : Heart} {f : Filling} (m : IsMount v h f) where
     abbrev next : World
     next = engine_step v.image.shape event (world_in v) ∷ world_in v
 
-    legal : IsSimpleMount v.image next
-    legal = engine_next v.image (world_in v) m.sound.beginning event m.sound.legal m.sound.has_begun may refl
+    legal : IsLegalMount v.image next
+    legal = engine_next v.image (world_in v) m.sound.beginning event m.sound.legal m.sound.has_begun may
 
     goes : GoesOn v next v.units
     goes = goes_decided (goes_none v m.sound) event legal (λ knows. refl) reason (none_to_free_now m)
 
     -- it leaves none to be freed
     none_to_free : NoneToFree v.image (log_of next)
-    none_to_free = none_by_spent v.image (world_in v) next m.sound.beginning m.sound.legal.mount legal.mount m.sound.has_begun m.heart.stands.full
+    none_to_free = none_by_spent v.image (world_in v) next m.sound.beginning m.sound.legal legal m.sound.has_begun m.heart.stands.full
         (λ line is. taking_spends_none v.image (world_in v) m.sound.beginning (engine_step v.image.shape event (world_in v)) entry
-        mark line m.sound.legal.mount legal.mount m.sound.has_begun refl refl is) m.settled
+        mark line m.sound.legal legal m.sound.has_begun refl refl is) m.settled
 
     log_more : log_of next 0 ≡ engine_log v ++ (engine_step v.image.shape event (world_in v)).logged ∷ []
     log_more = log_here (engine_step v.image.shape event (world_in v)) (world_in v) 0 refl
@@ -115,7 +115,7 @@ module _ {v : MountView} {h : Heart} {f : Filling} (m : IsMount v h f) where
       its_world = ap (world_of v.image.shape) done ∙ world_more v.image.shape v.deeds (Decides event)
 
       stands : IsHeart v.image (log_of next) new
-      stands = beats v.image (world_in v) (knows_all v.image.shape (world_in v)) m.sound.legal.mount m.heart legal.mount
+      stands = beats v.image (world_in v) (knows_all v.image.shape (world_in v)) m.sound.legal m.heart legal
 
       pub mount_taken : IsMount (moved_on v deeds v.units v.wear new.granted (pad_of new.core)) new f
       mount_taken = mount_on m.sound goes deeds v.wear new f its_world stands

@@ -19,7 +19,7 @@ use Rattle.core_laws.specs.KnownLogs.{AreKnown}
 use Rattle.core_laws.specs.OpenedLines.{live_now, open_line}
 use Rattle.core_laws.proofs.NextVictims.{closed_known, newest_known}
 use Rattle.world_laws.specs.LegalMounts.{IsLegalMount}
-use Rattle.core_laws.specs.SimpleMounts.{IsSimpleLog, IsSimpleMount}
+use Rattle.core_laws.specs.SimpleMounts.{IsSimpleLog}
 use Rattle.step_laws.specs.Whole.{unit_step}
 use Rattle.step_laws.proofs.UnitSteps.{engine_log}
 use Rattle.step_laws.proofs.UnitStays.{found_stays, known_stays, rows_stay, lines_stay, older_stay, live_stays, line_stays, left_stay, slot_stays, window_stays, placing_stays, addresses_stay}
@@ -114,13 +114,13 @@ module _ (i : Image) (w : World) (unit : ℕ) (e : UnitEvent) (maker : Maker) wh
   }
 
   -- what is to be done next is the same
-  pub work_beside : (pad : ℕ) → IsSimpleMount i w → work_of i after_ pad [] false ≡ work_of i (log_of w) pad [] false
-  work_beside pad simple = λ j. reset_or (slice_get (resets_stay simple.mount.legal j) 0) (choice
-      (is_some (next_stripe (placing_stays i w unit e maker pad [] simple.mount.legal j) 0))
+  pub work_beside : (pad : ℕ) → IsLegalMount i w → work_of i after_ pad [] false ≡ work_of i (log_of w) pad [] false
+  work_beside pad simple = λ j. reset_or (slice_get (resets_stay simple.legal j) 0) (choice
+      (is_some (next_stripe (placing_stays i w unit e maker pad [] simple.legal j) 0))
       (nat_lt 0 (length (waiting i.shape (engine j))) && (addresses_stay i w unit e maker j == 0))
-      (is_some (position is_free (rows_stay i w unit e maker simple.mount.legal j).rows))
-      (nat_lt (length (lines_stay i w unit e maker simple.mount.legal j)) 2
+      (is_some (position is_free (rows_stay i w unit e maker simple.legal j).rows))
+      (nat_lt (length (lines_stay i w unit e maker simple.legal j)) 2
       && (nat_lt (option_map_or (λ (b : Begun). b.beginning.seq) (begun (engine j)) 0 + length (openings (engine j))) (2 ^ 61) && nat_lt
       (synced i.shape (engine j)) (2 ^ 61)))
-      (copies_beside i w unit e maker simple.mount j && not false)
+      (copies_beside i w unit e maker simple j && not false)
       (nat_lt 0 (under_way i.shape (engine j)) || false))

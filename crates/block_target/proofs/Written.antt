@@ -230,7 +230,7 @@ count_is n size len some is =
     ap (λ k. k / size) (is ∙ e) ∙ div-mul-add n size 0 some
 
 pub sector_some : (v : MountView) → IsSound v → 0 < v.image.shape.sector
-sector_some v sound = go sound.legal.mount.accepted.target.sector
+sector_some v sound = go sound.legal.accepted.target.sector
   where
     go : (v.image.shape.sector ≡ 512) ⊎ (v.image.shape.sector ≡ 4096) → 0 < v.image.shape.sector
     go (inl e) = omega arith

@@ -16,7 +16,7 @@ use Rattle.pblk_world.specs.World.{World, Logs, log_of, media, unit_events}
 use Rattle.unit_port.specs.Unit.{ModelUnit, IsFitUnit, IsStopped}
 use Rattle.scan_recovery.specs.MayStop.{MayStopFrom}
 use Rattle.core_laws.specs.PlacerOf.{unanswered_on}
-use Rattle.core_laws.specs.SimpleMounts.{IsSimpleMount}
+use Rattle.world_laws.specs.LegalMounts.{IsLegalMount}
 use Rattle.step_laws.specs.Whole.{unit_step}
 
 -- A unit is as the world leaves it, since it was handed in like that: its log has grown by the
@@ -44,14 +44,14 @@ pub record WasGiven (i : Image) (w : World) (number : ℕ) (handed : ModelUnit) 
   pub chunk_is : event.chunk ≡ chunk
   pub command_is : event.command ≡ command
   pub told : tells event.outcome
-  pub legal : IsSimpleMount i (unit_step i.shape number event maker w ∷ w)
+  pub legal : IsLegalMount i (unit_step i.shape number event maker w ∷ w)
   pub arm : IsArm i (log_of (unit_step i.shape number event maker w ∷ w)) number handed new
 
 -- What a unit may be given.
 
 -- the stripe was placed on the unit and isn't answered, and each one before it is
 pub record IsStripeThere (i : Image) (w : World) (stripe : Stripe) (handed : ModelUnit) (u : ModelUnit) : Type 0 where
-  pub simple : IsSimpleMount i w
+  pub simple : IsLegalMount i w
   pub arm : IsArm i (log_of w) stripe.unit handed u
   pub placed : Placed
   pub waits : unanswered_on (log_of w 0) stripe.unit ≡ Some placed
@@ -61,7 +61,7 @@ pub record IsStripeThere (i : Image) (w : World) (stripe : Stripe) (handed : Mod
 -- the line was given up, and the unit's chunk of it holds something, unless a reset of it was
 -- stopped
 pub record IsGivenUpThere (i : Image) (w : World) (number line : ℕ) (handed : ModelUnit) (u : ModelUnit) : Type 0 where
-  pub simple : IsSimpleMount i w
+  pub simple : IsLegalMount i w
   pub in_range : number < units i.shape
   pub arm : IsArm i (log_of w) number handed u
   pub given_up : is_given_up (log_of w 0) line ≡ true
@@ -71,7 +71,7 @@ pub record IsGivenUpThere (i : Image) (w : World) (number line : ℕ) (handed : 
 
 -- the chunk has the block, unless the unit is stopped
 pub record IsBlockThere (i : Image) (w : World) (number line block : ℕ) (handed : ModelUnit) (u : ModelUnit) : Type 0 where
-  pub simple : IsSimpleMount i w
+  pub simple : IsLegalMount i w
   pub in_range : number < units i.shape
   pub arm : IsArm i (log_of w) number handed u
   pub chunk : Chunk

@@ -4,7 +4,6 @@ pub mod Freed
 pub mod Moments
 pub mod Refusals
 pub mod Mount
-pub mod Orders
 pub mod Opened
 pub mod Serial
 pub mod Heart

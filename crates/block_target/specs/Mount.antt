@@ -18,9 +18,8 @@ use Rattle.pblk_world.specs.Lines.{found_image}
 use Rattle.pblk_world.specs.Space.{freed, is_due, room}
 use Rattle.pblk_world.specs.AtRest.{IsAtRest, IsCopyDue, IsUnnotedReset, logs_at}
 use Rattle.world_laws.specs.Reasons.{AreBegun, AreUrgent}
-use Rattle.core_laws.specs.SimpleMounts.{IsSimpleMount}
+use Rattle.world_laws.specs.LegalMounts.{IsLegalMount, NoneLost}
 use Rattle.core_laws.specs.WindowOf.{users_below}
-use Rattle.step_laws.specs.FreedWorlds.{NoneToFree}
 use Rattle.step_laws.specs.Whole.{IsLevel, IsKnown}
 use Rattle.scan_recovery.specs.Units.{image_of}
 use Rattle.pblk_core.specs.Copies.{is_copying}
@@ -32,7 +31,7 @@ use Rattle.block_target.specs.Arm.{IsArm}
 use Rattle.step_laws.specs.SlotBlocks.{IsBlockOfSlot}
 use Rattle.block_target.specs.Deeds.{Deed, Decides, drive_before, drive_found, world_of}
 use Rattle.block_target.specs.Heart.{IsHeart, user_entry}
-use Rattle.block_target.specs.Orders.{AreInOrder}
+use Rattle.world_laws.specs.Orders.{AreInOrder, NoneToFree}
 use Rattle.block_target.specs.declared.heart.Heart.{Heart}
 
 pub record MountView : Type 0 where
@@ -100,11 +99,11 @@ abbrev pub IsUnitIn : MountView → ℕ → ModelUnit → Type 0
 IsUnitIn v number u = (old : ModelUnit) × (slice_get v.handed number ≡ Some old)
     × IsArm v.image (logs_in v) number old u
 
--- What was done is a simple mount that has begun, and the units are as it leaves them. Each copy that
--- was taken had been begun, and each stripe with an entry was placed where it was urgent. The work was
--- done in its order.
+-- What was done is a legal mount that has begun, and the units are as it leaves them. No stripe was
+-- lost. Each copy that was taken had been begun, and each stripe with an entry was placed where it was
+-- urgent. The work was done in its order.
 pub record IsSound (v : MountView) : Type 0 where
-  pub legal : IsSimpleMount v.image (world_in v)
+  pub legal : IsLegalMount v.image (world_in v)
   pub beginning : Begun
   pub has_begun : begun (engine_log v) ≡ Some beginning
   pub first_low : beginning.beginning.first ≤ 2 ^ 62
@@ -112,6 +111,7 @@ pub record IsSound (v : MountView) : Type 0 where
   pub handed : v.image ≡ image_of v.image.shape v.handed
   pub count : length v.units ≡ units v.image.shape
   pub each : (number : ℕ) (u : ModelUnit) → slice_get v.units number ≡ Some u → IsUnitIn v number u
+  pub none_lost : NoneLost (engine_log v)
   pub begun : AreBegun v.image (logs_in v)
   pub urgent : AreUrgent v.image (logs_in v)
   pub in_order : AreInOrder v.image (logs_in v)

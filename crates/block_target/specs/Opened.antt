@@ -6,14 +6,14 @@ use Rattle.pblk_model.specs.declared.found.Found.{Found}
 use Rattle.pblk_world.specs.Events.{Begin}
 use Rattle.pblk_world.specs.Space.{room}
 use Rattle.pblk_world.specs.World.{World, log_of}
-use Rattle.core_laws.specs.SimpleMounts.{IsSimpleMount}
+use Rattle.world_laws.specs.LegalMounts.{IsLegalMount}
 use Rattle.unit_port.specs.Unit.{ModelUnit}
 use Rattle.scan_recovery.specs.Units.{image_of}
 use Rattle.world_laws.specs.MountBeginnings.{beginning_of}
+use Rattle.world_laws.specs.Orders.{NoneToFree}
 use Rattle.scan_recovery.specs.Readying.{IsFoundAfter}
 use Rattle.scan_recovery.specs.declared.error.ScanErr.{ScanErr}
 use Rattle.scan_recovery.specs.declared.error.ScanErr.TheVariants as scan
-use Rattle.step_laws.specs.FreedWorlds.{NoneToFree}
 use Rattle.step_laws.specs.Opened.{new_events}
 use Rattle.block_target.specs.Arm.{IsArm}
 use Rattle.block_target.specs.Deeds.{Deed, Readies, Decides, world_of}
@@ -61,9 +61,9 @@ OpenCause Memory old new = NoneLost old new
 abbrev pub readied_world : Shape → List ModelUnit → List ModelUnit → World
 readied_world s old new = world_of s (Readies (new_events old new) ∷ [])
 
--- That is a simple mount in which the engine did nothing, and the units are as it leaves them.
+-- That is a legal mount in which the engine did nothing, and the units are as it leaves them.
 pub record AreReadied (s : Shape) (old new : List ModelUnit) : Type 0 where
-  pub legal : IsSimpleMount (image_of s old) (readied_world s old new)
+  pub legal : IsLegalMount (image_of s old) (readied_world s old new)
   pub none : log_of (readied_world s old new) 0 ≡ []
   pub each : (number : ℕ) (u : ModelUnit) → slice_get new number ≡ Some u
       → (was : ModelUnit) × (slice_get old number ≡ Some was)

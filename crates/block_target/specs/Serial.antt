@@ -1,5 +1,5 @@
 -- A port for one session: what contracts see of it, and the device that it is.
-use Rattle.std.specs.Prelude.{ℕ, ◌+◌, ◌-◌, ◌^◌, ◌<◌, ◌≤◌, ◌≡◌, Bool, true, false, List, [], ◌∷◌, ◌++◌, max, min, map, length, slice_get, Some, Result, Ok, Err}
+use Rattle.std.specs.Prelude.{ℕ, ◌+◌, ◌-◌, ◌^◌, ◌<◌, ◌≤◌, ◌≡◌, ⊤, Bool, true, false, List, [], ◌∷◌, ◌++◌, max, min, map, length, slice_get, Some, Result, Ok, Err}
 use Rattle.std.specs.List.{flat_map}
 use Rattle.pblk_model.specs.declared.run.Front.{Front}
 use Rattle.pblk_model.specs.declared.run.Place.{Place}
@@ -19,12 +19,14 @@ use Rattle.block_port.specs.declared.port.FlushErr.TheVariants as flush
 use Rattle.block_port.specs.declared.rows.DriveAnswer.{DriveAnswer}
 use Rattle.block_port.specs.declared.rows.WornAnswer.{WornAnswer}
 use Rattle.pblk_model.specs.UnitLog.{UnitEvent}
-use Rattle.step_laws.specs.FreedWorlds.{NoneToFree}
 use Rattle.unit_port.specs.Unit.{ModelUnit}
 use Rattle.block_target.specs.Mount.{MountView, IsSound, IsSameMount, IsCollectionOver, logs_in, engine_log, taken_in, synced_in}
 use Rattle.world_laws.specs.Reasons.{WasRoom, AreBegun, AreGranted, AreUrgent}
 use Rattle.scan_recovery.specs.Lost.{IsLostAt, NoneLost, was_lost}
-use Rattle.block_target.specs.Orders.{AreAfterResets, AreOpenedFull, NoneWasLeft}
+use Rattle.world_laws.specs.Orders.{AreAfterResets, AreOpenedFull, NoneToFree, NoneWasLeft}
+use Rattle.pblk_world.specs.Space.{position_limit}
+use Rattle.rest_laws.specs.Tidy.{IsTidy}
+use Rattle.rest_laws.specs.TidyMounts.{HasNoFailures, HasNumbersLeft}
 use Rattle.block_target.specs.Refusals.{IsWriteRefusal, AreRefusals}
 use Rattle.block_target.specs.declared.opening.SettleErr.{SettleErr}
 use Rattle.block_target.specs.declared.opening.SettleErr.TheVariants as settle
@@ -170,6 +172,12 @@ settle_worns written (Err (settle.Drive unit event)) = []
 settle_worns written (Err (settle.Worn wanted have)) =
     record { written = written; count = 0; wanted = wanted; have = have } ∷ []
 
+-- A close that isn't refused for want of room, and leaves a tidy drive unless a command was stopped.
+abbrev pub IsTidyClose : MountView → Result Unit SettleErr → Type 0
+IsTidyClose v (Ok x) = IsTidy (media v.image (logs_in v))
+IsTidyClose v (Err (settle.Worn wanted have)) = ⊥
+IsTidyClose v (Err (settle.Drive unit event)) = ⊤
+
 -- A target was closed, with this answer, and this is its mount as the close leaves it.
 pub record IsClosed (target : SerialView) (settled : Result Unit SettleErr) (v : MountView) : Type 0 where
   pub same : IsSameMount target.mount v
@@ -192,6 +200,10 @@ pub record IsClosed (target : SerialView) (settled : Result Unit SettleErr) (v :
   pub after_resets : AreAfterResets v.image (logs_in v)
   pub opened_full : AreOpenedFull v.image (logs_in v)
   pub none_was_left : NoneWasLeft v.image (logs_in v)
+  -- Over a tidy drive, where no command failed and numbers are left, there was room, and the drive is
+  -- tidy again.
+  pub tidy : HasNoFailures (logs_in v) → IsTidy v.image → HasNumbersLeft v.image.shape (engine_log v)
+      → taken_in v + 16 ≤ position_limit (engine_log v) → IsTidyClose v settled
   -- pads were asked for up to what was taken, or by an earlier call
   pub asked : SettleAsks target.mount.asked (taken_in v) v.asked settled
   -- What is now found on a drive that was sealed ends between the front synced and the front taken.

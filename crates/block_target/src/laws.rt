@@ -11,7 +11,7 @@ ghost use Rattle.pblk_world.specs.EngineLog.{Begun, begun};
 ghost use Rattle.pblk_world.specs.Fronts.{taken};
 ghost use Rattle.pblk_world.specs.Space.{room};
 ghost use Rattle.pblk_world.specs.World.{World, Logs, log_of, media};
-ghost use Rattle.core_laws.specs.SimpleMounts.{IsSimpleMount};
+ghost use Rattle.world_laws.specs.LegalMounts.{IsLegalMount};
 ghost use Rattle.block_target.specs.Moments.{IsMoment};
 ghost use Rattle.block_target.specs.Refusals.{IsWriteRefusal};
 ghost use Rattle.block_target.specs.Opened.{AreReadied};
@@ -19,6 +19,7 @@ ghost use Rattle.scan_recovery.specs.MayStop.{AllMayStop};
 ghost use Rattle.scan_recovery.specs.Readying.{AreHandedBack};
 ghost use Rattle.scan_recovery.specs.Units.{AreFit};
 ghost use Rattle.unit_port.specs.Unit.{ModelUnit};
+ghost use Rattle.prefix_law.specs.PlacedAgain.{ArePlacedAgain};
 
 use prefix_law::the_end_is_the_front_synced;
 
@@ -31,18 +32,18 @@ pub fn a_refused_write_has_no_room()
 
 /// A flush, or the close, that is refused tells what is on the drive. Over a sealed drive there was
 /// a moment at which all that it wanted was taken, and what recovery would have found ended at what
-/// it has.
+/// it has. No entry waited there that had been placed before.
 pub fn a_refused_flush_tells_the_end()
     ensures { (i : Image) (w : World) (b : Begun) (n wanted have : ℕ)
-        → IsSimpleMount i w → IsSealed i → begun (log_of w 0) ≡ Some b
-        → IsWornFlush i (log_of w) n wanted have
+        → IsLegalMount i w → IsSealed i → begun (log_of w 0) ≡ Some b
+        → ArePlacedAgain i.shape (take n (log_of w 0)) → IsWornFlush i (log_of w) n wanted have
         → (past : World) × IsMoment w n past × (wanted ≤ taken (log_of past 0))
         × (end (media i (log_of past)) ≡ have) }
 {
     the_end_is_the_front_synced();
 }
 
-/// What units did that an opening hands back is of a legal world: a simple mount in which the
+/// What units did that an opening hands back is of a legal world: a legal mount in which the
 /// engine did nothing. The units are as it leaves them.
 pub fn a_refused_opening_is_of_a_legal_world()
     ensures { (s : Shape) (us new : List ModelUnit) → IsAccepted s → AreFit s us → AllMayStop us

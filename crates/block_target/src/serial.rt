@@ -131,6 +131,9 @@ impl<U: Unit> Serial<U> {
     /// `Ok` or `Worn` it ends at the front synced. All that was taken but copies are the session's
     /// own writes, and each of these was granted before it was taken.
     ///
+    /// Over a tidy drive, as long as no command fails and numbers are left, there is room for all
+    /// of it, and the drive is left tidy.
+    ///
     /// `Drive` comes where a command of this call was stopped, or a fetch failed, and names it.
     /// `Worn` comes where not all of it is there and the target is at rest: there is no work left
     /// that it could do, and nothing is unanswered. `wanted` is then the front taken, and `have` is

@@ -92,10 +92,10 @@ impl<U: Unit> Mount<U> {
     }
 
     /// Works until all that was taken is on the drive, and collection isn't due or the mount is at
-    /// rest. As soon as no sector is to be copied it asks for pads up to all that was taken. `Stuck`
-    /// comes where not all of it is there and the mount is at rest, and tells up to which position
-    /// it was taken, and up to which all is there. `Drive` comes where a command of this call was
-    /// stopped, or a fetch failed.
+    /// rest. As soon as no sector is to be copied it asks for pads up to all that was taken.
+    /// `Stuck` comes where not all of it is there and the mount is at rest, and tells up to which
+    /// position it was taken, and up to which all is there. `Drive` comes where a command of this
+    /// call was stopped, or a fetch failed.
     pub(crate) fn settle<R: Wait>(&mut self, rt: &R) -> Result<(), WaitErr>
         ensures same { IsSameMount self.old self.new }
         ensures asked { AsksUpTo self.old self.new (taken_in self.new) result }

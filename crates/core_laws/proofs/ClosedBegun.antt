@@ -31,7 +31,7 @@ use Rattle.core_laws.proofs.ClosedKept.{closed_in}
 use Rattle.core_laws.proofs.EachChunk.{chunks_pass}
 
 -- a chunk that is not Open is over in a line as it was found
-over_unless_open : (state : ChunkState) → state ≢ states.Open → is_over_state true state ≡ true
+pub over_unless_open : (state : ChunkState) → state ≢ states.Open → is_over_state true state ≡ true
 over_unless_open states.Free apart = refl
 over_unless_open states.Open apart = absurd (apart refl)
 over_unless_open states.Closed apart = refl

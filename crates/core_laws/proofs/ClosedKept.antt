@@ -177,7 +177,7 @@ closed_beside i logs line knows other apart =
 -- ---- events that tell of one unit event
 
 -- the one that an event of the engine tells of
-one_told : (logs : Logs) (unit event u : ℕ) (x y : UnitEvent) → unit_event_at logs unit event ≡ Some y
+pub one_told : (logs : Logs) (unit event u : ℕ) (x y : UnitEvent) → unit_event_at logs unit event ≡ Some y
     → (if unit == u then unit_event_at logs u event else None) ≡ Some x → x ≡ y
 one_told logs unit event u x y is told = go (nat_eq unit u) refl
   where

@@ -1,6 +1,6 @@
--- An opened line of which no stripe was lost is closed once all its stripes have landed. The
+-- An opened line that isn't Failed is closed once all its stripes have landed. The
 -- positions that count in it are then those that were placed there.
-use Rattle.std.proofs.Common.{◌≡◌, ℕ, ◌/◌, ◌==◌, Bool, true, false, Some, None, Option, List, [], ◌∷◌, ◌++◌, refl, sym, subst, ap, ◌∙◌, if◌then◌else◌, append-nil}
+use Rattle.std.proofs.Common.{◌≡◌, ℕ, ◌/◌, ◌≤◌, ◌==◌, not, Bool, true, false, Some, None, Option, List, [], ◌∷◌, ◌++◌, refl, sym, subst, ap, ◌∙◌, if◌then◌else◌, append-nil}
 use Rattle.std.specs.Prelude.{map, slice_get}
 use Rattle.std.specs.List.{AllByRecursion, Contains, enumerate_from, filter, filter_map, find, flat_map, list_all}
 use Rattle.std.specs.Option.{IfSome, is_some, option_and_then, option_map}
@@ -14,23 +14,23 @@ use Rattle.pblk_model.specs.Image.{Image}
 use Rattle.pblk_model.specs.Records.{Record, named}
 use Rattle.pblk_laws.specs.LineBlocks.{written_at}
 use Rattle.pblk_world.specs.Answering.{MayLand}
-use Rattle.pblk_world.specs.EngineLog.{answers, bears_position, has_landed, is_as_found, is_life, LineLife, Opened, Opening, Placed, life_of, placements, stripes_of}
+use Rattle.pblk_world.specs.EngineLog.{answers, bears_position, has_landed, is_as_found, is_life, LineLife, Opened, Opening, Placed, life_of, placements, stripes_of, has_failed}
 use Rattle.pblk_world.specs.Events.{Decides, Landed, Logged}
 use Rattle.pblk_world.specs.Freeing.{IsWrittenRecord}
 use Rattle.pblk_world.specs.Lines.{are_over, chunks_of, found_image, is_over_state, known_image, told_by, told_events}
 use Rattle.pblk_world.specs.Placing.{line_end}
-use Rattle.pblk_world.specs.Starts.{have_landed}
+use Rattle.pblk_world.specs.Starts.{have_landed, seq_in}
 use Rattle.pblk_world.specs.Victims.{position_in, positions_in}
 use Rattle.pblk_world.specs.World.{World, Logs, log_of, media}
 use Rattle.pblk_world.proofs.Appending.{life_more, placements_more}
 use Rattle.pblk_world.proofs.EngineLogLemmas.{answers_more}
-use Rattle.lemmas.proofs.Lists.{IsAmong, among_all, among_contained, with_last}
+use Rattle.lemmas.proofs.Lists.{IsAmong, among_all, among_contained}
 use Rattle.lemmas.proofs.Maps.{all_filter_map, any_found, found_passes, given_at, map_same}
 use Rattle.lemmas.proofs.Numbers.{fun_same}
 use Rattle.lemmas.proofs.Options.{some_value}
 use Rattle.lemmas.proofs.Parts.{all_by_get, contained_among}
 use Rattle.lemmas.proofs.Tests.{both}
-use Rattle.world_laws.specs.LegalMounts.{decides, is_losing, IsLegalMount, NoneLost}
+use Rattle.world_laws.specs.LegalMounts.{IsLegalMount}
 use Rattle.world_laws.proofs.LifePlaces.{began, place_of_block}
 use Rattle.world_laws.proofs.LineBlocks.{block_placed, landed_written}
 use Rattle.world_laws.proofs.StripeBlocks.{all_flat_of}
@@ -39,15 +39,19 @@ use Rattle.core_laws.specs.ClosedLines.{ClosedLine, closed_line, placed_top, top
 use Rattle.core_laws.specs.PlacerOf.{unanswered_on}
 use Rattle.core_laws.specs.Stepping.{after}
 use Rattle.core_laws.proofs.ClosedKept.{closed_in, closed_same}
-use Rattle.core_laws.proofs.KeptStripes.{have_landed_alike}
+use Rattle.core_laws.proofs.KeptStripes.{have_landed_alike, stripes_kept}
+use Rattle.core_laws.proofs.OpenAddresses.{failed_kept}
 use Rattle.core_laws.proofs.LandedNow.{opened_now}
+use Rattle.core_laws.proofs.OpenWhileLeft.{over_is as over_by_left}
+use Rattle.core_laws.specs.OpenedLines.{open_line}
+use Rattle.stripe_placer.specs.OpenLines.{has_left}
 use Rattle.core_laws.proofs.LandedOver.{not_lost, over_is}
 use Rattle.core_laws.proofs.NextWorlds.{lengths_of, next_legal, next_logs, next_step}
 use Rattle.core_laws.proofs.OverAnswered.{over_answered}
 use Rattle.core_laws.proofs.OverLines.{IsOfStripe, flat_at, of_stripe, position_of_block, positions_written, written_counts}
 use Rattle.core_laws.proofs.Steady.{AreAlike}
 use Rattle.core_laws.proofs.SteppingLemmas.{found_kept}
-use Rattle.core_laws.proofs.TopPositions.{same_top}
+use Rattle.core_laws.proofs.TopPositions.{same_top, within_other}
 
 -- ---- positions
 
@@ -63,8 +67,7 @@ bears_it s b position bears =
 abbrev pub closed_if : Bool → ClosedLine → Option ClosedLine
 closed_if full c = if full then Some c else None
 
-module _ (i : Image) (w : World) (mount : IsLegalMount i w) (o : Opening) (is_open : life_of (log_of w 0) o.line ≡ Opened o)
-    (none : NoneLost (log_of w 0)) where
+module _ (i : Image) (w : World) (mount : IsLegalMount i w) (o : Opening) (is_open : life_of (log_of w 0) o.line ≡ Opened o) where
   abbrev log : List Logged
   log = log_of w 0
 
@@ -83,68 +86,84 @@ module _ (i : Image) (w : World) (mount : IsLegalMount i w) (o : Opening) (is_op
           let mine = among_contained (stripes_of log o) s.placed s.of_opening in
           flat_at (λ (p : Placed). filter_map (position_in i.shape) p.stripe.blocks) (stripes_of log o) mine.0 at.0 s.placed r.position mine.1 at.1
 
-  -- where nothing more is written, those of its stripes count
-  placed_counted : are_over i (log_of w) o.line ≡ true
-      → AllByRecursion (IsAmong (positions_in i (log_of w) (Opened o) o.line)) (placed_positions i.shape (log_of w 0) o)
-  placed_counted over =
-      all_flat_of (IsAmong positions) (λ (p : Placed). filter_map (position_in i.shape) p.stripe.blocks) (stripes_of log o)
-      (all_by_get (λ (p : Placed). AllByRecursion (IsAmong positions) (filter_map (position_in i.shape) p.stripe.blocks)) (stripes_of log o) (λ k p at.
-      all_filter_map (IsAmong positions) (IsAmong p.stripe.blocks) (position_in i.shape) p.stripe.blocks
-      (λ block among. by_position p (contained_among (stripes_of log o) p (k, at)) block among (position_in i.shape block) refl)
-      (among_all p.stripe.blocks)))
-    where
-      positions : List ℕ
-      positions = positions_in i (log_of w) (Opened o) o.line
+  -- it is closed where no stripe is left
+  pub closed_by_left : closed_line i (log_of w) o.line ≡ closed_if (not (has_left (open_line i (log_of w) o)))
+      (record { seq = o.start.seq; top = top_of (positions_in i (log_of w) (Opened o) o.line) })
+  closed_by_left =
+      ap (λ (l : LineLife). if are_over i (log_of w) o.line then option_map (λ seq. record {
+        seq = seq;
+        top = top_of (positions_in i (log_of w) l o.line);
+      }) (seq_in i (log_of w) l o.line) else None) is_open
+      ∙ ap (λ t. closed_if t (record { seq = o.start.seq; top = top_of (positions_in i (log_of w) (Opened o) o.line) }))
+      (over_by_left i w mount o is_open)
 
-      by_position : (p : Placed) → Contains (stripes_of (log_of w 0) o) p → (block : Block) → IsAmong p.stripe.blocks block → (x : Option ℕ)
-          → position_in i.shape block ≡ x → IfSome x (IsAmong (positions_in i (log_of w) (Opened o) o.line))
-      by_position p its block among None e = tt
-      by_position p its block among (Some position) e =
-          let name = position_of_block i.shape block position e in
-          let landed : has_landed log p ≡ true =
-          landed_of_answered log p (over_answered i w mount o is_open over p its) (not_lost i w mount o is_open none p) in
-          let place = place_of_block i w mount o is_open p among.0 its (slice_get_within p.stripe.blocks among.0 block among.1) in
-          let r : Record = record {
-            line = o.line;
-            seq = o.start.seq;
-            at = place.0;
-            position = block.mark.position;
-            lba = name.0;
-            sector = block.sector;
-          } in
-          let written : IsWrittenRecord i (log_of w) o r = record {
-            block = block;
-            written = block_placed (media i (log_of w)) o.line place.0 ∙ ap (option_and_then (written_at (media i (log_of w)) o.line)) place.1
-                ∙ landed_written i w mount o is_open p among.0 block its landed among.1;
-            bears = ap (option_map (λ lba. record {
+  -- what counts in it was placed there
+  pub top_placed : top_of (positions_in i (log_of w) (Opened o) o.line) ≤ placed_top i.shape (log_of w 0) o
+  top_placed = within_other (positions_in i (log_of w) (Opened o) o.line) (placed_positions i.shape log o) counted_placed
+
+  module _ (kept : has_failed (log_of w 0) o ≡ false) where
+    -- where nothing more is written, those of its stripes count
+    placed_counted : are_over i (log_of w) o.line ≡ true
+        → AllByRecursion (IsAmong (positions_in i (log_of w) (Opened o) o.line)) (placed_positions i.shape (log_of w 0) o)
+    placed_counted over =
+        all_flat_of (IsAmong positions) (λ (p : Placed). filter_map (position_in i.shape) p.stripe.blocks) (stripes_of log o)
+        (all_by_get (λ (p : Placed). AllByRecursion (IsAmong positions) (filter_map (position_in i.shape) p.stripe.blocks)) (stripes_of log o) (λ k p at.
+        all_filter_map (IsAmong positions) (IsAmong p.stripe.blocks) (position_in i.shape) p.stripe.blocks
+        (λ block among. by_position p (contained_among (stripes_of log o) p (k, at)) block among (position_in i.shape block) refl)
+        (among_all p.stripe.blocks)))
+      where
+        positions : List ℕ
+        positions = positions_in i (log_of w) (Opened o) o.line
+
+        by_position : (p : Placed) → Contains (stripes_of (log_of w 0) o) p → (block : Block) → IsAmong p.stripe.blocks block → (x : Option ℕ)
+            → position_in i.shape block ≡ x → IfSome x (IsAmong (positions_in i (log_of w) (Opened o) o.line))
+        by_position p its block among None e = tt
+        by_position p its block among (Some position) e =
+            let name = position_of_block i.shape block position e in
+            let landed : has_landed log p ≡ true =
+            landed_of_answered log p (over_answered i w mount o is_open over p its) (not_lost i w mount o is_open kept p its) in
+            let place = place_of_block i w mount o is_open p among.0 its (slice_get_within p.stripe.blocks among.0 block among.1) in
+            let r : Record = record {
               line = o.line;
               seq = o.start.seq;
               at = place.0;
               position = block.mark.position;
-              lba = lba;
+              lba = name.0;
               sector = block.sector;
-            })) name.1;
-          } in
-          subst (IsAmong (positions_in i (log_of w) (Opened o) o.line)) name.2
-          (written_counts i w mount o is_open over (IsAmong (positions_in i (log_of w) (Opened o) o.line)) r written
-          (among_all (positions_in i (log_of w) (Opened o) o.line)))
+            } in
+            let written : IsWrittenRecord i (log_of w) o r = record {
+              block = block;
+              written = block_placed (media i (log_of w)) o.line place.0 ∙ ap (option_and_then (written_at (media i (log_of w)) o.line)) place.1
+                  ∙ landed_written i w mount o is_open p among.0 block its landed among.1;
+              bears = ap (option_map (λ lba. record {
+                line = o.line;
+                seq = o.start.seq;
+                at = place.0;
+                position = block.mark.position;
+                lba = lba;
+                sector = block.sector;
+              })) name.1;
+            } in
+            subst (IsAmong (positions_in i (log_of w) (Opened o) o.line)) name.2
+            (written_counts i w mount o is_open over (IsAmong (positions_in i (log_of w) (Opened o) o.line)) r written
+            (among_all (positions_in i (log_of w) (Opened o) o.line)))
 
-  pub closed_now : closed_line i (log_of w) o.line ≡ closed_if (have_landed (log_of w 0) o (line_end i.shape o / i.shape.ws_opt))
-      (record { seq = o.start.seq; top = placed_top i.shape (log_of w 0) o })
-  closed_now =
-      ap (λ (l : LineLife). closed_in i (log_of w) l o.line) is_open
-      ∙ go (list_all (λ (c : Chunk). is_over_state false c.state) (chunks_of (known_image i (log_of w)) o.line)) refl
-      ∙ ap (λ t. closed_if t (record { seq = o.start.seq; top = placed_top i.shape log o })) (sym open_over ∙ over_is i w mount o is_open none)
-    where
-      open_over : are_over i (log_of w) o.line ≡ list_all (λ (c : Chunk). is_over_state false c.state) (chunks_of (known_image i (log_of w)) o.line)
-      open_over = ap (λ (l : LineLife). list_all (λ (c : Chunk). is_over_state (is_as_found l) c.state) (chunks_of (known_image i (log_of w)) o.line)) is_open
+    pub closed_now : closed_line i (log_of w) o.line ≡ closed_if (have_landed (log_of w 0) o (line_end i.shape o / i.shape.ws_opt))
+        (record { seq = o.start.seq; top = placed_top i.shape (log_of w 0) o })
+    closed_now =
+        ap (λ (l : LineLife). closed_in i (log_of w) l o.line) is_open
+        ∙ go (list_all (λ (c : Chunk). is_over_state false c.state) (chunks_of (known_image i (log_of w)) o.line)) refl
+        ∙ ap (λ t. closed_if t (record { seq = o.start.seq; top = placed_top i.shape log o })) (sym open_over ∙ over_is i w mount o is_open kept)
+      where
+        open_over : are_over i (log_of w) o.line ≡ list_all (λ (c : Chunk). is_over_state false c.state) (chunks_of (known_image i (log_of w)) o.line)
+        open_over = ap (λ (l : LineLife). list_all (λ (c : Chunk). is_over_state (is_as_found l) c.state) (chunks_of (known_image i (log_of w)) o.line)) is_open
 
-      go : (t : Bool) → list_all (λ (c : Chunk). is_over_state false c.state) (chunks_of (known_image i (log_of w)) o.line) ≡ t
-          → closed_if t (record { seq = o.start.seq; top = top_of (positions_in i (log_of w) (Opened o) o.line) })
-          ≡ closed_if t (record { seq = o.start.seq; top = placed_top i.shape (log_of w 0) o })
-      go false e = refl
-      go true e = ap (λ top. Some (record { seq = o.start.seq; top = top }))
-          (same_top (positions_in i (log_of w) (Opened o) o.line) (placed_positions i.shape log o) counted_placed (placed_counted (open_over ∙ e)))
+        go : (t : Bool) → list_all (λ (c : Chunk). is_over_state false c.state) (chunks_of (known_image i (log_of w)) o.line) ≡ t
+            → closed_if t (record { seq = o.start.seq; top = top_of (positions_in i (log_of w) (Opened o) o.line) })
+            ≡ closed_if t (record { seq = o.start.seq; top = placed_top i.shape (log_of w 0) o })
+        go false e = refl
+        go true e = ap (λ top. Some (record { seq = o.start.seq; top = top }))
+            (same_top (positions_in i (log_of w) (Opened o) o.line) (placed_positions i.shape log o) counted_placed (placed_counted (open_over ∙ e)))
 
 -- ---- what an answer names of the logs says nothing of lines and stripes
 
@@ -183,16 +202,16 @@ named_alike i logs unit event ks ns line =
 
 -- ---- once a stripe has landed
 
-pub closed_landed : (i : Image) (w : World) (unit event : ℕ) (knows : List ℕ) (p : Placed) (o : Opening) → IsLegalMount i w → NoneLost (log_of w 0)
+pub closed_landed : (i : Image) (w : World) (unit event : ℕ) (knows : List ℕ) (p : Placed) (o : Opening) → IsLegalMount i w → has_failed (log_of w 0) o ≡ false
     → MayLand (log_of w) unit event → unanswered_on (log_of w 0) unit ≡ Some p → p.life ≡ Opened o → life_of (log_of w 0) p.stripe.line ≡ Opened o
     → closed_line i (after (log_of w) (Landed unit event) knows) p.stripe.line
     ≡ closed_if (have_landed (after (log_of w) (Landed unit event) knows 0) o (line_end i.shape o / i.shape.ws_opt))
     (record { seq = o.start.seq; top = placed_top i.shape (log_of w 0) o })
-closed_landed i w unit event knows p o mount none may waits life stands =
+closed_landed i w unit event knows p o mount kept may waits life stands =
     named_alike i (log_of w) unit event knows (lengths_of i w) p.stripe.line
     ∙ ap (λ n. closed_line i new n) (sym its_line)
     ∙ ap (λ (logs : Logs). closed_line i logs o.line) (sym logs_are)
-    ∙ closed_now i later later_mount o later_life later_none
+    ∙ closed_now i later later_mount o later_life later_kept
     ∙ ap (λ t. closed_if t (record { seq = o.start.seq; top = placed_top i.shape (log_of later 0) o })) landed_same
     ∙ ap (λ top. closed_if (have_landed (after (log_of w) (Landed unit event) knows 0) o (line_end i.shape o / i.shape.ws_opt))
     (record { seq = o.start.seq; top = top })) top_same
@@ -220,8 +239,8 @@ closed_landed i w unit event knows p o mount none may waits life stands =
     later_life : life_of (log_of (next_step i w (Landed unit event) ∷ w) 0) o.line ≡ Opened o
     later_life = life_more (log_of w 0) event_now o.line ∙ ap (life_of (log_of w 0)) its_line ∙ stands
 
-    later_none : NoneLost (log_of (next_step i w (Landed unit event) ∷ w) 0)
-    later_none = with_last (λ (l : Logged). decides is_losing l.event ≡ false) (log_of w 0) event_now none refl
+    later_kept : has_failed (log_of (next_step i w (Landed unit event) ∷ w) 0) o ≡ false
+    later_kept = failed_kept (log_of w 0) (log_of w 0 ++ event_now ∷ []) (stripes_kept (log_of w 0) (Landed unit event) (lengths_of i w) refl) o ∙ kept
 
     landed_same : have_landed (log_of (next_step i w (Landed unit event) ∷ w) 0) o (line_end i.shape o / i.shape.ws_opt)
         ≡ have_landed (after (log_of w) (Landed unit event) knows 0) o (line_end i.shape o / i.shape.ws_opt)

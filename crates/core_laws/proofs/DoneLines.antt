@@ -88,7 +88,7 @@ module _ (i : Image) (w : World) (mount : IsLegalMount i w) (o : Opening) (is_op
   abbrev bare : OpenLine
   bare = as_opened i (log_of w) o
 
-  units_are : units_in (as_opened i (log_of w) o).live ≡ line_units (known_image i (log_of w)) o.line
+  pub units_are : units_in (as_opened i (log_of w) o).live ≡ line_units (known_image i (log_of w)) o.line
   units_are =
       ap (λ xs. units_in (bits_of xs)) (sym (keeps_units i w o.line o mount is_open))
       ∙ bits_back known o.line (few_units i w (log_of w) mount)
@@ -107,7 +107,7 @@ module _ (i : Image) (w : World) (mount : IsLegalMount i w) (o : Opening) (is_op
   pub count : length (as_opened i (log_of w) o).stripes ≡ length (line_units (known_image i (log_of w)) o.line) * (i.shape.clba / i.shape.ws_opt)
   count = length_replicate (lines.width bare * rows) Unplaced ∙ ap (λ g. g * rows) wide
 
-  whole_rows : i.shape.clba ≡ i.shape.clba / i.shape.ws_opt * i.shape.ws_opt
+  pub whole_rows : i.shape.clba ≡ i.shape.clba / i.shape.ws_opt * i.shape.ws_opt
   whole_rows = let none_over : i.shape.clba % i.shape.ws_opt ≡ 0 = mount.accepted.drive.whole_stripes in
       omega (arith, div-add-mod' i.shape.clba i.shape.ws_opt)
 
@@ -125,7 +125,7 @@ module _ (i : Image) (w : World) (mount : IsLegalMount i w) (o : Opening) (is_op
       ∙ sym (kth_place i w o unit k p mount line_is.opened there))
 
   -- two stripes at one place are one
-  one_there : (unit j k : ℕ) (q p : Placed) → slice_get (stripes_on (log_of w 0) o unit) j ≡ Some q
+  pub one_there : (unit j k : ℕ) (q p : Placed) → slice_get (stripes_on (log_of w 0) o unit) j ≡ Some q
       → slice_get (stripes_on (log_of w 0) o unit) k ≡ Some p → q.stripe.at ≡ p.stripe.at → q ≡ p
   one_there unit j k q p a b same =
       let first : q.stripe.at ≡ j * n = kth_place i w o unit j q mount line_is.opened a in
@@ -162,7 +162,7 @@ module _ (i : Image) (w : World) (mount : IsLegalMount i w) (o : Opening) (is_op
 
   -- ---- what became of its stripes
 
-  became_of : (j unit k : ℕ) (p : Placed) → slice_get (stripes_on (log_of w 0) o unit) k ≡ Some p
+  pub became_of : (j unit k : ℕ) (p : Placed) → slice_get (stripes_on (log_of w 0) o unit) k ≡ Some p
       → is_stripe_at i.shape (as_opened i (log_of w) o) p.stripe.unit p.stripe.at j ≡ true
       → outcome i.shape (log_of w 0) o (as_opened i (log_of w) o) j ≡ by_answer (answer_of (log_of w 0) p)
   became_of j unit k p there at = ap (became log) (placed_there j unit k p there at)
@@ -170,16 +170,64 @@ module _ (i : Image) (w : World) (mount : IsLegalMount i w) (o : Opening) (is_op
   abbrev line_now : OpenLine
   line_now = open_line i (log_of w) o
 
-  all_numbers : length (open_line i (log_of w) o).stripes ≡ length (line_units (known_image i (log_of w)) o.line) * (i.shape.clba / i.shape.ws_opt)
+  pub all_numbers : length (open_line i (log_of w) o).stripes ≡ length (line_units (known_image i (log_of w)) o.line) * (i.shape.clba / i.shape.ws_opt)
   all_numbers = length-map-range_with_len (outcome i.shape log o bare) 0 (length bare.stripes) ∙ count
 
-  stripe_now : (test : lines.Stripe → Bool) (j : ℕ) → j < length (line_units (known_image i (log_of w)) o.line) * (i.shape.clba / i.shape.ws_opt)
+  pub stripe_now : (test : lines.Stripe → Bool) (j : ℕ) → j < length (line_units (known_image i (log_of w)) o.line) * (i.shape.clba / i.shape.ws_opt)
       → stripe_is (open_line i (log_of w) o) test j ≡ test (outcome i.shape (log_of w 0) o (as_opened i (log_of w) o) j)
   stripe_now test j inside =
       let first : 0 + j ≡ j = omega arith in
       let all : length bare.stripes ≡ length us * rows = count in
       ap (λ (x : Option lines.Stripe). option_map_or test x false)
       (get_row (outcome i.shape log o bare) (length bare.stripes) 0 j (omega arith) ∙ ap (λ m. Some (outcome i.shape log o bare m)) first)
+
+  -- ---- a chunk of which a stripe was lost
+
+  lost_by : (a : Option Answer) → is_loss a ≡ true → is_lost (by_answer a) ≡ true
+  lost_by None e = absurd cc
+  lost_by (Some (DidLand x)) e = absurd cc
+  lost_by (Some (WasLost x)) e = refl
+
+  -- that stripe by its number
+  pub lost_number : (c unit m : ℕ) (p : Placed) → slice_get (line_units (known_image i (log_of w)) o.line) c ≡ Some unit
+      → slice_get (stripes_on (log_of w 0) o unit) m ≡ Some p → was_lost (log_of w 0) p ≡ true
+      → (m * length (line_units (known_image i (log_of w)) o.line) + c
+      < length (line_units (known_image i (log_of w)) o.line) * (i.shape.clba / i.shape.ws_opt))
+      × (stripe_is (open_line i (log_of w) o) is_lost (m * length (line_units (known_image i (log_of w)) o.line) + c) ≡ true)
+  lost_number c unit m p its there lost =
+      let c_low : c < length us = get_below us c unit its in
+      let other : ℕ = m * length us + c in
+      let at : is_stripe_at i.shape bare p.stripe.unit p.stripe.at other ≡ true = at_place m c unit p its there in
+      let place : p.stripe.at ≡ m * n = kth_place i w o unit m p mount line_is.opened there in
+      let low : p.stripe.at < i.shape.clba = below_end i w mount o is_open unit m p there in
+      let m_low : m < rows = lt_of_mul-lt-mul_right n (omega (arith, whole_rows)) in
+      let fits : suc m * length us ≤ rows * length us = mul-le-mul_right (length us) (omega arith) in
+      let more : suc m * length us ≡ m * length us + length us = omega arith in
+      let turned : length us * rows ≡ rows * length us = omega arith in
+      let within : other < length us * rows = omega (arith, c_low) in (
+        within,
+        stripe_now is_lost other within ∙ ap is_lost (became_of other unit m p there at) ∙ lost_by (answer_of log p) lost,
+      )
+
+  pub closed_by_loss : (c unit j : ℕ) → slice_get (line_units (known_image i (log_of w)) o.line) c ≡ Some unit
+      → j % length (line_units (known_image i (log_of w)) o.line) ≡ c → list_any (was_lost (log_of w 0)) (stripes_on (log_of w 0) o unit) ≡ true
+      → is_closed (open_line i (log_of w) o) j ≡ true
+  closed_by_loss c unit j its column loss =
+      let lost = some_value (find (was_lost log) (stripes_on log o unit)) (sym (any_found (was_lost log) (stripes_on log o unit)) ∙ loss) in
+      let passes = found_passes (was_lost log) (stripes_on log o unit) lost.0 lost.1 in
+      let m : ℕ = passes.1.0 in
+      let other : ℕ = m * length us + c in
+      let is = lost_number c unit m lost.0 its passes.1.1 passes.0 in
+      let within : other < length us * rows = is.0 in
+      let one_chunk : in_one_chunk line_now other j ≡ true =
+      ap (λ g. (other % g) == (j % g)) wide
+      ∙ ap₂ (λ x y. x == y) (mod-mul-add m (length us) c (get_below us c unit its)) column ∙ same_number c in
+      let first : 0 + other ≡ other = omega arith in
+      let there : slice_get (numbers line_now) other ≡ Some other =
+      range_get 0 (length line_now.stripes) other (let all : length line_now.stripes ≡ length us * rows = all_numbers in omega arith)
+      ∙ ap (λ x. Some x) first in
+      any_member (λ x. stripe_is line_now is_lost x && in_one_chunk line_now x j) (numbers line_now) other other there
+      (ap₂ (λ a b. a && b) is.1 one_chunk)
 
   -- ---- nothing more is written
 
@@ -266,11 +314,6 @@ module _ (i : Image) (w : World) (mount : IsLegalMount i w) (o : Opening) (is_op
             placed_now (Some (DidLand x)) = refl
             placed_now (Some (WasLost x)) = refl
 
-            lost_now : (a : Option Answer) → is_loss a ≡ true → is_lost (by_answer a) ≡ true
-            lost_now None e = absurd cc
-            lost_now (Some (DidLand x)) e = absurd cc
-            lost_now (Some (WasLost x)) e = refl
-
             by : IsDone unit.0 → is_to_place (open_line i (log_of w) o) j ≡ false
             by (inl full) =
                 let some : 0 < n = mount.accepted.drive.ws_opt in
@@ -283,30 +326,7 @@ module _ (i : Image) (w : World) (mount : IsLegalMount i w) (o : Opening) (is_op
                 ap (λ b. b && not (is_closed line_now j))
                 (stripe_now is_unplaced j inside ∙ ap is_unplaced (became_of j unit.0 k p.0 p.1 at) ∙ placed_now (answer_of log p.0))
             by (inr loss) =
-                let lost = some_value (find (was_lost log) (stripes_on log o unit.0)) (sym (any_found (was_lost log) (stripes_on log o unit.0)) ∙ loss) in
-                let passes = found_passes (was_lost log) (stripes_on log o unit.0) lost.0 lost.1 in
-                let m : ℕ = passes.1.0 in
-                let other : ℕ = m * length us + c in
-                let at : is_stripe_at i.shape bare lost.0.stripe.unit lost.0.stripe.at other ≡ true = at_place m c unit.0 lost.0 unit.1 passes.1.1 in
-                let place : lost.0.stripe.at ≡ m * n = kth_place i w o unit.0 m lost.0 mount line_is.opened passes.1.1 in
-                let low : lost.0.stripe.at < i.shape.clba = below_end i w mount o is_open unit.0 m lost.0 passes.1.1 in
-                let m_low : m < rows = lt_of_mul-lt-mul_right n (omega (arith, whole_rows)) in
-                let fits : suc m * length us ≤ rows * length us = mul-le-mul_right (length us) (omega arith) in
-                let more : suc m * length us ≡ m * length us + length us = omega arith in
-                let turned : length us * rows ≡ rows * length us = omega arith in
-                let within : other < length us * rows = omega (arith, c_low) in
-                let is_it : stripe_is line_now is_lost other ≡ true =
-                stripe_now is_lost other within ∙ ap is_lost (became_of other unit.0 m lost.0 passes.1.1 at) ∙ lost_now (answer_of log lost.0) passes.0 in
-                let one_chunk : in_one_chunk line_now other j ≡ true =
-                ap (λ g. (other % g) == (j % g)) wide ∙ ap (λ x. x == c) (mod-mul-add m (length us) c c_low) ∙ same_number c in
-                let first : 0 + other ≡ other = omega arith in
-                let there : slice_get (numbers line_now) other ≡ Some other =
-                range_get 0 (length line_now.stripes) other (let all : length line_now.stripes ≡ length us * rows = all_numbers in omega arith)
-                ∙ ap (λ x. Some x) first in
-                let closed : is_closed line_now j ≡ true =
-                any_member (λ x. stripe_is line_now is_lost x && in_one_chunk line_now x j) (numbers line_now) other other there
-                (ap₂ (λ a b. a && b) is_it one_chunk) in
-                and_false (stripe_is line_now is_unplaced j) (not (is_closed line_now j)) (ap not closed)
+                and_false (stripe_is line_now is_unplaced j) (not (is_closed line_now j)) (ap not (closed_by_loss c unit.0 j unit.1 refl loss))
 
     -- ---- and each is answered
 

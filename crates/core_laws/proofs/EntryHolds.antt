@@ -1,5 +1,5 @@
 -- What an event changes of the later entry of a sector, and of the line of an entry's stripe.
-use Rattle.std.proofs.Common.{◌≡◌, ℕ, ◌+◌, ◌<◌, ◌≤◌, ◌==◌, ◌&&◌, ◌||◌, nat_lt, nat_le, Bool, true, false, cond, Some, None, List, [], ◌∷◌, ◌++◌, length, refl, ap, ap₂, ◌∙◌, arith, append-nil, le_of_lt}
+use Rattle.std.proofs.Common.{◌≡◌, ℕ, ◌+◌, ◌<◌, ◌≤◌, ◌==◌, ◌&&◌, ◌||◌, nat_lt, nat_le, Bool, true, false, cond, Some, None, Option, List, [], ◌∷◌, ◌++◌, length, refl, sym, ap, ap₂, ◌∙◌, arith, append-nil, le_of_lt}
 use Rattle.std.specs.Prelude.{is_some, not}
 use Rattle.std.specs.List.{find, list_any}
 use Rattle.std.specs.Option.{option_map, option_to_list}
@@ -7,7 +7,7 @@ use Rattle.pblk_model.specs.declared.shape.Shape.{Shape}
 use Rattle.pblk_model.specs.declared.chunk.Mark.{Mark}
 use Rattle.pblk_world.specs.Events.{Entry, Stripe, Take, Decides, Logged}
 use Rattle.pblk_world.specs.EngineLog.{Taken, taken_by, takes, Opening, Placed, placements, was_lost, is_loss, holds_position, bears_position}
-use Rattle.pblk_world.specs.Fronts.{first_position, taken}
+use Rattle.pblk_world.specs.Fronts.{first_position, taken, waits}
 use Rattle.pblk_world.specs.Space.{placed_front}
 use Rattle.core_laws.specs.Positions.{AreNumbered}
 use Rattle.core_laws.proofs.Engine.{placements_before}
@@ -17,11 +17,14 @@ use Rattle.core_laws.proofs.StripesByPlace.{find_last, find_fails_last}
 use Rattle.core_laws.proofs.PlacedPositions.{numbered_below}
 use Rattle.stripe_placer.proofs.Rows.{find_first as found_stays}
 use Rattle.core_laws.specs.EntryHolds.{later_take, placed_line}
-use Rattle.core_laws.proofs.PlacedInOrder.{IsOrdered, never_lost, some_hold_below}
-use Rattle.lemmas.proofs.Lists.{all_imply}
-use Rattle.lemmas.proofs.Maps.{find_agree, find_none}
+use Rattle.core_laws.specs.PlainLogs.{NoStripeLost}
+use Rattle.core_laws.proofs.HeldOnce.{HeldOnce}
+use Rattle.core_laws.proofs.PlacedAnew.{holders_lost}
+use Rattle.core_laws.proofs.PlacedInOrder.{IsOrdered, some_hold_below}
+use Rattle.lemmas.proofs.Lists.{IsAmong, all_imply}
+use Rattle.lemmas.proofs.Maps.{any_member, find_agree, find_none, found_passes}
 use Rattle.lemmas.proofs.Options.{none_of_map, some_mapped}
-use Rattle.lemmas.proofs.Tests.{and_false, lt_true, not_first, same_number}
+use Rattle.lemmas.proofs.Tests.{and_false, first_of, lt_true, not_both, not_first, not_true, same_number, second_of}
 use Rattle.pblk_world.proofs.EngineLogLemmas.{takes_more}
 
 -- ---- the later entry of a sector
@@ -107,16 +110,7 @@ line_of_stripe s log stripe knows o q is none held =
     (ap₂ (λ a b. a && not b) held (ap is_loss (new_unanswered log stripe knows o is)))
     (others_now s log stripe knows o q is ∙ none_of_map (λ (p : Placed). p.stripe.line) (find (IsFor s log q) (placements log)) none))
 
--- ---- where nothing fails
-
-pub line_unlost : (s : Shape) (log : List Logged) (q : ℕ) → ((p : Placed) → was_lost log p ≡ false)
-    → placed_line s log q ≡ option_map (λ (p : Placed). p.stripe.line) (find (holds_position s q) (placements log))
-line_unlost s log q none = ap (option_map (λ (p : Placed). p.stripe.line))
-    (find_same (IsFor s log q) (holds_position s q) (λ p. ap (λ b. holds_position s q p && not b) (none p) ∙ and_true (holds_position s q p)) (placements log))
-  where
-    and_true : (b : Bool) → (b && true) ≡ b
-    and_true true = refl
-    and_true false = refl
+-- ---- the stripe that wasn't lost
 
 pub found_any : {X : Type 0} (test : X → Bool) (xs : List X) → is_some (find test xs) ≡ list_any test xs
 found_any test [] = refl
@@ -126,8 +120,48 @@ found_any {X} test (x ∷ xs) = go (test x) (found_any test xs)
     go true rest = refl
     go false rest = rest
 
-pub line_below_front : (s : Shape) (log : List Logged) (q : ℕ) → IsOrdered s log
+-- an entry that waits is in no line
+pub line_of_waiting : (s : Shape) (log : List Logged) (t : Taken) → waits s log t ≡ true → placed_line s log t.entry.position ≡ None
+line_of_waiting s log t wait = ap (option_map (λ (p : Placed). p.stripe.line))
+    (find_none (IsFor s log t.entry.position) (placements log)
+    (all_imply (λ (p : Placed). holds_position s t.entry.position p ≡ true → was_lost log p ≡ true)
+    (λ (p : Placed). IsFor s log t.entry.position p ≡ false) (λ p lost. by (holds_position s t.entry.position p) (was_lost log p) lost) (placements log)
+    (holders_lost s log t wait)))
+  where
+    by : (a b : Bool) → (a ≡ true → b ≡ true) → (a && not b) ≡ false
+    by true b lost = ap not (lost refl)
+    by false b lost = refl
+
+-- one that a stripe holds which wasn't lost is in its line
+pub line_of_holder : (s : Shape) (log : List Logged) (q : ℕ) (p : Placed) → HeldOnce s log → IsAmong (placements log) p → holds_position s q p ≡ true
+    → was_lost log p ≡ false → placed_line s log q ≡ Some p.stripe.line
+line_of_holder s log q p once among holds kept = go (find (IsFor s log q) (placements log)) refl
+  where
+    passes : IsFor s log q p ≡ true
+    passes = ap₂ (λ a b. a && not b) holds kept
+
+    go : (o : Option Placed) → find (IsFor s log q) (placements log) ≡ o → option_map (λ (r : Placed). r.stripe.line) o ≡ Some p.stripe.line
+    go None e = absurd (not_both (list_any (IsFor s log q) (placements log)) (any_member (IsFor s log q) (placements log) among.0 p among.1 passes)
+        (sym (found_any (IsFor s log q) (placements log)) ∙ ap is_some e))
+    go (Some r) e =
+        let found = found_passes (IsFor s log q) (placements log) r e in
+        let same : r ≡ p = once q r p found.1 among (first_of (holds_position s q r) (not (was_lost log r)) found.0) holds
+        (not_true (was_lost log r) (second_of (holds_position s q r) (not (was_lost log r)) found.0)) kept in
+        ap (λ (x : Placed). Some x.stripe.line) same
+
+-- ---- where nothing was lost
+
+pub line_unlost : (s : Shape) (log : List Logged) (q : ℕ) → NoStripeLost log
+    → placed_line s log q ≡ option_map (λ (p : Placed). p.stripe.line) (find (holds_position s q) (placements log))
+line_unlost s log q none = ap (option_map (λ (p : Placed). p.stripe.line))
+    (find_same (IsFor s log q) (holds_position s q) (λ p. ap (λ b. holds_position s q p && not b) (none p) ∙ and_true (holds_position s q p)) (placements log))
+  where
+    and_true : (b : Bool) → (b && true) ≡ b
+    and_true true = refl
+    and_true false = refl
+
+pub line_below_front : (s : Shape) (log : List Logged) (q : ℕ) → NoStripeLost log → IsOrdered s log
     → is_some (placed_line s log q) ≡ (nat_le (first_position log) q && nat_lt q (placed_front s log))
-line_below_front s log q is = ap is_some (line_unlost s log q (never_lost log is.no_loss))
+line_below_front s log q none is = ap is_some (line_unlost s log q none)
     ∙ some_mapped (λ (p : Placed). p.stripe.line) (find (holds_position s q) (placements log)) ∙ found_any (holds_position s q) (placements log)
     ∙ some_hold_below s log is q

@@ -1,4 +1,4 @@
--- The front freed in a simple mount.
+-- The front freed.
 use Rattle.std.proofs.Common.{◌≡◌, ◌⊎◌, inl, inr, ℕ, ◌+◌, ◌<◌, ◌≤◌, ◌==◌, true, false, Some, None, List, [], ◌∷◌, ◌++◌, length, refl, sym, subst, ap, ◌∙◌, arith, append-nil}
 use Rattle.std.specs.List.{AllByRecursion}
 use Rattle.std.proofs.lemmas.Bool.{cases_order}
@@ -14,14 +14,15 @@ use Rattle.pblk_world.specs.Legal.{IsLegal, IsDecision}
 use Rattle.pblk_world.proofs.Appending.{placements_more}
 use Rattle.pblk_world.proofs.Answered.{answers_fit}
 use Rattle.core_laws.specs.PlacerOf.{unanswered_on}
-use Rattle.core_laws.specs.PlainEvents.{is_plain_decision}
-use Rattle.core_laws.specs.SimpleMounts.{IsSimpleMount}
+use Rattle.world_laws.specs.LegalMounts.{IsLegalMount}
 use Rattle.core_laws.specs.Stepping.{after}
 use Rattle.core_laws.specs.WindowOf.{is_given_back}
 use Rattle.core_laws.proofs.Placing.{new_placed, placements_now}
 use Rattle.core_laws.proofs.Taking.{alike}
-use Rattle.core_laws.specs.ChunkBlocks.{can_be_read, AreInRows}
+use Rattle.core_laws.specs.ChunkBlocks.{can_be_read, has_landed_in, AreInRows}
 use Rattle.core_laws.proofs.KeptByEvents.{IsKept, kept}
+use Rattle.core_laws.proofs.GivenLost.{given_lost}
+use Rattle.core_laws.proofs.LostStripe.{one_lost}
 use Rattle.core_laws.proofs.LeastPositions.{least_rises, least_below}
 use Rattle.core_laws.proofs.LandedWindow.{given_back_landed}
 use Rattle.core_laws.proofs.QuietEvents.{alike_kept, quiet_alike, open_is_quiet, reset_is_quiet, stop_is_quiet, place_kept}
@@ -80,42 +81,53 @@ by_kept s log e knows none kept =
     let l : Logged = record { event = Decides e; knows = knows } in
     freed_by s log (log ++ l ∷ []) (first_kept log e knows none) (takes_grow log l) (λ q f. given_kept s log (log ++ l ∷ []) kept q ∙ f)
 
-pub freed_rises : (i : Image) (known : Logs) (w : World) (beginning : Begun) (e : EngineEvent) (knows : List ℕ) → IsSimpleMount i w
+pub freed_rises : (i : Image) (known : Logs) (w : World) (beginning : Begun) (e : EngineEvent) (knows : List ℕ) → IsLegalMount i w
     → ((o : Opening) (unit : ℕ) → AreInRows i.shape (log_of w 0) o unit)
-    → known 0 ≡ log_of w 0 → is_plain_decision e ≡ true → IsDecision i known beginning e
+    → known 0 ≡ log_of w 0 → IsDecision i known beginning e
     → freed i.shape (log_of w 0) ≤ freed i.shape (after (log_of w) e knows 0)
-freed_rises i known w beginning (Begin b) knows simple rows own passes may = absurd may
-freed_rises i known w beginning (Take entry mark) knows simple rows own passes may =
+freed_rises i known w beginning (Begin b) knows mount rows own may = absurd may
+freed_rises i known w beginning (Take entry mark) knows mount rows own may =
     by_kept i.shape (log_of w 0) (Take entry mark) knows refl
     (alike_kept (log_of w 0) (after (log_of w) (Take entry mark) knows 0) (alike (log_of w 0) entry mark knows))
-freed_rises i known w beginning (Open line start) knows simple rows own passes may =
+freed_rises i known w beginning (Open line start) knows mount rows own may =
     by_kept i.shape (log_of w 0) (Open line start) knows refl
     (alike_kept (log_of w 0) (after (log_of w) (Open line start) knows 0)
     (quiet_alike (log_of w 0) (Open line start) knows (open_is_quiet (log_of w 0) line start knows)))
-freed_rises i known w beginning (Place stripe) knows simple rows own passes may = by_kept i.shape (log_of w 0) (Place stripe) knows refl
+freed_rises i known w beginning (Place stripe) knows mount rows own may = by_kept i.shape (log_of w 0) (Place stripe) knows refl
     (place_kept (log_of w 0) stripe knows may.opening (ap (λ log. life_of log stripe.line) (sym own) ∙ may.is_open)
-    (answers_fit i w stripe.unit simple.mount.legal))
-freed_rises i known w beginning (Landed unit event) knows simple rows own passes may =
+    (answers_fit i w stripe.unit mount.legal))
+freed_rises i known w beginning (Landed unit event) knows mount rows own may =
     let inside : length (answers (log_of w 0) unit) < length (placed_on (log_of w 0) unit) =
     subst (λ (xs : List Logged). length (answers xs unit) < length (placed_on xs unit)) own may.stripe.placed in
     let waits : (p : Placed) × (unanswered_on (log_of w 0) unit ≡ Some p) =
     got_within (placed_on (log_of w 0) unit) (length (answers (log_of w 0) unit)) inside in
-    let its : (o : Opening) × (waits.0.life ≡ Opened o) = its_opening i w unit waits.0 simple.mount.legal waits.1 in
+    let its : (o : Opening) × (waits.0.life ≡ Opened o) = its_opening i w unit waits.0 mount.legal waits.1 in
     let l : Logged = record { event = Decides (Landed unit event); knows = knows } in
     freed_by i.shape (log_of w 0) (after (log_of w) (Landed unit event) knows 0) (first_kept (log_of w 0) (Landed unit event) knows refl)
     (takes_grow (log_of w 0) l)
-    (λ q f. given_back_landed i w unit event knows waits.0 its.0 q simple waits.1 its.1 (rows its.0 unit)
+    (λ q f. given_back_landed i w unit event knows waits.0 its.0 q mount waits.1 its.1 (rows its.0 unit)
     ∙ or_left (is_given_back i.shape (log_of w 0) q) (can_be_read i.shape (after (log_of w) (Landed unit event) knows 0) its.0 unit q) f)
-freed_rises i known w beginning (Lost unit event) knows simple rows own passes may = absurd cc
-freed_rises i known w beginning (Again unit event) knows simple rows own passes may =
+freed_rises i known w beginning (Lost unit event) knows mount rows own may =
+    let inside : length (answers (log_of w 0) unit) < length (placed_on (log_of w 0) unit) =
+    subst (λ (xs : List Logged). length (answers xs unit) < length (placed_on xs unit)) own may.stripe.placed in
+    let waits : (p : Placed) × (unanswered_on (log_of w 0) unit ≡ Some p) =
+    got_within (placed_on (log_of w 0) unit) (length (answers (log_of w 0) unit)) inside in
+    let its : (o : Opening) × (waits.0.life ≡ Opened o) = its_opening i w unit waits.0 mount.legal waits.1 in
+    let l : Logged = record { event = Decides (Lost unit event); knows = knows } in
+    freed_by i.shape (log_of w 0) (after (log_of w) (Lost unit event) knows 0) (first_kept (log_of w 0) (Lost unit event) knows refl)
+    (takes_grow (log_of w 0) l)
+    (λ q f. given_lost i.shape (log_of w 0) (after (log_of w) (Lost unit event) knows 0) waits.0 its.0 q
+    (one_lost (log_of w 0) unit event knows waits.0 waits.1) its.1
+    ∙ or_left (is_given_back i.shape (log_of w 0) q) (has_landed_in i.shape (log_of w 0) its.0 waits.0.stripe.unit q) f)
+freed_rises i known w beginning (Again unit event) knows mount rows own may =
     by_kept i.shape (log_of w 0) (Again unit event) knows refl
     (alike_kept (log_of w 0) (after (log_of w) (Again unit event) knows 0)
     (quiet_alike (log_of w 0) (Again unit event) knows (stop_is_quiet (log_of w 0) unit event knows)))
-freed_rises i known w beginning (ResetDone unit event) knows simple rows own passes may =
+freed_rises i known w beginning (ResetDone unit event) knows mount rows own may =
     by_kept i.shape (log_of w 0) (ResetDone unit event) knows refl
     (alike_kept (log_of w 0) (after (log_of w) (ResetDone unit event) knows 0)
     (quiet_alike (log_of w 0) (ResetDone unit event) knows (reset_is_quiet (log_of w 0) unit event knows)))
-freed_rises i known w beginning (Free line) knows simple rows own passes may = by_kept i.shape (log_of w 0) (Free line) knows refl
+freed_rises i known w beginning (Free line) knows mount rows own may = by_kept i.shape (log_of w 0) (Free line) knows refl
     (alike_kept (log_of w 0) (after (log_of w) (Free line) knows 0) (quiet_alike (log_of w 0) (Free line) knows (free_is_quiet (log_of w 0) line knows)))
 
 -- an entry at a front that is given back may leave the window

@@ -6,17 +6,17 @@ use Rattle.std.proofs.lemmas.Bool.{eqb-true}
 use Rattle.pblk_model.specs.declared.shape.Shape.{Shape}
 use Rattle.pblk_model.specs.Chunk.{Block}
 use Rattle.pblk_world.specs.Events.{Logged}
-use Rattle.pblk_world.specs.EngineLog.{LineLife, AsFound, Opened, Freed, is_life, Opening, Placed, placements, placed_on, stripes_on, answers, has_landed, bears_position}
+use Rattle.pblk_world.specs.EngineLog.{LineLife, AsFound, Opened, Freed, is_life, Opening, Placed, placements, placed_on, stripes_of, stripes_on, answers, answer_of, is_answered, has_landed, was_lost, bears_position}
 use Rattle.pblk_world.specs.Space.{is_readable_in, gives_back}
-use Rattle.core_laws.specs.PlainEvents.{ArePlain}
 use Rattle.core_laws.proofs.TakenSlots.{any_same}
-use Rattle.core_laws.specs.ChunkBlocks.{AreInRows}
+use Rattle.core_laws.specs.ChunkBlocks.{AreInRows, NoneLostIn}
+use Rattle.core_laws.proofs.LandedBlocks.{lost_same}
 use Rattle.core_laws.proofs.LandedStripe.{IsOneMore}
-use Rattle.core_laws.proofs.PlainStripes.{unit_landed}
+use Rattle.core_laws.proofs.PlainStripes.{answered_lands, unit_answered}
 use Rattle.lemmas.proofs.Lists.{IsAmong}
-use Rattle.lemmas.proofs.Maps.{enumerate_append, in_filter}
+use Rattle.lemmas.proofs.Maps.{any_member, enumerate_append, in_filter}
 use Rattle.lemmas.proofs.Parts.{all_at}
-use Rattle.lemmas.proofs.Tests.{same_number}
+use Rattle.lemmas.proofs.Tests.{not_both, same_number}
 
 -- ---- the blocks of a chunk
 
@@ -117,23 +117,37 @@ gives_of_chunk s log o unit q r landed its life =
 
 -- ---- all that is used of the stripe that has landed, and of its chunk
 
+pub none_at : {X : Type 0} (f : X → Bool) (xs : List X) (x : X) → list_any f xs ≡ false → IsAmong xs x → f x ≡ false
+none_at f xs x none at = go (f x) refl
+  where
+    go : (t : Bool) → f x ≡ t → t ≡ false
+    go false e = refl
+    go true e = absurd (not_both (list_any f xs) (any_member f xs at.0 x at.1 e) none)
+
 pub record IsLandedNow (s : Shape) (log new : List Logged) (p : Placed) (o : Opening) : Type 0 where
   pub one_more : IsOneMore log new p
   pub life : p.life ≡ Opened o
-  pub plain : ArePlain log
-  pub plain_new : ArePlain new
+  pub unlost : NoneLostIn log o p.stripe.unit
   pub all_answered : length (placed_on new p.stripe.unit) ≤ length (answers new p.stripe.unit)
   pub rows : AreInRows s log o p.stripe.unit
   pub some : 0 < s.ws_opt
 
--- all of the unit's stripes have landed
+pub unlost_new : (s : Shape) (log new : List Logged) (p : Placed) (o : Opening) → IsLandedNow s log new p o → NoneLostIn new o p.stripe.unit
+unlost_new s log new p o is = lost_same log new p o p.stripe.unit is.one_more ∙ is.unlost
+
+-- all of the chunk's stripes have landed
 pub of_unit_landed : (s : Shape) (log new : List Logged) (p : Placed) (o : Opening) → IsLandedNow s log new p o → (r : Placed) → IsAmong (placements log) r
-    → r.stripe.unit ≡ p.stripe.unit → has_landed new r ≡ true
-of_unit_landed s log new p o is r among its =
+    → r.stripe.unit ≡ p.stripe.unit → is_life o.number r.life ≡ true → has_landed new r ≡ true
+of_unit_landed s log new p o is r among its life =
     let there : IsAmong (placements new) r = subst (λ (ps : List Placed). IsAmong ps r) (sym is.one_more.stripes) among in
+    let here : IsAmong (stripes_on new o p.stripe.unit) r =
+    in_filter (λ (x : Placed). x.stripe.unit == p.stripe.unit) (stripes_of new o) r
+    (in_filter (λ (x : Placed). is_life o.number x.life) (placements new) r there life) (ap (λ u. u == p.stripe.unit) its ∙ same_number p.stripe.unit) in
     let at = subst (λ u. IsAmong (placed_on new u) r) its
     (in_filter (λ (x : Placed). x.stripe.unit == r.stripe.unit) (placements new) r there (same_number r.stripe.unit)) in
-    all_at (λ (r : Placed). has_landed new r ≡ true) (placed_on new p.stripe.unit) at.0 r at.1 (unit_landed new p.stripe.unit is.plain_new is.all_answered)
+    answered_lands (answer_of new r)
+    (all_at (λ (r : Placed). is_answered new r ≡ true) (placed_on new p.stripe.unit) at.0 r at.1 (unit_answered new p.stripe.unit is.all_answered))
+    (none_at (was_lost new) (stripes_on new o p.stripe.unit) r (unlost_new s log new p o is) here)
 
 -- ---- what could be read can be read
 

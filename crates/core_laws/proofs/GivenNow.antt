@@ -7,26 +7,23 @@ use Rattle.pblk_model.specs.Chunk.{Block}
 use Rattle.pblk_world.specs.Events.{Logged}
 use Rattle.pblk_world.specs.EngineLog.{LineLife, AsFound, Opened, Freed, is_life, Opening, Placed, placements, stripes_of, stripes_on, answer_of, is_land, has_landed, bears_position}
 use Rattle.pblk_world.specs.Space.{landed_blocks, is_readable_in, gives_back}
-use Rattle.core_laws.specs.PlainEvents.{ArePlain}
 use Rattle.core_laws.specs.WindowOf.{is_given_back}
 use Rattle.core_laws.proofs.TakenSlots.{any_same}
-use Rattle.core_laws.specs.ChunkBlocks.{can_be_read}
+use Rattle.core_laws.specs.ChunkBlocks.{NoneLostIn, can_be_read}
 use Rattle.core_laws.proofs.LandedBlocks.{on_new, blocks_more, readable_unit, readable_opening, its_opening}
 use Rattle.core_laws.proofs.Growing.{any_weaker}
-use Rattle.core_laws.proofs.GivenBack.{flat_any, any_split, readable_life, gives_of_chunk, IsLandedNow, of_unit_landed, times_le, rows_within}
-use Rattle.core_laws.proofs.PlainEventsLemmas.{none_of_lost}
+use Rattle.core_laws.proofs.GivenBack.{flat_any, any_split, readable_life, gives_of_chunk, IsLandedNow, of_unit_landed, unlost_new, times_le, rows_within}
 use Rattle.lemmas.proofs.Lists.{IsAmong, all_imply, all_of, among_all, zipped}
 use Rattle.lemmas.proofs.Maps.{all_filter, all_passed, any_agree, filter_short}
 use Rattle.lemmas.proofs.Tests.{and_both, first_of, lt_true, no_both, same_number, second_of}
 
 -- ---- what could be read can be read
 
--- where nothing was lost
-pub readable_plain : (s : Shape) (log : List Logged) (o : Opening) (unit block : ℕ) → ArePlain log
+-- where nothing of the chunk was lost
+pub readable_plain : (s : Shape) (log : List Logged) (o : Opening) (unit block : ℕ) → NoneLostIn log o unit
     → is_readable_in s log unit block (Opened o) ≡ ((landed_blocks s log o unit == s.clba) || nat_lt (block + s.mw_cunits) (landed_blocks s log o unit))
-readable_plain s log o unit block plain =
-    ap (λ a. (a || (landed_blocks s log o unit == s.clba)) || nat_lt (block + s.mw_cunits) (landed_blocks s log o unit))
-    (none_of_lost log (stripes_on log o unit) plain)
+readable_plain s log o unit block none =
+    ap (λ a. (a || (landed_blocks s log o unit == s.clba)) || nat_lt (block + s.mw_cunits) (landed_blocks s log o unit)) none
 
 still_read : (old new clba at : ℕ) → old < clba → old ≤ new → ((old == clba) || nat_lt at old) ≡ true → ((new == clba) || nat_lt at new) ≡ true
 still_read old new clba at below more e = go (nat_eq old clba) refl (nat_lt at old) refl e
@@ -59,9 +56,9 @@ readable_still s log new p o block is e =
     let more : landed_blocks s new o p.stripe.unit ≡ landed_blocks s log o p.stripe.unit + s.ws_opt = blocks_more s log new p o is.one_more is.life in
     let below : landed_blocks s log o p.stripe.unit + s.ws_opt ≤ s.clba = blocks_below s log new p o is in
     let some : 0 < s.ws_opt = is.some in
-    readable_plain s new o p.stripe.unit block is.plain_new
+    readable_plain s new o p.stripe.unit block (unlost_new s log new p o is)
     ∙ still_read (landed_blocks s log o p.stripe.unit) (landed_blocks s new o p.stripe.unit) s.clba (block + s.mw_cunits) (omega arith) (omega arith)
-    (sym (readable_plain s log o p.stripe.unit block is.plain) ∙ e)
+    (sym (readable_plain s log o p.stripe.unit block is.unlost) ∙ e)
 
 -- ---- stripes of the chunk, and others
 
@@ -122,7 +119,7 @@ gives_still s log new p o q r is among e f =
     let now : ℕ × Block → Bool = λ b. bears_position s q b.1 && is_readable_in s new r.stripe.unit b.0 r.life in
     and_both (has_landed new r) (list_any (λ (b : ℕ × Block). bears_position s q b.1 && is_readable_in s new r.stripe.unit b.0 r.life)
     (enumerate_from r.stripe.at r.stripe.blocks))
-    (of_unit_landed s log new p o is r among (chunk_unit p o r e))
+    (of_unit_landed s log new p o is r among (chunk_unit p o r e) (chunk_life p o r e))
     (any_weaker old now (enumerate_from r.stripe.at r.stripe.blocks)
     (all_of (λ (b : ℕ × Block). (bears_position s q b.1 && is_readable_in s log r.stripe.unit b.0 r.life) ≡ true
     → (bears_position s q b.1 && is_readable_in s new r.stripe.unit b.0 r.life) ≡ true)
@@ -164,7 +161,8 @@ chunk_gives s log new p o q is =
     (all_imply (IsOfChunk log p o)
     (λ (r : Placed). gives_back s new q r ≡ list_any (λ (b : ℕ × Block). bears_position s q b.1 && is_readable_in s new p.stripe.unit b.0 (Opened o))
     (enumerate_from r.stripe.at r.stripe.blocks))
-    (λ r of. gives_of_chunk s new o p.stripe.unit q r (of_unit_landed s log new p o is r of.among (chunk_unit p o r of.of)) (chunk_unit p o r of.of)
+    (λ r of. gives_of_chunk s new o p.stripe.unit q r (of_unit_landed s log new p o is r of.among (chunk_unit p o r of.of) (chunk_life p o r of.of))
+    (chunk_unit p o r of.of)
     (chunk_life p o r of.of)) (stripes_on log o p.stripe.unit) (chunk_members log p o))
     ∙ sym (flat_any test s.ws_opt 0 (stripes_on log o p.stripe.unit)
     (λ k r e. let row = is.rows k r e in ((let at : r.stripe.at ≡ k * s.ws_opt = row.at in omega arith), row.blocks)))

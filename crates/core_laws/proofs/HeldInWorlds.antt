@@ -1,14 +1,13 @@
--- In a simple mount the positions that can be read now are in the window, and have landed.
-use Rattle.std.proofs.Common.{◌≡◌, ℕ, ◌<◌, ◌≤◌, true, false, Some, List, [], length, sym, subst, ap}
+-- The positions that can be read now are in the window, and have landed.
+use Rattle.std.proofs.Common.{◌≡◌, ℕ, ◌<◌, ◌≤◌, true, false, Some, List, [], length, sym, subst}
 use Rattle.std.specs.List.{list_any}
 use Rattle.pblk_model.specs.Image.{Image}
 use Rattle.pblk_world.specs.World.{World, log_of}
-use Rattle.pblk_world.specs.EngineLog.{Opened, Opening, takes, is_land, Placed, placements, stripes_on, bears_position, holds_position}
+use Rattle.pblk_world.specs.EngineLog.{Opened, Opening, takes, Placed, placements, stripes_on, bears_position, holds_position}
 use Rattle.pblk_world.specs.Fronts.{first_position, taken, has_landed_at}
 use Rattle.pblk_world.specs.Space.{freed}
 use Rattle.core_laws.specs.PlacerOf.{unanswered_on}
 use Rattle.world_laws.specs.LegalMounts.{IsLegalMount}
-use Rattle.core_laws.specs.SimpleMounts.{IsSimpleMount}
 use Rattle.core_laws.specs.WindowOf.{is_given_back}
 use Rattle.core_laws.proofs.Answered.{first_unanswered}
 use Rattle.core_laws.specs.ChunkBlocks.{newly_readable, chunk_blocks, AreInRows}
@@ -44,19 +43,19 @@ held_by_window i w q r mount among holds kept =
     let both = held_taken i w q r mount among holds in
     (least_below (is_given_back i.shape (log_of w 0)) (length (takes (log_of w 0))) (first_position (log_of w 0)) q both.0 kept, both.1)
 
-pub newly_not_given : (i : Image) (w : World) (unit : ℕ) (p : Placed) (o : Opening) (q : ℕ) → IsSimpleMount i w → unanswered_on (log_of w 0) unit ≡ Some p
+pub newly_not_given : (i : Image) (w : World) (unit : ℕ) (p : Placed) (o : Opening) (q : ℕ) → IsLegalMount i w → unanswered_on (log_of w 0) unit ≡ Some p
     → p.life ≡ Opened o → AreInRows i.shape (log_of w 0) o unit
     → list_any (bears_position i.shape q) (newly_readable i.shape (log_of w 0) o unit) ≡ true → is_given_back i.shape (log_of w 0) q ≡ false
-newly_not_given i w unit p o q simple waits life rows e =
-    newly_kept i.shape (log_of w 0) (with_landing (log_of w 0) unit 0 []) p o q (landed_now i w unit 0 [] p o simple waits life rows) (held_once i w simple)
-    (borne_once i w simple.mount)
+newly_not_given i w unit p o q mount waits life rows e =
+    newly_kept i.shape (log_of w 0) (with_landing (log_of w 0) unit 0 []) p o q (landed_now i w unit 0 [] p o mount waits life rows) (held_once i w mount)
+    (borne_once i w mount)
     (subst (λ u. list_any (bears_position i.shape q) (newly_readable i.shape (log_of w 0) o u) ≡ true)
     (sym (first_unanswered (log_of w 0) unit p waits).of_unit) e)
 
-pub newly_in_window : (i : Image) (w : World) (unit : ℕ) (p : Placed) (o : Opening) (q : ℕ) → IsSimpleMount i w → unanswered_on (log_of w 0) unit ≡ Some p
+pub newly_in_window : (i : Image) (w : World) (unit : ℕ) (p : Placed) (o : Opening) (q : ℕ) → IsLegalMount i w → unanswered_on (log_of w 0) unit ≡ Some p
     → p.life ≡ Opened o → AreInRows i.shape (log_of w 0) o unit
     → list_any (bears_position i.shape q) (newly_readable i.shape (log_of w 0) o unit) ≡ true → (freed i.shape (log_of w 0) ≤ q) × (q < taken (log_of w 0))
-newly_in_window i w unit p o q simple waits life rows e =
+newly_in_window i w unit p o q mount waits life rows e =
     let its : p.stripe.unit ≡ unit = (first_unanswered (log_of w 0) unit p waits).of_unit in
     let here : list_any (bears_position i.shape q) (newly_readable i.shape (log_of w 0) o p.stripe.unit) ≡ true =
     subst (λ u. list_any (bears_position i.shape q) (newly_readable i.shape (log_of w 0) o u) ≡ true) (sym its) e in
@@ -66,25 +65,25 @@ newly_in_window i w unit p o q simple waits life rows e =
     (any_part (bears_position i.shape q) _ _ (chunk_blocks (log_of w 0) o p.stripe.unit) here)) in
     let of : IsOfChunk (log_of w 0) p o r.0 =
     all_at (IsOfChunk (log_of w 0) p o) (stripes_on (log_of w 0) o p.stripe.unit) r.2.0 r.0 r.2.1 (chunk_members (log_of w 0) p o) in
-    held_by_window i w q r.0 simple.mount of.among r.1 (newly_not_given i w unit p o q simple waits life rows e)
+    held_by_window i w q r.0 mount of.among r.1 (newly_not_given i w unit p o q mount waits life rows e)
 
-pub newly_has_landed : (i : Image) (w : World) (unit event : ℕ) (knows : List ℕ) (p : Placed) (o : Opening) (q : ℕ) → IsSimpleMount i w
+pub newly_has_landed : (i : Image) (w : World) (unit event : ℕ) (knows : List ℕ) (p : Placed) (o : Opening) (q : ℕ) → IsLegalMount i w
     → unanswered_on (log_of w 0) unit ≡ Some p → p.life ≡ Opened o → AreInRows i.shape (log_of w 0) o unit
     → list_any (bears_position i.shape q) (newly_readable i.shape (log_of w 0) o unit) ≡ true
     → has_landed_at i.shape (with_landing (log_of w 0) unit event knows) q ≡ true
-newly_has_landed i w unit event knows p o q simple waits life rows e =
-    newly_landed i.shape (log_of w 0) (with_landing (log_of w 0) unit event knows) p o q (landed_now i w unit event knows p o simple waits life rows)
-    (newest_in i w unit p simple.mount.legal waits)
+newly_has_landed i w unit event knows p o q mount waits life rows e =
+    newly_landed i.shape (log_of w 0) (with_landing (log_of w 0) unit event knows) p o q (landed_now i w unit event knows p o mount waits life rows)
+    (newest_in i w unit p mount.legal waits)
     (subst (λ u. list_any (bears_position i.shape q) (newly_readable i.shape (log_of w 0) o u) ≡ true)
     (sym (first_unanswered (log_of w 0) unit p waits).of_unit) e)
 
 -- what the stripe itself holds is in the window too
-pub own_in_window : (i : Image) (w : World) (unit : ℕ) (p : Placed) (q : ℕ) → IsSimpleMount i w → unanswered_on (log_of w 0) unit ≡ Some p
+pub own_in_window : (i : Image) (w : World) (unit : ℕ) (p : Placed) (q : ℕ) → IsLegalMount i w → unanswered_on (log_of w 0) unit ≡ Some p
     → holds_position i.shape q p ≡ true
     → (is_given_back i.shape (log_of w 0) q ≡ false) × (freed i.shape (log_of w 0) ≤ q) × (q < taken (log_of w 0))
-own_in_window i w unit p q simple waits holds =
+own_in_window i w unit p q mount waits holds =
     let among : IsAmong (placements (log_of w 0)) p = (first_unanswered (log_of w 0) unit p waits).among in
     let kept : is_given_back i.shape (log_of w 0) q ≡ false =
-    own_kept i.shape (log_of w 0) p q (held_once i w simple) among (ap is_land (one_more (log_of w 0) unit 0 [] p waits).before) holds in
-    let both = held_by_window i w q p simple.mount among holds kept in
+    own_kept i.shape (log_of w 0) p q (held_once i w mount) among (one_more (log_of w 0) unit 0 [] p waits).before holds in
+    let both = held_by_window i w q p mount among holds kept in
     (kept, both.0, both.1)

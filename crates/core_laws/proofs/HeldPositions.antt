@@ -1,10 +1,9 @@
 -- What a placer holds: what waits, and what stands in stripes that aren't answered.
-use Rattle.std.proofs.Common.{◌≡◌, ◌⊎◌, inl, inr, ℕ, ◌+◌, ◌-◌, ◌<◌, ◌≤◌, ◌==◌, ◌&&◌, ◌||◌, zero, suc, nat_lt, nat_le, Bool, true, false, Some, None, Option, List, [], ◌∷◌, ◌++◌, length, refl, sym, subst, ap, ap₂, ◌∙◌, arith, if◌then◌else◌}
+use Rattle.std.proofs.Common.{◌≡◌, ◌⊎◌, inl, inr, ℕ, ◌+◌, ◌-◌, ◌<◌, ◌≤◌, ◌==◌, ◌&&◌, ◌||◌, zero, suc, Bool, true, false, Some, None, Option, List, [], ◌∷◌, ◌++◌, length, refl, sym, subst, ap, ap₂, ◌∙◌, arith, if◌then◌else◌}
 use Rattle.std.specs.Prelude.{slice_get, map}
 use Rattle.std.specs.List.{AllByRecursion, flat_map, list_any, enumerate_from, range_with_len}
 use Rattle.std.specs.Option.{option_map_or}
-use Rattle.std.proofs.lemmas.Bool.{cases_order}
-use Rattle.std.proofs.lemmas.Option.{slice_get_past}
+use Rattle.std.proofs.lemmas.Bool.{cases_order, eqb-true}
 use Rattle.pblk_model.specs.declared.shape.Shape.{Shape}
 use Rattle.pblk_model.specs.Shape.{units}
 use Rattle.pblk_model.specs.Chunk.{Block}
@@ -12,22 +11,29 @@ use Rattle.pblk_model.specs.Image.{Image}
 use Rattle.pblk_model.specs.Contents.{least_missing}
 use Rattle.pblk_world.specs.Events.{Logged}
 use Rattle.pblk_world.specs.World.{Logs}
-use Rattle.pblk_world.specs.EngineLog.{takes, LineLife, AsFound, Opened, Freed, Placed, placements, answers, is_land, has_landed, bears_position, holds_position}
-use Rattle.pblk_world.specs.Fronts.{first_position, taken, has_landed_at, synced}
+use Rattle.pblk_world.specs.EngineLog.{Taken, takes, LineLife, AsFound, Opened, Freed, Placed, placements, answers, is_land, is_loss, has_landed, was_lost, bears_position, holds_position}
+use Rattle.pblk_world.specs.Fronts.{first_position, taken, has_landed_at, synced, waiting}
 use Rattle.pblk_world.specs.Space.{is_readable_in, gives_back, freed, placed_front}
 use Rattle.pblk_world.proofs.SyncedFront.{synced_is}
-use Rattle.stripe_placer.specs.Entries.{waiting}
 use Rattle.stripe_placer.specs.Placing.{Program, positions_in, held}
 use Rattle.stripe_placer.specs.Placing.UnitRow.{Idle}
-use Rattle.core_laws.specs.PlacerOf.{positions_of, positions_in_stripe, fresh_entries, entries_of, waits_again, program_of_placed, row_of_program, row_in, row_of, unanswered_on, placing_of}
-use Rattle.world_laws.proofs.UnitTurns.{unit_is as its_unit, turn_is as its_turn}
-use Rattle.core_laws.specs.Placed.{placed_positions, placed_count, IsInWindow}
-use Rattle.core_laws.proofs.Placed.{stripe_holds, in_range}
-use Rattle.core_laws.proofs.PlacedInOrder.{IsOrdered, in_order, lost_are_none, fresh_in_order, front_within}
-use Rattle.core_laws.proofs.Distinct.{IsIn, Distinct, in_joined, at_in, passing, in_made, made_of, distinct_joined, distinct_range, distinct_made, one_maker, distinct_rows, distinct_at, distinct_few}
+use Rattle.core_laws.specs.PlacerOf.{positions_of, positions_in_stripe, fresh_entries, waits_again, program_of_placed, row_of_program, row_in, row_of, unanswered_on, placing_of}
+use Rattle.world_laws.proofs.UnitTurns.{unit_is as its_unit}
+use Rattle.core_laws.specs.Placed.{IsInWindow}
+use Rattle.core_laws.specs.Positions.{AreNumbered}
+use Rattle.core_laws.proofs.AnsweredUnits.{first_answer}
+use Rattle.core_laws.proofs.NextTakes.{IsRising}
+use Rattle.core_laws.proofs.Placed.{is_in_list, stripe_holds}
+use Rattle.core_laws.proofs.PlacedAnew.{IsWaiting, holders_lost, landed_not_lost, waiting_wait}
+use Rattle.core_laws.proofs.PlacedInOrder.{HasEntries, IsOrdered, fresh_in_order, front_within, waiting_rises}
+use Rattle.core_laws.proofs.PlacedPositions.{numbered_below}
+use Rattle.core_laws.proofs.SyncedWindow.{numbered_above}
+use Rattle.core_laws.proofs.WaitingEntries.{waiting_alike}
+use Rattle.core_laws.proofs.Distinct.{IsIn, Distinct, in_joined, at_in, passing, made_of, distinct_joined, distinct_rows, distinct_at, distinct_few}
 use Rattle.lemmas.proofs.Lists.{IsAmong}
 use Rattle.lemmas.proofs.Maps.{all_in_range, from_filter}
-use Rattle.lemmas.proofs.Tests.{no_both}
+use Rattle.lemmas.proofs.Parts.{all_at}
+use Rattle.lemmas.proofs.Tests.{no_both, not_both, other_number}
 
 -- ---- the rows of the units
 
@@ -78,9 +84,26 @@ in_row i logs again unit q is = go (awaited_is i logs again unit)
 among : (log : List Logged) (unit : ℕ) (p : Placed) → unanswered_on log unit ≡ Some p → IsAmong (placements log) p
 among log unit p e = from_filter (λ (q : Placed). q.stripe.unit == unit) (placements log) p (length (answers log unit), e)
 
--- all stripes together hold a position once
-all_distinct : (s : Shape) (log : List Logged) → IsOrdered s log → Distinct (placed_positions s log)
-all_distinct s log is = subst Distinct (sym (in_order s log is)) (distinct_range (first_position log) (placed_count s log))
+pub distinct_rising : (ts : List Taken) → IsRising ts → Distinct (positions_of ts)
+distinct_rising [] rise = tt
+distinct_rising (t ∷ ts) rise = (none_same ts rise.0, distinct_rising ts rise.1)
+  where
+    none_same : (us : List Taken) → AllByRecursion (λ (u : Taken). t.entry.position < u.entry.position) us
+        → is_in_list (positions_of us) t.entry.position ≡ false
+    none_same [] all = refl
+    none_same (u ∷ us) all = ap₂ (λ a b. a || b)
+        (other_number u.entry.position t.entry.position (λ e. let less : t.entry.position < u.entry.position = all.0 in absurd (omega arith)))
+        (none_same us all.1)
+
+-- the entry of a position in such a list
+entry_of : (ts : List Taken) (q : ℕ) → IsIn (positions_of ts) q → (t : Taken) × IsAmong ts t × (t.entry.position ≡ q)
+entry_of ts q is =
+    let at = passing (λ (t : Taken). t.entry.position == q) ts (sym (any_mapped ts) ∙ is) in
+    (at.0, at.1, eqb-true at.0.entry.position q at.2)
+  where
+    any_mapped : (us : List Taken) → is_in_list (positions_of us) q ≡ list_any (λ (t : Taken). t.entry.position == q) us
+    any_mapped [] = refl
+    any_mapped (u ∷ us) = ap (λ b. (u.entry.position == q) || b) (any_mapped us)
 
 row_distinct : (i : Image) (logs : Logs) (again : List ℕ) → IsOrdered i.shape (logs 0) → (unit : ℕ) → Distinct (positions_in (row_of i logs again unit))
 row_distinct i logs again is unit = go (awaited_is i logs again unit)
@@ -91,21 +114,18 @@ row_distinct i logs again is unit = go (awaited_is i logs again unit)
     go (inl none) = subst Distinct (sym none) tt
     go (inr at) =
         let there : IsAmong (placements (logs 0)) at.0 = among (logs 0) unit at.0 at.1 in
-        subst Distinct (sym at.2) (distinct_made (λ (p : Placed). positions_in_stripe i.shape p.stripe) (placements (logs 0)) at.0 there.0 there.1
-        (all_distinct i.shape (logs 0) is))
-
--- two stripes that hold a position are one
-one_holder : (s : Shape) (log : List Logged) → IsOrdered s log → (p r : Placed) (q : ℕ) → IsAmong (placements log) p → IsAmong (placements log) r
-    → IsIn (positions_in_stripe s p.stripe) q → IsIn (positions_in_stripe s r.stripe) q → p ≡ r
-one_holder s log is p r q a b c d =
-    one_maker (λ (p : Placed). positions_in_stripe s p.stripe) (placements log) p r a.0 b.0 q a.1 b.1 (all_distinct s log is) c d
+        let its : HasEntries i.shape (logs 0) at.0.stripe =
+        all_at (λ (p : Placed). HasEntries i.shape (logs 0) p.stripe) (placements (logs 0)) there.0 at.0 there.1 is.entries in
+        subst Distinct (sym (at.2 ∙ its.positions)) (distinct_rising its.entries its.rising)
 
 one_row : (i : Image) (logs : Logs) (again : List ℕ) → IsOrdered i.shape (logs 0) → (u v q : ℕ) → IsIn (positions_in (row_of i logs again u)) q
     → IsIn (positions_in (row_of i logs again v)) q → u ≡ v
 one_row i logs again is u v q a b =
     let p = in_row i logs again u q a in
     let r = in_row i logs again v q b in
-    let same : p.0 ≡ r.0 = one_holder i.shape (logs 0) is p.0 r.0 q (among (logs 0) u p.0 p.1) (among (logs 0) v r.0 r.1) p.2 r.2 in
+    let same : p.0 ≡ r.0 = is.once q p.0 r.0 (among (logs 0) u p.0 p.1) (among (logs 0) v r.0 r.1)
+    (stripe_holds i.shape q p.0 ∙ p.2) (stripe_holds i.shape q r.0 ∙ r.2)
+    (ap is_loss (first_answer (logs 0) u p.0 p.1)) (ap is_loss (first_answer (logs 0) v r.0 r.1)) in
     sym (its_unit (logs 0) u (length (answers (logs 0) u)) p.0 p.1) ∙ ap (λ (x : Placed). x.stripe.unit) same
     ∙ its_unit (logs 0) v (length (answers (logs 0) v)) r.0 r.1
 
@@ -115,41 +135,38 @@ made_mapped f g (x ∷ xs) = ap (λ ys. g (f x) ++ ys) (made_mapped f g xs)
 
 -- ---- all that is held
 
-waiting_positions : (s : Shape) (log : List Logged) (pad : ℕ) → IsOrdered s log
-    → waiting (entries_of s log pad) ≡ range_with_len (placed_front s log) (taken log - placed_front s log)
-waiting_positions s log pad is = ap₂ (λ (a b : List ℕ). a ++ b) (ap positions_of (lost_are_none s log is)) (fresh_in_order s log is)
-
-pub held_is : (i : Image) (logs : Logs) (pad : ℕ) (again : List ℕ) → IsOrdered i.shape (logs 0)
-    → held (placing_of i logs pad again) ≡ range_with_len (placed_front i.shape (logs 0)) (taken (logs 0) - placed_front i.shape (logs 0))
+pub held_is : (i : Image) (logs : Logs) (pad : ℕ) (again : List ℕ)
+    → held (placing_of i logs pad again) ≡ positions_of (waiting i.shape (logs 0))
     ++ flat_map (λ unit. positions_in (row_of i logs again unit)) (range_with_len 0 (units i.shape))
-held_is i logs pad again is = ap₂ (λ (a b : List ℕ). a ++ b) (waiting_positions i.shape (logs 0) pad is)
+held_is i logs pad again = ap₂ (λ (a b : List ℕ). a ++ b) (waiting_alike i.shape (logs 0) pad)
     (made_mapped (row_of i logs again) positions_in (range_with_len 0 (units i.shape)))
 
-by_range : (a n q : ℕ) → IsIn (range_with_len a n) q → (a ≤ q) × (q < a + n)
-by_range a n q e =
-    let is : (nat_le a q && nat_lt q (a + n)) ≡ true = sym (in_range a n q) ∙ e in
-    let low : a ≤ q = grind arith in
-    let high : q < a + n = grind arith in
-    (low, high)
-
-in_stripe_below : (s : Shape) (log : List Logged) → IsOrdered s log → (p : Placed) (q : ℕ) → IsAmong (placements log) p
-    → IsIn (positions_in_stripe s p.stripe) q → (first_position log ≤ q) × (q < placed_front s log)
-in_stripe_below s log is p q at holds =
-    by_range (first_position log) (placed_count s log) q
-    (subst (λ xs. IsIn xs q) (in_order s log is) (in_made (λ (p : Placed). positions_in_stripe s p.stripe) (placements log) p at.0 q at.1 holds))
+-- an entry that waits is in no stripe but lost ones
+waiting_at : (s : Shape) (log : List Logged) (q : ℕ) → IsIn (positions_of (waiting s log)) q
+    → (t : Taken) × IsAmong (takes log) t × (t.entry.position ≡ q)
+    × ((p : Placed) → IsAmong (placements log) p → holds_position s q p ≡ true → was_lost log p ≡ true)
+waiting_at s log q is =
+    let at = entry_of (waiting s log) q is in
+    let wait : IsWaiting s log at.0 = all_at (IsWaiting s log) (waiting s log) at.1.0 at.0 at.1.1 (waiting_wait s log) in (
+      at.0,
+      wait.0,
+      at.2,
+      λ p there holds. all_at (λ (p : Placed). holds_position s at.0.entry.position p ≡ true → was_lost log p ≡ true) (placements log) there.0 p there.1
+          (holders_lost s log at.0 wait.1) (ap (λ n. holds_position s n p) at.2 ∙ holds),
+    )
 
 pub held_distinct : (i : Image) (logs : Logs) (pad : ℕ) (again : List ℕ) → IsOrdered i.shape (logs 0) → Distinct (held (placing_of i logs pad again))
-held_distinct i logs pad again is = subst Distinct (sym (held_is i logs pad again is))
-    (distinct_joined (range_with_len (placed_front i.shape (logs 0)) (taken (logs 0) - placed_front i.shape (logs 0)))
+held_distinct i logs pad again is = subst Distinct (sym (held_is i logs pad again))
+    (distinct_joined (positions_of (waiting i.shape (logs 0)))
     (flat_map (λ unit. positions_in (row_of i logs again unit)) (range_with_len 0 (units i.shape)))
-    (distinct_range (placed_front i.shape (logs 0)) (taken (logs 0) - placed_front i.shape (logs 0)))
+    (distinct_rising (waiting i.shape (logs 0)) (waiting_rises i.shape (logs 0) is.numbered is.order))
     (distinct_rows (λ unit. positions_in (row_of i logs again unit)) 0 (units i.shape) (row_distinct i logs again is) (one_row i logs again is))
-    (λ q fresh placed.
-    let above : placed_front i.shape (logs 0) ≤ q = (by_range (placed_front i.shape (logs 0)) (taken (logs 0) - placed_front i.shape (logs 0)) q fresh).0 in
+    (λ q waits placed.
     let row = made_of (λ unit. positions_in (row_of i logs again unit)) 0 (units i.shape) q placed in
     let p = in_row i logs again row.0 q row.3 in
-    let below : q < placed_front i.shape (logs 0) = (in_stripe_below i.shape (logs 0) is p.0 q (among (logs 0) row.0 p.0 p.1) p.2).1 in
-    absurd (omega arith)))
+    not_both (was_lost (logs 0) p.0)
+    ((waiting_at i.shape (logs 0) q waits).3 p.0 (among (logs 0) row.0 p.0 p.1) (stripe_holds i.shape q p.0 ∙ p.2))
+    (ap is_loss (first_answer (logs 0) row.0 p.0 p.1))))
 
 -- ---- what is held hasn't landed
 
@@ -174,50 +191,51 @@ no_land s log q never = go (has_landed_at s log q) refl
         absurd (never at.0 at.1 parts.0 parts.1)
     go false e = refl
 
-fresh_held : (s : Shape) (log : List Logged) → IsOrdered s log → (q : ℕ) → placed_front s log ≤ q → q < taken log → IsHeld s log q
-fresh_held s log is q above below = record {
-  low = omega arith;
-  high = below;
-  not_landed = no_land s log q (λ p at landed holds.
-      let under : q < placed_front s log = (in_stripe_below s log is p q at (sym (stripe_holds s q p) ∙ holds)).1 in
-      absurd (omega arith));
-}
+-- what was taken is within the positions
+in_takes : (log : List Logged) (t : Taken) → AreNumbered log → IsAmong (takes log) t → (first_position log ≤ t.entry.position) × (t.entry.position < taken log)
+in_takes log t numbered at = (
+  all_at (λ (t : Taken). first_position log ≤ t.entry.position) (takes log) at.0 t at.1 (numbered_above (first_position log) (takes log) numbered),
+  all_at (λ (t : Taken). t.entry.position < taken log) (takes log) at.0 t at.1
+      (numbered_below (first_position log) (length (takes log)) (takes log) numbered),
+)
 
-unanswered : (log : List Logged) (unit : ℕ) (p : Placed) → unanswered_on log unit ≡ Some p → has_landed log p ≡ false
-unanswered log unit p e =
-    ap₂ (λ u k. is_land (slice_get (answers log u) k)) (its_unit log unit (length (answers log unit)) p e) (its_turn log unit (length (answers log unit)) p e)
-    ∙ ap is_land (slice_get_past (answers log unit) (length (answers log unit)) (omega arith))
+waiting_held : (s : Shape) (log : List Logged) → IsOrdered s log → (q : ℕ) → IsIn (positions_of (waiting s log)) q → IsHeld s log q
+waiting_held s log is q waits =
+    let at = waiting_at s log q waits in
+    let bounds = in_takes log at.0 is.numbered at.1 in
+    record {
+      low = subst (λ n. first_position log ≤ n) at.2 bounds.0;
+      high = subst (λ n. n < taken log) at.2 bounds.1;
+      not_landed = no_land s log q (λ p there landed holds. not_both (was_lost log p) (at.3 p there holds) (landed_not_lost log p landed));
+    }
 
 row_held : (i : Image) (logs : Logs) (again : List ℕ) → IsOrdered i.shape (logs 0) → (unit q : ℕ) → IsIn (positions_in (row_of i logs again unit)) q
     → IsHeld i.shape (logs 0) q
 row_held i logs again is unit q e =
     let p = in_row i logs again unit q e in
     let there : IsAmong (placements (logs 0)) p.0 = among (logs 0) unit p.0 p.1 in
-    let at = in_stripe_below i.shape (logs 0) is p.0 q there p.2 in
-    let low : first_position (logs 0) ≤ q = at.0 in
-    let high : q < placed_front i.shape (logs 0) = at.1 in
-    let within : placed_front i.shape (logs 0) ≤ taken (logs 0) = front_within i.shape (logs 0) is in
+    let its : HasEntries i.shape (logs 0) p.0.stripe =
+    all_at (λ (p : Placed). HasEntries i.shape (logs 0) p.stripe) (placements (logs 0)) there.0 p.0 there.1 is.entries in
+    let at = entry_of its.entries q (subst (λ qs. IsIn qs q) its.positions p.2) in
+    let bounds = in_takes (logs 0) at.0 is.numbered (all_at (IsAmong (takes (logs 0))) its.entries at.1.0 at.0 at.1.1 its.among) in
     record {
-      low = low;
-      high = omega arith;
+      low = subst (λ n. first_position (logs 0) ≤ n) at.2 bounds.0;
+      high = subst (λ n. n < taken (logs 0)) at.2 bounds.1;
       not_landed = no_land i.shape (logs 0) q (λ r its landed holds.
-          let same : r ≡ p.0 = one_holder i.shape (logs 0) is r p.0 q its there (sym (stripe_holds i.shape q r) ∙ holds) p.2 in
-          no_both (has_landed (logs 0) r) landed (ap (has_landed (logs 0)) same ∙ unanswered (logs 0) unit p.0 p.1));
+          let same : r ≡ p.0 = is.once q r p.0 its there holds (stripe_holds i.shape q p.0 ∙ p.2) (landed_not_lost (logs 0) r landed)
+          (ap is_loss (first_answer (logs 0) unit p.0 p.1)) in
+          no_both (has_landed (logs 0) r) landed (ap (has_landed (logs 0)) same ∙ ap is_land (first_answer (logs 0) unit p.0 p.1)));
     }
 
 pub held_at : (i : Image) (logs : Logs) (pad : ℕ) (again : List ℕ) → IsOrdered i.shape (logs 0) → (q : ℕ) → IsIn (held (placing_of i logs pad again)) q
     → IsHeld i.shape (logs 0) q
 held_at i logs pad again is q e =
-    go (in_joined (range_with_len (placed_front i.shape (logs 0)) (taken (logs 0) - placed_front i.shape (logs 0)))
-    (flat_map (λ unit. positions_in (row_of i logs again unit)) (range_with_len 0 (units i.shape))) q (subst (λ xs. IsIn xs q) (held_is i logs pad again is) e))
+    go (in_joined (positions_of (waiting i.shape (logs 0))) (flat_map (λ unit. positions_in (row_of i logs again unit)) (range_with_len 0 (units i.shape))) q
+    (subst (λ xs. IsIn xs q) (held_is i logs pad again) e))
   where
-    go : IsIn (range_with_len (placed_front i.shape (logs 0)) (taken (logs 0) - placed_front i.shape (logs 0))) q
+    go : IsIn (positions_of (waiting i.shape (logs 0))) q
         ⊎ IsIn (flat_map (λ unit. positions_in (row_of i logs again unit)) (range_with_len 0 (units i.shape))) q → IsHeld i.shape (logs 0) q
-    go (inl fresh) =
-        let at = by_range (placed_front i.shape (logs 0)) (taken (logs 0) - placed_front i.shape (logs 0)) q fresh in
-        let low : placed_front i.shape (logs 0) ≤ q = at.0 in
-        let high : q < placed_front i.shape (logs 0) + (taken (logs 0) - placed_front i.shape (logs 0)) = at.1 in
-        fresh_held i.shape (logs 0) is q low (omega arith)
+    go (inl waits) = waiting_held i.shape (logs 0) is q waits
     go (inr placed) =
         let row = made_of (λ unit. positions_in (row_of i logs again unit)) 0 (units i.shape) q placed in
         row_held i logs again is row.0 q row.3

@@ -44,7 +44,7 @@ is_idle i us w again unit is idle none = go (unanswered_on (log_of w 0) unit) re
         → stopped_in (option_map_or (λ p. row_in i (log_of w) (waits_again (log_of w 0) again unit) p.life p) o Idle) ≡ None
         → length (answers (log_of w 0) unit) ≡ length (placed_on (log_of w 0) unit)
     go None e f g =
-        let most : length (answers (log_of w 0) unit) ≤ length (placed_on (log_of w 0) unit) = answers_fit i w unit is.simple.mount.legal in
+        let most : length (answers (log_of w 0) unit) ≤ length (placed_on (log_of w 0) unit) = answers_fit i w unit is.mount.legal in
         let least : length (placed_on (log_of w 0) unit) ≤ length (answers (log_of w 0) unit) =
         none_past (placed_on (log_of w 0) unit) (length (answers (log_of w 0) unit)) e in
         omega arith
@@ -56,7 +56,7 @@ is_idle i us w again unit is idle none = go (unanswered_on (log_of w 0) unit) re
     go (Some p) e f g =
         let among : IsAmong (placements (log_of w 0)) p =
         from_filter (λ (q : Placed). q.stripe.unit == unit) (placements (log_of w 0)) p (length (answers (log_of w 0) unit), e) in
-        let life = life_of_stripe i w p is.simple.mount.legal (contained_among (placements (log_of w 0)) p among) in
+        let life = life_of_stripe i w p is.mount.legal (contained_among (placements (log_of w 0)) p among) in
         let opened : is_opened p.life ≡ true = ap is_opened life.1 in
         let under : is_under_way (row_in i (log_of w) (waits_again (log_of w 0) again unit) p.life p) ≡ true =
         row_busy i (log_of w) (waits_again (log_of w 0) again unit) p.life p opened g in

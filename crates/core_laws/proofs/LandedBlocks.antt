@@ -63,7 +63,7 @@ landed_either : (log new : List Logged) (p r : Placed) → (r ≡ p) ⊎ (answer
 landed_either log new p r (inl same) = inl same
 landed_either log new p r (inr kept) = inr (ap is_land kept)
 
-on_all : (P : Placed → Type 0) (log : List Logged) (o : Opening) (unit : ℕ) → AllByRecursion P (placements log) → AllByRecursion P (stripes_on log o unit)
+pub on_all : (P : Placed → Type 0) (log : List Logged) (o : Opening) (unit : ℕ) → AllByRecursion P (placements log) → AllByRecursion P (stripes_on log o unit)
 on_all P log o unit all = all_filter P (λ (p : Placed). p.stripe.unit == unit) (stripes_of log o)
     (all_filter P (λ (p : Placed). is_life o.number p.life) (placements log) all)
 
@@ -113,7 +113,7 @@ blocks_elsewhere s log new p other unit is apart =
     (on_all (λ (r : Placed). (r ≡ p) ⊎ (answer_of new r ≡ answer_of log r)) log other unit is.others) apart))
 
 -- nothing more is lost
-lost_by : (log new : List Logged) (p r : Placed) → IsOneMore log new p → (r ≡ p) ⊎ (answer_of new r ≡ answer_of log r) → was_lost new r ≡ was_lost log r
+pub lost_by : (log new : List Logged) (p r : Placed) → IsOneMore log new p → (r ≡ p) ⊎ (answer_of new r ≡ answer_of log r) → was_lost new r ≡ was_lost log r
 lost_by log new p r is (inl same) = ap (was_lost new) same ∙ is.not_lost ∙ sym (ap is_loss is.before) ∙ ap (was_lost log) (sym same)
 lost_by log new p r is (inr kept) = ap is_loss kept
 

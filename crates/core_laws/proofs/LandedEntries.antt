@@ -1,8 +1,8 @@
 -- What a stripe that has landed changes in the table: its entries have landed in its line, and the
 -- line may be full.
-use Rattle.std.proofs.Common.{◌≡◌, ◌≢◌, ◌⊎◌, inl, inr, ℕ, ◌/◌, ◌&&◌, zero, suc, nat_eq, Bool, true, false, cond, Some, None, Option, List, [], ◌∷◌, refl, sym, ap, ap₂, ◌∙◌}
+use Rattle.std.proofs.Common.{◌≡◌, ◌≢◌, ◌⊎◌, inl, inr, ℕ, ◌/◌, ◌&&◌, zero, suc, nat_eq, Bool, true, false, cond, Some, None, Option, List, [], ◌∷◌, refl, sym, ap, ap₂, ◌∙◌, ◌<◌, ◌≤◌, ◌*◌, length, subst}
 use Rattle.std.specs.Prelude.{if◌then◌else◌, slice_get}
-use Rattle.std.specs.List.{AllByRecursion, find}
+use Rattle.std.specs.List.{AllByRecursion, find, filter}
 use Rattle.std.specs.Option.{option_map}
 use Rattle.std.proofs.lemmas.Bool.{eqb-true}
 use Rattle.std.proofs.lemmas.Option.{same_Some, none-some}
@@ -11,7 +11,7 @@ use Rattle.pblk_model.specs.UnitLog.{UnitEvent}
 use Rattle.pblk_model.specs.Image.{Image}
 use Rattle.pblk_world.specs.Events.{Landed, Decides, Logged}
 use Rattle.pblk_world.specs.World.{Logs, unit_event_at}
-use Rattle.pblk_world.specs.EngineLog.{Opened, life_of, is_life, Opening, Placed, placements, DidLand, answer_of, is_land, has_landed, has_failed, holds_position, Taken, takes, AsFound, Freed, LineLife}
+use Rattle.pblk_world.specs.EngineLog.{Opened, life_of, is_life, Opening, Placed, placements, DidLand, answer_of, is_land, has_landed, has_failed, holds_position, Taken, takes, AsFound, Freed, LineLife, stripes_of}
 use Rattle.pblk_world.specs.Lines.{told_by}
 use Rattle.pblk_world.specs.Starts.{have_landed}
 use Rattle.pblk_world.specs.Placing.{line_end}
@@ -25,7 +25,9 @@ use Rattle.core_laws.proofs.Answered.{first_unanswered, its_answer, others_answe
 use Rattle.core_laws.proofs.SteppingLemmas.{found_kept}
 use Rattle.core_laws.specs.ChangedTables.{with_row, full_if}
 use Rattle.core_laws.specs.PlacedEntries.{note_entries}
-use Rattle.core_laws.specs.PlainLogs.{FreedBefore, NoLineFailed}
+use Rattle.core_laws.specs.PlainLogs.{FreedBefore}
+use Rattle.core_laws.specs.InOrder.{HasRoom}
+use Rattle.core_laws.proofs.LineRoom.{failed_not_landed}
 use Rattle.core_laws.proofs.KeptStripes.{with_event, KeepsStripes, stripes_kept, lives_kept}
 use Rattle.core_laws.proofs.KeptRows.{KeepsChunks, live_by, state_same, width_same, row_parts, same_row, KeepsThen, then_kept}
 use Rattle.core_laws.proofs.LandedRows.{force_kept, winner_kept, line_of_kept, none_taken, keeps_chunks}
@@ -148,23 +150,24 @@ places_landed i logs unit event knows p o ts waits its opened are lba (Some u) =
 -- ---- the rows
 
 -- by whether the line has landed whole now, and whether it had before
-state_now : (failed then_ now : Bool) → failed ≡ false → (then_ ≡ true → now ≡ true) → (wide sectors : ℕ) (taker : Option ℕ)
+state_now : (failed then_ now : Bool) → (failed ≡ true → now ≡ false) → (then_ ≡ true → now ≡ true) → (wide sectors : ℕ) (taker : Option ℕ)
     → row_parts (if failed then states.Failed else if now then states.Full else states.Open) wide sectors taker
     ≡ full_if now (row_parts (if failed then states.Failed else if then_ then states.Full else states.Open) wide sectors taker)
-state_now true then_ now fine stays wide sectors taker = absurd cc
+state_now true then_ true fine stays wide sectors taker = absurd (cc (fine refl))
+state_now true then_ false fine stays wide sectors taker = refl
 state_now false true true fine stays wide sectors taker = refl
 state_now false true false fine stays wide sectors taker = absurd (cc (stays refl))
 state_now false false true fine stays wide sectors taker = refl
 state_now false false false fine stays wide sectors taker = refl
 
 pub rows_landed : (i : Image) (logs : Logs) (unit event : ℕ) (knows : List ℕ) (p : Placed) (o : Opening) (ts : List Taken) → FreedBefore (logs 0)
-    → NoLineFailed (logs 0) → unanswered_on (logs 0) unit ≡ Some p → p.life ≡ Opened o
+    → 0 < i.shape.ws_opt → HasRoom i.shape (logs 0) o → unanswered_on (logs 0) unit ≡ Some p → p.life ≡ Opened o
     → life_of (logs 0) p.stripe.line ≡ Opened o → ((e : UnitEvent) → unit_event_at logs unit event ≡ Some e → e.chunk ≡ p.stripe.line)
     → IsRising (takes (logs 0)) → AreItsEntries i logs p ts
     → rows_of i (after logs (Landed unit event) knows)
     ≡ with_row p.stripe.line (full_if (have_landed (after logs (Landed unit event) knows 0) o (line_end i.shape o / i.shape.ws_opt)))
     (note_entries (logs 0) p.stripe.line (rows_of i logs) ts)
-rows_landed i logs unit event knows p o ts before fine waits its opened chunk rise are =
+rows_landed i logs unit event knows p o ts before some room waits its opened chunk rise are =
     table_changes i.shape (row_with i logs (line_of i logs) landed) (row_of_line i new) p.stripe.line (full_if (have_landed (new 0) o n)) here there
     ∙ ap (with_row p.stripe.line (full_if (have_landed (new 0) o n)))
     (entries_landed i logs p.stripe.line ts (line_of i logs) (landed_line_of i logs) (ap is_freed opened) rise are.rising are.among
@@ -183,6 +186,15 @@ rows_landed i logs unit event knows p o ts before fine waits its opened chunk ri
 
     kept : KeepsStripes (logs 0) (new 0)
     kept = stripes_kept (logs 0) (Landed unit event) knows refl
+
+    -- a line that has failed doesn't land whole
+    never : has_failed (logs 0) o ≡ true → have_landed (after logs (Landed unit event) knows 0) o (line_end i.shape o / i.shape.ws_opt) ≡ false
+    never failed =
+        let same : stripes_of (new 0) o ≡ stripes_of (logs 0) o =
+        ap (filter (λ (r : Placed). is_life o.number r.life)) (its_landing (logs 0) unit event knows).placements in
+        failed_not_landed i.shape (new 0) o some
+        (record { some = room.some; within = subst (λ (ps : List Placed). length ps * i.shape.ws_opt ≤ line_end i.shape o) (sym same) room.within })
+        (failed_kept (logs 0) (new 0) kept o ∙ failed)
 
     life : (m : ℕ) → life_of (new 0) m ≡ life_of (logs 0) m
     life m = lives_kept (logs 0) (Landed unit event) knows m refl
@@ -217,7 +229,7 @@ rows_landed i logs unit event knows p o ts before fine waits its opened chunk ri
         (ap (state_in i new p.stripe.line) (life p.stripe.line ∙ opened)
         ∙ ap (λ b. if b then states.Failed else if have_landed (new 0) o n then states.Full else states.Open) (failed_kept (logs 0) (new 0) kept o))
         (ap (width_in i new p.stripe.line) (life p.stripe.line ∙ opened)) (live_same p.stripe.line) (taker_now p.stripe.line)
-        ∙ state_now (has_failed (logs 0) o) (have_landed (logs 0) o n) (have_landed (new 0) o n) (fine o) (have_landed_stays (logs 0) unit event knows o n)
+        ∙ state_now (has_failed (logs 0) o) (have_landed (logs 0) o n) (have_landed (new 0) o n) never (have_landed_stays (logs 0) unit event knows o n)
         o.start.width (live_with i.shape.capacity (takes (logs 0)) (line_of i logs) p.stripe.line)
         (taker_for i logs landed p.stripe.line (life_of (logs 0) p.stripe.line))
         ∙ ap (full_if (have_landed (new 0) o n))

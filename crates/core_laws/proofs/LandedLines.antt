@@ -11,12 +11,12 @@ use Rattle.stripe_placer.specs.OpenLines.{Stripe, OpenLine, numbers, is_lost, is
 use Rattle.stripe_placer.specs.OpenLines.Stripe.{Unplaced, Unanswered, Landed as HasLanded, Lost as WasIt}
 use Rattle.stripe_placer.specs.Placing.{Program}
 use Rattle.core_laws.specs.Stepping.{after}
-use Rattle.core_laws.specs.SimpleMounts.{IsSimpleMount}
+use Rattle.world_laws.specs.LegalMounts.{IsLegalMount}
 use Rattle.core_laws.specs.OpenedLines.{as_opened, by_answer, became, placed_as, outcome, open_line}
 use Rattle.core_laws.specs.PlacerOf.{IsAwaited}
 use Rattle.core_laws.proofs.TakenSlots.{any_same}
 use Rattle.core_laws.specs.LeftOpenings.{left_openings}
-use Rattle.core_laws.proofs.PlacedInOrder.{HaveNoLoss, never_lost, ordered}
+use Rattle.core_laws.specs.PlainLogs.{NoStripeLost}
 use Rattle.core_laws.proofs.LeftLines.{left_landed}
 use Rattle.lemmas.proofs.Maps.{filter_same}
 use Rattle.stripe_placer.proofs.OpenLinesLemmas.{no_chunk_closed}
@@ -61,22 +61,22 @@ left_by_landing l all =
     ∙ any_numbered is_unplaced l.stripes)
     ∙ left_parts l.stripes all
 
--- ---- no stripe of a simple mount was lost
+-- ---- where no stripe was lost
 
 answer_not_lost : (a : Option Answer) → is_loss a ≡ false → is_lost (by_answer a) ≡ false
 answer_not_lost None e = refl
 answer_not_lost (Some (DidLand k)) e = refl
 answer_not_lost (Some (WasLost k)) e = absurd cc
 
-became_not_lost : (log : List Logged) → HaveNoLoss log → (x : Option Placed) → is_lost (became log x) ≡ false
+became_not_lost : (log : List Logged) → NoStripeLost log → (x : Option Placed) → is_lost (became log x) ≡ false
 became_not_lost log none None = refl
-became_not_lost log none (Some p) = answer_not_lost (answer_of log p) (never_lost log none p)
+became_not_lost log none (Some p) = answer_not_lost (answer_of log p) (none p)
 
 all_mapped : {X Y : Type 0} (P : Y → Type 0) (f : X → Y) → ((x : X) → P (f x)) → (xs : List X) → AllByRecursion P (map f xs)
 all_mapped P f says [] = tt
 all_mapped P f says (x ∷ xs) = (says x, all_mapped P f says xs)
 
-pub none_lost_in : (i : Image) (logs : Logs) → HaveNoLoss (logs 0) → (o : Opening) → AllByRecursion (λ x. is_lost x ≡ false) (open_line i logs o).stripes
+pub none_lost_in : (i : Image) (logs : Logs) → NoStripeLost (logs 0) → (o : Opening) → AllByRecursion (λ x. is_lost x ≡ false) (open_line i logs o).stripes
 none_lost_in i logs none o = all_mapped (λ x. is_lost x ≡ false) (outcome i.shape (logs 0) o (as_opened i logs o))
     (λ j. became_not_lost (logs 0) none (placed_as i.shape (logs 0) o (as_opened i logs o) j)) (numbers (as_opened i logs o))
 
@@ -94,18 +94,19 @@ none_lost_line l line j all = go (nat_eq l.line line)
     go true = none_lost_set l.stripes j HasLanded refl all
     go false = all
 
-pub left_until_landed : (i : Image) (w : World) (o : Opening) → IsSimpleMount i w
+pub left_until_landed : (i : Image) (w : World) (o : Opening) → NoStripeLost (log_of w 0)
     → has_left (open_line i (log_of w) o) ≡ not (list_all is_landed (open_line i (log_of w) o).stripes)
-left_until_landed i w o simple = left_by_landing (open_line i (log_of w) o) (none_lost_in i (log_of w) (ordered i w simple).no_loss o)
+left_until_landed i w o none = left_by_landing (open_line i (log_of w) o) (none_lost_in i (log_of w) none o)
 
-pub left_after_landing : (i : Image) (w : World) (event : ℕ) (knows : List ℕ) (pad : ℕ) (again : List ℕ) (of : Program) → IsSimpleMount i w
+pub left_after_landing : (i : Image) (w : World) (event : ℕ) (knows : List ℕ) (pad : ℕ) (again : List ℕ) (of : Program) → IsLegalMount i w
+    → NoStripeLost (log_of w 0)
     → IsAwaited i (log_of w) pad again of
     → left_openings i (after (log_of w) (Landed of.unit event) knows) ≡ filter
     (λ o. not (list_all is_landed (in_line of.line (of.at / i.shape.ws_opt) HasLanded (open_line i (log_of w) o)).stripes)) (left_openings i (log_of w))
-left_after_landing i w event knows pad again of simple awaited =
-    left_landed i (log_of w) event knows pad again of simple.mount.accepted.drive.ws_opt awaited
+left_after_landing i w event knows pad again of mount none awaited =
+    left_landed i (log_of w) event knows pad again of mount.accepted.drive.ws_opt awaited
     ∙ filter_same (λ o. has_left (in_line of.line (of.at / i.shape.ws_opt) HasLanded (open_line i (log_of w) o)))
     (λ o. not (list_all is_landed (in_line of.line (of.at / i.shape.ws_opt) HasLanded (open_line i (log_of w) o)).stripes))
     (λ o. left_by_landing (in_line of.line (of.at / i.shape.ws_opt) HasLanded (open_line i (log_of w) o))
-    (none_lost_line (open_line i (log_of w) o) of.line (of.at / i.shape.ws_opt) (none_lost_in i (log_of w) (ordered i w simple).no_loss o)))
+    (none_lost_line (open_line i (log_of w) o) of.line (of.at / i.shape.ws_opt) (none_lost_in i (log_of w) none o)))
     (left_openings i (log_of w))

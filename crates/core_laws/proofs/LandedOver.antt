@@ -1,9 +1,8 @@
 -- Where no stripe was lost, nothing more is written to an opened line exactly if all its stripes have
 -- landed.
-use Rattle.std.proofs.Common.{◌≡◌, ◌⊎◌, inl, inr, ℕ, ◌+◌, ◌*◌, ◌/◌, ◌%◌, ◌<◌, ◌==◌, suc, zero, Bool, true, false, Some, None, List, length, refl, sym, subst, ap, ap₂, ◌∙◌, arith, if◌then◌else◌, div-add-mod'}
+use Rattle.std.proofs.Common.{◌≡◌, ◌⊎◌, inl, inr, ℕ, ◌+◌, ◌*◌, ◌/◌, ◌%◌, ◌<◌, suc, zero, Bool, true, false, Some, List, length, refl, sym, subst, ap, ap₂, ◌∙◌, arith, if◌then◌else◌, div-add-mod'}
 use Rattle.std.specs.Prelude.{slice_get}
 use Rattle.std.specs.List.{Contains, list_all}
-use Rattle.std.specs.Option.{IfSome}
 use Rattle.std.proofs.lemmas.Nat.{div-mul-add, mod-mul-add}
 use Rattle.std.proofs.lemmas.Option.{same_Some}
 use Rattle.std.proofs.Math.Nat.{lt_of_mul-lt-mul_right, mul-div_cancel, zero-mul}
@@ -14,20 +13,20 @@ use Rattle.pblk_model.specs.Image.{Image, is_online_in, line_units, width}
 use Rattle.pblk_model.specs.LineOrder.{block_of, column_of}
 use Rattle.pblk_laws.specs.LineBlocks.{chunk_in}
 use Rattle.pblk_laws.proofs.LineUnits.{line_units_chunks, line_units_count}
-use Rattle.pblk_world.specs.EngineLog.{Answer, DidLand, answer_by, has_failed, is_loss, LineLife, is_as_found, life_of, Opened, Opening, Placed, stripes_of, was_lost}
-use Rattle.pblk_world.specs.Events.{Decides, Does, Event, Landed, Logged, Lost}
+use Rattle.pblk_world.specs.EngineLog.{has_failed, LineLife, is_as_found, life_of, Opened, Opening, Placed, stripes_of, was_lost}
+use Rattle.pblk_world.specs.Events.{Logged}
 use Rattle.pblk_world.specs.Lines.{are_over, chunks_of, is_over_state, known_image, place_of}
 use Rattle.pblk_world.specs.Placing.{IsNext, line_end}
 use Rattle.pblk_world.specs.Starts.{have_landed}
 use Rattle.pblk_world.specs.Victims.{engine_prefix}
 use Rattle.pblk_world.specs.World.{World, log_of, media}
 use Rattle.line_table.specs.declared.row.LineState.TheVariants.{Full, Failed, Open}
-use Rattle.lemmas.proofs.Lists.{IsAmong, all_of}
-use Rattle.lemmas.proofs.Maps.{all_filter_map, any_fail, in_filter}
+use Rattle.lemmas.proofs.Lists.{IsAmong, among_contained}
+use Rattle.lemmas.proofs.Maps.{in_filter}
 use Rattle.lemmas.proofs.Options.{mapped_some, split_then}
 use Rattle.lemmas.proofs.Parts.{all_by_get, contained_among, get_below}
 use Rattle.lemmas.proofs.Tests.{not_both}
-use Rattle.world_laws.specs.LegalMounts.{decides, is_losing, IsLegalMount, NoneLost}
+use Rattle.world_laws.specs.LegalMounts.{IsLegalMount}
 use Rattle.world_laws.proofs.LifePlaces.{units_now}
 use Rattle.world_laws.proofs.LineBlocks.{IsLineOf, opened_line}
 use Rattle.world_laws.proofs.LineStarts.{in_order_at, landed_of}
@@ -37,24 +36,9 @@ use Rattle.core_laws.proofs.DoneLines.{full_or_failed}
 use Rattle.core_laws.proofs.EachChunk.{all_hold}
 use Rattle.core_laws.proofs.FreedWidths.{opened_width}
 use Rattle.core_laws.proofs.LandedChunks.{landed_fills}
-use Rattle.core_laws.proofs.PlacedInOrder.{HaveNoLoss, never_lost}
+use Rattle.core_laws.proofs.GivenBack.{none_at}
 
--- ---- where no stripe was lost
-
-pub no_losses : (log : List Logged) → NoneLost log → HaveNoLoss log
-no_losses log none unit =
-    all_filter_map (λ (a : Answer). is_loss (Some a) ≡ false) (λ (l : Logged). decides is_losing l.event ≡ false) (λ (l : Logged). answer_by unit l.event) log
-    (λ l kept. go l.event kept) none
-  where
-    landed : (t : Bool) (event : ℕ) → IfSome (if t then Some (DidLand event) else None) (λ (a : Answer). is_loss (Some a) ≡ false)
-    landed true event = refl
-    landed false event = tt
-
-    go : (e : Event) → decides is_losing e ≡ false → IfSome (answer_by unit e) (λ (a : Answer). is_loss (Some a) ≡ false)
-    go (Decides (Landed other event)) kept = landed (other == unit) event
-    go (Decides (Lost other event)) kept = absurd cc
-    go (Decides e) kept = tt
-    go (Does e maker) kept = tt
+-- ---- tests
 
 same_tests : (a b : Bool) → (a ≡ true → b ≡ true) → (b ≡ true → a ≡ true) → a ≡ b
 same_tests true b there back = sym (there refl)
@@ -66,7 +50,7 @@ before_it zero some = absurd (omega arith)
 before_it (suc r) some = (r, refl)
 
 module _ (i : Image) (w : World) (mount : IsLegalMount i w) (o : Opening) (is_open : life_of (log_of w 0) o.line ≡ Opened o)
-    (none : NoneLost (log_of w 0)) where
+    (kept : has_failed (log_of w 0) o ≡ false) where
   abbrev log : List Logged
   log = log_of w 0
 
@@ -84,11 +68,8 @@ module _ (i : Image) (w : World) (mount : IsLegalMount i w) (o : Opening) (is_op
   line_is : IsLineOf i w o
   line_is = opened_line i w mount o is_open
 
-  pub not_lost : (p : Placed) → was_lost (log_of w 0) p ≡ false
-  not_lost p = never_lost log (no_losses log none) p
-
-  kept : has_failed (log_of w 0) o ≡ false
-  kept = any_fail (was_lost log) (stripes_of log o) (all_of (λ p. was_lost log p ≡ false) not_lost (stripes_of log o))
+  pub not_lost : (p : Placed) → Contains (stripes_of (log_of w 0) o) p → was_lost (log_of w 0) p ≡ false
+  not_lost p its = none_at (was_lost log) (stripes_of log o) p kept (among_contained (stripes_of log o) p its)
 
   -- ---- where nothing more is written, all have landed
 

@@ -13,7 +13,7 @@ use Rattle.pblk_model.specs.Image.{Image}
 use Rattle.pblk_model.specs.Records.{Record}
 use Rattle.pblk_world.specs.Events.{EngineEvent, Decides, Logged}
 use Rattle.pblk_world.specs.World.{Logs}
-use Rattle.pblk_world.specs.EngineLog.{begun_by, LineLife, AsFound, Opened, Freed, is_life, Opening, Taken, takes, Placed, placements, stripes_on, answer_of, has_landed, bears_position, holds_position}
+use Rattle.pblk_world.specs.EngineLog.{begun_by, LineLife, AsFound, Opened, Freed, is_life, Opening, Taken, takes, Placed, placements, stripes_on, answer_of, has_landed, was_lost, bears_position, holds_position}
 use Rattle.pblk_world.specs.Fronts.{last_take}
 use Rattle.pblk_world.specs.Lines.{found_image}
 use Rattle.pblk_world.specs.Space.{landed_blocks, is_closed_in, is_readable_in, gives_back}
@@ -29,12 +29,14 @@ use Rattle.core_laws.proofs.OpeningNumbers.{opens_at}
 use Rattle.core_laws.proofs.TakenSlots.{find_same}
 use Rattle.core_laws.specs.ChunkBlocks.{chunk_blocks, IsInRow}
 use Rattle.core_laws.specs.ReadSlots.{block_read, address_of_block, read_slot}
-use Rattle.core_laws.proofs.LandedBlocks.{on_new}
+use Rattle.core_laws.proofs.LandedBlocks.{lost_by, on_new}
+use Rattle.core_laws.proofs.LandedStripe.{IsOneMore}
 use Rattle.core_laws.proofs.Growing.{given_holds}
 use Rattle.core_laws.proofs.KeptSlots.{IsBefore, lives_before, address_kept, media_by}
 use Rattle.core_laws.proofs.GivenBack.{IsLandedNow, of_unit_landed, readable_life, gives_of_chunk}
 use Rattle.core_laws.proofs.GivenNow.{of_chunk, gives_other, gives_still, readable_own, readable_other, chunk_life, chunk_unit, IsOfChunk, chunk_members, given_now}
-use Rattle.core_laws.proofs.HeldOnce.{HeldOnce, one_holder}
+use Rattle.core_laws.proofs.HeldOnce.{HeldOnce}
+use Rattle.core_laws.proofs.PlacedAnew.{landed_not_lost}
 use Rattle.core_laws.proofs.StripeLines.{placed_lines, own_opening, IsOpenedFor}
 use Rattle.core_laws.proofs.FindingInLists.{any_none, find_unique, first_stays, found_within, found_in_stripe}
 use Rattle.core_laws.proofs.PlacedLines.{found_any}
@@ -42,7 +44,7 @@ use Rattle.core_laws.proofs.SteppingLemmas.{found_kept}
 use Rattle.lemmas.proofs.Lists.{IsAmong, all_imply, among_all}
 use Rattle.lemmas.proofs.Maps.{found_none, found_passes}
 use Rattle.lemmas.proofs.Parts.{all_at}
-use Rattle.lemmas.proofs.Tests.{lt_true, second_of}
+use Rattle.lemmas.proofs.Tests.{first_of, lt_true, second_of}
 
 -- all that is used
 pub record IsLanding (i : Image) (logs : Logs) (e : EngineEvent) (knows : List ℕ) (p : Placed) (o : Opening) : Type 0 where
@@ -63,19 +65,26 @@ gives_now s log new p o q r is among e = go (of_chunk p o r) refl
     go false f = gives_other s log new p o q r is
         (all_at (λ (r : Placed). (r ≡ p) ⊎ (answer_of new r ≡ answer_of log r)) (placements log) among.0 r among.1 is.one_more.others) f ∙ e
 
-holder_found : (s : Shape) (log new : List Logged) (q : ℕ) (r : Placed) → placements new ≡ placements log → HeldOnce s log → IsAmong (placements log) r
+holder_found : (s : Shape) (log new : List Logged) (p : Placed) (q : ℕ) (r : Placed) → IsOneMore log new p → HeldOnce s log → IsAmong (placements log) r
     → gives_back s new q r ≡ true → find (gives_back s new q) (placements new) ≡ Some r
-holder_found s log new q r same once among e =
-    ap (find (gives_back s new q)) same
+holder_found s log new p q r is once among e =
+    ap (find (gives_back s new q)) is.stripes
     ∙ find_unique (gives_back s new q) (placements log) among.0 r among.1 e
     (all_imply (IsAmong (placements log)) (λ (t : Placed). gives_back s new q t ≡ true → t ≡ r)
-    (λ t there f. one_holder s log q t r once there among
+    (λ t there f. once q t r there among
     (second_of (has_landed new t) (holds_position s q t) (given_holds s new q t f))
-    (second_of (has_landed new r) (holds_position s q r) (given_holds s new q r e))) (placements log) (among_all (placements log)))
+    (second_of (has_landed new r) (holds_position s q r) (given_holds s new q r e)) (kept t there f) (kept r among e)) (placements log)
+    (among_all (placements log)))
+  where
+    kept : (t : Placed) → IsAmong (placements log) t → gives_back s new q t ≡ true → was_lost log t ≡ false
+    kept t there f =
+        sym (lost_by log new p t is
+        (all_at (λ (r : Placed). (r ≡ p) ⊎ (answer_of new r ≡ answer_of log r)) (placements log) there.0 t there.1 is.others))
+        ∙ landed_not_lost new t (first_of (has_landed new t) (holds_position s q t) (given_holds s new q t f))
 
 -- ---- a sector that was on the drive
 
-readable_down : (s : Shape) (log : List Logged) (unit a b : ℕ) (life : LineLife) → a ≤ b → is_readable_in s log unit b life ≡ true
+pub readable_down : (s : Shape) (log : List Logged) (unit a b : ℕ) (life : LineLife) → a ≤ b → is_readable_in s log unit b life ≡ true
     → is_readable_in s log unit a life ≡ true
 readable_down s log unit a b AsFound below e = absurd cc
 readable_down s log unit a b (Opened o) below e = go (is_closed_in s log o unit) (nat_lt (b + s.mw_cunits) (landed_blocks s log o unit)) refl e
@@ -116,7 +125,7 @@ media_stays i logs e knows p o q r is found =
     let at : (gives_back i.shape (logs 0) q r ≡ true) × IsAmong (placements (logs 0)) r =
     found_passes (gives_back i.shape (logs 0) q) (placements (logs 0)) r found in
     ap (λ (x : Option Placed). option_map_or (media_of i (after logs e knows) q) x (Cached q))
-    (holder_found i.shape (logs 0) (after logs e knows 0) q r is.now.one_more.stripes is.once at.1
+    (holder_found i.shape (logs 0) (after logs e knows 0) p q r is.now.one_more is.once at.1
     (gives_now i.shape (logs 0) (after logs e knows 0) p o q r is.now at.1 at.0))
     ∙ media_by i logs e knows q r (all_at (λ (r : Placed). IsBefore (length (logs 0)) r.life) (placements (logs 0)) at.1.0 r at.1.1 (lives_before (logs 0)))
     (block_stays i logs e knows p o q r is.now at.0)
@@ -140,7 +149,7 @@ own_line log line o other number opens its =
     let same : other.line ≡ o.line = same_Some other.line o.line (sym is.0 ∙ ap (opens_at log) number ∙ opens) in
     (sym same ∙ is.1, same)
 
-address_by : (i : Image) (logs : Logs) (o : Opening) (life : LineLife) (r : Placed) (k block : ℕ) → is_life o.number life ≡ true
+pub address_by : (i : Image) (logs : Logs) (o : Opening) (life : LineLife) (r : Placed) (k block : ℕ) → is_life o.number life ≡ true
     → opens_at (logs 0) o.number ≡ Some o.line → IsOpenedFor (logs 0) r.stripe.line life
     → r.stripe.at ≡ k * i.shape.ws_opt → r.stripe.at ≤ block → block < r.stripe.at + i.shape.ws_opt
     → (o.line ≡ r.stripe.line) × (address_in i logs life r block ≡ address_of_block i logs o r.stripe.unit block)
@@ -177,7 +186,7 @@ block_is : (i : Image) (logs : Logs) (q : ℕ) (r : Placed) (block : ℕ) → re
     → media_of i logs q r ≡ Media r.stripe.line (address_in i logs r.life r block) q
 block_is i logs q r block e = ap (λ (x : Option ℕ). Media r.stripe.line (address_in i logs r.life r (unwrap_or x 0)) q) e
 
-moves : (i : Image) (logs : Logs) (e : EngineEvent) (knows : List ℕ) (o : Opening) (unit q : ℕ) (r : Placed) (block : ℕ)
+pub moves : (i : Image) (logs : Logs) (e : EngineEvent) (knows : List ℕ) (o : Opening) (unit q : ℕ) (r : Placed) (block : ℕ)
     → find (gives_back i.shape (after logs e knows 0) q) (placements (after logs e knows 0)) ≡ Some r
     → readable_block i (after logs e knows) q r ≡ Some block → IsBefore (length (logs 0)) r.life → o.line ≡ r.stripe.line
     → address_in i logs r.life r block ≡ address_of_block i logs o unit block
@@ -202,7 +211,7 @@ leaves_by i logs e knows p o q b k r is at found =
     let its : r.stripe.unit ≡ p.stripe.unit = chunk_unit p o r of.of in
     let life : is_life o.number r.life ≡ true = chunk_life p o r of.of in
     let gives : gives_back s new q r ≡ true =
-    gives_of_chunk s new o p.stripe.unit q r (of_unit_landed s log new p o is.now r of.among its) its life
+    gives_of_chunk s new o p.stripe.unit q r (of_unit_landed s log new p o is.now r of.among its life) its life
     ∙ found_any (reads_now i new p o q) (enumerate_from r.stripe.at r.stripe.blocks) b found in
     let within : (r.stripe.at ≤ b.0) × (b.0 < r.stripe.at + length r.stripe.blocks) =
     found_within (reads_now i new p o q) r.stripe.at r.stripe.blocks b found in
@@ -216,7 +225,7 @@ leaves_by i logs e knows p o q b k r is at found =
     let address = address_by i logs o r.life r k b.0 life (its_line i logs e knows p o is)
     (all_at (λ (r : Placed). IsOpenedFor (logs 0) r.stripe.line r.life) (placements (logs 0)) of.among.0 r of.among.1 (placed_lines (logs 0))) row.at low
     (omega arith) in
-    moves i logs e knows o p.stripe.unit q r b.0 (holder_found s log new q r is.now.one_more.stripes is.once of.among gives) block
+    moves i logs e knows o p.stripe.unit q r b.0 (holder_found s log new p q r is.now.one_more is.once of.among gives) block
     (all_at (λ (r : Placed). IsBefore (length (logs 0)) r.life) (placements (logs 0)) of.among.0 r of.among.1 (lives_before (logs 0)))
     address.0 (address.1 ∙ ap (λ u. address_of_block i logs o u b.0) its)
 

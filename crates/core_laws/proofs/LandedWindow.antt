@@ -10,12 +10,11 @@ use Rattle.pblk_world.specs.EngineLog.{Opened, Opening, Taken, takes, Placed, pl
 use Rattle.pblk_world.specs.Fronts.{first_position, has_landed_at, is_users}
 use Rattle.write_window.specs.declared.held.Progress.{Progress}
 use Rattle.core_laws.specs.PlacerOf.{unanswered_on}
-use Rattle.core_laws.specs.PlainEvents.{is_plain_event, ArePlain}
-use Rattle.core_laws.specs.SimpleMounts.{IsSimpleMount}
-use Rattle.core_laws.proofs.SimpleMounts.{engine_plain}
+use Rattle.world_laws.specs.LegalMounts.{IsLegalMount}
 use Rattle.core_laws.specs.WindowOf.{HeldSector, class_of, source_of, is_given_back, progress_by, held_of, users_below, window_from}
 use Rattle.core_laws.proofs.Answered.{first_unanswered}
-use Rattle.core_laws.specs.ChunkBlocks.{can_be_read, AreInRows}
+use Rattle.core_laws.specs.ChunkBlocks.{NoneLostIn, can_be_read, AreInRows}
+use Rattle.core_laws.proofs.OverAnswered.{none_lost_there}
 use Rattle.core_laws.specs.AdvancedEntries.{advanced, advanced_sector, advanced_window}
 use Rattle.core_laws.proofs.LandedStripe.{with_landing, is_answer, one_more, landed_at_by}
 use Rattle.core_laws.proofs.PlainStripes.{one_unanswered}
@@ -24,18 +23,13 @@ use Rattle.core_laws.proofs.GivenNow.{given_now}
 use Rattle.core_laws.proofs.Growing.{given_landed}
 use Rattle.core_laws.proofs.KeptSlots.{first_kept}
 use Rattle.core_laws.proofs.WindowOfLemmas.{same_window}
-use Rattle.lemmas.proofs.Lists.{all_append}
 use Rattle.pblk_world.proofs.EngineLogLemmas.{takes_more}
 
-pub plain_landing : (log : List Logged) (unit event : ℕ) (knows : List ℕ) → ArePlain log → ArePlain (with_landing log unit event knows)
-plain_landing log unit event knows plain =
-    all_append (λ (l : Logged). is_plain_event l.event ≡ true) log (record { event = Decides (Landed unit event); knows = knows } ∷ []) plain (refl, tt)
-
--- the stripe that lands next on a unit of a simple mount
-pub landed_now : (i : Image) (w : World) (unit event : ℕ) (knows : List ℕ) (p : Placed) (o : Opening) → IsSimpleMount i w
+-- the stripe that lands next on a unit
+pub landed_now : (i : Image) (w : World) (unit event : ℕ) (knows : List ℕ) (p : Placed) (o : Opening) → IsLegalMount i w
     → unanswered_on (log_of w 0) unit ≡ Some p → p.life ≡ Opened o → AreInRows i.shape (log_of w 0) o unit
     → IsLandedNow i.shape (log_of w 0) (with_landing (log_of w 0) unit event knows) p o
-landed_now i w unit event knows p o simple waits life rows =
+landed_now i w unit event knows p o mount waits life rows =
     let log : List Logged = log_of w 0 in
     let new : List Logged = with_landing (log_of w 0) unit event knows in
     let its : p.stripe.unit ≡ unit = (first_unanswered (log_of w 0) unit p waits).of_unit in
@@ -43,15 +37,14 @@ landed_now i w unit event knows p o simple waits life rows =
     ∙ length-append (answers log unit) (DidLand event ∷ []) in
     let same : length (placed_on new unit) ≡ length (placed_on log unit) =
     ap (λ (ps : List Placed). length (filter (λ (r : Placed). r.stripe.unit == unit) ps)) (is_answer log unit event knows).placements in
-    let one : length (placed_on log unit) ≤ length (answers log unit) + 1 = one_unanswered i w simple.mount.legal unit in
+    let one : length (placed_on log unit) ≤ length (answers log unit) + 1 = one_unanswered i w mount.legal unit in
     record {
       one_more = one_more log unit event knows p waits;
       life = life;
-      plain = engine_plain i w simple;
-      plain_new = plain_landing log unit event knows (engine_plain i w simple);
+      unlost = subst (λ u. NoneLostIn (log_of w 0) o u) (sym its) (none_lost_there i w unit p o mount waits life);
       all_answered = subst (λ u. length (placed_on new u) ≤ length (answers new u)) (sym its) (omega arith);
       rows = subst (λ u. AreInRows i.shape (log_of w 0) o u) (sym its) rows;
-      some = simple.mount.accepted.drive.ws_opt;
+      some = mount.accepted.drive.ws_opt;
     }
 
 -- ---- the window
@@ -90,31 +83,31 @@ window_now s log new p o from is same first = same_window from (users_below new 
     (ap₂ (λ n (ts : List Taken). map (held_of s new) (drop (from - n) ts)) first same
     ∙ each_now s log new p o (drop (from - first_position log) (takes log)) is)
 
--- ---- in a simple mount
+-- ---- in a legal mount
 
-pub window_landed : (i : Image) (w : World) (unit event : ℕ) (knows : List ℕ) (p : Placed) (o : Opening) (from : ℕ) → IsSimpleMount i w
+pub window_landed : (i : Image) (w : World) (unit event : ℕ) (knows : List ℕ) (p : Placed) (o : Opening) (from : ℕ) → IsLegalMount i w
     → unanswered_on (log_of w 0) unit ≡ Some p → p.life ≡ Opened o → AreInRows i.shape (log_of w 0) o unit
     → window_from i.shape (with_landing (log_of w 0) unit event knows) from
     ≡ advanced_window (λ q. holds_position i.shape q p) (can_be_read i.shape (with_landing (log_of w 0) unit event knows) o unit)
     (window_from i.shape (log_of w 0) from)
-window_landed i w unit event knows p o from simple waits life rows =
+window_landed i w unit event knows p o from mount waits life rows =
     let log : List Logged = log_of w 0 in
     let new : List Logged = with_landing (log_of w 0) unit event knows in
     let l : Logged = record { event = Decides (Landed unit event); knows = knows } in
     let its : p.stripe.unit ≡ unit = (first_unanswered (log_of w 0) unit p waits).of_unit in
     subst (λ u. window_from i.shape (with_landing (log_of w 0) unit event knows) from ≡ advanced_window (λ q. holds_position i.shape q p)
     (can_be_read i.shape (with_landing (log_of w 0) unit event knows) o u) (window_from i.shape (log_of w 0) from)) its
-    (window_now i.shape log new p o from (landed_now i w unit event knows p o simple waits life rows) (takes_more log l ∙ append-nil (takes log))
+    (window_now i.shape log new p o from (landed_now i w unit event knows p o mount waits life rows) (takes_more log l ∙ append-nil (takes log))
     (first_kept log (Landed unit event) knows refl))
 
-pub given_back_landed : (i : Image) (w : World) (unit event : ℕ) (knows : List ℕ) (p : Placed) (o : Opening) (q : ℕ) → IsSimpleMount i w
+pub given_back_landed : (i : Image) (w : World) (unit event : ℕ) (knows : List ℕ) (p : Placed) (o : Opening) (q : ℕ) → IsLegalMount i w
     → unanswered_on (log_of w 0) unit ≡ Some p → p.life ≡ Opened o → AreInRows i.shape (log_of w 0) o unit
     → is_given_back i.shape (with_landing (log_of w 0) unit event knows) q ≡
     (is_given_back i.shape (log_of w 0) q || can_be_read i.shape (with_landing (log_of w 0) unit event knows) o unit q)
-given_back_landed i w unit event knows p o q simple waits life rows =
+given_back_landed i w unit event knows p o q mount waits life rows =
     let log : List Logged = log_of w 0 in
     let new : List Logged = with_landing (log_of w 0) unit event knows in
     let its : p.stripe.unit ≡ unit = (first_unanswered (log_of w 0) unit p waits).of_unit in
     subst (λ u. is_given_back i.shape (with_landing (log_of w 0) unit event knows) q ≡
     (is_given_back i.shape (log_of w 0) q || can_be_read i.shape (with_landing (log_of w 0) unit event knows) o u q)) its
-    (given_now i.shape log new p o q (landed_now i w unit event knows p o simple waits life rows))
+    (given_now i.shape log new p o q (landed_now i w unit event knows p o mount waits life rows))

@@ -31,7 +31,7 @@ use Rattle.core_laws.specs.Spent.{OpensWhenFull}
 use Rattle.core_laws.proofs.PlacedAnew.{WasWaiting, lost_before, one_number, was_waiting}
 
 -- each part of a sum of 0 is 0
-none_in_sum : (f : ℕ → ℕ) (n : ℕ) → sum_by f (range_with_len 0 n) ≡ 0 → (k : ℕ) → k < n → f k ≡ 0
+pub none_in_sum : (f : ℕ → ℕ) (n : ℕ) → sum_by f (range_with_len 0 n) ≡ 0 → (k : ℕ) → k < n → f k ≡ 0
 none_in_sum f n none k below =
     let all : list_all (λ m. f m == 0) (range_with_len 0 n) ≡ true =
     sym (sum_by-zero f (range_with_len 0 n)) ∙ ap (λ m. m == 0) none ∙ same_number 0 in
@@ -63,7 +63,7 @@ module _ (i : Image) (w : World) (mount : IsLegalMount i w) (full : OpensWhenFul
   log = log_of w 0
 
   -- once a line is opened, no stripe of entries is placed in a line that was opened before it
-  none_in_older : (o q : Opening) (p : Placed) (position : ℕ) → Contains (openings (log_of w 0)) o → Contains (placements (log_of w 0)) p
+  pub none_in_older : (o q : Opening) (p : Placed) (position : ℕ) → Contains (openings (log_of w 0)) o → Contains (placements (log_of w 0)) p
       → p.life ≡ Opened q → holds_position i.shape position p ≡ true → o.number < p.number → q.number < o.number → ⊥
   none_in_older o q p position opened there life holds later before =
       let h : WasWaiting i w mount p position = was_waiting i w mount p position there holds in

@@ -8,14 +8,14 @@ use Rattle.std.proofs.lemmas.Option.{same_Some}
 use Rattle.pblk_model.specs.declared.chunk.Mark.{Mark}
 use Rattle.pblk_model.specs.Image.{Image}
 use Rattle.pblk_model.specs.StartRecord.{StartRecord}
-use Rattle.pblk_world.specs.Events.{Entry, Stripe, Take, Open, Place, Landed, ResetDone, Decides, Logged}
+use Rattle.pblk_world.specs.Events.{Entry, Stripe, Take, Open, Place, Landed, Lost, ResetDone, Decides, Logged}
 use Rattle.pblk_world.specs.World.{Logs}
 use Rattle.pblk_world.specs.EngineLog.{Opened, is_opened, life_of, Opening, openings, placements, answers}
 use Rattle.pblk_world.proofs.Appending.{life_more, openings_more, placements_more}
 use Rattle.stripe_placer.specs.OpenLines as outcomes
 use Rattle.stripe_placer.proofs.Agreeing.{in_line_keeps}
 use Rattle.stripe_placer.specs.OpenLines.{OpenLine, opened, has_left, in_line}
-use Rattle.stripe_placer.specs.OpenLines.Stripe.{Unanswered, Landed as HasLanded}
+use Rattle.stripe_placer.specs.OpenLines.Stripe.{Unanswered, Landed as HasLanded, Lost as WasIt}
 use Rattle.stripe_placer.specs.Placing.{Program, Placing}
 use Rattle.stripe_placer.specs.Inside.{AreApart}
 use Rattle.core_laws.specs.Stepping.{after}
@@ -25,7 +25,7 @@ use Rattle.core_laws.proofs.Steady.{AreAlike, standing_before, standing_same, li
 use Rattle.core_laws.proofs.Placing.{IsPlacing}
 use Rattle.core_laws.proofs.PlacedLines.{IsPlacedAt, placed_at, lines_placed}
 use Rattle.core_laws.proofs.Opening.{placing_opened}
-use Rattle.core_laws.proofs.Landing.{placing_landed}
+use Rattle.core_laws.proofs.Landing.{placing_landed, placing_lost}
 use Rattle.core_laws.specs.LeftOpenings.{left_openings, opened_as}
 use Rattle.core_laws.proofs.StandingOpenings.{NumbersRise, standing_opened, standing_rise, rise_filtered, one_place}
 use Rattle.lemmas.proofs.Lists.{all_imply}
@@ -205,6 +205,21 @@ left_landed i logs event knows pad again of some is =
     ∙ ap (λ ls. filter has_left (map (in_line of.line (of.at / i.shape.ws_opt) HasLanded) ls)) (lines_of_left i logs))
     ∙ made_filtered (logs 0) i logs (in_line of.line (of.at / i.shape.ws_opt) HasLanded) (left_openings i logs)
     (λ l. (in_line_keeps l of.line (of.at / i.shape.ws_opt) HasLanded).0) (left_opened i logs)
+
+-- and where it was lost
+pub left_lost : (i : Image) (logs : Logs) (event : ℕ) (knows : List ℕ) (pad : ℕ) (again : List ℕ) (of : Program) → 0 < i.shape.ws_opt
+    → IsAwaited i logs pad again of
+    → left_openings i (after logs (Lost of.unit event) knows) ≡ filter
+    (λ o. has_left (in_line of.line (of.at / i.shape.ws_opt) WasIt (open_line i logs o))) (left_openings i logs)
+left_lost i logs event knows pad again of some is =
+    let new : Logs = after logs (Lost of.unit event) knows in
+    let l : Logged = record { event = Decides (Lost of.unit event); knows = knows } in
+    sym (left_by_lines i new) ∙ made_same (logs 0) (new 0) (open_lines i new) (λ line. life_more (logs 0) l line)
+    ∙ ap (filter_map (λ (l : OpenLine). opened_as (life_of (logs 0) l.line)))
+    (ap (λ (p : Placing). p.lines) (placing_lost i logs event knows pad again of some is)
+    ∙ ap (λ ls. filter has_left (map (in_line of.line (of.at / i.shape.ws_opt) WasIt) ls)) (lines_of_left i logs))
+    ∙ made_filtered (logs 0) i logs (in_line of.line (of.at / i.shape.ws_opt) WasIt) (left_openings i logs)
+    (λ l. (in_line_keeps l of.line (of.at / i.shape.ws_opt) WasIt).0) (left_opened i logs)
 
 apart_lines : (i : Image) (logs : Logs) (os : List Opening) → NumbersRise os → AllByRecursion (λ (o : Opening). life_of (logs 0) o.line ≡ Opened o) os
     → AreApart (map (open_line i logs) os)

@@ -1,4 +1,4 @@
--- What became of the stripes of an opened line: the first ones were placed, in order, and the
+-- What became of the stripes of an opened line that isn't Failed: the first ones were placed, in order, and the
 -- others weren't.
 use Rattle.std.proofs.Common.{◌≡◌, ◌≢◌, ℕ, ◌+◌, ◌-◌, ◌*◌, ◌/◌, ◌%◌, ◌<◌, ◌≤◌, zero, suc, Bool, true, false, cond, Some, None, List, [], ◌∷◌, ◌++◌, map, length, replicate, refl, sym, ap, ap₂, ◌∙◌, arith}
 use Rattle.std.specs.Prelude.{slice_get}
@@ -9,7 +9,7 @@ use Rattle.pblk_layout.specs.Live.{units_in}
 use Rattle.pblk_world.specs.Events.{Logged}
 use Rattle.pblk_world.specs.World.{World, log_of}
 use Rattle.pblk_world.specs.Lines.{known_image}
-use Rattle.pblk_world.specs.EngineLog.{is_opened, Opening, Opened, life_of, Placed, stripes_of, answer_of}
+use Rattle.pblk_world.specs.EngineLog.{is_opened, Opening, Opened, life_of, Placed, stripes_of, answer_of, has_failed}
 use Rattle.stripe_placer.specs.OpenLines.{Stripe, OpenLine, width}
 use Rattle.stripe_placer.specs.OpenLines.Stripe.{Unplaced}
 use Rattle.core_laws.specs.OpenedLines.{bits_of, as_opened, is_stripe_at, by_answer, became, outcome, open_line}
@@ -65,8 +65,8 @@ found_at test (y ∷ ys) (suc j) x e passes others =
 pub units_back : (i : Image) (us : ℕ → List ℕ) (w : World) (o : Opening) → IsFollowed i us w → life_of (log_of w 0) o.line ≡ Opened o
     → units_in (as_opened i (log_of w) o).live ≡ us o.line
 units_back i us w o is life =
-    ap (λ xs. units_in (bits_of xs)) (sym (keeps_units i w o.line o is.simple.mount life))
-    ∙ bits_back (known_image i (log_of w)) o.line (few_units i w (log_of w) is.simple.mount) ∙ is.keeps o.line (ap is_opened life)
+    ap (λ xs. units_in (bits_of xs)) (sym (keeps_units i w o.line o is.mount life))
+    ∙ bits_back (known_image i (log_of w)) o.line (few_units i w (log_of w) is.mount) ∙ is.keeps o.line (ap is_opened life)
 
 -- the line without stripes
 pub record IsLineOf (i : Image) (us : ℕ → List ℕ) (w : World) (o : Opening) : Type 0 where
@@ -77,8 +77,9 @@ pub record IsLineOf (i : Image) (us : ℕ → List ℕ) (w : World) (o : Opening
   pub striped : IsStriped i.shape (wide us o.line)
   pub order : IsInOrder i us (log_of w 0) o.line o
 
-pub line_of : (i : Image) (us : ℕ → List ℕ) (w : World) (o : Opening) → IsFollowed i us w → life_of (log_of w 0) o.line ≡ Opened o → IsLineOf i us w o
-line_of i us w o is life =
+pub line_of : (i : Image) (us : ℕ → List ℕ) (w : World) (o : Opening) → IsFollowed i us w → life_of (log_of w 0) o.line ≡ Opened o
+    → has_failed (log_of w 0) o ≡ false → IsLineOf i us w o
+line_of i us w o is life whole =
     let units : units_in (as_opened i (log_of w) o).live ≡ us o.line = units_back i us w o is life in
     let wide_is : width (as_opened i (log_of w) o) ≡ wide us o.line = ap (λ (us : List ℕ). length us) units in
     let well : IsOpenedLine i us o.line o = opened_lines i us w is o.line o life in
@@ -88,8 +89,8 @@ line_of i us w o is life =
       count = length_replicate (width (as_opened i (log_of w) o) * (i.shape.clba / i.shape.ws_opt)) Unplaced
           ∙ ap (λ g. g * (i.shape.clba / i.shape.ws_opt)) wide_is;
       well = well;
-      striped = its_stripes i us o.line o is.simple.mount.accepted.drive.ws_opt is.simple.mount.accepted.drive.whole_stripes well;
-      order = in_order i us w is o.line o life;
+      striped = its_stripes i us o.line o is.mount.accepted.drive.ws_opt is.mount.accepted.drive.whole_stripes well;
+      order = in_order i us w is o.line o life whole;
     }
 
 -- ---- its stripes

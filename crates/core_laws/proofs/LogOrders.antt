@@ -1,4 +1,4 @@
--- The logs of a simple mount are in order.
+-- The logs of a legal mount are in order.
 use Rattle.std.proofs.Common.{◌≡◌, ◌<◌, ◌≤◌, ◌^◌, ◌∙◌, arith}
 use Rattle.std.specs.List.{Contains}
 use Rattle.pblk_model.specs.Accepted.{IsAccepted}
@@ -12,12 +12,9 @@ use Rattle.pblk_world.specs.Victims.{engine_prefix}
 use Rattle.pblk_world.proofs.Answered.{answers_fit}
 use Rattle.world_laws.proofs.Openings.{placed_at}
 use Rattle.world_laws.proofs.Stripes.{IsPlaced, placed_is}
-use Rattle.core_laws.specs.PlainEvents.{ArePlain}
-use Rattle.core_laws.specs.SimpleMounts.{IsSimpleMount}
+use Rattle.world_laws.specs.LegalMounts.{IsLegalMount}
 use Rattle.core_laws.specs.InOrder.{IsInPlace, IsInOrder}
-use Rattle.core_laws.proofs.SimpleMounts.{engine_plain}
 use Rattle.core_laws.proofs.FreedMoments.{freed_before}
-use Rattle.core_laws.proofs.PlainLogs.{none_lost, none_failed}
 use Rattle.core_laws.proofs.UnansweredLines.{still_open}
 use Rattle.core_laws.proofs.UsersEntries.{AreInOrder, in_order as entries_in_order}
 use Rattle.lemmas.proofs.Lists.{IsAmong, all_imply, among_all}
@@ -39,11 +36,10 @@ in_place i w p legal there =
 pub small_capacity : (i : Image) → IsAccepted i.shape → i.shape.capacity ≤ meta_lba
 small_capacity i accepted = let few : i.shape.capacity < 2 ^ 40 = accepted.target.capacity_number in omega arith
 
-pub in_order : (i : Image) (w : World) → IsSimpleMount i w → IsInOrder i (log_of w)
-in_order i w m =
-    let small : i.shape.capacity ≤ meta_lba = small_capacity i m.mount.accepted in
-    let plain : ArePlain (log_of w 0) = engine_plain i w m in
-    let now : AreInOrder i.shape (log_of w 0) = entries_in_order i w small m.mount.legal in
+pub in_order : (i : Image) (w : World) → IsLegalMount i w → IsInOrder i (log_of w)
+in_order i w mount =
+    let small : i.shape.capacity ≤ meta_lba = small_capacity i mount.accepted in
+    let now : AreInOrder i.shape (log_of w 0) = entries_in_order i w small mount.legal in
     record {
       small = small;
       numbered = now.numbered;
@@ -51,10 +47,8 @@ in_order i w m =
       named = now.named;
       taken = now.taken;
       placed = all_imply (IsAmong (placements (log_of w 0))) (IsInPlace i (log_of w 0))
-          (λ p at. in_place i w p m.mount.legal (contained_among (placements (log_of w 0)) p at)) (placements (log_of w 0))
+          (λ p at. in_place i w p mount.legal (contained_among (placements (log_of w 0)) p at)) (placements (log_of w 0))
           (among_all (placements (log_of w 0)));
-      answered = λ unit. answers_fit i w unit m.mount.legal;
-      freed = freed_before i w m.mount.legal;
-      lost = none_lost (log_of w 0) plain;
-      failed = none_failed (log_of w 0) plain;
+      answered = λ unit. answers_fit i w unit mount.legal;
+      freed = freed_before i w mount.legal;
     }

@@ -10,11 +10,10 @@ use Rattle.pblk_model.specs.Chunk.{Block}
 use Rattle.pblk_world.specs.Events.{Logged}
 use Rattle.pblk_world.specs.EngineLog.{Opened, Opening, Placed, placements, placed_on, stripes_on, answer_of, is_land, has_landed, bears_position}
 use Rattle.pblk_world.specs.Space.{landed_blocks, is_readable_in, gives_back}
-use Rattle.core_laws.specs.PlainEvents.{ArePlain}
 use Rattle.core_laws.specs.WindowOf.{is_given_back}
 use Rattle.core_laws.proofs.Placing.{not_below}
 use Rattle.world_laws.proofs.UnitTurns.{rise_between, rise_on}
-use Rattle.core_laws.specs.ChunkBlocks.{chunk_blocks, readable_blocks, IsInRow, AreInRows}
+use Rattle.core_laws.specs.ChunkBlocks.{NoneLostIn, chunk_blocks, readable_blocks, IsInRow, AreInRows}
 use Rattle.core_laws.proofs.LandedBlocks.{on_new, on_its, on_rises, blocks_more}
 use Rattle.core_laws.proofs.GivenBack.{IsLandedNow, of_unit_landed, gives_of_chunk, times_le, rows_within}
 use Rattle.core_laws.proofs.GivenNow.{readable_plain, blocks_below, chunk_life, chunk_unit, IsOfChunk, chunk_members}
@@ -98,9 +97,9 @@ shifted b m n = go (cases_order (b + m) n)
     go (inr (inl below)) = lt_true (b + m) n below ∙ sym (lt_true b (n - m) (omega arith))
     go (inr (inr above)) = none (omega arith)
 
-reads_are : (s : Shape) (log : List Logged) (o : Opening) (unit b : ℕ) → ArePlain log → b < s.clba
+reads_are : (s : Shape) (log : List Logged) (o : Opening) (unit b : ℕ) → NoneLostIn log o unit → b < s.clba
     → is_readable_in s log unit b (Opened o) ≡ nat_lt b (readable_blocks s (landed_blocks s log o unit))
-reads_are s log o unit b plain within = readable_plain s log o unit b plain ∙ go (nat_eq (landed_blocks s log o unit) s.clba)
+reads_are s log o unit b none within = readable_plain s log o unit b none ∙ go (nat_eq (landed_blocks s log o unit) s.clba)
   where
     go : (c : Bool) → (c || nat_lt (b + s.mw_cunits) (landed_blocks s log o unit)) ≡ nat_lt b (if c then s.clba else landed_blocks s log o unit - s.mw_cunits)
     go true = sym (lt_true b s.clba within)
@@ -123,12 +122,12 @@ chunk_within s log o unit rows =
     omega arith
 
 -- the first that bears and can be read is the first that bears among those
-pub read_found : (s : Shape) (log : List Logged) (o : Opening) (unit q : ℕ) (cs : List Block) → ArePlain log → length cs ≤ s.clba
+pub read_found : (s : Shape) (log : List Logged) (o : Opening) (unit q : ℕ) (cs : List Block) → NoneLostIn log o unit → length cs ≤ s.clba
     → find (λ (b : ℕ × Block). bears_position s q b.1 && is_readable_in s log unit b.0 (Opened o)) (enumerate_from 0 cs) ≡ find
     (λ (b : ℕ × Block). bears_position s q b.1) (enumerate_from 0 (take (readable_blocks s (landed_blocks s log o unit)) cs))
-read_found s log o unit q cs plain within =
+read_found s log o unit q cs none within =
     find_below (bears_position s q) (λ b. is_readable_in s log unit b (Opened o)) (readable_blocks s (landed_blocks s log o unit)) 0 cs
-    (λ b low high. reads_are s log o unit b plain (omega arith))
+    (λ b low high. reads_are s log o unit b none (omega arith))
     ∙ ap (λ k. find (λ (b : ℕ × Block). bears_position s q b.1) (enumerate_from 0 (take k cs)))
     (let same : readable_blocks s (landed_blocks s log o unit) - 0 ≡ readable_blocks s (landed_blocks s log o unit) = omega arith in same)
 
@@ -163,14 +162,14 @@ given_by s log new p o q b k r is newest reads at found =
     let more : landed_blocks s log o p.stripe.unit + s.ws_opt ≤ s.clba = blocks_below s log new p o is in
     let some : 0 < s.ws_opt = is.some in
     let landed : b.0 < landed_blocks s log o p.stripe.unit =
-    read_landed s (landed_blocks s log o p.stripe.unit) b.0 (omega arith) (sym (readable_plain s log o p.stripe.unit b.0 is.plain) ∙ reads) in
+    read_landed s (landed_blocks s log o p.stripe.unit) b.0 (omega arith) (sym (readable_plain s log o p.stripe.unit b.0 is.unlost) ∙ reads) in
     let behind : landed_blocks s log o p.stripe.unit ≤ p.stripe.at = landed_before s log new p o is newest in
     let other : r ≡ p → ⊥ = λ same. not_there b.0 (landed_blocks s log o p.stripe.unit) p.stripe.at r.stripe.at
     (ap (λ (x : Placed). x.stripe.at) same) low landed behind in
     let lands : has_landed log r ≡ true =
     before_lands log new p r (all_at (λ (r : Placed). (r ≡ p) ⊎ (answer_of new r ≡ answer_of log r))
     (placements log) of.among.0 r of.among.1 is.one_more.others) other
-    (of_unit_landed s log new p o is r of.among (chunk_unit p o r of.of)) in
+    (of_unit_landed s log new p o is r of.among (chunk_unit p o r of.of) (chunk_life p o r of.of)) in
     any_member (gives_back s log q) (placements log) of.among.0 r of.among.1
     (gives_of_chunk s log o p.stripe.unit q r lands (chunk_unit p o r of.of) (chunk_life p o r of.of)
     ∙ list_found test (enumerate_from r.stripe.at r.stripe.blocks) b found)
@@ -194,6 +193,6 @@ given_before s log new p o q is newest e =
     let test : ℕ × Block → Bool = λ b. bears_position s q b.1 && is_readable_in s log p.stripe.unit b.0 (Opened o) in
     let found : (b : ℕ × Block) × (find test (enumerate_from 0 (chunk_blocks log o p.stripe.unit)) ≡ Some b) =
     some_value (find test (enumerate_from 0 (chunk_blocks log o p.stripe.unit)))
-    (ap is_some (read_found s log o p.stripe.unit q (chunk_blocks log o p.stripe.unit) is.plain (chunk_within s log o p.stripe.unit is.rows))
+    (ap is_some (read_found s log o p.stripe.unit q (chunk_blocks log o p.stripe.unit) is.unlost (chunk_within s log o p.stripe.unit is.rows))
     ∙ found_any (bears_position s q) 0 (take (readable_blocks s (landed_blocks s log o p.stripe.unit)) (chunk_blocks log o p.stripe.unit)) ∙ e) in
     given_found s log new p o q found.0 is newest found.1

@@ -18,9 +18,9 @@ use Rattle.pblk_world.specs.Space.{landed_blocks, is_readable_in}
 use Rattle.l2p_map.specs.declared.slot.Slot.{Slot}
 use Rattle.l2p_map.specs.declared.slot.Slot.TheVariants.{Unwritten, Cached, Media}
 use Rattle.write_window.specs.declared.held.Progress.{Progress}
+use Rattle.world_laws.specs.LegalMounts.{IsLegalMount}
 use Rattle.core_laws.specs.Stepping.{after}
 use Rattle.core_laws.specs.PlacerOf.{unanswered_on}
-use Rattle.core_laws.specs.SimpleMounts.{IsSimpleMount}
 use Rattle.core_laws.specs.SlotOf.{slot_of}
 use Rattle.core_laws.specs.WindowOf.{HeldSector, class_of, source_of, is_given_back, progress_by, held_of, users_below, window_from}
 use Rattle.core_laws.proofs.Answered.{first_unanswered}
@@ -31,7 +31,7 @@ use Rattle.core_laws.proofs.CachedEntries.{cached_kept}
 use Rattle.core_laws.proofs.Growing.{given_landed}
 use Rattle.core_laws.proofs.LandedStripe.{with_landing, landed_at_by}
 use Rattle.core_laws.proofs.LandedBlocks.{on_new, blocks_more}
-use Rattle.core_laws.proofs.GivenBack.{IsLandedNow}
+use Rattle.core_laws.proofs.GivenBack.{IsLandedNow, unlost_new}
 use Rattle.core_laws.proofs.GivenNow.{blocks_below, given_now}
 use Rattle.core_laws.proofs.LandedWindow.{landed_now, progress_now}
 use Rattle.core_laws.proofs.PlainStripes.{one_unanswered}
@@ -79,7 +79,7 @@ found_among s log new p o q is newest kept =
     ap (λ (bs : List Block). option_map (λ (b : ℕ × Block). b.0)
     (find (λ (b : ℕ × Block). bears_position s q b.1 && is_readable_in s new p.stripe.unit b.0 (Opened o)) (enumerate_from 0 bs))) (same_chunk unit)
     ∙ ap (option_map (λ (b : ℕ × Block). b.0))
-    (read_found s new o p.stripe.unit q cs is.plain_new (chunk_within s log o p.stripe.unit is.rows)
+    (read_found s new o p.stripe.unit q cs (unlost_new s log new p o is) (chunk_within s log o p.stripe.unit is.rows)
     ∙ ap (λ n. find (λ (b : ℕ × Block). bears_position s q b.1) (enumerate_from 0 (take (readable_blocks s n) (chunk_blocks log o p.stripe.unit))))
     (blocks_more s log new p o is.one_more is.life)
     ∙ find_behind (bears_position s q) low 0 (take high cs)
@@ -138,7 +138,7 @@ window_newly s log new p o from is newest same first = same_window from (users_b
     (ap₂ (λ n (ts : List Taken). map (held_of s new) (drop (from - n) ts)) first same
     ∙ each_newly s log new p o (drop (from - first_position log) (takes log)) is newest)
 
--- ---- in a simple mount
+-- ---- in a legal mount
 
 pub newest_in : (i : Image) (w : World) (unit : ℕ) (p : Placed) → IsLegal i w → unanswered_on (log_of w 0) unit ≡ Some p → IsNewest (log_of w 0) p
 newest_in i w unit p legal waits =
@@ -150,40 +150,40 @@ newest_in i w unit p legal waits =
       last = subst (λ u. length (placed_on (log_of w 0) u) ≤ length (answers (log_of w 0) unit) + 1) (sym its) one;
     }
 
-pub window_by_new : (i : Image) (w : World) (unit event : ℕ) (knows : List ℕ) (p : Placed) (o : Opening) (from : ℕ) → IsSimpleMount i w
+pub window_by_new : (i : Image) (w : World) (unit event : ℕ) (knows : List ℕ) (p : Placed) (o : Opening) (from : ℕ) → IsLegalMount i w
     → unanswered_on (log_of w 0) unit ≡ Some p → p.life ≡ Opened o → AreInRows i.shape (log_of w 0) o unit
     → window_from i.shape (after (log_of w) (Landed unit event) knows 0) from
     ≡ advanced_window (λ q. holds_position i.shape q p) (λ q. list_any (bears_position i.shape q) (newly_readable i.shape (log_of w 0) o unit))
     (window_from i.shape (log_of w 0) from)
-window_by_new i w unit event knows p o from simple waits life rows =
+window_by_new i w unit event knows p o from mount waits life rows =
     let l : Logged = record { event = Decides (Landed unit event); knows = knows } in
     subst (λ u. window_from i.shape (with_landing (log_of w 0) unit event knows) from ≡ advanced_window (λ q. holds_position i.shape q p)
     (λ q. list_any (bears_position i.shape q) (newly_readable i.shape (log_of w 0) o u)) (window_from i.shape (log_of w 0) from))
     (first_unanswered (log_of w 0) unit p waits).of_unit
-    (window_newly i.shape (log_of w 0) (with_landing (log_of w 0) unit event knows) p o from (landed_now i w unit event knows p o simple waits life rows)
-    (newest_in i w unit p simple.mount.legal waits)
+    (window_newly i.shape (log_of w 0) (with_landing (log_of w 0) unit event knows) p o from (landed_now i w unit event knows p o mount waits life rows)
+    (newest_in i w unit p mount.legal waits)
     (takes_more (log_of w 0) l ∙ append-nil (takes (log_of w 0))) (first_kept (log_of w 0) (Landed unit event) knows refl))
 
-among_in : (i : Image) (w : World) (unit event : ℕ) (knows : List ℕ) (p : Placed) (o : Opening) (q : ℕ) → IsSimpleMount i w
+among_in : (i : Image) (w : World) (unit event : ℕ) (knows : List ℕ) (p : Placed) (o : Opening) (q : ℕ) → IsLegalMount i w
     → unanswered_on (log_of w 0) unit ≡ Some p → p.life ≡ Opened o → AreInRows i.shape (log_of w 0) o unit → is_given_back i.shape (log_of w 0) q ≡ false
     → block_read i.shape (with_landing (log_of w 0) unit event knows) o unit q ≡ block_among i.shape (log_of w 0) o unit q
-among_in i w unit event knows p o q simple waits life rows kept =
+among_in i w unit event knows p o q mount waits life rows kept =
     subst (λ u. block_read i.shape (with_landing (log_of w 0) unit event knows) o u q ≡ block_among i.shape (log_of w 0) o u q)
     (first_unanswered (log_of w 0) unit p waits).of_unit
-    (found_among i.shape (log_of w 0) (with_landing (log_of w 0) unit event knows) p o q (landed_now i w unit event knows p o simple waits life rows)
-    (newest_in i w unit p simple.mount.legal waits) kept)
+    (found_among i.shape (log_of w 0) (with_landing (log_of w 0) unit event knows) p o q (landed_now i w unit event knows p o mount waits life rows)
+    (newest_in i w unit p mount.legal waits) kept)
 
-pub slot_by_new : (i : Image) (w : World) (unit event : ℕ) (knows : List ℕ) (p : Placed) (o : Opening) (lba : ℕ) → IsSimpleMount i w
+pub slot_by_new : (i : Image) (w : World) (unit event : ℕ) (knows : List ℕ) (p : Placed) (o : Opening) (lba : ℕ) → IsLegalMount i w
     → unanswered_on (log_of w 0) unit ≡ Some p → p.life ≡ Opened o → AreInRows i.shape (log_of w 0) o unit
     → slot_of i (after (log_of w) (Landed unit event) knows) lba ≡ read_slot i (log_of w) o unit (block_among i.shape (log_of w 0) o unit)
     (slot_of i (log_of w) lba)
-slot_by_new i w unit event knows p o lba simple waits life rows =
-    slot_landed i w unit event knows p o lba simple waits life rows ∙ go (slot_of i (log_of w) lba) refl
+slot_by_new i w unit event knows p o lba mount waits life rows =
+    slot_landed i w unit event knows p o lba mount waits life rows ∙ go (slot_of i (log_of w) lba) refl
   where
     go : (x : Slot) → slot_of i (log_of w) lba ≡ x
         → read_slot i (log_of w) o unit (block_read i.shape (with_landing (log_of w 0) unit event knows) o unit) x ≡ read_slot i (log_of w) o unit
         (block_among i.shape (log_of w 0) o unit) x
     go Unwritten e = refl
     go (Cached q) e = ap (λ b. option_map_or (λ block. Media o.line (address_of_block i (log_of w) o unit block) q) b (Cached q))
-        (among_in i w unit event knows p o q simple waits life rows (cached_kept i (log_of w) lba q e))
+        (among_in i w unit event knows p o q mount waits life rows (cached_kept i (log_of w) lba q e))
     go (Media line at q) e = refl

@@ -1,28 +1,31 @@
 -- The positions in blocks that can be read now, and couldn't before, are still held.
-use Rattle.std.proofs.Common.{◌≡◌, ℕ, ◌+◌, ◌*◌, ◌<◌, ◌≤◌, ◌==◌, ◌&&◌, ◌||◌, zero, suc, Bool, true, false, cond, Some, List, [], ◌∷◌, ◌++◌, length, take, drop, refl, sym, subst, ap, ◌∙◌, arith}
-use Rattle.std.specs.Prelude.{is_some}
+use Rattle.std.proofs.Common.{◌≡◌, ℕ, ◌+◌, ◌*◌, ◌<◌, ◌≤◌, ◌==◌, ◌&&◌, ◌||◌, zero, suc, Bool, true, false, cond, Some, None, List, [], ◌∷◌, ◌++◌, length, take, drop, refl, sym, subst, ap, ◌∙◌, arith}
+use Rattle.std.specs.Prelude.{is_some, slice_get}
 use Rattle.std.specs.List.{AllByRecursion, filter, find, list_any, flat_map, enumerate_from}
 use Rattle.std.proofs.lemmas.List.{take-take as take_within}
 use Rattle.pblk_model.specs.declared.shape.Shape.{Shape}
 use Rattle.pblk_model.specs.Chunk.{Block}
 use Rattle.pblk_world.specs.Events.{Logged}
-use Rattle.pblk_world.specs.EngineLog.{Opened, is_life, Opening, Placed, placements, stripes_of, stripes_on, has_landed, bears_position, holds_position}
+use Rattle.pblk_world.specs.EngineLog.{Opened, is_life, Opening, Placed, placements, stripes_of, stripes_on, answer_of, is_land, is_loss, has_landed, was_lost, bears_position, holds_position}
 use Rattle.pblk_world.specs.Fronts.{has_landed_at}
 use Rattle.pblk_world.specs.Space.{landed_blocks, is_readable_in, gives_back}
 use Rattle.core_laws.specs.WindowOf.{is_given_back}
-use Rattle.core_laws.specs.ChunkBlocks.{chunk_blocks, readable_blocks, newly_readable}
-use Rattle.core_laws.proofs.BorneOnce.{times, times_append, BearsOnce, fewer_filtered}
-use Rattle.core_laws.proofs.HeldOnce.{HeldOnce, holders, one_holder}
+use Rattle.core_laws.specs.ChunkBlocks.{NoneLostIn, chunk_blocks, readable_blocks, newly_readable}
+use Rattle.core_laws.proofs.BorneOnce.{times, times_append, BearsOnce}
+use Rattle.core_laws.proofs.HeldOnce.{HeldOnce}
+use Rattle.core_laws.proofs.LandedBlocks.{on_rises}
+use Rattle.core_laws.proofs.PlacedAnew.{landed_not_lost}
+use Rattle.world_laws.proofs.UnitTurns.{Rises}
 use Rattle.core_laws.proofs.Growing.{given_holds, given_landed}
-use Rattle.core_laws.proofs.GivenBack.{IsLandedNow, flat_any, gives_of_chunk, any_append}
+use Rattle.core_laws.proofs.GivenBack.{IsLandedNow, flat_any, gives_of_chunk, any_append, none_at}
 use Rattle.core_laws.proofs.GivenNow.{blocks_below, chunk_life, chunk_unit, IsOfChunk, chunk_members}
 use Rattle.core_laws.proofs.NewlyRead.{found_any}
 use Rattle.core_laws.proofs.NewBlocks.{IsNewest, read_found, chunk_within}
 use Rattle.core_laws.proofs.NewWindow.{low_high, given_newly}
-use Rattle.lemmas.proofs.Lists.{IsAmong}
-use Rattle.lemmas.proofs.Maps.{all_filter, any_found, any_member, fewer_taken, found_passes}
+use Rattle.lemmas.proofs.Lists.{IsAmong, later}
+use Rattle.lemmas.proofs.Maps.{all_filter, any_found, any_member, fewer_taken, filter_none, found_passes, from_filter}
 use Rattle.lemmas.proofs.Options.{some_value}
-use Rattle.lemmas.proofs.Parts.{all_at}
+use Rattle.lemmas.proofs.Parts.{all_at, all_by_get}
 use Rattle.lemmas.proofs.Tests.{first_of, or_right, second_of}
 
 -- ---- counting
@@ -71,18 +74,46 @@ times_held s q (p ∷ ps) once =
     go true e rest = let one : times s q p.stripe.blocks ≤ 1 = once.0 q in omega arith
     go false e rest = let none : times s q p.stripe.blocks ≡ 0 = not_any (bears_position s q) p.stripe.blocks e in omega arith
 
-chunk_times : (s : Shape) (log : List Logged) (o : Opening) (unit q : ℕ) → HeldOnce s log
+-- of stripes in their order at most one holds a position, where those that do are one
+one_holds : (s : Shape) (q : ℕ) (ps : List Placed) → Rises ps
+    → ((p r : Placed) → IsAmong ps p → IsAmong ps r → holds_position s q p ≡ true → holds_position s q r ≡ true → p ≡ r)
+    → length (filter (holds_position s q) ps) ≤ 1
+one_holds s q [] rise one = omega arith
+one_holds s q (p ∷ ps) rise one =
+    go (holds_position s q p) refl (one_holds s q ps rise.1 (λ x y a b. one x y (later p ps x a) (later p ps y b)))
+  where
+    go : (b : Bool) → holds_position s q p ≡ b → length (filter (holds_position s q) ps) ≤ 1
+        → length (cond b (p ∷ filter (holds_position s q) ps) (filter (holds_position s q) ps)) ≤ 1
+    go false e rest = rest
+    go true e rest =
+        let none : filter (holds_position s q) ps ≡ [] = filter_none (holds_position s q) ps (all_by_get (λ r. holds_position s q r ≡ false) ps
+        (λ k r at. by k r at (holds_position s q r) refl)) in
+        let zero_ : length (filter (holds_position s q) ps) ≡ 0 = ap (λ (rs : List Placed). length rs) none in
+        omega arith
+      where
+        by : (k : ℕ) (r : Placed) → slice_get ps k ≡ Some r → (c : Bool) → holds_position s q r ≡ c → c ≡ false
+        by k r at false f = refl
+        by k r at true f =
+            let same : p ≡ r = one p r (0, refl) (later p ps r (k, at)) e f in
+            let number : p.number ≡ r.number = ap (λ (x : Placed). x.number) same in
+            let above : p.number < r.number = all_at (λ (x : Placed). p.number < x.number) ps k r at rise.0 in
+            absurd (omega arith)
+
+chunk_times : (s : Shape) (log : List Logged) (o : Opening) (unit q : ℕ) → HeldOnce s log → NoneLostIn log o unit
     → AllByRecursion (λ (p : Placed). BearsOnce s p.stripe.blocks) (placements log) → times s q (chunk_blocks log o unit) ≤ 1
-chunk_times s log o unit q held once =
+chunk_times s log o unit q held unlost once =
     let few : times s q (chunk_blocks log o unit) ≤ length (filter (holds_position s q) (stripes_on log o unit)) = times_held s q (stripes_on log o unit)
     (all_filter (λ (p : Placed). BearsOnce s p.stripe.blocks) (λ (p : Placed). p.stripe.unit == unit) (stripes_of log o)
     (all_filter (λ (p : Placed). BearsOnce s p.stripe.blocks) (λ (p : Placed). is_life o.number p.life) (placements log) once)) in
-    let on : length (filter (holds_position s q) (stripes_on log o unit)) ≤ length (filter (holds_position s q) (stripes_of log o)) =
-    fewer_filtered (holds_position s q) (λ (p : Placed). p.stripe.unit == unit) (stripes_of log o) in
-    let of : length (filter (holds_position s q) (stripes_of log o)) ≤ holders s log q =
-    fewer_filtered (holds_position s q) (λ (p : Placed). is_life o.number p.life) (placements log) in
-    let one : holders s log q ≤ 1 = held q in
+    let one : length (filter (holds_position s q) (stripes_on log o unit)) ≤ 1 =
+    one_holds s q (stripes_on log o unit) (on_rises log o unit)
+    (λ p r a b e f. held q p r (in_all p a) (in_all r b) e f (none_at (was_lost log) (stripes_on log o unit) p unlost a)
+    (none_at (was_lost log) (stripes_on log o unit) r unlost b)) in
     omega arith
+  where
+    in_all : (p : Placed) → IsAmong (stripes_on log o unit) p → IsAmong (placements log) p
+    in_all p a = from_filter (λ (x : Placed). is_life o.number x.life) (placements log) p
+        (from_filter (λ (x : Placed). x.stripe.unit == unit) (stripes_of log o) p a)
 
 -- ---- a position that can be read now wasn't given back
 
@@ -122,8 +153,10 @@ earlier_block s log new p o q is held given borne =
     member_of (holds_position s q) (stripes_on log o p.stripe.unit) (any_stripe (bears_position s q) (stripes_on log o p.stripe.unit) borne) in
     let of : IsOfChunk log p o r.0 = all_at (IsOfChunk log p o) (stripes_on log o p.stripe.unit) r.2.0 r.0 r.2.1 (chunk_members log p o) in
     let t : (x : Placed) × (gives_back s log q x ≡ true) × IsAmong (placements log) x = member_of (gives_back s log q) (placements log) given in
-    let same : t.0 ≡ r.0 = one_holder s log q t.0 r.0 held t.2 of.among
-    (second_of (has_landed log t.0) (holds_position s q t.0) (given_holds s log q t.0 t.1)) r.1 in
+    let same : t.0 ≡ r.0 = held q t.0 r.0 t.2 of.among
+    (second_of (has_landed log t.0) (holds_position s q t.0) (given_holds s log q t.0 t.1)) r.1
+    (landed_not_lost log t.0 (first_of (has_landed log t.0) (holds_position s q t.0) (given_holds s log q t.0 t.1)))
+    (none_at (was_lost log) (stripes_on log o p.stripe.unit) r.0 is.unlost r.2) in
     let gives : gives_back s log q r.0 ≡ true = ap (gives_back s log q) (sym same) ∙ t.1 in
     let landed : has_landed log r.0 ≡ true = first_of (has_landed log r.0) (holds_position s q r.0) (given_holds s log q r.0 gives) in
     let reads : list_any test (enumerate_from r.0.stripe.at r.0.stripe.blocks) ≡ true =
@@ -133,7 +166,7 @@ earlier_block s log new p o q is held given borne =
     (λ k x e. let row = is.rows k x e in ((let at : x.stripe.at ≡ k * s.ws_opt = row.at in omega arith), row.blocks))
     ∙ any_member (λ (x : Placed). list_any test (enumerate_from x.stripe.at x.stripe.blocks)) (stripes_on log o p.stripe.unit) r.2.0 r.0 r.2.1 reads in
     sym (found_any (bears_position s q) 0 (take (readable_blocks s (landed_blocks s log o p.stripe.unit)) (chunk_blocks log o p.stripe.unit)))
-    ∙ ap is_some (sym (read_found s log o p.stripe.unit q (chunk_blocks log o p.stripe.unit) is.plain (chunk_within s log o p.stripe.unit is.rows)))
+    ∙ ap is_some (sym (read_found s log o p.stripe.unit q (chunk_blocks log o p.stripe.unit) is.unlost (chunk_within s log o p.stripe.unit is.rows)))
     ∙ sym (any_found test (enumerate_from 0 (chunk_blocks log o p.stripe.unit))) ∙ whole
 
 pub newly_kept : (s : Shape) (log new : List Logged) (p : Placed) (o : Opening) (q : ℕ) → IsLandedNow s log new p o → HeldOnce s log
@@ -144,7 +177,7 @@ newly_kept s log new p o q is held once e =
     let low : ℕ = readable_blocks s (landed_blocks s log o p.stripe.unit) in
     let high : ℕ = readable_blocks s (landed_blocks s log o p.stripe.unit + s.ws_opt) in
     let cs : List Block = chunk_blocks log o p.stripe.unit in
-    let one : times s q cs ≤ 1 = chunk_times s log o p.stripe.unit q held once in
+    let one : times s q cs ≤ 1 = chunk_times s log o p.stripe.unit q held is.unlost once in
     let few : times s q (take high cs) ≤ times s q cs = fewer_taken (bears_position s q) high cs in
     let sum : times s q (take high cs) ≡ times s q (take low (take high cs)) + times s q (drop low (take high cs)) =
     ap (times s q) (parts_of low (take high cs)) ∙ times_append s q (take low (take high cs)) (drop low (take high cs)) in
@@ -200,7 +233,7 @@ pub any_part : {X : Type 0} (f : X → Bool) (low high : ℕ) (xs : List X) → 
 any_part f low high xs e = any_taken f high xs (any_dropped f low (take high xs) e)
 
 -- an unanswered stripe gives nothing back, and no other holds its positions
-pub own_kept : (s : Shape) (log : List Logged) (p : Placed) (q : ℕ) → HeldOnce s log → IsAmong (placements log) p → has_landed log p ≡ false
+pub own_kept : (s : Shape) (log : List Logged) (p : Placed) (q : ℕ) → HeldOnce s log → IsAmong (placements log) p → answer_of log p ≡ None
     → holds_position s q p ≡ true → is_given_back s log q ≡ false
 own_kept s log p q held among waits holds = go (is_given_back s log q) refl
   where
@@ -211,6 +244,8 @@ own_kept s log p q held among waits holds = go (is_given_back s log q) refl
     go true f =
         let t : (x : Placed) × (gives_back s log q x ≡ true) × IsAmong (placements log) x = member_of (gives_back s log q) (placements log) f in
         let both : (has_landed log t.0 && holds_position s q t.0) ≡ true = given_holds s log q t.0 t.1 in
-        let same : t.0 ≡ p = one_holder s log q t.0 p held t.2 among (second_of (has_landed log t.0) (holds_position s q t.0) both) holds in
-        no_both (has_landed log p) (ap (has_landed log) (sym same) ∙ first_of (has_landed log t.0) (holds_position s q t.0) both) waits
+        let landed : has_landed log t.0 ≡ true = first_of (has_landed log t.0) (holds_position s q t.0) both in
+        let same : t.0 ≡ p = held q t.0 p t.2 among (second_of (has_landed log t.0) (holds_position s q t.0) both) holds (landed_not_lost log t.0 landed)
+        (ap is_loss waits) in
+        no_both (has_landed log p) (ap (has_landed log) (sym same) ∙ landed) (ap is_land waits)
     go false f = refl

@@ -2,18 +2,17 @@
 -- line failed.
 use Rattle.std.proofs.Common.{◌≡◌, ℕ, ◌+◌, ◌<◌, ◌≤◌, ◌&&◌, zero, suc, not, Bool, true, false, Some, None, Option, List, [], ◌∷◌, ◌++◌, map, length, take, drop, replicate, refl, sym, subst, ap, ap₂, ◌∙◌, arith}
 use Rattle.std.specs.Prelude.{slice_get}
-use Rattle.std.specs.List.{AllByRecursion, list_all}
+use Rattle.std.specs.List.{AllByRecursion, list_all, list_any}
 use Rattle.std.specs.Option.{option_map_or}
 use Rattle.pblk_world.specs.Events.{Logged}
-use Rattle.pblk_world.specs.EngineLog.{Placed, Answer, DidLand, WasLost, answer_of, is_land, is_loss, has_landed}
+use Rattle.pblk_world.specs.EngineLog.{Placed, Answer, DidLand, WasLost, answer_of, is_land, is_loss, has_landed, was_lost}
 use Rattle.stripe_placer.specs.OpenLines.{Stripe, OpenLine, is_unplaced, is_landed, is_lost, stripe_is, is_to_place, next_of, has_failed, start_has_landed, data_has_landed}
 use Rattle.stripe_placer.specs.OpenLines.Stripe.{Unplaced}
 use Rattle.stripe_placer.proofs.Numbered.{found_in_range, none_in_range}
 use Rattle.core_laws.specs.OpenedLines.{by_answer}
-use Rattle.core_laws.specs.PlainEvents.{ArePlain}
 use Rattle.core_laws.proofs.LineForms.{answered_as}
-use Rattle.core_laws.proofs.PlainEventsLemmas.{not_lost}
 use Rattle.lemmas.proofs.Maps.{any_fail}
+use Rattle.lemmas.proofs.Tests.{either_false}
 use Rattle.stripe_placer.proofs.OpenLinesLemmas.{length_new, no_chunk_closed}
 
 -- ---- what became of one stripe
@@ -42,10 +41,12 @@ new_unlost : (m : ℕ) → AllByRecursion (λ x. is_lost x ≡ false) (replicate
 new_unlost zero = tt
 new_unlost (suc m) = (refl, new_unlost m)
 
-unlost : (log : List Logged) (ps : List Placed) (m : ℕ) → ArePlain log → AllByRecursion (λ x. is_lost x ≡ false) (in_form log ps m)
+unlost : (log : List Logged) (ps : List Placed) (m : ℕ) → list_any (was_lost log) ps ≡ false → AllByRecursion (λ x. is_lost x ≡ false) (in_form log ps m)
 unfolding answered_as
-unlost log [] m plain = new_unlost m
-unlost log (p ∷ ps) m plain = (lost_is (answer_of log p) ∙ not_lost log p plain, unlost log ps m plain)
+unlost log [] m none = new_unlost m
+unlost log (p ∷ ps) m none =
+    let two = either_false (was_lost log p) (list_any (was_lost log) ps) none in
+    (lost_is (answer_of log p) ∙ two.0, unlost log ps m two.1)
 
 pub never_failed : (l : OpenLine) → AllByRecursion (λ x. is_lost x ≡ false) l.stripes → has_failed l ≡ false
 never_failed l all = any_fail is_lost l.stripes all
@@ -72,9 +73,10 @@ form_length : (log : List Logged) (ps : List Placed) (m : ℕ) → length (in_fo
 form_length log [] m = length_new m ∙ omega arith
 form_length log (p ∷ ps) m = let rest : length (in_form log ps m) ≡ length ps + m = form_length log ps m in omega arith
 
-pub next_is : (l : OpenLine) (log : List Logged) (ps : List Placed) (m : ℕ) → ArePlain log → l.stripes ≡ in_form log ps m → 0 < m → next_of l ≡ Some (length ps)
-next_is l log ps m plain form some =
-    let all : AllByRecursion (λ x. is_lost x ≡ false) l.stripes = subst (AllByRecursion (λ x. is_lost x ≡ false)) (sym form) (unlost log ps m plain) in
+pub next_is : (l : OpenLine) (log : List Logged) (ps : List Placed) (m : ℕ) → list_any (was_lost log) ps ≡ false → l.stripes ≡ in_form log ps m → 0 < m
+    → next_of l ≡ Some (length ps)
+next_is l log ps m none_ form some =
+    let all : AllByRecursion (λ x. is_lost x ≡ false) l.stripes = subst (AllByRecursion (λ x. is_lost x ≡ false)) (sym form) (unlost log ps m none_) in
     let count : length l.stripes ≡ length ps + m = ap (λ (xs : List Stripe). length xs) form ∙ form_length log ps m in
     let unplaced : (j : ℕ) → is_to_place l j ≡ option_map_or is_unplaced (slice_get (in_form log ps m) j) false =
     λ j. to_place l j all ∙ ap (λ (xs : List Stripe). option_map_or is_unplaced (slice_get xs j) false) form in
@@ -85,17 +87,19 @@ next_is l log ps m plain form some =
     ∙ placed_before log ps m j before)
     ∙ ap (λ j. Some j) from
 
-pub none_next : (l : OpenLine) (log : List Logged) (ps : List Placed) (m : ℕ) → ArePlain log → l.stripes ≡ in_form log ps m → m ≡ 0 → next_of l ≡ None
-none_next l log ps m plain form none =
-    let all : AllByRecursion (λ x. is_lost x ≡ false) l.stripes = subst (AllByRecursion (λ x. is_lost x ≡ false)) (sym form) (unlost log ps m plain) in
+pub none_next : (l : OpenLine) (log : List Logged) (ps : List Placed) (m : ℕ) → list_any (was_lost log) ps ≡ false → l.stripes ≡ in_form log ps m → m ≡ 0
+    → next_of l ≡ None
+none_next l log ps m none_ form none =
+    let all : AllByRecursion (λ x. is_lost x ≡ false) l.stripes = subst (AllByRecursion (λ x. is_lost x ≡ false)) (sym form) (unlost log ps m none_) in
     let count : length l.stripes ≡ length ps + m = ap (λ (xs : List Stripe). length xs) form ∙ form_length log ps m in
     none_in_range (is_to_place l) 0 (length l.stripes)
     (λ j before. let start : 0 + j ≡ j = omega arith in
     ap (is_to_place l) start ∙ to_place l j all ∙ ap (λ (xs : List Stripe). option_map_or is_unplaced (slice_get xs j) false) form
     ∙ placed_before log ps m j (omega arith))
 
-pub unfailed : (l : OpenLine) (log : List Logged) (ps : List Placed) (m : ℕ) → ArePlain log → l.stripes ≡ in_form log ps m → has_failed l ≡ false
-unfailed l log ps m plain form = never_failed l (subst (AllByRecursion (λ x. is_lost x ≡ false)) (sym form) (unlost log ps m plain))
+pub unfailed : (l : OpenLine) (log : List Logged) (ps : List Placed) (m : ℕ) → list_any (was_lost log) ps ≡ false → l.stripes ≡ in_form log ps m
+    → has_failed l ≡ false
+unfailed l log ps m none_ form = never_failed l (subst (AllByRecursion (λ x. is_lost x ≡ false)) (sym form) (unlost log ps m none_))
 
 -- ---- what has landed
 

@@ -1,5 +1,5 @@
 -- The entry of a sector before another one, and the one after it, where positions rise.
-use Rattle.std.proofs.Common.{◌≡◌, ℕ, ◌+◌, ◌<◌, ◌≤◌, ◌==◌, ◌&&◌, zero, suc, max, nat_lt, Bool, true, false, cond, Some, None, Option, List, [], ◌∷◌, ◌++◌, refl, sym, subst, ap, ap₂, ◌∙◌, arith, append-nil}
+use Rattle.std.proofs.Common.{◌≡◌, ℕ, ◌+◌, ◌<◌, ◌≤◌, ◌==◌, ◌&&◌, zero, suc, max, nat_lt, Bool, true, false, cond, Some, None, Option, List, [], ◌∷◌, ◌++◌, take, refl, sym, subst, ap, ap₂, ◌∙◌, arith, append-nil}
 use Rattle.std.specs.Prelude.{⊤}
 use Rattle.std.specs.List.{AllByRecursion, filter, find, last_or, range_with_len}
 use Rattle.std.specs.Option.{option_map, option_or}
@@ -11,8 +11,9 @@ use Rattle.line_table.specs.Rows.{latest}
 use Rattle.core_laws.specs.PlacerOf.{positions_of}
 use Rattle.core_laws.proofs.Placing.{not_below}
 use Rattle.core_laws.proofs.Removing.{all_second as all_right}
-use Rattle.lemmas.proofs.Lists.{all_imply, last_in}
+use Rattle.lemmas.proofs.Lists.{all_append, all_imply, last_in}
 use Rattle.lemmas.proofs.Maps.{all_filter, find_agree, find_none}
+use Rattle.lemmas.proofs.Parts.{all_taken}
 use Rattle.lemmas.proofs.Tests.{and_false, and_true, lt_true, other_number}
 
 -- ---- rising positions
@@ -38,6 +39,29 @@ rising_by a (suc n) (t ∷ ts) e =
       all_imply (λ (u : Taken). a + 1 ≤ u.entry.position) (λ (u : Taken). t.entry.position < u.entry.position) (λ u h. omega arith) ts
           (from_by (a + 1) n ts rest),
       rising_by (a + 1) n ts rest,
+    )
+
+pub rising_filtered : (test : Taken → Bool) (ts : List Taken) → IsRising ts → IsRising (filter test ts)
+rising_filtered test [] rise = tt
+rising_filtered test (t ∷ ts) rise = go (test t) (rising_filtered test ts rise.1)
+  where
+    go : (b : Bool) → IsRising (filter test ts) → IsRising (cond b (t ∷ filter test ts) (filter test ts))
+    go true rest = (all_filter (λ (u : Taken). t.entry.position < u.entry.position) test ts rise.0, rest)
+    go false rest = rest
+
+pub rising_taken : (n : ℕ) (ts : List Taken) → IsRising ts → IsRising (take n ts)
+rising_taken zero ts rise = tt
+rising_taken (suc n) [] rise = tt
+rising_taken (suc n) (t ∷ ts) rise = (all_taken (λ (u : Taken). t.entry.position < u.entry.position) n ts rise.0, rising_taken n ts rise.1)
+
+pub rising_joined : (n : ℕ) (ts us : List Taken) → IsRising ts → IsRising us → AllByRecursion (λ (t : Taken). t.entry.position < n) ts
+    → AllByRecursion (λ (u : Taken). n ≤ u.entry.position) us → IsRising (ts ++ us)
+rising_joined n [] us a b below above = b
+rising_joined n (t ∷ ts) us a b below above =
+    let less : t.entry.position < n = below.0 in (
+      all_append (λ (u : Taken). t.entry.position < u.entry.position) ts us a.0
+          (all_imply (λ (u : Taken). n ≤ u.entry.position) (λ (u : Taken). t.entry.position < u.entry.position) (λ u h. omega arith) us above),
+      rising_joined n ts us a.1 b below.1 above,
     )
 
 pub rising_before : (before : List Taken) (t : Taken) (after : List Taken) → IsRising (before ++ t ∷ after)

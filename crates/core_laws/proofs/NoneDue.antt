@@ -29,7 +29,8 @@ use Rattle.core_laws.proofs.WaitingEntries.{waiting_alike}
 use Rattle.core_laws.proofs.StillWaiting.{length_positions as positions_length}
 use Rattle.core_laws.proofs.PlacedLines.{found_any, row_before}
 use Rattle.pblk_world.proofs.Answered.{answers_fit}
-use Rattle.core_laws.proofs.Followed.{IsFollowed, plain_of}
+use Rattle.core_laws.specs.PlainLogs.{NoLineFailed}
+use Rattle.core_laws.proofs.Followed.{IsFollowed}
 use Rattle.core_laws.proofs.PartLengths.{is_before, is_after}
 use Rattle.core_laws.proofs.PlainOpenings.{opened_lines, IsOpenedLine, life_stands}
 use Rattle.core_laws.proofs.StripesInOrder.{stripe_count, wide}
@@ -40,7 +41,6 @@ use Rattle.stripe_placer.proofs.Rows.{find_first, find_second}
 use Rattle.core_laws.proofs.KeptLines.{on_drive}
 use Rattle.core_laws.proofs.OfferedStripes.{unit_within}
 use Rattle.core_laws.proofs.Placeable.{kind_in, kind_by, IsPart, HasParts, parts_of}
-use Rattle.core_laws.proofs.PlainEventsLemmas.{none_failed}
 use Rattle.lemmas.proofs.Lists.{IsAmong}
 use Rattle.lemmas.proofs.Maps.{from_filter, given_at, in_filter, in_map}
 use Rattle.lemmas.proofs.Parts.{contained_among, none_past, some_within}
@@ -68,7 +68,7 @@ idle_unit i us w unit is all = go (slice_get (placed_on (log_of w 0) unit) (leng
     go : (o : Option Placed) → slice_get (placed_on (log_of w 0) unit) (length (answers (log_of w 0) unit)) ≡ o
         → length (answers (log_of w 0) unit) ≡ length (placed_on (log_of w 0) unit)
     go None e =
-        let most : length (answers (log_of w 0) unit) ≤ length (placed_on (log_of w 0) unit) = answers_fit i w unit is.simple.mount.legal in
+        let most : length (answers (log_of w 0) unit) ≤ length (placed_on (log_of w 0) unit) = answers_fit i w unit is.mount.legal in
         let least : length (placed_on (log_of w 0) unit) ≤ length (answers (log_of w 0) unit) =
         none_past (placed_on (log_of w 0) unit) (length (answers (log_of w 0) unit)) e in
         omega arith
@@ -118,19 +118,19 @@ urgent s log target pad within (inr below) =
     or_right (nat_le s.ws_opt (length (waiting (entries_of s log pad)))) (list_any (λ q. nat_lt q pad) (waiting (entries_of s log pad)))
     (ap (list_any (λ q. nat_lt q pad)) (waiting_alike s log pad) ∙ any_at (fronts.waiting s log) at.0 t pad at.1 (omega arith))
 
-due_next : (i : Image) (us : ℕ → List ℕ) (w : World) (pad target : ℕ) (o : Opening) (stripe : Stripe) → IsFollowed i us w → IsLineOf i us w o
-    → HasParts i us w o → target ≤ pad
+due_next : (i : Image) (us : ℕ → List ℕ) (w : World) (pad target : ℕ) (o : Opening) (stripe : Stripe) → IsFollowed i us w
+    → has_failed (log_of w 0) o ≡ false → IsLineOf i us w o → HasParts i us w o → target ≤ pad
     → IsStart i (log_of w) o stripe
     ⊎ (IsEnd i (log_of w) o stripe ⊎ (IsPad i (log_of w) o stripe ⊎ (IsData i (log_of w) o stripe × IsUrgent i.shape (log_of w 0) target)))
     → (kind : StripeKind) × IsAllowedNext i us w pad o kind
 unfolding IsPart
-due_next i us w pad target o stripe is line parts within (inl start) =
+due_next i us w pad target o stripe is whole line parts within (inl start) =
     let k : ℕ = length (stripes_of (log_of w 0) o) in
     let before : k < start_len i.shape / i.shape.ws_opt =
-    is_before i.shape.ws_opt k (start_len i.shape / i.shape.ws_opt) (start_len i.shape) is.simple.mount.accepted.drive.ws_opt parts.start_is start.within in
+    is_before i.shape.ws_opt k (start_len i.shape / i.shape.ws_opt) (start_len i.shape) is.mount.accepted.drive.ws_opt parts.start_is start.within in
     let fits = parts.fits in
     (kinds.Start, record { inside = omega arith; part = before; allowed = refl })
-due_next i us w pad target o stripe is line parts within (inr (inl ends)) =
+due_next i us w pad target o stripe is whole line parts within (inr (inl ends)) =
     let s : Shape = i.shape in
     let log : List Logged = log_of w 0 in
     let l : OpenLine = open_line i (log_of w) o in
@@ -138,7 +138,7 @@ due_next i us w pad target o stripe is line parts within (inr (inl ends)) =
     let k : ℕ = length ps in
     let c : ℕ = start_len s / s.ws_opt in
     let d : ℕ = l.data_count in
-    let some : 0 < s.ws_opt = is.simple.mount.accepted.drive.ws_opt in
+    let some : 0 < s.ws_opt = is.mount.accepted.drive.ws_opt in
     let beyond : c + d ≤ k = is_after s.ws_opt k (c + d) (end_address s o) some parts.ends_is ends.from in
     let landed : list_all (has_landed log) (take (c + d) ps) ≡ true =
     (both (nat_le (c + d) k) (list_all (has_landed log) (take (c + d) ps))
@@ -152,11 +152,10 @@ due_next i us w pad target o stripe is line parts within (inr (inl ends)) =
         allowed = data_landed l log ps (stripe_count i us o.line - k) (formed i us w o line) beyond ∙ rest;
       },
     )
-due_next i us w pad target o stripe is line parts within (inr (inr (inl pads))) =
+due_next i us w pad target o stripe is whole line parts within (inr (inr (inl pads))) =
     let fails : has_failed (log_of w 0) o ≡ true = pads.failed in
-    let never : has_failed (log_of w 0) o ≡ false = none_failed (log_of w 0) o (plain_of i us w is) in
-    absurd cc
-due_next i us w pad target o stripe is line parts within (inr (inr (inr its))) =
+    absurd (cc (sym fails ∙ whole))
+due_next i us w pad target o stripe is whole line parts within (inr (inr (inr its))) =
     let s : Shape = i.shape in
     let log : List Logged = log_of w 0 in
     let l : OpenLine = open_line i (log_of w) o in
@@ -164,7 +163,7 @@ due_next i us w pad target o stripe is line parts within (inr (inr (inr its))) =
     let k : ℕ = length ps in
     let c : ℕ = start_len s / s.ws_opt in
     let d : ℕ = l.data_count in
-    let some : 0 < s.ws_opt = is.simple.mount.accepted.drive.ws_opt in
+    let some : 0 < s.ws_opt = is.mount.accepted.drive.ws_opt in
     let before : k < c + d = is_before s.ws_opt k (c + d) (end_address s o) some parts.ends_is its.0.within in
     let started = both (nat_le c k) (list_all (has_landed log) (take c ps)) its.0.start_landed in
     let above : c ≤ k = is_within c k started.0 in
@@ -191,11 +190,11 @@ none_at {X} test (y ∷ ys) k x e at = go (test y) refl e k at (λ f m b. none_a
     go false is f (suc k) at rest = rest f k at
 
 offered_next : (i : Image) (us : ℕ → List ℕ) (w : World) (pad : ℕ) (o : Opening) (kind : StripeKind) → IsFollowed i us w
-    → life_of (log_of w 0) o.line ≡ Opened o → IsLineOf i us w o → IsAllowedNext i us w pad o kind
+    → has_failed (log_of w 0) o ≡ false → life_of (log_of w 0) o.line ≡ Opened o → IsLineOf i us w o → IsAllowedNext i us w pad o kind
     → IsAmong (filter_map (next_in i.shape (entries_of i.shape (log_of w 0) pad)) (open_lines i (log_of w)))
     (program_of i.shape (open_line i (log_of w) o) (length (stripes_of (log_of w 0) o)) kind
     (next_positions i.shape (entries_of i.shape (log_of w 0) pad) kind))
-offered_next i us w pad o kind is life line next =
+offered_next i us w pad o kind is whole life line next =
     let s : Shape = i.shape in
     let log : List Logged = log_of w 0 in
     let e : Entries = entries_of s log pad in
@@ -203,9 +202,9 @@ offered_next i us w pad o kind is life line next =
     let k : ℕ = length (stripes_of log o) in
     let inside : k < stripe_count i us o.line = next.inside in
     let number : next_of l ≡ Some k =
-    next_is l log (stripes_of log o) (stripe_count i us o.line - k) (plain_of i us w is) (formed i us w o line) (omega arith) in
+    next_is l log (stripes_of log o) (stripe_count i us o.line - k) whole (formed i us w o line) (omega arith) in
     let kind_is : kind_of l k ≡ kind =
-    kind_by l k (unfailed l log (stripes_of log o) (stripe_count i us o.line - k) (plain_of i us w is) (formed i us w o line))
+    kind_by l k (unfailed l log (stripes_of log o) (stripe_count i us o.line - k) whole (formed i us w o line))
     ∙ part_is k (start_len s / s.ws_opt) l.data_count kind next.part in
     let given : next_in s e l ≡ Some (program_of s l k kind (next_positions s e kind)) =
     ap (allowed_at s e l) number
@@ -245,21 +244,22 @@ none_behind test stopped given none = go (find test stopped) refl
     go (Some x) e = absurd (none-some x (sym none ∙ find_first test stopped given x e))
 
 pub none_due : (i : Image) (us : ℕ → List ℕ) (w : World) (pad : ℕ) (again : List ℕ) (target : ℕ) (stripe : Stripe) → IsFollowed i us w
+    → NoLineFailed (log_of w 0)
     → next_stripe (placing_of i (log_of w) pad again) 0 ≡ None → ((p : Placed) → Contains (placements (log_of w 0)) p → is_answered (log_of w 0) p ≡ true)
     → target ≤ pad → ¬ IsDue i (log_of w) target stripe
 unfolding AreAnswered
-none_due i us w pad again target stripe is none all within due =
+none_due i us w pad again target stripe is whole none all within due =
     let log : List Logged = log_of w 0 in
     let o : Opening = due.opening in
     let well : IsOpenedLine i us stripe.line o = opened_lines i us w is stripe.line o due.is_open in
     let life : life_of log o.line ≡ Opened o = ap (life_of log) well.its_line ∙ due.is_open in
-    let line : IsLineOf i us w o = line_of i us w o is life in
-    let next = due_next i us w pad target o stripe is line (parts_of i us w o line) within due.kind in
+    let line : IsLineOf i us w o = line_of i us w o is life (whole o) in
+    let next = due_next i us w pad target o stripe is (whole o) line (parts_of i us w o line) within due.kind in
     let rows : List UnitRow = map (row_of i (log_of w) again) (range_with_len 0 (units i.shape)) in
     let given : List Program = filter_map (next_in i.shape (entries_of i.shape log pad)) (open_lines i (log_of w)) in
     let of : Program = program_of i.shape (open_line i (log_of w) o) (length (stripes_of log o)) next.0
     (next_positions i.shape (entries_of i.shape log pad) next.0) in
-    let among : IsAmong given of = offered_next i us w pad o next.0 is life line next.1 in
+    let among : IsAmong given of = offered_next i us w pad o next.0 is (whole o) life line next.1 in
     let nothing : find (λ (x : Program). is_ready rows 0 x.unit) given ≡ None =
     none_behind (λ (x : Program). is_ready rows 0 x.unit) (filter_map stopped_in rows) given none in
     let no_ : is_ready rows 0 of.unit ≡ false = none_at (λ (x : Program). is_ready rows 0 x.unit) given among.0 of nothing among.1 in
@@ -274,7 +274,7 @@ pub idle_answered : (i : Image) (us : ℕ → List ℕ) (w : World) (pad : ℕ) 
 idle_answered i us w pad again p is idle there =
     let log : List Logged = log_of w 0 in
     let among : IsAmong (placements log) p = (there.0, slice_get-get_or (placements log) there.0 p there.1 ∙ ap (λ (q : Placed). Some q) there.2) in
-    let inside : p.stripe.unit < units i.shape = on_drive i w p is.simple.mount there in
+    let inside : p.stripe.unit < units i.shape = on_drive i w p is.mount there in
     let row : row_of i (log_of w) again p.stripe.unit ≡ Idle =
     same_Some (row_of i (log_of w) again p.stripe.unit) Idle (sym (row_there i (log_of w) again p.stripe.unit inside) ∙ idle p.stripe.unit inside) in
     all_answered log p.stripe.unit p (is_idle i us w again p.stripe.unit is (ap is_under_way row) (ap stopped_in row))

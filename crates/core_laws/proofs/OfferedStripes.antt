@@ -12,7 +12,7 @@ use Rattle.pblk_layout.specs.Live.{is_in, is_live, units_in}
 use Rattle.pblk_world.specs.Events.{Logged}
 use Rattle.pblk_world.specs.World.{World, log_of}
 use Rattle.pblk_world.specs.Lines.{known_image}
-use Rattle.pblk_world.specs.EngineLog.{is_opened, Opening, Opened, life_of, placed_on, answers, stripes_of}
+use Rattle.pblk_world.specs.EngineLog.{is_opened, Opening, Opened, life_of, placed_on, answers, stripes_of, has_failed}
 use Rattle.stripe_placer.specs.Entries.{Entries}
 use Rattle.stripe_placer.specs.OpenLines.{OpenLine, width, has_left, next_of, kind_of}
 use Rattle.stripe_placer.specs.Placing.{Program, UnitRow, stopped_in, is_under_way, is_ready, allows, next_positions, program_of, next_in, next_stripe}
@@ -20,7 +20,8 @@ use Rattle.stripe_placer.proofs.Named.{IsProgramIn, its_program}
 use Rattle.stripe_placer.proofs.Chunks.{lt_of as is_below}
 use Rattle.core_laws.specs.OpenedLines.{open_line, standing, open_lines}
 use Rattle.core_laws.specs.PlacerOf.{entries_of, row_of, placing_of}
-use Rattle.core_laws.proofs.Followed.{IsFollowed, plain_of}
+use Rattle.core_laws.specs.PlainLogs.{NoLineFailed}
+use Rattle.core_laws.proofs.Followed.{IsFollowed}
 use Rattle.core_laws.proofs.StandingOpenings.{standing_opened}
 use Rattle.core_laws.proofs.KeptLines.{few_units, live_inside, unit_live}
 use Rattle.core_laws.proofs.StripesInOrder.{wide, stripe_count, IsAtPlace}
@@ -58,13 +59,13 @@ pub unit_within : (i : Image) (us : ℕ → List ℕ) (w : World) (line k unit :
     → slice_get (us line) k ≡ Some unit → unit < units i.shape
 unit_within i us w line k unit is opened e =
     let j : Image = known_image i (log_of w) in
-    let few : length (known_image i (log_of w)).units ≤ 64 = few_units i w (log_of w) is.simple.mount in
+    let few : length (known_image i (log_of w)).units ≤ 64 = few_units i w (log_of w) is.mount in
     let live : is_live (known_image i (log_of w)) line unit ≡ true =
     unit_live (known_image i (log_of w)) line k unit few (ap (λ (xs : List ℕ). slice_get xs k) (is.keeps line opened) ∙ e) in
     let inside : unit < length (known_image i (log_of w)).units =
     live_inside (known_image i (log_of w)) line unit live in
     let same : length (known_image i (log_of w)).units ≡ length i.units = length_known i (log_of w) in
-    let count = is.simple.mount.fit.units in
+    let count = is.mount.fit.units in
     omega arith
 
 get_at : (us : List ℕ) (k u : ℕ) → k < length us → slice_index_or us k 0 ≡ u → slice_get us k ≡ Some u
@@ -88,10 +89,10 @@ pub record IsOffered (i : Image) (us : ℕ → List ℕ) (w : World) (pad : ℕ)
   pub idle : length (answers (log_of w 0) of.unit) ≡ length (placed_on (log_of w 0) of.unit)
 
 -- the number of a line's next stripe, and that the line has so many
-next_number : (i : Image) (us : ℕ → List ℕ) (w : World) (o : Opening) (j : ℕ) → IsFollowed i us w → IsLineOf i us w o
+next_number : (i : Image) (us : ℕ → List ℕ) (w : World) (o : Opening) (j : ℕ) → has_failed (log_of w 0) o ≡ false → IsLineOf i us w o
     → next_of (open_line i (log_of w) o) ≡ Some j
     → (length (stripes_of (log_of w 0) o) < stripe_count i us o.line) × (length (stripes_of (log_of w 0) o) ≡ j)
-next_number i us w o j is line e = go (nat_lt (length (stripes_of (log_of w 0) o)) (stripe_count i us o.line)) refl
+next_number i us w o j whole line e = go (nat_lt (length (stripes_of (log_of w 0) o)) (stripe_count i us o.line)) refl
   where
     go : (b : Bool) → nat_lt (length (stripes_of (log_of w 0) o)) (stripe_count i us o.line) ≡ b
         → (length (stripes_of (log_of w 0) o) < stripe_count i us o.line) × (length (stripes_of (log_of w 0) o) ≡ j)
@@ -101,32 +102,43 @@ next_number i us w o j is line e = go (nat_lt (length (stripes_of (log_of w 0) o
           inside,
           same_Some (length (stripes_of (log_of w 0) o)) j
               (sym (next_is (open_line i (log_of w) o) (log_of w 0) (stripes_of (log_of w 0) o) (stripe_count i us o.line - length (stripes_of (log_of w 0) o))
-              (plain_of i us w is) (formed i us w o line) (omega arith)) ∙ e),
+              whole (formed i us w o line) (omega arith)) ∙ e),
         )
     go false f =
         let outside : stripe_count i us o.line ≤ length (stripes_of (log_of w 0) o) =
         le_of_lt_false (length (stripes_of (log_of w 0) o)) (stripe_count i us o.line) f in
         absurd (none-some j (sym (none_next (open_line i (log_of w) o) (log_of w 0) (stripes_of (log_of w 0) o)
-        (stripe_count i us o.line - length (stripes_of (log_of w 0) o)) (plain_of i us w is) (formed i us w o line) (omega arith)) ∙ e))
+        (stripe_count i us o.line - length (stripes_of (log_of w 0) o)) whole (formed i us w o line) (omega arith)) ∙ e))
 
 not_true : (a b : Bool) → (not a && not b) ≡ true → b ≡ false
 not_true true b e = absurd cc
 not_true false true e = absurd cc
 not_true false false e = refl
 
-offered : (i : Image) (us : ℕ → List ℕ) (w : World) (pad : ℕ) (again : List ℕ) (busy : ℕ) (of : Program) (o : Opening) → IsFollowed i us w
-    → IsOfferedBy i us w pad of o
+-- its unit is idle
+pub unit_idle : (i : Image) (us : ℕ → List ℕ) (w : World) (again : List ℕ) (busy : ℕ) (of : Program) → IsFollowed i us w → of.unit < units i.shape
+    → is_ready (map (row_of i (log_of w) again) (range_with_len 0 (units i.shape))) busy of.unit ≡ true → stopped_in (row_of i (log_of w) again of.unit) ≡ None
+    → length (answers (log_of w 0) of.unit) ≡ length (placed_on (log_of w 0) of.unit)
+unit_idle i us w again busy of is within ready none =
+    is_idle i us w again of.unit is
+    (ap (λ (r : Option UnitRow). option_map_or is_under_way r false) (sym (row_there i (log_of w) again of.unit within))
+    ∙ not_true (is_in busy of.unit)
+    (option_map_or is_under_way (slice_get (map (row_of i (log_of w) again) (range_with_len 0 (units i.shape))) of.unit) false) ready)
+    none
+
+pub offered : (i : Image) (us : ℕ → List ℕ) (w : World) (pad : ℕ) (again : List ℕ) (busy : ℕ) (of : Program) (o : Opening) → IsFollowed i us w
+    → has_failed (log_of w 0) o ≡ false → IsOfferedBy i us w pad of o
     → is_ready (map (row_of i (log_of w) again) (range_with_len 0 (units i.shape))) busy of.unit ≡ true → stopped_in (row_of i (log_of w) again of.unit) ≡ None
     → IsOffered i us w pad of o
-offered i us w pad again busy of o is by ready none =
+offered i us w pad again busy of o is whole by ready none =
     let s : Shape = i.shape in
     let log : List Logged = log_of w 0 in
     let e : Entries = entries_of s log pad in
     let l : OpenLine = open_line i (log_of w) o in
-    let line : IsLineOf i us w o = line_of i us w o is by.life in
+    let line : IsLineOf i us w o = line_of i us w o is by.life whole in
     let its : (j : ℕ) × IsProgramIn s e l of j = its_program s e l of by.next in
     let j : ℕ = its.0 in
-    let number = next_number i us w o j is line its.1.next in
+    let number = next_number i us w o j whole line its.1.next in
     let k : ℕ = length (stripes_of log o) in
     let made : Program = program_of s l j (kind_of l j) (next_positions s e (kind_of l j)) in
     let same : made ≡ of = its.1.is in
@@ -153,11 +165,7 @@ offered i us w pad again busy of o is by ready none =
       allowed = ap (allows s e l) (sym kind) ∙ its.1.allowed;
       positions = ap (next_positions s e) (sym kind) ∙ ap (λ (x : Program). x.positions) same;
       unit = within;
-      idle = is_idle i us w again of.unit is
-          (ap (λ (r : Option UnitRow). option_map_or is_under_way r false) (sym (row_there i (log_of w) again of.unit within))
-          ∙ not_true (is_in busy of.unit)
-          (option_map_or is_under_way (slice_get (map (row_of i (log_of w) again) (range_with_len 0 (units i.shape))) of.unit) false) ready)
-          none;
+      idle = unit_idle i us w again busy of is within ready none;
     }
 
 -- what is none of the stopped is of the others
@@ -172,10 +180,11 @@ new_only test stopped given of never next = go (find test stopped) refl
         let at = found_passes test stopped of (e ∙ ap (λ y. Some y) same) in
         absurd (never at.1.0 at.1.1)
 
-pub what_is_offered : (i : Image) (us : ℕ → List ℕ) (w : World) (pad : ℕ) (again : List ℕ) (busy : ℕ) (of : Program) → IsFollowed i us w
-    → next_stripe (placing_of i (log_of w) pad again) busy ≡ Some of
-    → stopped_in (row_of i (log_of w) again of.unit) ≡ None → (o : Opening) × IsOffered i us w pad of o
-what_is_offered i us w pad again busy of is next none =
+-- the line of the program, whose unit is ready
+pub offered_line : (i : Image) (us : ℕ → List ℕ) (w : World) (pad : ℕ) (again : List ℕ) (busy : ℕ) (of : Program) → IsFollowed i us w
+    → next_stripe (placing_of i (log_of w) pad again) busy ≡ Some of → stopped_in (row_of i (log_of w) again of.unit) ≡ None
+    → (o : Opening) × IsOfferedBy i us w pad of o × (is_ready (map (row_of i (log_of w) again) (range_with_len 0 (units i.shape))) busy of.unit ≡ true)
+offered_line i us w pad again busy of is next none =
     let rows : List UnitRow = map (row_of i (log_of w) again) (range_with_len 0 (units i.shape)) in
     let given : List Program = filter_map (next_in i.shape (entries_of i.shape (log_of w 0) pad)) (open_lines i (log_of w)) in
     let only : find (λ (x : Program). is_ready rows busy x.unit) given ≡ Some of =
@@ -183,4 +192,12 @@ what_is_offered i us w pad again busy of is next none =
     (λ k there. not_again i (log_of w) again 0 (units i.shape) k of none there) next in
     let found = found_passes (λ (x : Program). is_ready rows busy x.unit) given of only in
     let by = offered_by i us w pad of is found.1 in
-    (by.0, offered i us w pad again busy of by.0 is by.1 found.0 none)
+    (by.0, by.1, found.0)
+
+pub what_is_offered : (i : Image) (us : ℕ → List ℕ) (w : World) (pad : ℕ) (again : List ℕ) (busy : ℕ) (of : Program) → IsFollowed i us w
+    → NoLineFailed (log_of w 0)
+    → next_stripe (placing_of i (log_of w) pad again) busy ≡ Some of
+    → stopped_in (row_of i (log_of w) again of.unit) ≡ None → (o : Opening) × IsOffered i us w pad of o
+what_is_offered i us w pad again busy of is whole next none =
+    let by = offered_line i us w pad again busy of is next none in
+    (by.0, offered i us w pad again busy of by.0 is (whole by.0) by.1 by.2 none)

@@ -1,7 +1,7 @@
 -- The stripes of an opened line are at their turns on its units, and it has chunks left while it
 -- has a stripe left.
-use Rattle.std.proofs.Common.{◌≡◌, ℕ, ◌*◌, ◌/◌, ◌≤◌, ◌&&◌, zero, suc, not, Bool, true, false, Some, List, length, refl, subst, ap₂, ◌∙◌, arith}
-use Rattle.std.specs.Prelude.{slice_get}
+use Rattle.lemmas.proofs.Lists.{IsAmong}
+use Rattle.std.proofs.Common.{◌≡◌, ℕ, ◌*◌, ◌/◌, ◌≤◌, ◌&&◌, zero, suc, not, Bool, true, false, List, length, refl, subst, ap₂, ◌∙◌, arith, ◌<◌, ap}
 use Rattle.std.proofs.lemmas.List.{take-take as cut_cut}
 use Rattle.pblk_model.specs.Image.{Image, line_units}
 use Rattle.pblk_layout.specs.Live.{units_in}
@@ -13,13 +13,11 @@ use Rattle.stripe_placer.specs.OpenLines.{has_left}
 use Rattle.world_laws.specs.LegalMounts.{IsLegalMount}
 use Rattle.world_laws.proofs.Stripes.{stripe_is}
 use Rattle.core_laws.specs.OpenedLines.{bits_of, opened_units, open_line}
-use Rattle.core_laws.specs.SimpleMounts.{IsSimpleMount}
 use Rattle.core_laws.specs.StripeTurns.{IsAtTurn}
 use Rattle.core_laws.proofs.DoneLines.{none_left}
-use Rattle.core_laws.proofs.Followed.{follow}
 use Rattle.core_laws.proofs.KeptLines.{few_units, keeps_units}
 use Rattle.core_laws.proofs.LandedNow.{opened_now}
-use Rattle.core_laws.proofs.StripesInOrder.{IsAtPlace, IsInOrder, in_order}
+use Rattle.core_laws.proofs.LineNumbers as numbers
 use Rattle.core_laws.proofs.UnitBits.{bits_back}
 use Rattle.lemmas.proofs.Numbers.{fun_same}
 use Rattle.lemmas.proofs.Parts.{contained_among}
@@ -42,26 +40,28 @@ bits_are_units i w o mount =
 
 -- ---- its stripes
 
-module _ (i : Image) (w : World) (line : ℕ) (o : Opening) (simple : IsSimpleMount i w) (is_open : life_of (log_of w 0) line ≡ Opened o) where
-  order : IsInOrder i (line_units (known_image i (log_of w))) (log_of w 0) line o
-  order = in_order i (line_units (known_image i (log_of w))) w (follow i w simple) line o is_open
-
+module _ (i : Image) (w : World) (line : ℕ) (o : Opening) (mount : IsLegalMount i w) (is_open : life_of (log_of w 0) line ≡ Opened o) where
   units : line_units (known_image i (log_of w)) line ≡ opened_units i (log_of w) o
-  units = keeps_units i w line o simple.mount is_open
+  units = keeps_units i w line o mount is_open
 
-  pub turns_are : (n : ℕ) (p : Placed) → slice_get (stripes_of (log_of w 0) o) n ≡ Some p → IsAtTurn i.shape (opened_units i (log_of w) o) line n p
-  turns_are n p at =
-      let place : IsAtPlace i (line_units (known_image i (log_of w))) line n p.stripe.unit p.stripe.at = order.places n p at in
-      let opened = opened_now i w simple.mount line o is_open in
-      let is = stripe_is i w o p simple.mount.legal opened.0 (contained_among (stripes_of (log_of w 0) o) p (n, at)) in
-      subst (λ (us : List ℕ). IsAtTurn i.shape us line n p) units
-      (record { unit = place.its_unit; at = place.its_block; line_is = is.3 ∙ opened.1 })
-
-  -- and no more than it has places
-  pub few_stripes : length (stripes_of (log_of w 0) o) ≤ i.shape.clba / i.shape.ws_opt * length (opened_units i (log_of w) o)
-  few_stripes =
-      let inside : length (stripes_of (log_of w 0) o) ≤ length (line_units (known_image i (log_of w)) line) * (i.shape.clba / i.shape.ws_opt) = order.inside in
-      subst (λ (us : List ℕ). length (stripes_of (log_of w 0) o) ≤ i.shape.clba / i.shape.ws_opt * length us) units (omega arith)
+  -- each has its turn, also in a line that is Failed, where pads are placed past a chunk that is
+  -- closed
+  pub turn_of : (p : Placed) → IsAmong (stripes_of (log_of w 0) o) p
+      → (n : ℕ) × IsAtTurn i.shape (opened_units i (log_of w) o) line n p × (n < i.shape.clba / i.shape.ws_opt * length (opened_units i (log_of w) o))
+  turn_of p among =
+      let opened = opened_now i w mount line o is_open in
+      let life : life_of (log_of w 0) o.line ≡ Opened o = ap (life_of (log_of w 0)) opened.1 ∙ is_open in
+      let its : numbers.IsNumbered i w mount o life p = numbers.numbered i w mount o life p among in
+      let same : line_units (known_image i (log_of w)) o.line ≡ opened_units i (log_of w) o =
+      ap (line_units (known_image i (log_of w))) opened.1 ∙ units in
+      let is = stripe_is i w o p mount.legal opened.0 (contained_among (stripes_of (log_of w 0) o) p among) in
+      let low : its.number < length (opened_units i (log_of w) o) * (i.shape.clba / i.shape.ws_opt) =
+      subst (λ (us : List ℕ). its.number < length us * (i.shape.clba / i.shape.ws_opt)) same its.inside in (
+        its.number,
+        subst (λ (us : List ℕ). IsAtTurn i.shape us line its.number p) same
+            (record { unit = its.unit; at = its.row; line_is = is.3 ∙ opened.1 }),
+        omega arith,
+      )
 
 -- ---- its chunks
 

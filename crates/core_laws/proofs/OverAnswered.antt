@@ -38,12 +38,18 @@ use Rattle.world_laws.proofs.Openings.{placed_at}
 use Rattle.world_laws.proofs.StripePlaces.{kth_place}
 use Rattle.world_laws.proofs.Stripes.{IsPlaced, placed_is, stripe_is, stripe_of_prefix}
 use Rattle.world_laws.proofs.UnitTurns.{earlier_placed, lesser, rise_all, some_rise, turn_is}
+use Rattle.core_laws.specs.ChunkBlocks.{NoneLostIn}
+use Rattle.core_laws.specs.PlacerOf.{unanswered_on}
+use Rattle.core_laws.proofs.Answered.{IsFirst, first_unanswered}
+use Rattle.core_laws.proofs.AnsweredUnits.{first_answer}
 use Rattle.core_laws.proofs.LandedOn.{landed_on}
 use Rattle.core_laws.proofs.KnownFilling.{HasLoss, IsFilled, filled_now}
+use Rattle.core_laws.proofs.OpeningNumbers.{life_at}
 use Rattle.core_laws.proofs.OverChunks.{known_there}
 use Rattle.core_laws.proofs.OverLines.{over_chunk}
 use Rattle.core_laws.proofs.PlacedAnew.{one_number}
 use Rattle.core_laws.proofs.StripeEnds.{below_end, of_unit}
+use Rattle.core_laws.proofs.UnansweredLines.{first_open}
 
 -- ---- lists
 
@@ -160,7 +166,7 @@ module _ (i : Image) (w : World) (mount : IsLegalMount i w) (o : Opening) (is_op
                 not_both (list_any (was_lost (take p.number log)) (stripes_on (take p.number log) o unit))
                 (any_member (was_lost (take p.number log)) (stripes_on (take p.number log) o unit) there.0 q there.1 then_lost) none.0
 
-    no_loss : HasLoss (log_of w 0) o p.stripe.unit → ⊥
+    pub no_loss : HasLoss (log_of w 0) o p.stripe.unit → ⊥
     no_loss h =
         let found = some_value (find (was_lost log) (stripes_on log o unit)) (sym (any_found (was_lost log) (stripes_on log o unit)) ∙ h) in
         let passes = found_passes (was_lost log) (stripes_on log o unit) found.0 found.1 in
@@ -266,3 +272,32 @@ module _ (i : Image) (w : World) (mount : IsLegalMount i w) (o : Opening) (is_op
       go : (t : Bool) → is_answered (log_of w 0) p ≡ t → is_answered (log_of w 0) p ≡ true
       go true e = e
       go false e = absurd (not_over p there e over)
+
+-- no stripe was lost in the chunk of one that isn't answered
+pub none_lost_there : (i : Image) (w : World) (unit : ℕ) (p : Placed) (o : Opening) → IsLegalMount i w → unanswered_on (log_of w 0) unit ≡ Some p
+    → p.life ≡ Opened o → NoneLostIn (log_of w 0) o unit
+none_lost_there i w unit p o mount waits life = go (list_any (was_lost (log_of w 0)) (stripes_on (log_of w 0) o unit)) refl
+  where
+    first : IsFirst (log_of w 0) unit p
+    first = first_unanswered (log_of w 0) unit p waits
+
+    there : Contains (placements (log_of w 0)) p
+    there = contained_among (placements (log_of w 0)) p first.among
+
+    opened : life_of (log_of w 0) p.stripe.line ≡ Opened o
+    opened = first_open i w unit p mount.legal waits ∙ life
+
+    line : o.line ≡ p.stripe.line
+    line = (life_at (log_of w 0) p.stripe.line o opened).1
+
+    is_open : life_of (log_of w 0) o.line ≡ Opened o
+    is_open = ap (life_of (log_of w 0)) line ∙ opened
+
+    of_opening : Contains (stripes_of (log_of w 0) o) p
+    of_opening = contained_among (stripes_of (log_of w 0) o) p
+        (in_filter (λ (q : Placed). is_life o.number q.life) (placements (log_of w 0)) p first.among (ap (is_life o.number) life ∙ same_number o.number))
+
+    go : (b : Bool) → list_any (was_lost (log_of w 0)) (stripes_on (log_of w 0) o unit) ≡ b → b ≡ false
+    go false e = refl
+    go true e = absurd (no_loss i w mount o is_open p of_opening (ap is_some (first_answer (log_of w 0) unit p waits))
+        (subst (λ u. HasLoss (log_of w 0) o u) (sym first.of_unit) e))

@@ -44,7 +44,7 @@ use Rattle.world_laws.proofs.UnitChunks.{still_there}
 use Rattle.world_laws.proofs.UnitLogs.{chunk_fits}
 
 -- a program in a chunk that is Closed or Offline was stopped before it began
-over_refuses : (s : Shape) (c : Chunk) (at : ℕ) (blocks : List Block) (o : UnitOutcome) → is_over_state false c.state ≡ true
+pub over_refuses : (s : Shape) (c : Chunk) (at : ℕ) (blocks : List Block) (o : UnitOutcome) → is_over_state false c.state ≡ true
     → IsOutcome s c (Write at blocks) o → o ≡ Stopped 0
 over_refuses s c at blocks o over h = go c.state refl over
   where

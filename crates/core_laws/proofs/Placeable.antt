@@ -15,7 +15,7 @@ use Rattle.pblk_model.specs.StartRecord.{start_bytes}
 use Rattle.pblk_model.specs.EndRecord.{end_bytes}
 use Rattle.pblk_world.specs.Events.{Stripe, Logged}
 use Rattle.pblk_world.specs.World.{World, Logs, log_of}
-use Rattle.pblk_world.specs.EngineLog.{is_opened, Opening, Opened, life_of, Placed, placements, placed_on, answers, stripes_of, has_landed}
+use Rattle.pblk_world.specs.EngineLog.{is_opened, Opening, Opened, life_of, Placed, placements, placed_on, answers, stripes_of, has_landed, has_failed}
 use Rattle.pblk_world.specs.Fronts as fronts
 use Rattle.pblk_world.specs.Lines.{known_image, place_of}
 use Rattle.pblk_world.specs.Placing.{end_address, line_end, end_record, IsNext, IsStart, IsData, IsEnd, IsPad, MayPlace}
@@ -27,12 +27,14 @@ use Rattle.stripe_placer.specs.OpenLines as line
 use Rattle.stripe_placer.specs.OpenLines.{OpenLine, kind_of, start_has_landed}
 use Rattle.stripe_placer.specs.Placing.{Program, allows, next_positions, next_stripe, stopped_in}
 use Rattle.stripe_placer.proofs.Chunks.{lt_of as is_below}
+use Rattle.stripe_placer.proofs.Named.{its_program}
 use Rattle.core_laws.specs.OpenedLines.{open_line}
 use Rattle.core_laws.specs.PlacerOf.{entries_of, placing_of, IsStripeOf, row_of}
 use Rattle.core_laws.proofs.UnitTurns.{filtered_is}
 use Rattle.core_laws.proofs.WaitingEntries.{waiting_alike}
 use Rattle.core_laws.proofs.StillWaiting.{length_positions as positions_length}
-use Rattle.core_laws.proofs.Followed.{IsFollowed, units_width, plain_of}
+use Rattle.core_laws.specs.PlainLogs.{NoLineFailed}
+use Rattle.core_laws.proofs.Followed.{IsFollowed, units_width}
 use Rattle.core_laws.specs.StripeFor.{blocks_for, IsStripeFor, positions_for, IsProgramFor}
 use Rattle.core_laws.proofs.PartLengths.{IsStriped, begins_before, ends_before, begins_after}
 use Rattle.core_laws.proofs.StripesInOrder.{wide, stripe_count, IsAtPlace}
@@ -40,8 +42,7 @@ use Rattle.core_laws.proofs.LineForms.{IsLineOf, formed}
 use Rattle.core_laws.proofs.NextStripes.{unfailed, start_landed, data_landed, all_parts}
 use Rattle.core_laws.proofs.BlockPositions.{record_positions, data_positions, no_pad_positions}
 use Rattle.core_laws.proofs.IdleRows.{all_answered}
-use Rattle.core_laws.proofs.OfferedStripes.{IsOffered, what_is_offered}
-use Rattle.core_laws.proofs.PlainEventsLemmas.{none_failed as not_failed}
+use Rattle.core_laws.proofs.OfferedStripes.{IsOffered, what_is_offered, IsOfferedBy, offered, offered_line}
 use Rattle.lemmas.proofs.Lists.{IsAmong, among_contained}
 use Rattle.lemmas.proofs.Tests.{and_both, both, le_of_lt_false, le_true}
 use Rattle.pblk_world.proofs.EngineLogLemmas.{opened_same}
@@ -109,13 +110,13 @@ has_some s log pad some e =
 -- ---- the stripe may be placed
 
 pub next_in_line : (i : Image) (us : ℕ → List ℕ) (w : World) (pad : ℕ) (of : Program) (o : Opening) (stripe : Stripe) → IsFollowed i us w
-    → IsOffered i us w pad of o → stripe.line ≡ of.line → stripe.unit ≡ of.unit → stripe.at ≡ of.block
+    → has_failed (log_of w 0) o ≡ false → IsOffered i us w pad of o → stripe.line ≡ of.line → stripe.unit ≡ of.unit → stripe.at ≡ of.block
     → IsNext i (log_of w) o stripe
-next_in_line i us w pad of o stripe is off line unit at = record {
-  not_failed = not_failed (log_of w 0) o (plain_of i us w is);
+next_in_line i us w pad of o stripe is whole off line unit at = record {
+  not_failed = whole;
   in_order = ap (λ n. place_of (known_image i (log_of w)) n (length (stripes_of (log_of w 0) o) * i.shape.ws_opt)) (line ∙ off.its_line)
       ∙ place_at i us (log_of w) o.line (length (stripes_of (log_of w 0) o)) of.unit of.block
-      (is.keeps o.line (ap is_opened off.life)) is.simple.mount.accepted.drive.ws_opt off.place
+      (is.keeps o.line (ap is_opened off.life)) is.mount.accepted.drive.ws_opt off.place
       ∙ ap₂ (λ u b. Some (u, b)) (sym unit) (sym at);
 }
 
@@ -165,7 +166,7 @@ may_by_kind i us w pad of o stripe kinds.Start is off parts next part allowed bl
     inl (record {
       next = next;
       within = begins_before i.shape.ws_opt (length (stripes_of (log_of w 0) o)) (start_len i.shape / i.shape.ws_opt)
-          (start_len i.shape) is.simple.mount.accepted.drive.ws_opt parts.start_is part;
+          (start_len i.shape) is.mount.accepted.drive.ws_opt parts.start_is part;
       blocks = blocks;
     })
 may_by_kind i us w pad of o stripe kinds.Data is off parts next part allowed blocks =
@@ -174,7 +175,7 @@ may_by_kind i us w pad of o stripe kinds.Data is off parts next part allowed blo
     let l : OpenLine = open_line i (log_of w) o in
     let k : ℕ = length (stripes_of log o) in
     let c : ℕ = start_len s / s.ws_opt in
-    let some : 0 < s.ws_opt = is.simple.mount.accepted.drive.ws_opt in
+    let some : 0 < s.ws_opt = is.mount.accepted.drive.ws_opt in
     let two = both (start_has_landed l) (has_stripe s.ws_opt (entries_of s log pad)) allowed in
     inr (inl (record {
       next = next;
@@ -194,7 +195,7 @@ may_by_kind i us w pad of o stripe kinds.End is off parts next part allowed bloc
     let c : ℕ = start_len s / s.ws_opt in
     let d : ℕ = l.data_count in
     let n : ℕ = end_address s o / s.ws_opt in
-    let some : 0 < s.ws_opt = is.simple.mount.accepted.drive.ws_opt in
+    let some : 0 < s.ws_opt = is.mount.accepted.drive.ws_opt in
     let beyond : c + d ≤ k = part in
     let has : 0 < d = parts.has_data in
     let first : list_all (has_landed log) (take c ps) ≡ true = off.line_is.order.started (omega arith) in
@@ -210,16 +211,16 @@ may_by_kind i us w pad of o stripe kinds.End is off parts next part allowed bloc
       blocks = blocks;
     })))
 
-placeable : (i : Image) (us : ℕ → List ℕ) (w : World) (pad : ℕ) (of : Program) (o : Opening) (stripe : Stripe) → IsFollowed i us w → IsOffered i us w pad of o
-    → IsStripeFor i (log_of w) o of stripe → MayPlace i (log_of w) stripe
-placeable i us w pad of o stripe is off for =
+placeable : (i : Image) (us : ℕ → List ℕ) (w : World) (pad : ℕ) (of : Program) (o : Opening) (stripe : Stripe) → IsFollowed i us w
+    → has_failed (log_of w 0) o ≡ false → IsOffered i us w pad of o → IsStripeFor i (log_of w) o of stripe → MayPlace i (log_of w) stripe
+placeable i us w pad of o stripe is whole off for =
     let log : List Logged = log_of w 0 in
     let l : OpenLine = open_line i (log_of w) o in
     let k : ℕ = length (stripes_of log o) in
     let c : ℕ = start_len i.shape / i.shape.ws_opt in
     let parts : HasParts i us w o = parts_of i us w o off.line_is in
     let kind : kind_in k c l.data_count ≡ of.kind =
-    sym (kind_by l k (unfailed l log (stripes_of log o) (stripe_count i us o.line - k) (plain_of i us w is) (formed i us w o off.line_is))) ∙ off.kind in
+    sym (kind_by l k (unfailed l log (stripes_of log o) (stripe_count i us o.line - k) whole (formed i us w o off.line_is))) ∙ off.kind in
     let line : stripe.line ≡ o.line = for.line ∙ off.its_line in
     record {
       in_range = subst (λ n. n < i.shape.chunks) (sym line) off.line_is.well.in_range;
@@ -231,23 +232,23 @@ placeable i us w pad of o stripe is off for =
           (eqb-true p.stripe.unit stripe.unit
           (let at : IsAmong (placed_on log stripe.unit) p =
           among_contained (placed_on log stripe.unit) p there in filtered_is (λ (q : Placed). q.stripe.unit == stripe.unit) (placements log) at.0 p at.1));
-      kind = may_by_kind i us w pad of o stripe of.kind is off parts (next_in_line i us w pad of o stripe is off for.line for.unit for.at)
+      kind = may_by_kind i us w pad of o stripe of.kind is off parts (next_in_line i us w pad of o stripe is whole off for.line for.unit for.at)
           (subst (IsPart k c l.data_count) kind (part_of k c l.data_count)) off.allowed (for.blocks ∙ ap (λ a. blocks_for i.shape log o a of.kind) off.at);
     }
 
 -- ---- and it is the program's
 
-kind_positions : (i : Image) (us : ℕ → List ℕ) (w : World) (pad : ℕ) (o : Opening) (at : ℕ) (kind : StripeKind) → IsFollowed i us w
+pub kind_positions : (i : Image) (us : ℕ → List ℕ) (w : World) (pad : ℕ) (o : Opening) (at : ℕ) (kind : StripeKind) → IsFollowed i us w
     → filter_map (position_in i.shape) (blocks_for i.shape (log_of w 0) o at kind) ≡ next_positions i.shape (entries_of i.shape (log_of w 0) pad) kind
 kind_positions i us w pad o at kind is = go kind
   where
     small : i.shape.capacity ≤ meta_lba
-    small = let low = is.simple.mount.accepted.target.capacity_number in omega arith
+    small = let low = is.mount.accepted.target.capacity_number in omega arith
 
     go : (kind : StripeKind) → filter_map (position_in i.shape) (blocks_for i.shape (log_of w 0) o at kind) ≡ next_positions i.shape
         (entries_of i.shape (log_of w 0) pad) kind
     go kinds.Start = record_positions i.shape o.start.seq (start_len i.shape) (start_bytes i.shape o.start) (at - 0) (at - 0 + i.shape.ws_opt) small
-    go kinds.Data = data_positions i w small is.simple.mount.legal ∙ ap (take i.shape.ws_opt) (sym (waiting_alike i.shape (log_of w 0) pad))
+    go kinds.Data = data_positions i w small is.mount.legal ∙ ap (take i.shape.ws_opt) (sym (waiting_alike i.shape (log_of w 0) pad))
     go kinds.Pad = no_pad_positions i.shape i.shape.ws_opt small
     go kinds.End = record_positions i.shape o.start.seq (end_len i.shape o.start.width) (end_bytes i.shape (end_record i.shape (log_of w 0) o))
         (at - end_address i.shape o) (at - end_address i.shape o + i.shape.ws_opt) small
@@ -267,24 +268,27 @@ is_its i us w pad of o stripe is off for = record {
 -- ---- the laws
 
 offered_here : (i : Image) (us : ℕ → List ℕ) (w : World) (pad : ℕ) (again : List ℕ) (busy : ℕ) (of : Program) (o : Opening) → IsFollowed i us w
-    → next_stripe (placing_of i (log_of w) pad again) busy ≡ Some of
+    → has_failed (log_of w 0) o ≡ false → next_stripe (placing_of i (log_of w) pad again) busy ≡ Some of
     → stopped_in (row_of i (log_of w) again of.unit) ≡ None → life_of (log_of w 0) of.line ≡ Opened o → IsOffered i us w pad of o
-offered_here i us w pad again busy of o is next none opened =
-    let off = what_is_offered i us w pad again busy of is next none in
-    let same : off.0 ≡ o = opened_same off.0 o (sym off.1.life ∙ ap (life_of (log_of w 0)) (sym off.1.its_line) ∙ opened) in
-    subst (IsOffered i us w pad of) same off.1
+offered_here i us w pad again busy of o is whole next none opened =
+    let by = offered_line i us w pad again busy of is next none in
+    let its = its_program i.shape (entries_of i.shape (log_of w 0) pad) (open_line i (log_of w) by.0) of by.1.next in
+    let line : by.0.line ≡ of.line = ap (λ (x : Program). x.line) its.1.is in
+    let same : by.0 ≡ o = opened_same by.0 o (sym by.1.life ∙ ap (life_of (log_of w 0)) line ∙ opened) in
+    offered i us w pad again busy of o is whole (subst (IsOfferedBy i us w pad of) same by.1) by.2 none
 
-pub next_may_be_placed : (i : Image) (us : ℕ → List ℕ) (w : World) (pad : ℕ) (again : List ℕ) (busy : ℕ) (of : Program) (o : Opening) (stripe : Stripe)
-    → IsFollowed i us w → next_stripe (placing_of i (log_of w) pad again) busy ≡ Some of
+-- of a line that hasn't failed
+pub whole_may_be_placed : (i : Image) (us : ℕ → List ℕ) (w : World) (pad : ℕ) (again : List ℕ) (busy : ℕ) (of : Program) (o : Opening) (stripe : Stripe)
+    → IsFollowed i us w → has_failed (log_of w 0) o ≡ false → next_stripe (placing_of i (log_of w) pad again) busy ≡ Some of
     → stopped_in (row_of i (log_of w) again of.unit) ≡ None → IsStripeFor i (log_of w) o of stripe → MayPlace i (log_of w) stripe
-next_may_be_placed i us w pad again busy of o stripe is next none for =
-    placeable i us w pad of o stripe is (offered_here i us w pad again busy of o is next none for.opened) for
+whole_may_be_placed i us w pad again busy of o stripe is whole next none for =
+    placeable i us w pad of o stripe is whole (offered_here i us w pad again busy of o is whole next none for.opened) for
 
-pub next_is_its : (i : Image) (us : ℕ → List ℕ) (w : World) (pad : ℕ) (again : List ℕ) (busy : ℕ) (of : Program) (o : Opening) (stripe : Stripe)
-    → IsFollowed i us w → next_stripe (placing_of i (log_of w) pad again) busy ≡ Some of
+pub whole_is_its : (i : Image) (us : ℕ → List ℕ) (w : World) (pad : ℕ) (again : List ℕ) (busy : ℕ) (of : Program) (o : Opening) (stripe : Stripe)
+    → IsFollowed i us w → has_failed (log_of w 0) o ≡ false → next_stripe (placing_of i (log_of w) pad again) busy ≡ Some of
     → stopped_in (row_of i (log_of w) again of.unit) ≡ None → IsStripeFor i (log_of w) o of stripe → IsStripeOf i (log_of w) pad o stripe of
-next_is_its i us w pad again busy of o stripe is next none for =
-    is_its i us w pad of o stripe is (offered_here i us w pad again busy of o is next none for.opened) for
+whole_is_its i us w pad again busy of o stripe is whole next none for =
+    is_its i us w pad of o stripe is (offered_here i us w pad again busy of o is whole next none for.opened) for
 
 not_pad : (k c d : ℕ) (kind : StripeKind) → kind_in k c d ≡ kind → kind ≢ kinds.Pad
 unfolding IsPart
@@ -297,10 +301,11 @@ its_positions s log pad kinds.Pad = refl
 its_positions s log pad kinds.End = refl
 
 pub offered_is_for : (i : Image) (us : ℕ → List ℕ) (w : World) (pad : ℕ) (again : List ℕ) (busy : ℕ) (of : Program) → IsFollowed i us w
+    → NoLineFailed (log_of w 0)
     → next_stripe (placing_of i (log_of w) pad again) busy ≡ Some of
     → stopped_in (row_of i (log_of w) again of.unit) ≡ None → (o : Opening) × IsProgramFor i (log_of w) o of
-offered_is_for i us w pad again busy of is next none =
-    let its = what_is_offered i us w pad again busy of is next none in
+offered_is_for i us w pad again busy of is whole next none =
+    let its = what_is_offered i us w pad again busy of is whole next none in
     let o : Opening = its.0 in
     let off : IsOffered i us w pad of o = its.1 in
     let log : List Logged = log_of w 0 in
@@ -308,7 +313,7 @@ offered_is_for i us w pad again busy of is next none =
     let k : ℕ = length (stripes_of log o) in
     let parts : HasParts i us w o = parts_of i us w o off.line_is in
     let kind : kind_in k (start_len i.shape / i.shape.ws_opt) l.data_count ≡ of.kind =
-    sym (kind_by l k (unfailed l log (stripes_of log o) (stripe_count i us o.line - k) (plain_of i us w is) (formed i us w o off.line_is))) ∙ off.kind in (
+    sym (kind_by l k (unfailed l log (stripes_of log o) (stripe_count i us o.line - k) (whole o) (formed i us w o off.line_is))) ∙ off.kind in (
       o,
       record {
         opened = ap (life_of log) off.its_line ∙ off.life;

@@ -64,15 +64,15 @@ both_pass {X} f g (x ∷ xs) e = go (f x) (g x) refl refl e (fewer_both f g xs) 
 -- ---- entries that wait
 
 -- each stripe that holds the position of an entry that waits was lost
-holders_lost : (s : Shape) (log : List Logged) (t : Taken) → waits s log t ≡ true
+pub holders_lost : (s : Shape) (log : List Logged) (t : Taken) → waits s log t ≡ true
     → AllByRecursion (λ (p : Placed). holds_position s t.entry.position p ≡ true → was_lost log p ≡ true) (placements log)
 holders_lost s log t wait = both_pass (holds_position s t.entry.position) (was_lost log) (placements log)
     (same (times_placed s log t) (times_lost s log t) wait)
 
-abbrev IsWaiting : Shape → List Logged → Taken → Type 0
+abbrev pub IsWaiting : Shape → List Logged → Taken → Type 0
 IsWaiting s log t = IsAmong (takes log) t × (waits s log t ≡ true)
 
-waiting_wait : (s : Shape) (log : List Logged) → AllByRecursion (IsWaiting s log) (waiting s log)
+pub waiting_wait : (s : Shape) (log : List Logged) → AllByRecursion (IsWaiting s log) (waiting s log)
 waiting_wait s log =
     all_append (IsWaiting s log) (filter (λ t. waits s log t && was_placed s log t) (takes log)) (filter (λ t. not (was_placed s log t)) (takes log))
     (filtered (λ t. waits s log t && was_placed s log t) (λ t h. first_of (waits s log t) (was_placed s log t) h))

@@ -1,8 +1,8 @@
 -- What a stripe that is placed changes in the table.
-use Rattle.std.proofs.Common.{◌≡◌, ◌⊎◌, ℕ, ◌+◌, ◌/◌, ◌<◌, ◌≤◌, ◌==◌, ◌&&◌, ◌||◌, zero, suc, not, nat_lt, nat_le, Bool, true, false, cond, None, List, [], ◌∷◌, ◌++◌, length, take, refl, sym, subst, ap, ap₂, ◌∙◌, arith, append-nil, length-append, le_of_lt, take_all, if◌then◌else◌}
+use Rattle.std.specs.Option.{option_map, is_some}
+use Rattle.std.proofs.Common.{◌≡◌, ◌⊎◌, ℕ, ◌+◌, ◌/◌, ◌<◌, ◌≤◌, ◌&&◌, ◌||◌, not, nat_le, Bool, true, false, None, List, [], ◌∷◌, ◌++◌, length, take, refl, sym, subst, ap, ap₂, ◌∙◌, arith, append-nil, length-append, le_of_lt, take_all, if◌then◌else◌}
 use Rattle.std.specs.Prelude.{slice_get}
-use Rattle.std.specs.List.{AllByRecursion, filter, list_any, list_all}
-use Rattle.std.specs.Option.{is_some}
+use Rattle.std.specs.List.{AllByRecursion, list_any, list_all}
 use Rattle.std.proofs.lemmas.List.{take-append-le}
 use Rattle.std.proofs.lemmas.List.Folds.{list_any-append, list_all-append}
 use Rattle.pblk_model.specs.declared.shape.Shape.{Shape}
@@ -13,35 +13,36 @@ use Rattle.pblk_model.specs.Records.{named}
 use Rattle.pblk_world.specs.Events.{Stripe, Place, Decides, Logged}
 use Rattle.pblk_world.specs.World.{Logs}
 use Rattle.pblk_world.specs.EngineLog.{Opened, is_life, life_of, Opening, Placed, placements, stripes_of, was_lost, is_loss, is_land, has_landed, has_failed, holds_position, Taken, takes, AsFound, Freed, LineLife}
-use Rattle.pblk_world.specs.Fronts.{first_position, times_placed, times_lost, was_placed, waits, waiting}
+use Rattle.pblk_world.specs.Fronts.{first_position, waits, waiting}
 use Rattle.pblk_world.specs.Lines.{known_image, are_empty}
 use Rattle.pblk_world.specs.Starts.{have_landed}
 use Rattle.pblk_world.specs.Placing.{IsStart, IsData, IsEnd, IsPad, line_end}
-use Rattle.pblk_world.specs.Victims.{line_of_position, line_of, landed_line_of}
+use Rattle.pblk_world.specs.Victims.{line_of_position, line_of, landed_line_of, is_in_force}
 use Rattle.pblk_world.proofs.Appending.{life_more}
 use Rattle.line_table.specs.declared.row.LineState.TheVariants as states
 use Rattle.line_table.specs.declared.row.Row.{Row}
 use Rattle.line_table.specs.Rows.{Table, EachRow}
 use Rattle.core_laws.specs.Stepping.{after}
-use Rattle.core_laws.specs.Positions.{IsUnplaced, AreNumbered, AreMarked}
+use Rattle.core_laws.specs.Positions.{AreNumbered}
 use Rattle.core_laws.specs.RowsOf.{state_in, state_of, width_in, taker_in, row_of_line, rows_of}
 use Rattle.core_laws.proofs.Engine.{placements_before}
 use Rattle.core_laws.proofs.Placing.{with_place, new_placed, IsPlacing, answer_now, new_unanswered, stripes_now}
-use Rattle.core_laws.specs.PlainLogs.{FreedBefore, NoStripeLost}
-use Rattle.core_laws.specs.PlacedEntries.{place_entries, AreNamed}
+use Rattle.core_laws.specs.PlainLogs.{FreedBefore}
+use Rattle.core_laws.proofs.PlacedAnew.{IsWaiting, holders_lost, waiting_wait}
+use Rattle.core_laws.proofs.PlacedInOrder.{IsOrdered, waiting_rises}
+use Rattle.core_laws.specs.PlacedEntries.{place_entries}
 use Rattle.core_laws.proofs.KeptRows.{known_kept, KeepsChunks, state_same, width_same, same_row, then_kept, taker_same}
-use Rattle.core_laws.proofs.NextTakes.{IsRising, rising_by}
+use Rattle.core_laws.proofs.NextTakes.{IsRising, rising_by, rising_taken}
 use Rattle.core_laws.proofs.EntryRows.{Places, last_of, live_with, taker_with, IsNowhere}
 use Rattle.core_laws.proofs.PlacedAddresses.{losses_now}
-use Rattle.core_laws.proofs.PlacedEntryRows.{row_with, IsEntry, with_entries, entries_placed, all_entries, taker_for}
+use Rattle.core_laws.proofs.PlacedEntryRows.{row_with, IsEntry, with_entries, entries_placed, taker_for, entry_at}
 use Rattle.core_laws.proofs.PlacedPlaces.{BearsThese, IsNamed, data_bears, others_bear, places_now, landed_placed}
 use Rattle.core_laws.proofs.ChangedTables.{table_of, tables_agree}
-use Rattle.core_laws.proofs.TakenRows.{in_no_line}
 use Rattle.core_laws.proofs.SteppingLemmas.{found_kept}
-use Rattle.lemmas.proofs.Lists.{all_imply, all_of, zipped}
-use Rattle.lemmas.proofs.Maps.{all_agree, all_filter, all_passed, few_pass, filter_none, row_at}
-use Rattle.lemmas.proofs.Parts.{all_taken}
-use Rattle.lemmas.proofs.Tests.{le_true, lt_true, or_no, other_number}
+use Rattle.lemmas.proofs.Lists.{all_imply, zipped}
+use Rattle.lemmas.proofs.Maps.{all_agree, all_filter, few_pass, find_none, row_at}
+use Rattle.lemmas.proofs.Parts.{all_at, all_taken}
+use Rattle.lemmas.proofs.Tests.{le_true, or_no}
 use Rattle.pblk_world.proofs.EngineLogLemmas.{takes_more}
 
 -- ---- states stay
@@ -164,12 +165,9 @@ table_now i logs stripe knows o places is before same =
 
 rows_by : (i : Image) (logs : Logs) (stripe : Stripe) (knows : List ℕ) (o : Opening) (ts : List Taken) → IsPlacing (logs 0) stripe o → FreedBefore (logs 0)
     → BearsThese i.shape stripe ts → IsRising (takes (logs 0)) → IsRising ts
-    → AllByRecursion (IsEntry (takes (logs 0))) ts → AllByRecursion (λ t. IsUnplaced i.shape (logs 0) t.entry.position) ts
+    → AllByRecursion (IsEntry (takes (logs 0))) ts → AllByRecursion (λ t. line_of_position i.shape (logs 0) t.entry.position ≡ None) ts
     → rows_of i (after logs (Place stripe) knows) ≡ place_entries (logs 0) stripe.line (rows_of i logs) ts
-rows_by i logs stripe knows o ts is before bears rise own all unplaced =
-    let nowhere : AllByRecursion (λ t. line_of_position i.shape (logs 0) t.entry.position ≡ None) ts =
-    all_imply (λ (t : Taken). IsUnplaced i.shape (logs 0) t.entry.position) (λ (t : Taken). line_of_position i.shape (logs 0) t.entry.position ≡ None)
-    (λ t h. in_no_line i.shape (logs 0) t.entry.position h) ts unplaced in
+rows_by i logs stripe knows o ts is before bears rise own all nowhere =
     let same : line_of i (after logs (Place stripe) knows) ≡ with_entries stripe.line ts (line_of i logs) =
     λ k lba t. places_now i logs stripe knows o ts is bears nowhere lba t k in
     table_now i logs stripe knows o (with_entries stripe.line ts (line_of i logs)) is before same
@@ -186,105 +184,62 @@ rows_beside i logs stripe knows o small is freed numbered its =
     rows_by i logs stripe knows o [] is freed (others_bear i logs o stripe small its)
     (rising_by (first_position (logs 0)) (length (takes (logs 0))) (takes (logs 0)) numbered) tt tt tt
 
--- ---- the entries that wait where none was lost
+-- ---- the entries that wait
 
-none_lost : (s : Shape) (log : List Logged) (t : Taken) → NoStripeLost log → times_lost s log t ≡ 0
-none_lost s log t fine = ap (λ (ps : List Placed). length ps)
-    (filter_none (λ p. was_lost log p && holds_position s t.entry.position p) (placements log) (each (placements log)))
+-- one that waits is in no line
+in_no_line_yet : (s : Shape) (log : List Logged) (t : Taken) → waits s log t ≡ true → line_of_position s log t.entry.position ≡ None
+in_no_line_yet s log t wait = ap (option_map (λ (p : Placed). p.stripe.line))
+    (find_none (λ p. holds_position s t.entry.position p && not (was_lost log p) && is_in_force log p.life p.stripe.line) (placements log)
+    (all_imply (λ (p : Placed). holds_position s t.entry.position p ≡ true → was_lost log p ≡ true)
+    (λ (p : Placed). (holds_position s t.entry.position p && not (was_lost log p) && is_in_force log p.life p.stripe.line) ≡ false)
+    (λ p lost. by (holds_position s t.entry.position p) (was_lost log p) (is_in_force log p.life p.stripe.line) lost) (placements log)
+    (holders_lost s log t wait)))
   where
-    each : (ps : List Placed) → AllByRecursion (λ p. (was_lost log p && holds_position s t.entry.position p) ≡ false) ps
-    each [] = tt
-    each (p ∷ ps) = (ap (λ b. b && holds_position s t.entry.position p) (fine p), each ps)
+    by : (a b c : Bool) → (a ≡ true → b ≡ true) → (a && not b && c) ≡ false
+    by true b c lost = ap (λ x. not x && c) (lost refl)
+    by false b c lost = refl
 
-not_again : (s : Shape) (log : List Logged) (t : Taken) → NoStripeLost log → (waits s log t && was_placed s log t) ≡ false
-not_again s log t fine = ap (λ n. (times_placed s log t == n) && was_placed s log t) (none_lost s log t fine) ∙ go (times_placed s log t)
-  where
-    go : (n : ℕ) → ((n == 0) && nat_lt 0 n) ≡ false
-    go zero = refl
-    go (suc n) = ap (λ b. b && nat_lt 0 (suc n)) (other_number (suc n) 0 (λ e. absurd (omega arith)))
+waiting_nowhere : (s : Shape) (log : List Logged) → AllByRecursion (λ (t : Taken). line_of_position s log t.entry.position ≡ None) (waiting s log)
+waiting_nowhere s log = all_imply (IsWaiting s log) (λ (t : Taken). line_of_position s log t.entry.position ≡ None)
+    (λ t is. in_no_line_yet s log t is.1) (waiting s log) (waiting_wait s log)
 
-pub waiting_fresh : (s : Shape) (log : List Logged) → NoStripeLost log → waiting s log ≡ filter (λ t. not (was_placed s log t)) (takes log)
-waiting_fresh s log fine = ap (λ ts. ts ++ filter (λ t. not (was_placed s log t)) (takes log))
-    (filter_none (λ t. waits s log t && was_placed s log t) (takes log)
-    (all_of (λ t. (waits s log t && was_placed s log t) ≡ false) (λ t. not_again s log t fine) (takes log)))
-
-rising_filtered : (test : Taken → Bool) (ts : List Taken) → IsRising ts → IsRising (filter test ts)
-rising_filtered test [] rise = tt
-rising_filtered test (t ∷ ts) rise = go (test t) (rising_filtered test ts rise.1)
-  where
-    go : (b : Bool) → IsRising (filter test ts) → IsRising (cond b (t ∷ filter test ts) (filter test ts))
-    go true rest = (all_filter (λ (u : Taken). t.entry.position < u.entry.position) test ts rise.0, rest)
-    go false rest = rest
-
-rising_taken : (n : ℕ) (ts : List Taken) → IsRising ts → IsRising (take n ts)
-rising_taken zero ts rise = tt
-rising_taken (suc n) [] rise = tt
-rising_taken (suc n) (t ∷ ts) rise = (all_taken (λ (u : Taken). t.entry.position < u.entry.position) n ts rise.0, rising_taken n ts rise.1)
-
-none_pass : {X : Type 0} (test : X → Bool) (xs : List X) → not (nat_lt 0 (length (filter test xs))) ≡ true → AllByRecursion (λ x. test x ≡ false) xs
-none_pass test [] e = tt
-none_pass {X} test (x ∷ xs) e = go (test x) refl e (λ f. none_pass test xs f)
-  where
-    go : (b : Bool) → test x ≡ b → not (nat_lt 0 (length (cond b (x ∷ filter test xs) (filter test xs)))) ≡ true
-        → (not (nat_lt 0 (length (filter test xs))) ≡ true → AllByRecursion (λ x. test x ≡ false) xs)
-        → AllByRecursion (λ x. test x ≡ false) (x ∷ xs)
-    go true f h rest = absurd (cc (sym (ap not (lt_true 0 (suc (length (filter test xs))) (omega arith))) ∙ h))
-    go false f h rest = (f, rest h)
-
--- what holds of all fresh entries holds of the first ones that wait
-first_waiting : (s : Shape) (log : List Logged) (P : Taken → Type 0) → NoStripeLost log → AllByRecursion P (filter (λ t. not (was_placed s log t)) (takes log))
-    → AllByRecursion P (take s.ws_opt (waiting s log))
-first_waiting s log P fine all = all_taken P s.ws_opt (waiting s log) (subst (AllByRecursion P) (sym (waiting_fresh s log fine)) all)
+waiting_entries : (s : Shape) (log : List Logged) → AllByRecursion (IsEntry (takes log)) (waiting s log)
+waiting_entries s log =
+    all_imply (IsWaiting s log) (IsEntry (takes log)) (λ t is. entry_at (takes log) is.0.0 t is.0.1) (waiting s log) (waiting_wait s log)
 
 -- a stripe of entries
 pub rows_placed : (i : Image) (logs : Logs) (stripe : Stripe) (knows : List ℕ) (o : Opening) → i.shape.capacity ≤ meta_lba → IsPlacing (logs 0) stripe o
-    → FreedBefore (logs 0) → NoStripeLost (logs 0)
-    → AreNumbered (logs 0) → AreMarked (logs 0) → AreNamed i.shape (logs 0) → IsData i logs o stripe
+    → FreedBefore (logs 0) → IsOrdered i.shape (logs 0) → IsData i logs o stripe
     → rows_of i (after logs (Place stripe) knows) ≡ place_entries (logs 0) stripe.line (rows_of i logs) (take i.shape.ws_opt (waiting i.shape (logs 0)))
-rows_placed i logs stripe knows o small is freed fine numbered marked names its =
-    let rise : IsRising (takes (logs 0)) = rising_by (first_position (logs 0)) (length (takes (logs 0))) (takes (logs 0)) numbered in
-    let waits_fresh : waiting i.shape (logs 0) ≡ filter (λ t. not (was_placed i.shape (logs 0) t)) (takes (logs 0)) = waiting_fresh i.shape (logs 0) fine in
+rows_placed i logs stripe knows o small is freed order its =
     rows_by i logs stripe knows o (take i.shape.ws_opt (waiting i.shape (logs 0))) is freed
     (data_bears i logs o stripe small its
-    (first_waiting i.shape (logs 0) (IsNamed i.shape) fine (all_filter (IsNamed i.shape) (λ t. not (was_placed i.shape (logs 0) t)) (takes (logs 0))
+    (all_taken (IsNamed i.shape) i.shape.ws_opt (waiting i.shape (logs 0))
+    (all_imply (IsWaiting i.shape (logs 0)) (IsNamed i.shape) (λ t at. all_at (IsNamed i.shape) (takes (logs 0)) at.0.0 t at.0.1
     (zipped (λ (t : Taken). is_some (named i.shape t.mark) ≡ true) (λ (t : Taken). t.mark.position ≡ t.entry.position) (IsNamed i.shape)
-    (λ t a b. record { names = a; marked = b }) (takes (logs 0)) names marked))))
-    rise
-    (rising_taken i.shape.ws_opt (waiting i.shape (logs 0))
-    (subst IsRising (sym waits_fresh) (rising_filtered (λ t. not (was_placed i.shape (logs 0) t)) (takes (logs 0)) rise)))
-    (first_waiting i.shape (logs 0) (IsEntry (takes (logs 0))) fine
-    (all_filter (IsEntry (takes (logs 0))) (λ t. not (was_placed i.shape (logs 0) t)) (takes (logs 0))
-    (all_entries (takes (logs 0)))))
-    (first_waiting i.shape (logs 0) (λ (t : Taken). IsUnplaced i.shape (logs 0) t.entry.position) fine
-    (all_imply (λ t. not (was_placed i.shape (logs 0) t) ≡ true) (λ (t : Taken). IsUnplaced i.shape (logs 0) t.entry.position)
-    (λ t h. none_pass (holds_position i.shape t.entry.position) (placements (logs 0)) h) (filter (λ t. not (was_placed i.shape (logs 0) t)) (takes (logs 0)))
-    (all_passed (λ t. not (was_placed i.shape (logs 0) t)) (takes (logs 0)))))
+    (λ t a b. record { names = a; marked = b }) (takes (logs 0)) order.named order.marked))
+    (waiting i.shape (logs 0)) (waiting_wait i.shape (logs 0)))))
+    (rising_by (first_position (logs 0)) (length (takes (logs 0))) (takes (logs 0)) order.numbered)
+    (rising_taken i.shape.ws_opt (waiting i.shape (logs 0)) (waiting_rises i.shape (logs 0) order.numbered order.order))
+    (all_taken (IsEntry (takes (logs 0))) i.shape.ws_opt (waiting i.shape (logs 0)) (waiting_entries i.shape (logs 0)))
+    (all_taken (λ (t : Taken). line_of_position i.shape (logs 0) t.entry.position ≡ None) i.shape.ws_opt (waiting i.shape (logs 0))
+    (waiting_nowhere i.shape (logs 0)))
 
 -- ---- some first ones of them
 
--- what holds of all fresh entries holds of so many that wait
-some_waiting : (s : Shape) (log : List Logged) (P : Taken → Type 0) (n : ℕ) → NoStripeLost log
-    → AllByRecursion P (filter (λ t. not (was_placed s log t)) (takes log)) → AllByRecursion P (take n (waiting s log))
-some_waiting s log P n fine all = all_taken P n (waiting s log) (subst (AllByRecursion P) (sym (waiting_fresh s log fine)) all)
-
 -- no row has more live sectors than the target has sectors, also between the entries
-pub live_between : (i : Image) (logs : Logs) (line n : ℕ) → NoStripeLost (logs 0) → AreNumbered (logs 0)
+pub live_between : (i : Image) (logs : Logs) (line n : ℕ) → IsOrdered i.shape (logs 0)
     → EachRow (place_entries (logs 0) line (rows_of i logs) (take n (waiting i.shape (logs 0)))) (λ m row. row.live ≤ i.shape.capacity)
-live_between i logs line n fine numbered =
-    let rise : IsRising (takes (logs 0)) = rising_by (first_position (logs 0)) (length (takes (logs 0))) (takes (logs 0)) numbered in
+live_between i logs line n order =
+    let rise : IsRising (takes (logs 0)) = rising_by (first_position (logs 0)) (length (takes (logs 0))) (takes (logs 0)) order.numbered in
     let same : table_of i.shape (row_with i logs (with_entries line (take n (waiting i.shape (logs 0))) (line_of i logs)) (landed_line_of i logs)) ≡
     place_entries (logs 0) line (rows_of i logs) (take n (waiting i.shape (logs 0))) =
     entries_placed i logs line (take n (waiting i.shape (logs 0))) (line_of i logs) (landed_line_of i logs) rise
-    (rising_taken n (waiting i.shape (logs 0))
-    (subst IsRising (sym (waiting_fresh i.shape (logs 0) fine)) (rising_filtered (λ t. not (was_placed i.shape (logs 0) t)) (takes (logs 0)) rise)))
-    (some_waiting i.shape (logs 0) (IsEntry (takes (logs 0))) n fine
-    (all_filter (IsEntry (takes (logs 0))) (λ t. not (was_placed i.shape (logs 0) t)) (takes (logs 0))
-    (all_entries (takes (logs 0)))))
-    (some_waiting i.shape (logs 0) (λ (t : Taken). IsNowhere t.entry.position (line_of i logs)) n fine
-    (all_imply (λ t. not (was_placed i.shape (logs 0) t) ≡ true) (λ (t : Taken). IsNowhere t.entry.position (line_of i logs))
-    (λ t h. λ lba u e. ap (line_of_position i.shape (logs 0)) e
-    ∙ in_no_line i.shape (logs 0) t.entry.position (none_pass (holds_position i.shape t.entry.position) (placements (logs 0)) h))
-    (filter (λ t. not (was_placed i.shape (logs 0) t)) (takes (logs 0))) (all_passed (λ t. not (was_placed i.shape (logs 0) t)) (takes (logs 0)))))
+    (rising_taken n (waiting i.shape (logs 0)) (waiting_rises i.shape (logs 0) order.numbered order.order))
+    (all_taken (IsEntry (takes (logs 0))) n (waiting i.shape (logs 0)) (waiting_entries i.shape (logs 0)))
+    (all_imply (λ (t : Taken). line_of_position i.shape (logs 0) t.entry.position ≡ None) (λ (t : Taken). IsNowhere t.entry.position (line_of i logs))
+    (λ t h. λ lba u e. ap (line_of_position i.shape (logs 0)) e ∙ h) (take n (waiting i.shape (logs 0)))
+    (all_taken (λ (t : Taken). line_of_position i.shape (logs 0) t.entry.position ≡ None) n (waiting i.shape (logs 0)) (waiting_nowhere i.shape (logs 0))))
     ∙ ap (λ table. place_entries (logs 0) line table (take n (waiting i.shape (logs 0)))) (sym (table_was i logs)) in
     λ m row there.
     let at = row_at (row_with i logs (with_entries line (take n (waiting i.shape (logs 0))) (line_of i logs)) (landed_line_of i logs)) i.shape.chunks 0 m row

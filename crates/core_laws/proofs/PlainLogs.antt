@@ -1,36 +1,35 @@
--- A mount in which nothing fails.
-use Rattle.std.proofs.Common.{◌≡◌, ℕ, ◌==◌, zero, suc, true, false, Some, None, List, [], ◌∷◌, refl}
-use Rattle.std.specs.Prelude.{if◌then◌else◌, slice_get}
-use Rattle.std.specs.List.{AllByRecursion, filter_map, cons_option}
-use Rattle.pblk_world.specs.Events.{Landed, Lost, Event, Decides, Logged}
-use Rattle.pblk_world.specs.EngineLog.{Answer, DidLand, answer_by, answers, turn, is_loss, was_lost, stripes_of}
-use Rattle.core_laws.specs.PlainEvents.{is_plain_event, ArePlain}
+-- A mount in which the engine heard of no lost stripe.
+use Rattle.std.proofs.Common.{◌≡◌, ℕ, ◌==◌, Bool, true, false, Some, None, Option, List, if◌then◌else◌, refl}
+use Rattle.std.specs.List.{AllByRecursion}
+use Rattle.std.specs.Option.{IfSome}
+use Rattle.pblk_world.specs.Events.{Landed, Lost, Event, Decides, Does, Logged}
+use Rattle.pblk_world.specs.EngineLog.{Answer, DidLand, answer_by, answer_of, answers, turn, is_loss, was_lost, stripes_of}
+use Rattle.world_laws.specs.LegalMounts.{NoneLost, decides, is_losing}
 use Rattle.core_laws.specs.PlainLogs.{NoStripeLost, NoLineFailed}
-use Rattle.lemmas.proofs.Maps.{none_any}
+use Rattle.lemmas.proofs.Maps.{all_filter_map, none_any}
+use Rattle.lemmas.proofs.Parts.{all_at}
 
-abbrev AreLandings : List Answer → Type 0
-AreLandings xs = AllByRecursion (λ a. is_loss (Some a) ≡ false) xs
+no_losses : (log : List Logged) → NoneLost log → (unit : ℕ) → AllByRecursion (λ (a : Answer). is_loss (Some a) ≡ false) (answers log unit)
+no_losses log none unit =
+    all_filter_map (λ (a : Answer). is_loss (Some a) ≡ false) (λ (l : Logged). decides is_losing l.event ≡ false) (λ (l : Logged). answer_by unit l.event) log
+    (λ l kept. go l.event kept) none
+  where
+    landed : (t : Bool) (event : ℕ) → IfSome (if t then Some (DidLand event) else None) (λ (a : Answer). is_loss (Some a) ≡ false)
+    landed true event = refl
+    landed false event = tt
 
-landing : (unit : ℕ) (e : Event) (rest : List Answer) → is_plain_event e ≡ true → AreLandings rest → AreLandings (cons_option (answer_by unit e) rest)
-landing unit (Decides (Landed other event)) rest plain all =
-    elim (other == unit) as (λ b. AreLandings (cons_option (if b then Some (DidLand event) else None) rest)) [
-      | true ↦ (refl, all)
-      | false ↦ all
-    ]
-landing unit (Decides (Lost other event)) rest plain all = absurd cc
-landing unit e rest plain all = all
+    go : (e : Event) → decides is_losing e ≡ false → IfSome (answer_by unit e) (λ (a : Answer). is_loss (Some a) ≡ false)
+    go (Decides (Landed other event)) kept = landed (other == unit) event
+    go (Decides (Lost other event)) kept = absurd cc
+    go (Decides e) kept = tt
+    go (Does e maker) kept = tt
 
-landings : (unit : ℕ) (log : List Logged) → ArePlain log → AreLandings (filter_map (λ l. answer_by unit l.event) log)
-landings unit [] plain = tt
-landings unit (l ∷ log) plain = landing unit l.event (filter_map (λ m. answer_by unit m.event) log) plain.0 (landings unit log plain.1)
+pub never_lost : (log : List Logged) → NoneLost log → NoStripeLost log
+never_lost log none p = go (answer_of log p) refl
+  where
+    go : (a : Option Answer) → answer_of log p ≡ a → is_loss a ≡ false
+    go None e = refl
+    go (Some a) e = all_at (λ (a : Answer). is_loss (Some a) ≡ false) (answers log p.stripe.unit) (turn log p) a e (no_losses log none p.stripe.unit)
 
-loss_at : (xs : List Answer) (k : ℕ) → AreLandings xs → is_loss (slice_get xs k) ≡ false
-loss_at [] k all = refl
-loss_at (x ∷ xs) zero all = all.0
-loss_at (x ∷ xs) (suc k) all = loss_at xs k all.1
-
-pub none_lost : (log : List Logged) → ArePlain log → NoStripeLost log
-none_lost log plain p = loss_at (answers log p.stripe.unit) (turn log p) (landings p.stripe.unit log plain)
-
-pub none_failed : (log : List Logged) → ArePlain log → NoLineFailed log
-none_failed log plain o = none_any (was_lost log) (none_lost log plain) (stripes_of log o)
+pub none_failed : (log : List Logged) → NoneLost log → NoLineFailed log
+none_failed log none o = none_any (was_lost log) (never_lost log none) (stripes_of log o)

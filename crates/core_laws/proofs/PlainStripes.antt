@@ -1,4 +1,4 @@
--- Stripes in a plain world: none is lost, and at most one of a unit isn't answered.
+-- At most one stripe of a unit isn't answered.
 use Rattle.std.proofs.Common.{◌≡◌, ℕ, ◌+◌, ◌<◌, ◌≤◌, ◌==◌, nat_eq, Bool, true, false, cond, Some, None, Option, List, [], ◌∷◌, ◌++◌, length, take, refl, subst, ap, ap₂, ◌∙◌, arith, length-append}
 use Rattle.std.specs.Prelude.{slice_get, is_some}
 use Rattle.std.specs.List.{AllByRecursion, filter}
@@ -9,19 +9,15 @@ use Rattle.std.proofs.lemmas.Option.{slice_get_within}
 use Rattle.pblk_model.specs.Image.{Image}
 use Rattle.pblk_world.specs.Events.{EngineEvent, Place, Decides, Logged}
 use Rattle.pblk_world.specs.World.{World, Logs, log_of}
-use Rattle.pblk_world.specs.EngineLog.{Begun, life_of, Placed, placed_by, placements, placed_on, Answer, DidLand, WasLost, answers, answer_of, is_land, is_loss, has_landed}
+use Rattle.pblk_world.specs.EngineLog.{Begun, life_of, Placed, placed_by, placements, placed_on, Answer, DidLand, WasLost, answers, is_answered, is_land, is_loss}
 use Rattle.pblk_world.specs.Legal.{IsLegal, IsDecision}
 use Rattle.pblk_world.proofs.Appending.{placements_more}
-use Rattle.core_laws.specs.PlainEvents.{ArePlain}
 use Rattle.core_laws.proofs.KeptByEvents.{IsKept, kept}
 use Rattle.core_laws.proofs.UnitTurns.{turn_at}
-use Rattle.core_laws.proofs.PlainEventsLemmas.{not_lost}
 use Rattle.core_laws.proofs.IdleUnits.{idle_fits}
 use Rattle.lemmas.proofs.Lists.{all_true}
 use Rattle.lemmas.proofs.Parts.{all_by_get, within_some}
 use Rattle.pblk_world.proofs.EngineLogLemmas.{answer_count}
-
--- ---- no stripe is lost
 
 -- ---- one stripe of a unit
 
@@ -93,12 +89,10 @@ answered_lands None some kept = absurd cc
 answered_lands (Some (DidLand event)) some kept = refl
 answered_lands (Some (WasLost event)) some kept = absurd cc
 
--- all of them have landed
-pub unit_landed : (new : List Logged) (unit : ℕ) → ArePlain new → length (placed_on new unit) ≤ length (answers new unit)
-    → AllByRecursion (λ r. has_landed new r ≡ true) (placed_on new unit)
-unit_landed new unit plain fit = all_by_get (λ (r : Placed). has_landed new r ≡ true) (placed_on new unit) (λ k r e.
+-- all of them are answered
+pub unit_answered : (new : List Logged) (unit : ℕ) → length (placed_on new unit) ≤ length (answers new unit)
+    → AllByRecursion (λ r. is_answered new r ≡ true) (placed_on new unit)
+unit_answered new unit fit = all_by_get (λ (r : Placed). is_answered new r ≡ true) (placed_on new unit) (λ k r e.
     let at = turn_at new unit k r e in
     let inside : k < length (placed_on new unit) = slice_get_within (placed_on new unit) k r e in
-    answered_lands (answer_of new r)
-    (ap₂ (λ u n. is_some (slice_get (answers new u) n)) at.0 at.1 ∙ within_some (answers new unit) k (omega arith))
-    (not_lost new r plain))
+    ap₂ (λ u n. is_some (slice_get (answers new u) n)) at.0 at.1 ∙ within_some (answers new unit) k (omega arith))

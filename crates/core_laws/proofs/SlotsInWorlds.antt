@@ -1,4 +1,4 @@
--- The map once a stripe of a simple mount has landed, and where the blocks of a chunk stand.
+-- The map once a stripe has landed, and where the blocks of a chunk stand.
 use Rattle.std.proofs.Common.{◌≡◌, ℕ, ◌+◌, ◌*◌, ◌/◌, ◌%◌, ◌<◌, ◌&&◌, Bool, true, Some, Option, List, length, refl, sym, subst, ap, ◌∙◌, arith, append-nil}
 use Rattle.std.specs.Prelude.{is_some}
 use Rattle.std.specs.List.{find, enumerate_from}
@@ -14,7 +14,7 @@ use Rattle.stripe_placer.specs.OpenLines.{width}
 use Rattle.core_laws.specs.Stepping.{after}
 use Rattle.core_laws.specs.OpenedLines.{as_opened, is_stripe_at}
 use Rattle.core_laws.specs.PlacerOf.{unanswered_on}
-use Rattle.core_laws.specs.SimpleMounts.{IsSimpleMount}
+use Rattle.world_laws.specs.LegalMounts.{IsLegalMount}
 use Rattle.core_laws.specs.SlotOf.{slot_of}
 use Rattle.core_laws.proofs.StripesByPlace.{find_only, not_at}
 use Rattle.core_laws.proofs.Answered.{first_unanswered}
@@ -27,18 +27,18 @@ use Rattle.lemmas.proofs.Maps.{any_found}
 use Rattle.lemmas.proofs.Options.{some_mapped}
 use Rattle.pblk_world.proofs.EngineLogLemmas.{takes_more}
 
-pub slot_landed : (i : Image) (w : World) (unit event : ℕ) (knows : List ℕ) (p : Placed) (o : Opening) (lba : ℕ) → IsSimpleMount i w
+pub slot_landed : (i : Image) (w : World) (unit event : ℕ) (knows : List ℕ) (p : Placed) (o : Opening) (lba : ℕ) → IsLegalMount i w
     → unanswered_on (log_of w 0) unit ≡ Some p → p.life ≡ Opened o → AreInRows i.shape (log_of w 0) o unit
     → slot_of i (after (log_of w) (Landed unit event) knows) lba
     ≡ read_slot i (log_of w) o unit (block_read i.shape (after (log_of w) (Landed unit event) knows 0) o unit) (slot_of i (log_of w) lba)
-slot_landed i w unit event knows p o lba simple waits life rows =
+slot_landed i w unit event knows p o lba mount waits life rows =
     let l : Logged = record { event = Decides (Landed unit event); knows = knows } in
     subst (λ u. slot_of i (after (log_of w) (Landed unit event) knows) lba ≡ read_slot i (log_of w) o u
     (block_read i.shape (after (log_of w) (Landed unit event) knows 0) o u) (slot_of i (log_of w) lba))
     (first_unanswered (log_of w 0) unit p waits).of_unit
     (slot_now i (log_of w) (Landed unit event) knows p o lba (record {
-      now = landed_now i w unit event knows p o simple waits life rows;
-      once = held_once i w simple;
+      now = landed_now i w unit event knows p o mount waits life rows;
+      once = held_once i w mount;
       takes = takes_more (log_of w 0) l ∙ append-nil (takes (log_of w 0));
       begins = refl;
     }))

@@ -1,4 +1,4 @@
--- The stripes of an opened line are placed in line order, and data and the end record behind a
+-- The stripes of an opened line that isn't Failed are placed in line order, and data and the end record behind a
 -- start record that has landed.
 use Rattle.std.proofs.Common.{◌≡◌, inl, inr, ℕ, ◌+◌, ◌*◌, ◌/◌, ◌%◌, ◌<◌, ◌≤◌, ◌&&◌, zero, suc, Bool, true, false, Some, List, [], ◌∷◌, length, take, drop, refl, sym, subst, ap, ap₂, ◌∙◌, arith, mul-div_cancel, le_refl}
 use Rattle.std.specs.Prelude.{slice_get, nat_le}
@@ -15,18 +15,16 @@ use Rattle.pblk_world.specs.Starts.{have_landed}
 use Rattle.pblk_world.specs.Victims.{engine_prefix}
 use Rattle.stripe_placer.proofs.Opening.{width_some}
 use Rattle.world_laws.proofs.Later.{placed_within}
-use Rattle.world_laws.proofs.LineStripes.{IsKind, stripe_kind, turn_of_stripe}
+use Rattle.world_laws.proofs.LineStripes.{IsKind, failed_later, stripe_kind, turn_of_stripe}
 use Rattle.world_laws.proofs.Newest.{have_landed_later}
 use Rattle.world_laws.proofs.Stripes.{opening_then, stripe_is}
-use Rattle.core_laws.specs.PlainEvents.{is_plain_event}
-use Rattle.core_laws.proofs.Followed.{IsFollowed, units_width, plain_of}
+use Rattle.core_laws.proofs.Followed.{IsFollowed, units_width}
 use Rattle.core_laws.proofs.KeptLines.{units_since}
 use Rattle.core_laws.proofs.LandedNow.{opened_now}
 use Rattle.core_laws.proofs.PartLengths.{IsStriped, striped, is_before}
 use Rattle.core_laws.proofs.PlainOpenings.{IsOpenedLine, opened_lines}
-use Rattle.core_laws.proofs.PlainEventsLemmas.{none_failed}
 use Rattle.lemmas.proofs.Options.{mapped_some}
-use Rattle.lemmas.proofs.Parts.{all_taken, contained_among, got_within, take_and_drop}
+use Rattle.lemmas.proofs.Parts.{contained_among, got_within, take_and_drop}
 use Rattle.lemmas.proofs.Tests.{and_both, le_true, not_both, second_of}
 
 -- ---- places
@@ -130,7 +128,15 @@ next_by_kind i us ls stripe line o its units some striped well whole = go
         }
     go (inr (inr (inr is))) = let fails : has_failed (ls 0) o ≡ true = is.failed in absurd (not_both (has_failed (ls 0) o) fails whole)
 
--- ---- the stripes of an opened line
+-- a line that isn't Failed wasn't before
+pub whole_then : (log : List Logged) (o : Opening) (n : ℕ) → has_failed log o ≡ false → has_failed (take n log) o ≡ false
+whole_then log o n whole = go (has_failed (take n log) o) refl
+  where
+    go : (b : Bool) → has_failed (take n log) o ≡ b → b ≡ false
+    go false e = refl
+    go true e = absurd (not_both (has_failed log o) (failed_later log o n e) whole)
+
+-- ---- the stripes of an opened line that isn't Failed
 
 pub record IsInOrder (i : Image) (us : ℕ → List ℕ) (log : List Logged) (line : ℕ) (o : Opening) : Type 0 where
   pub inside : length (stripes_of log o) ≤ stripe_count i us line
@@ -138,7 +144,8 @@ pub record IsInOrder (i : Image) (us : ℕ → List ℕ) (log : List Logged) (li
   pub started : start_len i.shape / i.shape.ws_opt < length (stripes_of log o)
       → list_all (has_landed log) (take (start_len i.shape / i.shape.ws_opt) (stripes_of log o)) ≡ true
 
-module _ (i : Image) (us : ℕ → List ℕ) (w : World) (is : IsFollowed i us w) (line : ℕ) (o : Opening) (is_open : life_of (log_of w 0) line ≡ Opened o) where
+module _ (i : Image) (us : ℕ → List ℕ) (w : World) (is : IsFollowed i us w) (line : ℕ) (o : Opening) (is_open : life_of (log_of w 0) line ≡ Opened o)
+    (whole : has_failed (log_of w 0) o ≡ false) where
   abbrev log : List Logged
   log = log_of w 0
 
@@ -148,9 +155,9 @@ module _ (i : Image) (us : ℕ → List ℕ) (w : World) (is : IsFollowed i us w
   -- when it was placed it was the next one
   was_next : (k : ℕ) (p : Placed) → slice_get (stripes_of (log_of w 0) o) k ≡ Some p → IsPlacedNext i us (take p.number (log_of w 0)) line o k p.stripe
   was_next k p at =
-      let legal = is.simple.mount.legal in
-      let some : 0 < i.shape.ws_opt = is.simple.mount.accepted.drive.ws_opt in
-      let opened = opened_now i w is.simple.mount line o is_open in
+      let legal = is.mount.legal in
+      let some : 0 < i.shape.ws_opt = is.mount.accepted.drive.ws_opt in
+      let opened = opened_now i w is.mount line o is_open in
       let there : Contains (stripes_of log o) p = contained_among (stripes_of log o) p (k, at) in
       let its = stripe_is i w o p legal opened.0 there in
       let its_line : p.stripe.line ≡ line = its.3 ∙ opened.1 in
@@ -160,8 +167,8 @@ module _ (i : Image) (us : ℕ → List ℕ) (w : World) (is : IsFollowed i us w
       units_since i w line o legal is_open p.number (omega arith) (omega arith) ∙ is.keeps line (ap is_opened is_open) in
       subst (λ n. IsPlacedNext i us (take p.number log) line o n p.stripe) (turn_of_stripe log o k p at)
       (next_by_kind i us (engine_prefix p.number (log_of w)) p.stripe line o its_line units some
-      (its_stripes i us line o some is.simple.mount.accepted.drive.whole_stripes well) well
-      (none_failed (take p.number log) o (all_taken (λ (l : Logged). is_plain_event l.event ≡ true) p.number log (plain_of i us w is)))
+      (its_stripes i us line o some is.mount.accepted.drive.whole_stripes well) well
+      (whole_then log o p.number whole)
       (stripe_kind i w o p legal opened.0 there))
 
   pub in_order : IsInOrder i us (log_of w 0) line o

@@ -37,7 +37,7 @@ all_below_top n (p ∷ ps) within =
     let is : top_of (p ∷ ps) ≡ max (p + 1) (top_of ps) = top_first p ps in
     (omega arith, all_below_top n ps (omega arith))
 
-within_other : (xs ys : List ℕ) → AllByRecursion (IsAmong ys) xs → top_of xs ≤ top_of ys
+pub within_other : (xs ys : List ℕ) → AllByRecursion (IsAmong ys) xs → top_of xs ≤ top_of ys
 within_other xs ys among = top_within (top_of ys) xs (all_imply (IsAmong ys) (λ x. x < top_of ys)
     (λ x at. all_at (λ y. y < top_of ys) ys at.0 x at.1 (all_below_top (top_of ys) ys (le_refl (top_of ys)))) xs among)
 

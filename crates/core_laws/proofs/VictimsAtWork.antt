@@ -55,7 +55,7 @@ over_where_closed i logs line c e = go (are_over i logs line) (seq_of i logs lin
     go true (Some n) is_over has_seq f = (is_over, has_seq ∙ ap (λ (x : ClosedLine). Some x.seq) (same_Some (closed_with i logs line n) c f))
 
 -- images that have the same chunk of a line on each unit
-same_chunks : (a b : Image) (line : ℕ) → length a.units ≡ length b.units → ((unit : ℕ) → chunk_in a line unit ≡ chunk_in b line unit)
+pub same_chunks : (a b : Image) (line : ℕ) → length a.units ≡ length b.units → ((unit : ℕ) → chunk_in a line unit ≡ chunk_in b line unit)
     → chunks_of a line ≡ chunks_of b line
 same_chunks a b line count same = go a.units b.units count same
   where

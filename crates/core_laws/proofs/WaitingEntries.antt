@@ -7,7 +7,7 @@ use Rattle.pblk_world.specs.Fronts as fronts
 use Rattle.stripe_placer.specs.Entries.{waiting}
 use Rattle.core_laws.specs.PlacerOf.{positions_of, lost_entries, fresh_entries, entries_of}
 
-positions_both : (ts us : List Taken) → positions_of (ts ++ us) ≡ positions_of ts ++ positions_of us
+pub positions_both : (ts us : List Taken) → positions_of (ts ++ us) ≡ positions_of ts ++ positions_of us
 positions_both [] us = refl
 positions_both (t ∷ ts) us = ap (λ qs. t.entry.position ∷ qs) (positions_both ts us)
 

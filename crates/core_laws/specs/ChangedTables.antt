@@ -1,7 +1,7 @@
 -- A table of lines with one row changed.
 use Rattle.std.specs.Prelude.{ℕ, Bool, true, false, slice_get, slice_set, Option, Some, None}
 use Rattle.std.specs.Option.{option_map_or}
-use Rattle.line_table.specs.declared.row.LineState.TheVariants.{Full}
+use Rattle.line_table.specs.declared.row.LineState.TheVariants.{Failed, Full}
 use Rattle.line_table.specs.declared.row.Row.{Row}
 use Rattle.line_table.specs.Rows.{Table, lost, lowered, noted, turned}
 
@@ -16,6 +16,10 @@ with_row line change t = record {
 abbrev pub full_if : Bool → Row → Row
 full_if true row = turned Full row.width row
 full_if false row = row
+
+-- a line of which a stripe was lost turns to Failed
+abbrev pub failed : Row → Row
+failed row = turned Failed row.width row
 
 -- The entry at a position takes over a sector from the line in which it was live, if it was in one:
 -- the line has one live sector less. Where the sector has landed in it, something was taken from

@@ -1,12 +1,16 @@
 -- The blocks of a chunk of an opened line, by the log.
-use Rattle.std.specs.Prelude.{ℕ, ◌+◌, ◌-◌, ◌*◌, ◌/◌, ◌%◌, ◌≤◌, ◌==◌, if◌then◌else◌, ◌≡◌, ◌&&◌, Bool, List, length, take, drop, slice_get, Option, Some}
+use Rattle.std.specs.Prelude.{ℕ, ◌+◌, ◌-◌, ◌*◌, ◌/◌, ◌%◌, ◌≤◌, ◌==◌, if◌then◌else◌, ◌≡◌, ◌&&◌, Bool, false, List, length, take, drop, slice_get, Option, Some}
 use Rattle.std.specs.List.{list_any, find, flat_map, enumerate_from}
 use Rattle.std.specs.Option.{option_map}
 use Rattle.pblk_model.specs.declared.shape.Shape.{Shape}
 use Rattle.pblk_model.specs.Chunk.{Block}
 use Rattle.pblk_world.specs.Events.{Stripe, Logged}
-use Rattle.pblk_world.specs.EngineLog.{Opened, Opening, Placed, stripes_on, bears_position}
+use Rattle.pblk_world.specs.EngineLog.{Opened, Opening, Placed, stripes_on, has_landed, was_lost, bears_position, holds_position}
 use Rattle.pblk_world.specs.Space.{landed_blocks, is_readable_in}
+
+-- no stripe that was placed in it was lost
+abbrev pub NoneLostIn : List Logged → Opening → ℕ → Type 0
+NoneLostIn log o unit = list_any (was_lost log) (stripes_on log o unit) ≡ false
 
 -- those of all stripes that were placed in it, one after another
 abbrev pub chunk_blocks : List Logged → Opening → ℕ → List Block
@@ -17,6 +21,10 @@ abbrev pub can_be_read : Shape → List Logged → Opening → ℕ → ℕ → B
 can_be_read s log o unit position =
     list_any (λ b. bears_position s position b.1 && is_readable_in s log unit b.0 (Opened o))
     (enumerate_from 0 (chunk_blocks log o unit))
+
+-- a stripe of the chunk that has landed holds the position
+abbrev pub has_landed_in : Shape → List Logged → Opening → ℕ → ℕ → Bool
+has_landed_in s log o unit position = list_any (λ p. has_landed log p && holds_position s position p) (stripes_on log o unit)
 
 -- how many of a chunk's first blocks can be read once so many have landed
 abbrev pub readable_blocks : Shape → ℕ → ℕ

@@ -1,4 +1,4 @@
--- What holds of the logs of each simple mount.
+-- What holds of the logs of each legal mount.
 use Rattle.std.specs.Prelude.{ℕ, ◌*◌, ◌<◌, ◌≤◌, ◌≡◌, false, List, length}
 use Rattle.std.specs.List.{AllByRecursion}
 use Rattle.pblk_model.specs.declared.shape.Shape.{Shape}
@@ -10,7 +10,7 @@ use Rattle.pblk_world.specs.World.{Logs}
 use Rattle.pblk_world.specs.EngineLog.{Opening, Opened, life_of, Placed, placements, placed_on, stripes_of, answers, is_answered}
 use Rattle.pblk_world.specs.Placing.{line_end}
 use Rattle.core_laws.specs.Positions.{AreNumbered, AreMarked, AreTaken}
-use Rattle.core_laws.specs.PlainLogs.{FreedBefore, NoStripeLost, NoLineFailed}
+use Rattle.core_laws.specs.PlainLogs.{FreedBefore}
 use Rattle.core_laws.specs.PlacedEntries.{AreNamed}
 
 -- A placed stripe is in a line of the drive. Until it is answered the line is opened by the opening
@@ -31,8 +31,6 @@ pub record IsInOrder (i : Image) (logs : Logs) : Type 0 where
   pub placed : AllByRecursion (IsInPlace i (logs 0)) (placements (logs 0))
   pub answered : (unit : ℕ) → length (answers (logs 0) unit) ≤ length (placed_on (logs 0) unit)
   pub freed : FreedBefore (logs 0)
-  pub lost : NoStripeLost (logs 0)
-  pub failed : NoLineFailed (logs 0)
 
 -- an opened line has no more stripes than it has room for
 pub record HasRoom (s : Shape) (log : List Logged) (o : Opening) : Type 0 where

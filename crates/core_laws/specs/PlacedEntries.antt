@@ -8,7 +8,7 @@ use Rattle.pblk_model.specs.Records.{named}
 use Rattle.pblk_world.specs.Events.{Logged}
 use Rattle.pblk_world.specs.EngineLog.{Taken, takes}
 use Rattle.line_table.specs.declared.row.Row.{Row}
-use Rattle.line_table.specs.Rows.{Table}
+use Rattle.line_table.specs.Rows.{Table, lowered}
 use Rattle.core_laws.specs.ChangedTables.{with_row, note_by}
 
 -- the first entry of the same sector that was taken after an entry
@@ -36,12 +36,24 @@ place_entry log line table t = if nat_lt t.mark.lba table.shape.capacity then pl
 abbrev pub note_entry : List Logged → ℕ → Table → Taken → Table
 note_entry log line table t = if nat_lt t.mark.lba table.shape.capacity then note_by (taker_of log t) line table else table
 
+-- An entry whose stripe was lost is in no line. Where none was taken after it, its line has one live
+-- sector less.
+abbrev pub lower_by : Option ℕ → ℕ → Table → Table
+lower_by None line t = with_row line lowered t
+lower_by (Some later) line t = t
+
+abbrev pub lower_entry : List Logged → ℕ → Table → Taken → Table
+lower_entry log line table t = if nat_lt t.mark.lba table.shape.capacity then lower_by (taker_of log t) line table else table
+
 -- the entries one after another
 abbrev pub place_entries : List Logged → ℕ → Table → List Taken → Table
 place_entries log line table ts = fold (place_entry log line) table ts
 
 abbrev pub note_entries : List Logged → ℕ → Table → List Taken → Table
 note_entries log line table ts = fold (note_entry log line) table ts
+
+abbrev pub lower_entries : List Logged → ℕ → Table → List Taken → Table
+lower_entries log line table ts = fold (lower_entry log line) table ts
 
 -- each entry that was taken is of a sector or Void
 abbrev pub AreNamed : Shape → List Logged → Type 0

@@ -19,11 +19,11 @@ use pblk_model::Found;
 use std::alloc::{AllocError, Global};
 use std::marker::Model;
 
-/// The table of a target's lines: of each its state, its width, how many live sectors it has, and the greatest
-/// position that took one from it.
+/// The table of a target's lines: of each its state, its width, how many live sectors it has, and
+/// the greatest position that took one from it.
 ///
-/// Lines are what a target opens, fills and frees as a whole (Bjørling, González, Bonnet, FAST 2017). Each call
-/// but `new` takes the same few steps, whatever the number of lines.
+/// Lines are what a target opens, fills and frees as a whole (Bjørling, González, Bonnet, FAST
+/// 2017). Each call but `new` takes the same few steps, whatever the number of lines.
 ///
 /// Contracts see the drive's shape and a list of rows, by the lines' numbers.
 #[derive(Drop)]
@@ -52,11 +52,12 @@ impl Model for Lines {
 impl Lines {
     /// The table of a target that opens on a drive of which this is found.
     ///
-    /// A line with a sequence number is Full where its end record is whole, and Failed elsewhere. A line
-    /// without one is Freed where it has a chunk that is neither Free nor Offline, and Free or Dead elsewhere.
-    /// The live sectors of a line are those whose winning record is in it.
+    /// A line with a sequence number is Full where its end record is whole, and Failed elsewhere. A
+    /// line without one is Freed where it has a chunk that is neither Free nor Offline, and Free or
+    /// Dead elsewhere. The live sectors of a line are those whose winning record is in it.
     ///
-    /// The findings fit the layout's shape. Fails only where there isn't the memory, which no later call takes.
+    /// The findings fit the layout's shape. Fails only where there isn't the memory, which no later
+    /// call takes.
     pub fn new(alloc: Global, layout: &Layout, found: &Found) -> Result<Lines, AllocError>
         requires fit { IsFitFound layout.now found.now }
         ensures shape { IfOk result (λ t. t.shape ≡ layout.now) }
@@ -99,8 +100,8 @@ impl Lines {
         self.rows[line as usize].live
     }
 
-    /// The greatest position that took a sector from a line of the drive. None exactly where none was noted since
-    /// the table was made or the line was last opened.
+    /// The greatest position that took a sector from a line of the drive. None exactly where none
+    /// was noted since the table was made or the line was last opened.
     pub fn taker(&self, line: u32) -> Option<u64>
         requires { line < length self.now.rows }
         ensures { (row : Row) → IsRow self.now line row → result ≡ row.taker }
@@ -127,9 +128,9 @@ impl Lines {
         self.free.least()
     }
 
-    /// The line of least number, from this one on, that is Full or Failed and has no live sector. None exactly
-    /// where there is no such line. Garbage collection frees such a line without a copy, once nothing in it is
-    /// needed (Bjørling, González, Bonnet, FAST 2017).
+    /// The line of least number, from this one on, that is Full or Failed and has no live sector.
+    /// None exactly where there is no such line. Garbage collection frees such a line without a
+    /// copy, once nothing in it is needed (Bjørling, González, Bonnet, FAST 2017).
     ///
     /// The table keeps an index of 16 words for it.
     pub fn outlived_from(&self, from: u32) -> Option<u32>
@@ -152,8 +153,8 @@ impl Lines {
         self.outlived.set(line, false);
     }
 
-    /// The entry at position `by` took a sector from a line of the drive, where it had landed. The line has one
-    /// live sector less. It had some.
+    /// The entry at position `by` took a sector from a line of the drive, where it had landed. The
+    /// line has one live sector less. It had some.
     pub fn lose(&mut self, line: u32, by: u64)
         requires inside { line < length self.old.rows }
         requires some { (row : Row) → IsRow self.old line row → 0 < row.live }
@@ -163,8 +164,8 @@ impl Lines {
         self.note_taker(line, by);
     }
 
-    /// Counts one live sector less in a line of the drive, which had some. A later entry took the sector before
-    /// it landed in the line: until it does, nothing was taken from the line.
+    /// Counts one live sector less in a line of the drive, which had some. A later entry took the
+    /// sector before it landed in the line: until it does, nothing was taken from the line.
     pub fn lower(&mut self, line: u32)
         requires inside { line < length self.old.rows }
         requires some { (row : Row) → IsRow self.old line row → 0 < row.live }
@@ -176,8 +177,8 @@ impl Lines {
         self.outlived.set(line, outlived);
     }
 
-    /// Notes that the entry at position `by` took a sector from a line of the drive. The line's live sectors
-    /// are as many as before: the sector was taken before it landed there.
+    /// Notes that the entry at position `by` took a sector from a line of the drive. The line's
+    /// live sectors are as many as before: the sector was taken before it landed there.
     pub fn note_taker(&mut self, line: u32, by: u64)
         requires inside { line < length self.old.rows }
         ensures { Changes self.old self.new line (noted by) }
@@ -188,8 +189,8 @@ impl Lines {
 
     /// A line of the drive has a new state and a new width, which is at most the number of units.
     ///
-    /// A line goes from Free to Open, from there to Full or Failed, then to Freed, and to Free again, or to
-    /// Dead where a line of the new width has no data.
+    /// A line goes from Free to Open, from there to Full or Failed, then to Freed, and to Free
+    /// again, or to Dead where a line of the new width has no data.
     pub fn turn(&mut self, line: u32, to: LineState, width: u32)
         requires inside { line < length self.old.rows }
         requires width { width ≤ units self.old.shape }

@@ -29,4 +29,4 @@ lines_taken v sound =
     all_mapped (λ (x : PlacedSector). x.position < taken_in v) line_of (user_takes (engine_log v))
     (all_filter (λ (t : Taken). t.entry.position < taken_in v) (λ t. is_users t.entry.source) (takes (engine_log v))
     (all_by_get (λ (t : Taken). t.entry.position < taken_in v) (takes (engine_log v)) (λ k t there.
-    position_below v.image (world_in v) k t sound.legal.mount.legal there)))
+    position_below v.image (world_in v) k t sound.legal.legal there)))

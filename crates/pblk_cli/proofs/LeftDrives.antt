@@ -31,6 +31,7 @@ use Rattle.drive_image.specs.Quiet.{IsQuiet}
 use Rattle.scan_recovery.specs.MayStop.{AllMayStop}
 use Rattle.run_report.specs.Report.{transcript_of}
 use Rattle.run_threads.specs.declared.records.Records.{Records}
+use Rattle.pblk_cli.specs.Commands.{IsWorldBetween}
 use Rattle.pblk_cli.specs.Running.{IsRunTo, IsStored}
 use Rattle.pblk_cli.specs.Serving.{IsLeftBy, IsRan, IsServing, transcript_by, units_of}
 use Rattle.pblk_cli.specs.Status.{status_of_run}
@@ -38,6 +39,7 @@ use Rattle.pblk_cli.specs.Stops.{AreStopsBy}
 use Rattle.pblk_cli.proofs.ArmedDrives.{are_names, may_stop, stops_by, stored_armed, wear_armed, whole_before}
 use Rattle.pblk_cli.proofs.HandedDrives.{media_mapped}
 use Rattle.pblk_cli.proofs.StoredUnits.{image_units, same_numbers}
+use Rattle.pblk_cli.proofs.TidyRuns.{complete}
 use Rattle.lemmas.proofs.Maps.{get_mapped}
 use Rattle.lemmas.proofs.Parts.{got_within, same_lists}
 use Rattle.pblk_world.proofs.WorldLemmas.{length_media}
@@ -135,35 +137,49 @@ module _ (found : DriveView) (stop : Option Fuse) (word : Option TableId) (scrip
     told_is : transcript_of script records (end (image_of (stored left))) ≡ t
     told_is = ap (λ (x : Image). transcript_of script records (end x)) left_is
 
-    pub run_to : IsRunTo (stored found) stop script status text bytes
-    run_to = record {
+    world_is : IsWorldBetween (stored found) (stored left) stop script (transcript_by script records i (log_of w))
+    world_is = record {
+      world = w;
+      legal = serving.legal;
+      has_begun = serving.has_begun;
+      media_are = left_is;
+      history_is = serving.history_is;
+      stops = subst (λ n. AreStopsBy i (fitting_fuse n stop) (log_of w)) (sym unit_count)
+          (stops_by i fuse word found.units left.units (log_of w) quiet armed_count armed_shapes left_count serving.each is.by_arms);
+      named = are_names i fuse word found.units left.units (log_of w) quiet armed_count armed_shapes left_count serving.each _
+          serving.named;
+      worn = serving.worn;
+      granted = serving.granted;
+      begun = serving.begun;
+      urgent = serving.urgent;
+      after_resets = serving.after_resets;
+      opened_full = serving.opened_full;
+      over = serving.over;
+    }
+
+    relation_is : IsSealed (image_of (stored found))
+        → IsRun found.sector script (contents i) (transcript_by script records i (log_of w)) (contents (image_of (stored left)))
+    relation_is sealed =
+        subst (IsRun found.sector script (contents i) t)
+        (sym (ap contents left_is ∙ kept_contents i w serving.legal.mount sealed t found.sector serving.kept serving.history_is))
+        (serving.run sealed)
+
+    pub run_to : length script ≤ 1 → IsRunTo (stored found) stop script status text bytes
+    unfolding world_is
+    run_to one = record {
       left = stored left;
       run = record {
         transcript = t;
         printed = made.text_is ∙ ap text_of told_is;
         numbers = same_numbers found left whole is.drive.whole numbers_left (is.drive.wear ∙ wear_armed fuse word found.units);
-        world = record {
-          world = w;
-          legal = serving.legal;
-          has_begun = serving.has_begun;
-          media_are = left_is;
-          history_is = serving.history_is;
-          stops = subst (λ n. AreStopsBy i (fitting_fuse n stop) (log_of w)) (sym unit_count)
-              (stops_by i fuse word found.units left.units (log_of w) quiet armed_count armed_shapes left_count serving.each is.by_arms);
-          named = are_names i fuse word found.units left.units (log_of w) quiet armed_count armed_shapes left_count serving.each _
-              serving.named;
-          worn = serving.worn;
-          granted = serving.granted;
-          begun = serving.begun;
-          urgent = serving.urgent;
-        };
+        world = world_is;
         kept_is = serving.kept ∙ ap (λ (x : Image). users (user_positions (log_of w 0)) (end x)) (sym left_is);
         told = serving.told;
-        relation = λ sealed.
-            subst (IsRun found.sector script (contents i) t)
-            (sym (ap contents left_is ∙ kept_contents i w serving.legal.mount sealed t found.sector serving.kept serving.history_is))
-            (serving.run sealed);
+        relation = relation_is;
         sealed = λ sealed. subst IsSealed (sym left_is) (media_sealed i w serving.legal.mount sealed);
+        complete = λ none. complete (stored found) (stored left) script t
+            (subst (λ s. IsWorldBetween (stored found) (stored left) s script t) none world_is)
+            relation_is one serving.recorded.capacity serving.recorded.fits;
         spelled = made.spelled;
       };
       status_is = made.status_is ∙ ap status_of_run told_is;
@@ -186,12 +202,12 @@ armed_may_stop found set stop plans none quiet is =
     (may_stop fuse is.0 found.units quiet)
 
 pub armed_run_to : (found set : DriveView) (stop : Option Fuse) (plans : List FaultPlan) (script : List (List Command)) (left : DriveView) (records : Records)
-    (status : ℕ) (text bytes : List ℕ) → plans ≡ [] → IsQuiet found → IsArmedBy found stop plans set → IsRan set script left records
+    (status : ℕ) (text bytes : List ℕ) → plans ≡ [] → IsQuiet found → IsArmedBy found stop plans set → length script ≤ 1 → IsRan set script left records
     → IsStored left script records status text bytes → IsRunTo (stored found) stop script status text bytes
-armed_run_to found set stop plans script left records status text bytes none quiet is ran made =
+armed_run_to found set stop plans script left records status text bytes none quiet is one ran made =
     let fuse : Option Fuse = fitting_fuse (length found.units) stop in
     let armed_is : set ≡ with_units (armed_units [] fuse is.0 found.units) found = is.2
     ∙ ap (λ ps. with_units (armed_units ps fuse is.0 found.units) found) none in
     let on_armed : IsRan (with_units (armed_units [] fuse is.0 found.units) found) script left records =
     subst (λ (d : DriveView). IsRan d script left records) armed_is ran in
-    run_to found stop is.0 script left records status text bytes (whole_before found fuse is.0 on_armed.drive.was) quiet on_armed made
+    run_to found stop is.0 script left records status text bytes (whole_before found fuse is.0 on_armed.drive.was) quiet on_armed made one

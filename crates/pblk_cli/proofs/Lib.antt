@@ -16,6 +16,8 @@ pub mod ArmedDrives
 pub mod RanDrives
 pub mod LeftDrives
 pub mod Faultless
+pub mod CalmRuns
+pub mod TidyRuns
 pub mod OldHeads
 pub mod WornLines
 pub mod EventLines

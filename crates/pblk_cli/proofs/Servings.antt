@@ -1,5 +1,5 @@
 -- What a session and a close come to, and what an opening that was refused.
-use Rattle.std.proofs.Common.{◌≡◌, ℕ, ◌^◌, ◌<◌, ◌≤◌, List, [], ◌∷◌, ◌++◌, Option, Result, Ok, Err, length, map, take, Some, None, slice_get, refl, sym, subst, ap, ◌∙◌, arith}
+use Rattle.std.proofs.Common.{◌≡◌, ◌⊎◌, ℕ, ◌^◌, ◌<◌, ◌≤◌, List, [], ◌∷◌, ◌++◌, Option, Result, Ok, Err, length, map, take, false, Some, None, slice_get, refl, sym, subst, ap, ◌∙◌, arith}
 use Rattle.std.specs.Prelude.{IfOk}
 use Rattle.std.specs.List.{AllByRecursion, filter, flat_map}
 use Rattle.std.proofs.lemmas.List.{append-nil, length-map, map-append}
@@ -16,12 +16,14 @@ use Rattle.pblk_model.specs.Image.{Image}
 use Rattle.pblk_model.specs.Script.{ScriptFits}
 use Rattle.pblk_model.specs.Sealed.{IsSealed}
 use Rattle.pblk_model.specs.Shape as shapes
-use Rattle.pblk_model.specs.Text.{HistoryLine, Transcript}
+use Rattle.pblk_model.specs.Text.{Closed, HistoryLine, Transcript}
 use Rattle.pblk_model.specs.Transcript.{IsDistinct, IsRun, IsTranscript, closing_event, events, is_of_one, sector_writes}
+use Rattle.pblk_world.specs.AtRest.{IsAtRest}
 use Rattle.pblk_world.specs.Events.{Logged}
 use Rattle.pblk_world.specs.EngineLog.{Begun, begun}
 use Rattle.pblk_world.specs.Fronts.{history, user_positions}
 use Rattle.pblk_world.specs.Lines.{found_image}
+use Rattle.pblk_world.specs.Space.{is_due}
 use Rattle.pblk_world.specs.World.{World, log_of, media}
 use Rattle.core_laws.specs.SimpleMounts.{IsSimpleMount}
 use Rattle.unit_port.specs.Unit.{ModelUnit}
@@ -35,8 +37,10 @@ use Rattle.block_port.specs.declared.rows.WornAnswer.{WornAnswer}
 use Rattle.block_port.specs.Own.{PlacedSector, lines_of}
 use Rattle.block_port.specs.Port.{Footing, IsSameTarget, ModelPort, positions}
 use Rattle.block_target.specs.Arm.{IsArm}
+use Rattle.world_laws.specs.LegalMounts.{IsLegalMount, NoneLost}
+use Rattle.world_laws.specs.Orders.{AreAfterResets, AreOpenedFull}
 use Rattle.world_laws.specs.Reasons.{AreBegun, AreGranted, AreUrgent}
-use Rattle.block_target.specs.Mount.{MountView, synced_in, taken_in, world_in}
+use Rattle.block_target.specs.Mount.{IsCollectionOver, MountView, synced_in, taken_in, world_in}
 use Rattle.block_target.specs.Refusals.{AreRefusals}
 use Rattle.block_target.specs.Opened.{AreReadied, IsOpened, OpenCause, readied_world}
 use Rattle.block_target.specs.Serial.{SerialView, Settles, device, lines_in, settle_faults, settle_worns}
@@ -123,6 +127,12 @@ all_settled (Ok x) old v settles none = settles.1
 all_settled (Err (settle.Worn wanted have)) old v settles none = absurd (cc)
 all_settled (Err (settle.Drive unit event)) old v settles none = absurd (cc)
 
+collection_over : (settled : Result Unit SettleErr) (old v : MountView) → Settles old settled v → closing_of (trouble_of settled) ≡ Closed
+    → IsCollectionOver v
+collection_over (Ok x) old v settles none = settles.2
+collection_over (Err (settle.Worn wanted have)) old v settles none = absurd (cc)
+collection_over (Err (settle.Drive unit event)) old v settles none = absurd (cc)
+
 -- A target that was opened on the units of a drive, before and after a session, and closed.
 module _ (s : Shape) (us : List ModelUnit) (first last : SerialView) (units : List WornUnit) (opened : IsOpened s us first.mount)
     (target : IsSameTarget (device first) (device last)) (closed : IsClosed last units) where
@@ -150,7 +160,16 @@ module _ (s : Shape) (us : List ModelUnit) (first last : SerialView) (units : Li
       (closed.wear ∙ closed.closed.same.wear ∙ same_wear first last target ∙ wear) unit_at
 
   legal_is : IsSimpleMount (image_of s us) w
-  legal_is = subst (λ (j : Image). IsSimpleMount j w) mount_image closed.closed.sound.legal
+  legal_is = record {
+    mount = subst (λ (j : Image). IsLegalMount j w) mount_image closed.closed.sound.legal;
+    engine = record { lost = closed.closed.sound.none_lost };
+  }
+
+  -- where the close answered nothing, collection is over
+  over_is : closing_of (trouble_of closed.settled) ≡ Closed → (is_due (image_of s us) (log_of w) ≡ false)
+      ⊎ IsAtRest (image_of s us) (log_of w) 0 (length (log_of w 0))
+  over_is none = subst (λ (j : Image). (is_due j (log_of w) ≡ false) ⊎ IsAtRest j (log_of w) 0 (length (log_of w 0))) mount_image
+      (collection_over closed.settled last.mount closed.mount closed.closed.settles none)
 
   -- the contents that the mount found
   start_found : contents first.mount.found ≡ contents (found_image (image_of s us) (log_of w))
@@ -169,7 +188,7 @@ module _ (s : Shape) (us : List ModelUnit) (first last : SerialView) (units : Li
   above : IsSealed (image_of s us) → synced_in closed.mount ≤ end (media i (log_of w))
   above sealed = subst (λ (j : Image). synced_in closed.mount ≤ end (media j (log_of w))) mount_image
       (prefix_above closed.mount.image (world_in closed.mount)
-      closed.closed.sound.legal.mount (subst IsSealed (sym mount_image) sealed))
+      closed.closed.sound.legal (subst IsSealed (sym mount_image) sealed))
 
   all_synced : trouble_of closed.settled ≡ None → synced_in closed.mount ≡ taken_in closed.mount
   all_synced none = all_settled closed.settled last.mount closed.mount closed.closed.settles none
@@ -286,6 +305,9 @@ module _ (s : Shape) (us : List ModelUnit) (first last : SerialView) (units : Li
         granted = subst (λ (j : Image). AreGranted j (log_of w)) mount_image closed.closed.granted;
         begun = subst (λ (j : Image). AreBegun j (log_of w)) mount_image closed.closed.begun;
         urgent = subst (λ (j : Image). AreUrgent j (log_of w)) mount_image closed.closed.urgent;
+        after_resets = subst (λ (j : Image). AreAfterResets j (log_of w)) mount_image closed.closed.after_resets;
+        opened_full = subst (λ (j : Image). AreOpenedFull j (log_of w)) mount_image closed.closed.opened_full;
+        over = λ none. over_is;
         kept = one_kept commands records (device first) (device last) front one ∙ ap (λ ps. users ps front) positions_are;
         told = told_by first.mount.image.shape.sector s.sector (commands ∷ []) (contents first.mount.found)
             (contents (found_image (image_of s us) (log_of w))) (transcript_by (commands ∷ []) records i (log_of w)) size_is start_found
@@ -332,6 +354,9 @@ module _ (s : Shape) (us : List ModelUnit) (first last : SerialView) (units : Li
         granted = subst (λ (j : Image). AreGranted j (log_of w)) mount_image closed.closed.granted;
         begun = subst (λ (j : Image). AreBegun j (log_of w)) mount_image closed.closed.begun;
         urgent = subst (λ (j : Image). AreUrgent j (log_of w)) mount_image closed.closed.urgent;
+        after_resets = subst (λ (j : Image). AreAfterResets j (log_of w)) mount_image closed.closed.after_resets;
+        opened_full = subst (λ (j : Image). AreOpenedFull j (log_of w)) mount_image closed.closed.opened_full;
+        over = λ none. over_is;
         kept = sym (ap (λ ps. users ps front) no_positions);
         told = (no_port s.sector records (contents (found_image (image_of s us) (log_of w))) front threads unopened_is closed.trouble).told;
         run = λ sealed. no_port s.sector records (contents (image_of s us)) front threads unopened_is closed.trouble;
@@ -407,8 +432,8 @@ module _ (s : Shape) (old new : List WornUnit) (refused : AreHandedBack s (units
     events_is : events (transcript_of script records left_end) ≡ (unit, event) ∷ []
     events_is = rw (threads, opening, closing) refl
 
-    no_take : (k : ℕ) (l : Logged) → slice_get (log_of still 0) k ≡ Some l → ⊥
-    no_take k l there = none-some l (ap (λ (log : List Logged). slice_get log k) (sym readied.none) ∙ there)
+    no_event : (k : ℕ) (l : Logged) → slice_get (log_of still 0) k ≡ Some l → ⊥
+    no_event k l there = none-some l (ap (λ (log : List Logged). slice_get log k) (sym readied.none) ∙ there)
 
     ran_nothing : (size : ℕ) (start : List (List ℕ)) → IsRun size script start (transcript_of script records left_end) start
     ran_nothing size start = unopened size script records start left_end unit event threads opening closing number
@@ -417,7 +442,10 @@ module _ (s : Shape) (old new : List WornUnit) (refused : AreHandedBack s (units
     unopened_served = record {
       world = still;
       serving = record {
-        legal = readied.legal;
+        legal = record {
+          mount = readied.legal;
+          engine = record { lost = subst NoneLost (sym readied.none) tt };
+        };
         has_begun = rw (opening, readied.none) tt;
         each = λ k u there. left_by as_it_was as_it_was (log_of still) (units_of old) (units_of old) k u refl refl (readied.each k u there);
         recorded = record {
@@ -429,9 +457,15 @@ module _ (s : Shape) (old new : List WornUnit) (refused : AreHandedBack s (units
         named = subst (AreNewLosses (units_of old) (units_of new)) (sym events_is) (loss_at (units_of old) (units_of new) unit event lost);
         history_is = ap history readied.none ∙ ap (sector_writes s.sector) (sym (nothing_written left_end));
         worn = rw (threads, closing) tt;
-        granted = record { each = λ k knows entry mark there its. absurd (no_take k _ there) };
-        begun = record { each = λ k knows entry mark source there its. absurd (no_take k _ there) };
-        urgent = record { each = λ k knows stripe position there its. absurd (no_take k _ there) };
+        granted = record { each = λ k knows entry mark there its. absurd (no_event k _ there) };
+        begun = record { each = λ k knows entry mark source there its. absurd (no_event k _ there) };
+        urgent = record { each = λ k knows stripe position there its. absurd (no_event k _ there) };
+        after_resets = record {
+          stripes = λ k knows stripe there. absurd (no_event k _ there);
+          lines = λ k knows line start there. absurd (no_event k _ there);
+        };
+        opened_full = record { each = λ k knows line start there. absurd (no_event k _ there) };
+        over = λ none. absurd (none-some (unit, event) (sym none ∙ ap opening_of opening));
         kept = nothing_kept left_end ∙ sym (ap (λ ps. users ps left_end) nothing_taken);
         told = (ran_nothing s.sector (contents (found_image as_it_was (log_of still)))).told;
         run = λ sealed. subst (IsRun s.sector script (contents as_it_was) (transcript_of script records left_end))

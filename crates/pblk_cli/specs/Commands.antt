@@ -1,6 +1,6 @@
 -- What each command comes to, by the files before and after: a text, or a refusal with its cause.
 -- No other ending is left.
-use Rattle.std.specs.Prelude.{ℕ, ◌≤◌, ◌≡◌, ◌⊎◌, List, map, length, Option, Some, None, Err}
+use Rattle.std.specs.Prelude.{ℕ, ◌≤◌, ◌≡◌, ◌⊎◌, false, List, map, length, Option, Some, None, Err}
 use Rattle.pblk_outside.specs.Files.{FilesView}
 use Rattle.pblk_model.specs.declared.script.Command.{Command}
 use Rattle.command_words.specs.Grammar.{CommandLine, Create, Geometry, Show, Report, Run, IsCommandLine, RunOptions}
@@ -10,17 +10,22 @@ use Rattle.pblk_model.specs.History.{users}
 use Rattle.pblk_model.specs.ImageFile.{Drive, IsImage, image_bytes, image_of, image_refusal}
 use Rattle.pblk_model.specs.ScriptText.{IsScript, read_script}
 use Rattle.pblk_model.specs.Sealed.{IsSealed}
-use Rattle.pblk_model.specs.Text.{Transcript, text_of}
+use Rattle.pblk_model.specs.Text.{Closed, Transcript, text_of}
 use Rattle.pblk_model.specs.Transcript.{IsRun, IsTranscript, events, sector_writes}
 use Rattle.pblk_world.specs.World.{World, log_of, media}
+use Rattle.pblk_world.specs.AtRest.{IsAtRest}
 use Rattle.pblk_world.specs.EngineLog.{begun}
+use Rattle.pblk_world.specs.Space.{is_due}
 use Rattle.pblk_world.specs.Fronts.{history, user_positions}
 use Rattle.pblk_world.specs.Lines.{found_image}
 use Rattle.core_laws.specs.SimpleMounts.{IsSimpleMount}
 use Rattle.unit_port.specs.declared.armed.Fuse.{Fuse}
+use Rattle.world_laws.specs.Orders.{AreAfterResets, AreOpenedFull}
 use Rattle.world_laws.specs.Reasons.{AreBegun, AreGranted, AreUrgent}
+use Rattle.rest_laws.specs.Tidy.{IsTidy}
 use Rattle.block_target.specs.Refusals.{AreRefusals}
 use Rattle.command_text.specs.Says.{Says}
+use Rattle.pblk_cli.specs.Complete.{HasSmallNumbers, IsComplete}
 use Rattle.pblk_cli.specs.Contents.{numbers_text, show_text}
 use Rattle.pblk_cli.specs.Status.{status_of_run}
 use Rattle.pblk_cli.specs.Stops.{AreNames, AreStopsBy, HasBegun, fuse_on}
@@ -30,9 +35,10 @@ use Rattle.pblk_cli.specs.Telling.{Call, Image, Script, ScriptUnbuilt, Failed, M
 -- Creating.
 
 abbrev pub CreateComesTo : List ℕ → CreateNumbers → Ending → FilesView → FilesView → Type 0
--- the image was made and stored, and it is sealed
+-- the image was made and stored; it is tidy, and its one spelling is an image of its drive
 CreateComesTo image n (Gives status text) old new = (status ≡ 0) × (created_refusal n ≡ None) × Stores image (image_bytes (created_drive n)) old new
-    × (text ≡ created_text (length (image_bytes (created_drive n)))) × IsSealed (image_of (created_drive n))
+    × (text ≡ created_text (length (image_bytes (created_drive n)))) × IsTidy (image_of (created_drive n))
+    × IsImage (image_bytes (created_drive n)) (created_drive n)
 CreateComesTo image n (Refuses (Image e)) old new = (created_refusal n ≡ Some e) × AreUntouched old new
 CreateComesTo image n (Refuses (Failed name)) old new = (name ≡ image) × (created_refusal n ≡ None) × FailsWriting image old new
 CreateComesTo image n (Refuses Memory) old new = (created_refusal n ≡ None) × AreUntouched old new
@@ -87,15 +93,18 @@ pub record SameNumbers (old new : Drive) : Type 0 where
   pub ring : new.ring ≡ old.ring
   pub wear : map (map (λ k. k.wear)) new.units ≡ map (map (λ k. k.wear)) old.units
 
--- What was done on a drive: a legal world over the image found, in which no stripe was lost. Sectors
--- may have been copied in it, and lines freed. Where opening answered an event no mount has begun in
--- it. The media are the image left, and the history is the printed one. The outcomes of the units'
--- commands are those that the named stop gives, and no others. Each `e` line names an event of its
--- own in it: a command that was stopped, or a fetch that failed. Each answer for want of room was
--- given at a length of the engine's log at which the target was at rest. These lengths never fall
--- from one answer to the next, and the users' sectors that were taken by then are those that the
--- thread had written. And no user's sector was taken but where there had been room for it, nor a copy
--- but one that had been begun. And no stripe with an entry was placed but where it was urgent.
+-- What was done on a drive: a legal world over the image found, in which no stripe was lost.
+-- Sectors may have been copied in it, and lines freed. Where opening answered an event no mount has
+-- begun in it. The media are the image left, and the history is the printed one. The outcomes of
+-- the units' commands are those that the named stop gives, and no others. Each `e` line names an
+-- event of its own in it: a command that was stopped, or a fetch that failed. Each answer for want
+-- of room was given at a length of the engine's log at which the target was at rest. These lengths
+-- never fall from one answer to the next, and the users' sectors that were taken by then are those
+-- that the thread had written. And no user's sector was taken but where there had been room for it,
+-- nor a copy but one that had been begun. And no stripe with an entry was placed but where it was
+-- urgent. Resets came first, and each line was opened where an entry waited and no open line had an
+-- address left. Where neither opening nor the close answered anything, collection isn't due at the
+-- end, or the target is at rest.
 pub record IsWorldBetween (found left : Drive) (stop : Option Fuse) (commands : List (List Command)) (t : Transcript) : Type 0 where
   pub world : World
   pub legal : IsSimpleMount (image_of found) world
@@ -108,6 +117,10 @@ pub record IsWorldBetween (found left : Drive) (stop : Option Fuse) (commands : 
   pub granted : AreGranted (image_of found) (log_of world)
   pub begun : AreBegun (image_of found) (log_of world)
   pub urgent : AreUrgent (image_of found) (log_of world)
+  pub after_resets : AreAfterResets (image_of found) (log_of world)
+  pub opened_full : AreOpenedFull (image_of found) (log_of world)
+  pub over : t.opening ≡ None → t.closing ≡ Closed → (is_due (image_of found) (log_of world) ≡ false)
+      ⊎ IsAtRest (image_of found) (log_of world) 0 (length (log_of world 0))
 
 -- A run of these commands from one drive to another, told of this stop, with this text.
 pub record IsRunBetween (found : Drive) (stop : Option Fuse) (commands : List (List Command)) (text : List ℕ) (left : Drive) : Type 0 where
@@ -131,6 +144,10 @@ pub record IsRunBetween (found : Drive) (stop : Option Fuse) (commands : List (L
   -- is sealed.
   pub relation : IsSealed (image_of found) → IsRun found.sector commands (contents (image_of found)) transcript (contents (image_of left))
   pub sealed : IsSealed (image_of found) → IsSealed (image_of left)
+  -- Over a tidy image, told of no stop, the run did all that it was told to, as long as the numbers
+  -- of the image left are far from their ends. And the image left is tidy again.
+  pub complete : stop ≡ None → IsTidy (image_of found) → HasSmallNumbers (image_of left)
+      → IsComplete found left commands transcript
   -- its one spelling is an image of it
   pub spelled : IsImage (image_bytes left) left
 

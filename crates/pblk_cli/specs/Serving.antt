@@ -1,5 +1,5 @@
 -- What running a script on a target over the units of a drive comes to.
-use Rattle.std.specs.Prelude.{ℕ, ◌<◌, ◌≤◌, ◌≡◌, ⊤, true, List, [], ◌∷◌, ◌++◌, map, take, length, slice_get, Option, Some, None, Result, Ok, Err}
+use Rattle.std.specs.Prelude.{ℕ, ◌<◌, ◌≤◌, ◌≡◌, ◌⊎◌, ⊤, true, false, List, [], ◌∷◌, ◌++◌, map, take, length, slice_get, Option, Some, None, Result, Ok, Err}
 use Rattle.std.specs.List.{AllByRecursion, flat_map}
 use Rattle.pblk_model.specs.declared.shape.Shape.{Shape}
 use Rattle.pblk_model.specs.declared.script.Command.{Command}
@@ -8,13 +8,15 @@ use Rattle.pblk_model.specs.History.{after, users}
 use Rattle.pblk_model.specs.Image.{Image}
 use Rattle.pblk_model.specs.ImageFile as image_file
 use Rattle.pblk_model.specs.Sealed.{IsSealed}
-use Rattle.pblk_model.specs.Text.{Transcript}
+use Rattle.pblk_model.specs.Text.{Closed, Transcript}
 use Rattle.pblk_model.specs.Transcript.{IsDistinct, IsRun, IsTranscript, events, sector_writes}
 use Rattle.pblk_model.specs.UnitLog.{UnitEvent}
+use Rattle.pblk_world.specs.AtRest.{IsAtRest}
 use Rattle.pblk_world.specs.EngineLog.{begun}
 use Rattle.pblk_world.specs.World.{World, Logs, log_of, media, unit_events}
 use Rattle.pblk_world.specs.Fronts.{history, user_positions}
 use Rattle.pblk_world.specs.Lines.{found_image}
+use Rattle.pblk_world.specs.Space.{is_due}
 use Rattle.core_laws.specs.SimpleMounts.{IsSimpleMount}
 use Rattle.unit_port.specs.declared.armed.Fuse.{Fuse}
 use Rattle.unit_port.specs.Armed.{Armed, events_since, has_stopped}
@@ -27,6 +29,7 @@ use Rattle.scan_recovery.specs.Lost.{was_lost}
 use Rattle.scan_recovery.specs.Units.{image_of}
 use Rattle.block_port.specs.Own.{lines_of}
 use Rattle.block_port.specs.Port.{IsSameTarget, ModelPort}
+use Rattle.world_laws.specs.Orders.{AreAfterResets, AreOpenedFull}
 use Rattle.world_laws.specs.Reasons.{AreBegun, AreGranted, AreUrgent}
 use Rattle.block_target.specs.Mount.{MountView}
 use Rattle.block_target.specs.Refusals.{AreRefusals}
@@ -42,7 +45,7 @@ use Rattle.run_threads.specs.declared.records.Trouble.TheVariants.{Drive, Worn}
 use Rattle.run_threads.specs.Run.{Runs}
 use Rattle.run_report.specs.OnePort.{IsTrouble}
 use Rattle.run_report.specs.Recorded.{IsRecorded}
-use Rattle.run_report.specs.Report.{opening_of, transcript_of}
+use Rattle.run_report.specs.Report.{closing_of, opening_of, transcript_of}
 use Rattle.pblk_cli.specs.Stops.{HasBegun, name_at}
 use Rattle.pblk_cli.specs.Worn.{worns_of}
 
@@ -175,6 +178,10 @@ pub record IsServing (i : Image) (handed units : List ModelUnit) (script : List 
   pub granted : AreGranted i (log_of w)
   pub begun : AreBegun i (log_of w)
   pub urgent : AreUrgent i (log_of w)
+  pub after_resets : AreAfterResets i (log_of w)
+  pub opened_full : AreOpenedFull i (log_of w)
+  pub over : opening_of records.opening ≡ None → closing_of records.closing ≡ Closed → (is_due i (log_of w) ≡ false)
+      ⊎ IsAtRest i (log_of w) 0 (length (log_of w 0))
   pub kept : (transcript_by script records i (log_of w)).kept ≡ users (user_positions (log_of w 0)) (end (media i (log_of w)))
   pub told : IsTranscript i.shape.sector script (contents (found_image i (log_of w))) (transcript_by script records i (log_of w))
   pub run : IsSealed i → let t = transcript_by script records i (log_of w) in let start = contents i in

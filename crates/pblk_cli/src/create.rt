@@ -3,8 +3,8 @@
 ghost use Rattle.std.specs.Prelude.{◌≡◌, length, None, IfOk, IfErr, string_bytes};
 ghost use Rattle.command_words.specs.Words.{numbers_seen};
 ghost use Rattle.pblk_model.specs.CommandText.{created_drive, created_geometry, created_refusal, least_bits};
-ghost use Rattle.pblk_model.specs.ImageFile.{image_bytes, image_of};
-ghost use Rattle.pblk_model.specs.Sealed.{IsSealed};
+ghost use Rattle.pblk_model.specs.ImageFile.{IsImage, image_bytes, image_of};
+ghost use Rattle.rest_laws.specs.Tidy.{IsTidy};
 ghost use Rattle.ocssd_geometry.specs.Numbers.{numbers_of};
 ghost use Rattle.pblk_cli.specs.Commands.{CreateComesTo};
 ghost use Rattle.pblk_cli.specs.Endings.{ending_of};
@@ -16,12 +16,13 @@ use command_text::created_text;
 use command_words::CreateNumbers;
 use drive_image::{Settings, blank, store};
 use ocssd_geometry::Geometry;
-use pblk_laws::blank_is_sealed;
 use pblk_model::ImageErr;
 use pblk_outside::Files;
+use rest_laws::a_blank_image_is_tidy;
 use std::alloc::Global;
 
-/// Makes the blank image of a drive of these numbers, and stores it under the image's name.
+/// Makes the blank image of a drive of these numbers, which is tidy, and stores it under the
+/// image's name.
 pub(crate) fn create<'a, F: Files>(
     alloc: Global,
     image: &'a str,
@@ -50,8 +51,11 @@ pub(crate) fn create<'a, F: Files>(
 fn make(alloc: Global, numbers: &CreateNumbers) -> Result<Vec<u8>, ImageErr>
     ensures made { IfOk result (λ bytes.
         bytes.items ≡ image_bytes (created_drive (numbers_seen numbers.now))) }
-    ensures sealed { IfOk result (λ bytes.
-        IsSealed (image_of (created_drive (numbers_seen numbers.now)))) }
+    ensures tidy { IfOk result (λ bytes.
+        IsTidy (image_of (created_drive (numbers_seen numbers.now)))) }
+    ensures spelled { IfOk result (λ bytes.
+        IsImage (image_bytes (created_drive (numbers_seen numbers.now)))
+        (created_drive (numbers_seen numbers.now))) }
     ensures accepted { IfOk result (λ bytes. created_refusal (numbers_seen numbers.now) ≡ None) }
     ensures refused { IfErr result (λ e. MakesNothing (numbers_seen numbers.now) e) }
 {
@@ -62,7 +66,7 @@ fn make(alloc: Global, numbers: &CreateNumbers) -> Result<Vec<u8>, ImageErr>
         ring: numbers.ring,
     };
     let drive = blank(alloc, &geometry, &settings)?;
-    blank_is_sealed();
+    a_blank_image_is_tidy();
     let mut bytes = Vec::new(alloc);
     match store(&drive, &mut bytes) {
         Ok(()) => Ok(bytes),

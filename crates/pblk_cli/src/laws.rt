@@ -1,12 +1,13 @@
 //! Laws on runs: each is the contract of a function that does no work.
 
 ghost use Rattle.std.specs.Prelude.{ℕ, ◌≡◌, ◌≤◌, [], List, Option, None, Some};
+ghost use Rattle.std.specs.Bool.{IsTrue};
 ghost use Rattle.std.specs.List.{Contains};
 ghost use Rattle.block_port.specs.declared.rows.WornAnswer.{WornAnswer};
 ghost use Rattle.block_target.specs.Moments.{IsMoment};
 ghost use Rattle.command_words.specs.Grammar.{RunOptions};
 ghost use Rattle.pblk_model.specs.declared.script.Command.{Command};
-ghost use Rattle.pblk_model.specs.CommandText.{geometry_text};
+ghost use Rattle.pblk_model.specs.CommandText.{CreateNumbers, created_drive, geometry_text};
 ghost use Rattle.core_laws.specs.FaultlessMounts.{IsFaultlessMount};
 ghost use Rattle.pblk_model.specs.Contents.{contents, end, head};
 ghost use Rattle.pblk_model.specs.ImageFile.{Drive, StoredChunk, image_of};
@@ -18,8 +19,9 @@ ghost use Rattle.pblk_world.specs.EngineLog.{Begun, begun};
 ghost use Rattle.pblk_world.specs.Fronts.{taken};
 ghost use Rattle.pblk_world.specs.World.{World, log_of, media};
 ghost use Rattle.unit_port.specs.declared.armed.Fuse.{Fuse};
-ghost use Rattle.pblk_cli.specs.Commands.{IsDriveOf, IsRunBetween, IsWorldBetween, RunMade};
+ghost use Rattle.pblk_cli.specs.Commands.{CreateComesTo, IsDriveOf, IsRunBetween, IsWorldBetween, RunMade};
 ghost use Rattle.pblk_cli.specs.Laws.{with_units};
+ghost use Rattle.pblk_cli.specs.Telling.{Gives};
 ghost use Rattle.pblk_cli.specs.Worn.{worns_of};
 
 use block_target::a_refused_flush_tells_the_end;
@@ -29,6 +31,26 @@ pub fn the_drive_left_is_found()
     ensures { (image script : List ℕ) (options : RunOptions) (status : ℕ) (text : List ℕ)
         (old new : FilesView) → (made : RunMade image script options status text old new)
         → IsDriveOf image new made.left }
+{}
+
+/// The drive on which the next run on the image stands is the one that a run left there, as far as
+/// the files tell what they hold. So after a run that did all on a tidy drive the next one does too.
+pub fn the_next_run_is_on_the_drive_left()
+    ensures { (image script next : List ℕ) (options later : RunOptions) (status again : ℕ)
+        (text more : List ℕ) (old mid new : FilesView) → IsTrue mid.told
+        → (made : RunMade image script options status text old mid)
+        → (after : RunMade image next later again more mid new)
+        → after.input.drive ≡ made.left }
+{}
+
+/// The drive on which the first run on an image stands is the one that `create` made, which is
+/// tidy, as far as the files tell what they hold.
+pub fn the_first_run_is_on_the_drive_made()
+    ensures { (image script : List ℕ) (n : CreateNumbers) (options : RunOptions)
+        (status again : ℕ) (text more : List ℕ) (old mid new : FilesView) → IsTrue mid.told
+        → CreateComesTo image n (Gives status text) old mid
+        → (after : RunMade image script options again more mid new)
+        → after.input.drive ≡ created_drive n }
 {}
 
 /// Of what `geometry` prints a run changes nothing but how many chunks are in each state.

@@ -37,6 +37,10 @@ use std::sync::Wait;
 /// With each status but 0, 5, 6 and 8 one line says why. The words are judged first; then files are
 /// read, the image before the script; then the image is judged, then the script; the file is
 /// written before the text. A run may wait: nothing says that its call returns.
+///
+/// Over a tidy image a run that is told of no stop does all that its script says, and its text has
+/// no line of an error, as long as the numbers of the image left are far from their ends. The image
+/// left is tidy again, and the one that `create` makes is tidy.
 pub fn pblk_main<R: Wait, F: Files, O: Sink>(
     rt: &R,
     alloc: Global,

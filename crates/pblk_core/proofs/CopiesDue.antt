@@ -20,6 +20,7 @@ use Rattle.l2p_map.specs.declared.slot.Slot.TheVariants.{Media}
 use Rattle.line_table.specs.declared.row.Row.{Row}
 use Rattle.line_table.specs.Rows.{free_addresses}
 use Rattle.write_window.specs.Window as view
+use Rattle.core_laws.proofs.PlainLogs.{never_lost}
 use Rattle.core_laws.specs.PlacerOf.{lost_entries, fresh_entries}
 use Rattle.core_laws.specs.RowsOf.{row_of_line}
 use Rattle.core_laws.specs.SimpleMounts.{IsSimpleMount}
@@ -44,10 +45,11 @@ pub waiting_count : (i : Image) (w : World) → IsSimpleMount i w → length (wa
 waiting_count i w simple =
     let both : length (waiting i.shape (log_of w 0)) ≡ length (lost_entries i.shape (log_of w 0)) + length (fresh_entries i.shape (log_of w 0)) =
     length-append (lost_entries i.shape (log_of w 0)) (fresh_entries i.shape (log_of w 0)) in
-    let none : length (lost_entries i.shape (log_of w 0)) ≡ 0 = ap (λ (ts : List Taken). length ts) (lost_are_none i.shape (log_of w 0) (ordered i w simple)) in
+    let none : length (lost_entries i.shape (log_of w 0)) ≡ 0 =
+    ap (λ (ts : List Taken). length ts) (lost_are_none i.shape (log_of w 0) (never_lost (log_of w 0) simple.engine.lost)) in
     let fresh : length (fresh_entries i.shape (log_of w 0)) ≡ taken (log_of w 0) - placed_front i.shape (log_of w 0) =
     sym (length-map (fresh_entries i.shape (log_of w 0)) (λ (t : Taken). t.entry.position))
-    ∙ ap (λ (qs : List ℕ). length qs) (fresh_in_order i.shape (log_of w 0) (ordered i w simple))
+    ∙ ap (λ (qs : List ℕ). length qs) (fresh_in_order i.shape (log_of w 0) (ordered i w simple.mount))
     ∙ length-range_with_len (placed_front i.shape (log_of w 0)) (taken (log_of w 0) - placed_front i.shape (log_of w 0)) in
     omega arith
 
@@ -134,7 +136,7 @@ module _ (i : Image) (w : World) (c : Core) (mount : IsLegalMount i w) (st : Sta
       let is : c.first + c.placed ≡ placed_front i.shape (log_of w 0) = st.placed in
       let taken_is : view.taken c.window ≡ taken (log_of w 0) = window_taken_is i w c st in
       let within : placed_front i.shape (log_of w 0) ≤ taken (log_of w 0) =
-      front_within i.shape (log_of w 0) (ordered i w (simple_in i w mount st)) in
+      front_within i.shape (log_of w 0) (ordered i w mount) in
       omega arith
 
   -- Where no sector from the cursor on stands in the victim, it has no live one.

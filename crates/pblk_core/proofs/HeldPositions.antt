@@ -22,7 +22,7 @@ pub held_room : (i : Image) (w : World) (c : Core) → IsSimpleMount i w → Sta
     → length (held c.placer) < c.placer.shape.ring
 held_room i w c simple st some =
     let few : length (held (placing_of i (log_of w) c.placer.entries.pad st.again)) ≤ taken (log_of w 0) - c.window.freed =
-    held_few i (log_of w) c.placer.entries.pad st.again c.window.freed (ordered i w simple) st.to_freed in
+    held_few i (log_of w) c.placer.entries.pad st.again c.window.freed (ordered i w simple.mount) st.to_freed in
     let count : length (held c.placer) ≡ length (held (placing_of i (log_of w) c.placer.entries.pad st.again)) = ap (λ p. length (held p)) st.placing in
     let end : c.window.freed + length c.window.entries ≡ taken (log_of w 0) = window_taken_is i w c st in
     let size : c.window.size ≡ i.shape.ring = st.size in
@@ -34,7 +34,7 @@ pub held_another : (i : Image) (w : World) (c : Core) (position : ℕ) → IsSim
 held_another i w c position simple st is there =
     let at : (k : ℕ) × (slice_get (held c.placer) k ≡ Some position) = is_at (held c.placer) position there in
     let inside : IsInWindow i.shape (log_of w 0) position =
-    in_window i (log_of w) c.placer.entries.pad st.again at.0 position (ordered i w simple) (ap (λ p. slice_get (held p) at.0) (sym st.placing) ∙ at.1) in
+    in_window i (log_of w) c.placer.entries.pad st.again at.0 position (ordered i w simple.mount) (ap (λ p. slice_get (held p) at.0) (sym st.placing) ∙ at.1) in
     let below : position < taken (log_of w 0) = inside.below_taken in
     let end : view.taken c.window ≡ taken (log_of w 0) = window_taken_is i w c st in
     omega arith
@@ -49,4 +49,4 @@ held_rises i w c position simple st is =
     subst (λ n. All (λ q. q < n) c.placer.entries.fresh) (sym end)
     (subst (λ (p : Placing). All (λ q. q < taken (log_of w 0)) p.entries.fresh) (sym st.placing)
     (All-from_recursion (λ q. q < taken (log_of w 0)) (entries_of i.shape (log_of w 0) c.placer.entries.pad).fresh
-    (fresh_below i.shape (log_of w 0) (ordered i w simple))))
+    (fresh_below i.shape (log_of w 0) (ordered i w simple.mount))))

@@ -6,7 +6,7 @@ use Rattle.std.specs.Option.{option_and_then, option_map}
 use Rattle.std.proofs.lemmas.Bool.{cases_order, eqb-true}
 use Rattle.std.proofs.lemmas.Option.{none-some, slice_get-map, slice_get_past, slice_get_within}
 use Rattle.std.specs.List.Sorted.{IsStrictlyIncreasing}
-use Rattle.std.proofs.Math.Nat.{div-add-mod, mod-lt, mul_comm}
+use Rattle.std.proofs.Math.Nat.{div-add-mod, mod-lt, mul-le-mul_right, mul_comm}
 use Rattle.pblk_model.specs.declared.shape.Shape.{Shape}
 use Rattle.pblk_model.specs.declared.chunk.Mark.{Mark}
 use Rattle.pblk_model.specs.Chunk.{Block}
@@ -32,7 +32,7 @@ use Rattle.pblk_world.specs.Lines.{known_image}
 use Rattle.core_laws.proofs.StripeBlocks.{have_blocks, length_joined}
 use Rattle.pblk_core.proofs.LandedEntries.{read_of}
 use Rattle.core_laws.proofs.PartLengths.{is_before, ends_before}
-use Rattle.pblk_core.proofs.ChunkRows.{row_below, rows_of_chunks}
+use Rattle.core_laws.proofs.ChunksInRows.{rows_of_chunks}
 use Rattle.stripe_placer.specs.Placing.{Program}
 use Rattle.stripe_placer.proofs.Chunks.{lt_of as lt_yes}
 use Rattle.pblk_laws.proofs.LineUnits.{line_units_rise}
@@ -76,6 +76,19 @@ pub record IsInLine (i : Image) (w : World) (unit : ℕ) (o : Opening) (slot : O
   pub address : address_of_block i (log_of w) o unit n ≡ number * i.shape.ws_opt + n % i.shape.ws_opt
   pub place : position_of (unit, n) (line_order slot.records.shape (units_in slot.live)) ≡ Some (number * i.shape.ws_opt + n % i.shape.ws_opt)
 
+-- a number in its row
+row_below : (w n m : ℕ) → n < m * w → n / w < m
+row_below w n m below = go (cases_order (n / w) m)
+  where
+    parts : w * (n / w) + n % w ≡ n
+    parts = div-add-mod n w
+
+    go : (n / w ≡ m) ⊎ ((n / w < m) ⊎ (m < n / w)) → n / w < m
+    go (inl same) = let p : m * w ≡ w * (n / w) = ap (λ k. k * w) (sym same) ∙ mul_comm (n / w) w in absurd (omega arith)
+    go (inr (inl less)) = less
+    go (inr (inr more)) = let p : m * w ≤ (n / w) * w = mul-le-mul_right w (omega arith) in let q : (n / w) * w ≡ w * (n / w) =
+        mul_comm (n / w) w in absurd (omega arith)
+
 long_all : (n : ℕ) (ps : List Placed) → ((k : ℕ) (r : Placed) → slice_get ps k ≡ Some r → length r.stripe.blocks ≡ n)
     → AllByRecursion (λ (r : Placed). length r.stripe.blocks ≡ n) ps
 long_all n [] each = tt
@@ -86,7 +99,7 @@ pub in_line : (i : Image) (w : World) (unit : ℕ) (of : Program) (slot : OpenLi
     → slice_get (chunk_blocks (log_of w 0) is.row.opening unit) n ≡ Some b → IsInLine i w unit is.row.opening slot n b
 in_line i w unit of slot n b simple is kept there =
     let ws : 0 < i.shape.ws_opt = is.line_is.striped.some in
-    let rows = rows_of_chunks i w is.row.opening unit simple in
+    let rows = rows_of_chunks i w is.row.opening unit simple.mount in
     let long = long_all i.shape.ws_opt (stripes_on (log_of w 0) is.row.opening unit) (λ k r at. (rows k r at).blocks) in
     let count : length (chunk_blocks (log_of w 0) is.row.opening unit) ≡ length (stripes_on (log_of w 0) is.row.opening unit) * i.shape.ws_opt =
     length_joined i.shape.ws_opt (stripes_on (log_of w 0) is.row.opening unit) long in

@@ -21,6 +21,7 @@ use Rattle.stripe_placer.specs.declared.placement.Placement.{Placement}
 use Rattle.stripe_placer.specs.Placing.{Program, Placing, UnitRow, program, positions_in, under_way_in}
 use Rattle.stripe_placer.specs.Placing.UnitRow.{UnderWay}
 use Rattle.write_window.specs.Window as view
+use Rattle.core_laws.proofs.PlainLogs.{none_failed}
 use Rattle.core_laws.specs.PlacerOf.{IsAwaited, placing_of, positions_in_stripe}
 use Rattle.core_laws.specs.SimpleMounts.{IsSimpleMount}
 use Rattle.core_laws.specs.RowsOf.{row_of_line, rows_of, width_in}
@@ -29,14 +30,13 @@ use Rattle.core_laws.proofs.HeldInWorlds.{own_in_window}
 use Rattle.core_laws.specs.ChangedTables.{with_row, full_if}
 use Rattle.core_laws.proofs.ChangedTables.{changed_is}
 use Rattle.core_laws.proofs.LineRoom.{has_room, state_open}
-use Rattle.core_laws.proofs.LogOrders.{in_order}
 use Rattle.core_laws.proofs.Placed.{stripe_holds}
 use Rattle.pblk_core.specs.Slots.{IsSlot}
 use Rattle.pblk_core.specs.Stands.{Stands, unlanded}
 use Rattle.pblk_core.specs.declared.open_lines.OpenLine.{OpenLine}
 use Rattle.pblk_core.specs.declared.target_core.Core.{Core}
 use Rattle.pblk_core.proofs.LandedLines.{HasSlot, has_slot, found_slot, fewer_landed}
-use Rattle.pblk_core.proofs.ChunkRows.{rows_of_chunks}
+use Rattle.core_laws.proofs.ChunksInRows.{rows_of_chunks}
 use Rattle.pblk_core.proofs.LandedWay.{IsOnWay, of_row, on_way, awaited, line_of_way}
 use Rattle.pblk_core.proofs.StandsFacts.{window_taken_is}
 use Rattle.pblk_core.proofs.LineBits.{known_bits}
@@ -101,7 +101,7 @@ in_window i w c q st low high =
 pub entry_held : (i : Image) (w : World) (c : Core) (unit : ℕ) (of : Program) (k q : ℕ) → IsSimpleMount i w → Stands i (log_of w) c → IsOnWay i w unit of
     → slice_get of.positions k ≡ Some q → view.IsHeld c.window q
 entry_held i w c unit of k q simple st is at =
-    let own = own_in_window i w unit is.row.stripe q simple is.row.waits (holds_it i w unit of k q is at) in
+    let own = own_in_window i w unit is.row.stripe q simple.mount is.row.waits (holds_it i w unit of k q is at) in
     in_window i w c q st own.1 own.2
 
 -- ---- its place in the chunk
@@ -112,7 +112,7 @@ in_row i w unit of simple is =
     let among : IsAmong (stripes_on (log_of w 0) is.row.opening unit) is.row.stripe =
     in_filter (λ (p : Placed). p.stripe.unit == unit) (stripes_of (log_of w 0) is.row.opening) is.row.stripe (is.number, is.there)
     (ap (λ u. u == unit) is.its_unit ∙ same_number unit) in
-    (among.0, among.1, rows_of_chunks i w is.row.opening unit simple among.0 is.row.stripe among.1)
+    (among.0, among.1, rows_of_chunks i w is.row.opening unit simple.mount among.0 is.row.stripe among.1)
 
 pub block_is : (i : Image) (w : World) (unit : ℕ) (of : Program) → (is : IsOnWay i w unit of) → of.block ≡ is.row.stripe.stripe.at
 block_is i w unit of is = sym (ap (λ (x : Program). x.block) is.row.is)
@@ -153,8 +153,9 @@ row_is_open i w c unit of row simple st is there =
     (ap (λ t. slice_get t.rows is.row.opening.line) (sym st.table) ∙ there) in
     let from : 0 + is.row.opening.line ≡ is.row.stripe.stripe.line = (let z : 0 + is.row.opening.line ≡ is.row.opening.line = omega arith in z) ∙ is.its_line in
     ap (λ (r : Row). r.state) (sym at.1) ∙ ap (λ n. (row_of_line i (log_of w) n).state) from
-    ∙ state_open i (log_of w) unit is.row.stripe is.row.opening is.line_is.striped.some (in_order i w simple).failed is.row.waits is.row.life is.stands
-    (has_room i w is.row.stripe.stripe.line is.row.opening simple is.stands)
+    ∙ state_open i (log_of w) unit is.row.stripe is.row.opening is.line_is.striped.some
+    (none_failed (log_of w 0) simple.engine.lost is.row.opening) is.row.waits is.row.life is.stands
+    (has_room i w is.row.stripe.stripe.line is.row.opening simple.mount is.stands)
 
 pub may_fill : (i : Image) (w : World) (c : Core) (unit : ℕ) (of : Program) (row : Row) (addresses : ℕ) → IsSimpleMount i w → Stands i (log_of w) c
     → (is : IsOnWay i w unit of) → IsRow c.lines is.row.opening.line row → IsChange row.state Full addresses

@@ -148,7 +148,7 @@ are_kinds i w unit of simple is j p there =
     let now = opened_now i w simple.mount is.row.stripe.stripe.line o is.stands in
     let its : Contains (stripes_of log o) p = contained_among (stripes_of log o) p (j, there) in
     let well : IsOpenedLine i (now_units i w) is.row.stripe.stripe.line o =
-    opened_lines i (now_units i w) w (follow i w simple) is.row.stripe.stripe.line o is.stands in
+    opened_lines i (now_units i w) w (follow i w simple.mount) is.row.stripe.stripe.line o is.stands in
     let then_ : HasKind i.shape (takes (take p.number log)) o (length (stripes_of (take p.number log) o)) p.stripe.blocks =
     kind_of i (engine_prefix p.number (log_of w)) o p.stripe simple.mount.accepted (names (take p.number log) (drop p.number log) (take_and_drop p.number log))
     (subst (IsStriped i.shape) (sym well.width)
@@ -163,7 +163,7 @@ are_kinds i w unit of simple is j p there =
     names first more whole =
         (all_front (λ (t : Taken). is_some (named i.shape t.mark) ≡ true) (takes first) (takes more)
         (subst (AllByRecursion (λ (t : Taken). is_some (named i.shape t.mark) ≡ true)) (ap takes (sym whole) ∙ takes_joined first more)
-        (in_order i w simple).named)).0
+        (in_order i w simple.mount).named)).0
 
 pub chunk_is_read : (i : Image) (w : World) (unit : ℕ) (of : Program) (slot : OpenLine) → IsSimpleMount i w → (is : IsOnWay i w unit of)
     → IsOpenLine i (log_of w) is.row.opening slot → IsChunkRead i w unit is.row.opening slot

@@ -34,7 +34,7 @@ use Rattle.core_laws.proofs.OneStripe.{one_stripe}
 use Rattle.core_laws.proofs.KnownChunks.{chunk_in, is_on, live_chunk}
 use Rattle.core_laws.proofs.AnsweredUnits.{first_answer}
 use Rattle.core_laws.proofs.KeptLines.{few_units, same_units, still_online}
-use Rattle.pblk_core.proofs.ChunkRows.{rows_of_chunks}
+use Rattle.core_laws.proofs.ChunksInRows.{rows_of_chunks}
 use Rattle.pblk_core.proofs.KnownAfter.{told_after, untold_after, beside_after}
 use Rattle.pblk_core.proofs.LandedProgram.{IsItsProgram, landed_program}
 use Rattle.pblk_core.specs.Stands.{under_way}
@@ -132,7 +132,7 @@ units_landed i logs unit event knows o before =
 pub freed_landed : (i : Image) (w : World) (b : Begun) (unit event : ℕ) (knows : List ℕ) → IsSimpleMount i w → MayLand (log_of w) unit event
     → freed i.shape (log_of w 0) ≤ freed i.shape (after (log_of w) (Landed unit event) knows 0)
 freed_landed i w b unit event knows simple may =
-    freed_rises i (log_of w) w b (Landed unit event) knows simple (λ o u. rows_of_chunks i w o u simple) refl refl may
+    freed_rises i (log_of w) w b (Landed unit event) knows simple.mount (λ o u. rows_of_chunks i w o u simple.mount) refl may
 
 pub chunk_landed : (i : Image) (w : World) (unit event : ℕ) (p : Placed) → IsSimpleMount i w → MayLand (log_of w) unit event
     → unanswered_on (log_of w 0) unit ≡ Some p

@@ -16,6 +16,7 @@ use Rattle.lemmas.proofs.Parts.{get_set_same, got_within}
 use Rattle.lemmas.proofs.Tests.{not_both, other_number}
 use Rattle.line_table.proofs.Places.{set_twice}
 use Rattle.world_laws.specs.LegalMounts.{IsLegalMount, NoneLost}
+use Rattle.core_laws.proofs.PlainLogs.{none_failed}
 use Rattle.core_laws.specs.ClosedLines.{StartNumbers, closed_line, newer_start, newest_numbers, placed_top, starts_left}
 use Rattle.core_laws.specs.PlacerOf.{unanswered_on}
 use Rattle.core_laws.specs.Stepping.{after}
@@ -193,7 +194,7 @@ module _ (i : Image) (w : World) (mount : IsLegalMount i w) (none : NoneLost (lo
       closed_was short =
           let its : o.line ≡ line = (opened_now i w mount line o stands).1 in
           ap (closed_line i (log_of w)) (sym its)
-          ∙ closed_now i w mount o (ap (life_of (log_of w 0)) its ∙ stands) none
+          ∙ closed_now i w mount o (ap (life_of (log_of w 0)) its ∙ stands) (none_failed (log_of w 0) none o)
           ∙ ap (λ t. closed_if t (record { seq = o.start.seq; top = placed_top i.shape (log_of w 0) o }))
           (open_yet (have_landed (log_of w 0) o (line_end i.shape o / i.shape.ws_opt)) refl)
         where
@@ -207,7 +208,7 @@ module _ (i : Image) (w : World) (mount : IsLegalMount i w) (none : NoneLost (lo
           → closed_by (closed_when full (note_landed start row)) ≡ closed_line i (after (log_of w) (Landed unit event) knows) p.stripe.line
       closed_is row was is =
           go full refl
-          ∙ sym (closed_landed i w unit event knows p o mount none may waits life stands
+          ∙ sym (closed_landed i w unit event knows p o mount (none_failed (log_of w 0) none o) may waits life stands
           ∙ ap (λ t. closed_if t (record { seq = o.start.seq; top = placed_top i.shape (log_of w 0) o })) full_is)
         where
           kept : IsLandedRow row (note_landed start row)

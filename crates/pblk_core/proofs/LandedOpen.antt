@@ -12,9 +12,9 @@ use Rattle.pblk_world.specs.World.{World, Logs, log_of}
 use Rattle.pblk_world.specs.EngineLog.{Opened, Opening, is_life, life_of, Placed}
 use Rattle.pblk_world.specs.Placing.{data_marks, end_address}
 use Rattle.stripe_placer.specs.OpenLines.{has_left, is_landed, in_line, with_stripe}
-use Rattle.stripe_placer.specs.OpenLines.Stripe.{Unanswered}
-use Rattle.stripe_placer.specs.OpenLines.Stripe.{Landed as HasLanded}
+use Rattle.stripe_placer.specs.OpenLines.Stripe.{Unanswered, Landed as HasLanded}
 use Rattle.stripe_placer.specs.Placing.{Program}
+use Rattle.core_laws.proofs.PlainLogs.{never_lost}
 use Rattle.core_laws.specs.OpenedLines.{open_line, standing, bits_of}
 use Rattle.core_laws.specs.PlacerOf.{IsAwaited}
 use Rattle.core_laws.specs.SimpleMounts.{IsSimpleMount}
@@ -53,7 +53,7 @@ pub left_now : (i : Image) (w : World) (unit event : ℕ) (knows : List ℕ) (pa
     → left_openings i (after (log_of w) (Landed unit event) knows) ≡ filter (has_more i w of) (left_openings i (log_of w))
 left_now i w unit event knows pad again of simple is waits =
     ap (λ u. left_openings i (after (log_of w) (Landed u event) knows)) (sym (unit_is i w unit of is))
-    ∙ left_after_landing i w event knows pad again of simple waits
+    ∙ left_after_landing i w event knows pad again of simple.mount (never_lost (log_of w 0) simple.engine.lost) waits
 
 more_beside : (i : Image) (w : World) (unit : ℕ) (of : Program) (k m : ℕ) (other : Opening) → IsSimpleMount i w → (is : IsOnWay i w unit of)
     → slice_get (left_openings i (log_of w)) k ≡ Some is.row.opening
@@ -63,7 +63,7 @@ more_beside i w unit of k m other simple is here there apart =
     ap (λ b. not (list_all is_landed
     (if b then with_stripe (open_line i (log_of w) other) (of.at / i.shape.ws_opt) HasLanded else open_line i (log_of w) other).stripes))
     (other_number other.line of.line differ)
-    ∙ sym (left_until_landed i w other simple)
+    ∙ sym (left_until_landed i w other (never_lost (log_of w 0) simple.engine.lost))
     ∙ filtered_is (λ (o : Opening). has_left (open_line i (log_of w) o)) (standing (log_of w 0)) m other there
 
 own_line : (i : Image) (w : World) (unit : ℕ) (of : Program) → (is : IsOnWay i w unit of)

@@ -113,6 +113,6 @@ landed_program i w unit event p simple may waits =
     (sym at.1 ∙ ap (λ (xs : List Logged). slice_get (placed_on (log_of w 0) unit) (length (answers xs unit))) all ∙ waits) in
     let among : IsAmong (placements (log_of w 0)) p =
     from_filter (λ (q : Placed). q.stripe.unit == unit) (placements (log_of w 0)) p (length (answers (log_of w 0) unit), waits) in
-    let place : IsInPlace i (log_of w 0) p = all_at (IsInPlace i (log_of w 0)) (placements (log_of w 0)) among.0 p among.1 (in_order i w simple).placed in
+    let place : IsInPlace i (log_of w 0) p = all_at (IsInPlace i (log_of w 0)) (placements (log_of w 0)) among.0 p among.1 (in_order i w simple.mount).placed in
     let is : IsProgramDone (log_of w) unit event p = subst (IsProgramDone (log_of w) unit event) same at.2 in
     record { done = is; chunk = is.chunk ∙ place.chunk }

@@ -20,7 +20,7 @@ use Rattle.core_laws.specs.ReadSlots.{address_of_block}
 use Rattle.core_laws.proofs.LandedBlocks.{on_new, blocks_more}
 use Rattle.core_laws.proofs.LandedWindow.{landed_now}
 use Rattle.core_laws.proofs.GivenBack.{IsLandedNow, of_unit_landed}
-use Rattle.core_laws.proofs.GivenNow.{chunk_unit, IsOfChunk, chunk_members}
+use Rattle.core_laws.proofs.GivenNow.{chunk_unit, chunk_life, IsOfChunk, chunk_members}
 use Rattle.core_laws.proofs.NewBlocks.{last_in_chunk}
 use Rattle.core_laws.proofs.NewWindow.{newest_in}
 use Rattle.core_laws.proofs.StripeBlocks.{length_joined}
@@ -28,7 +28,7 @@ use Rattle.pblk_core.specs.Readable.{block_reads, reads_of}
 use Rattle.pblk_core.specs.declared.open_lines.OpenLine.{OpenLine}
 use Rattle.pblk_core.proofs.LandedCore.{in_row, block_is}
 use Rattle.pblk_core.proofs.LandedEntries.{read_of, reads_list, part_get}
-use Rattle.pblk_core.proofs.ChunkRows.{rows_of_chunks}
+use Rattle.core_laws.proofs.ChunksInRows.{rows_of_chunks}
 use Rattle.pblk_core.proofs.LandedWay.{IsOnWay}
 use Rattle.lemmas.proofs.Lists.{IsAmong}
 use Rattle.lemmas.proofs.Parts.{all_at}
@@ -51,7 +51,7 @@ chunk_now i w unit of simple is =
     let p : Placed = is.row.stripe in
     let o : Opening = is.row.opening in
     let now : IsLandedNow i.shape (log_of w 0) (after (log_of w) (Landed unit 0) [] 0) is.row.stripe is.row.opening =
-    landed_now i w unit 0 [] is.row.stripe is.row.opening simple is.row.waits is.row.life (rows_of_chunks i w is.row.opening unit simple) in
+    landed_now i w unit 0 [] is.row.stripe is.row.opening simple.mount is.row.waits is.row.life (rows_of_chunks i w is.row.opening unit simple.mount) in
     let u : is.row.stripe.stripe.unit ≡ unit = is.its_unit in
     let here = in_row i w unit of simple is in
     let at_own : slice_get (stripes_on (log_of w 0) is.row.opening is.row.stripe.stripe.unit) here.0 ≡ Some is.row.stripe =
@@ -68,7 +68,7 @@ chunk_now i w unit of simple is =
     all_at (IsOfChunk (log_of w 0) is.row.stripe is.row.opening) (stripes_on (log_of w 0) is.row.opening is.row.stripe.stripe.unit) k r at
     (chunk_members (log_of w 0) is.row.stripe is.row.opening) in
     of_unit_landed i.shape (log_of w 0) (after (log_of w) (Landed unit 0) [] 0) is.row.stripe is.row.opening now r chunk.among
-    (chunk_unit is.row.stripe is.row.opening r chunk.of)) in
+    (chunk_unit is.row.stripe is.row.opening r chunk.of) (chunk_life is.row.stripe is.row.opening r chunk.of)) in
     let all : landed_blocks i.shape (after (log_of w) (Landed unit 0) [] 0) is.row.opening is.row.stripe.stripe.unit ≡ (here.0 + 1) * i.shape.ws_opt =
     ap (λ (ps : List Placed). length (filter (has_landed (after (log_of w) (Landed unit 0) [] 0)) ps) * i.shape.ws_opt)
     (on_new (log_of w 0) (after (log_of w) (Landed unit 0) [] 0) is.row.stripe now.one_more is.row.opening is.row.stripe.stripe.unit)

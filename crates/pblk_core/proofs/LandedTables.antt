@@ -44,7 +44,7 @@ use Rattle.pblk_core.specs.declared.target_core.Core.{Core}
 use Rattle.pblk_core.specs.declared.open_lines.OpenLine.{OpenLine}
 use Rattle.pblk_core.proofs.LandedCore.{block_within, entry_held, in_window, positions_are}
 use Rattle.pblk_core.proofs.LandedEntries.{IsIn, CanBeRead, numbered_from, same_advance, land_all, landed_in, landed_front, read_all, read_of, part_get}
-use Rattle.pblk_core.proofs.ChunkRows.{rows_of_chunks}
+use Rattle.core_laws.proofs.ChunksInRows.{rows_of_chunks}
 use Rattle.pblk_core.proofs.LandedMap.{moved_to, move_all, settled}
 use Rattle.pblk_core.proofs.LandedReads.{chunk_now, IsChunkRead, IsRange, reads_are}
 use Rattle.pblk_core.proofs.LandedWay.{IsOnWay}
@@ -172,13 +172,13 @@ can_be_read i w c unit of low simple st is k n b at passes =
     let borne : list_any (bears_position i.shape b.mark.position) (newly_readable i.shape (log_of w 0) is.row.opening unit) ≡ true =
     any_member (bears_position i.shape b.mark.position) (newly_readable i.shape (log_of w 0) is.row.opening unit) k b there
     (ap₂ (λ x y. x && y) passes (same_number b.mark.position)) in
-    let rows = rows_of_chunks i w is.row.opening unit simple in
-    let inside = newly_in_window i w unit is.row.stripe is.row.opening b.mark.position simple is.row.waits is.row.life rows borne in
+    let rows = rows_of_chunks i w is.row.opening unit simple.mount in
+    let inside = newly_in_window i w unit is.row.stripe is.row.opening b.mark.position simple.mount is.row.waits is.row.life rows borne in
     let held : view.IsHeld c.window b.mark.position = in_window i w c b.mark.position st inside.0 inside.1 in
     let front = landed_front of.positions c.window in
     let lands : (has_landed_at i.shape (log_of w 0) b.mark.position || holds_position i.shape b.mark.position is.row.stripe) ≡ true =
     sym (landed_at_now i.shape (log_of w 0) unit 0 [] is.row.stripe b.mark.position is.row.waits)
-    ∙ newly_has_landed i w unit 0 [] is.row.stripe is.row.opening b.mark.position simple is.row.waits is.row.life rows borne in (
+    ∙ newly_has_landed i w unit 0 [] is.row.stripe is.row.opening b.mark.position simple.mount is.row.waits is.row.life rows borne in (
       (
         subst (λ m. m ≤ b.mark.position) (sym front.0) held.0,
         (let one = front.0 in let two = front.1 in let high : b.mark.position < c.window.freed + length c.window.entries = held.1 in omega arith),
@@ -201,8 +201,8 @@ window_now i w c unit event knows of slot low high simple st is range chunk =
     (landed_window i w c unit of simple st is)
     ∙ reads_more (λ q. holds_position i.shape q is.row.stripe) (λ q. false)
     (λ q. list_any (bears_position i.shape q) (newly_readable i.shape (log_of w 0) is.row.opening unit)) (window_from i.shape (log_of w 0) c.window.freed)
-    ∙ sym (window_by_new i w unit event knows is.row.stripe is.row.opening c.window.freed simple is.row.waits is.row.life
-    (rows_of_chunks i w is.row.opening unit simple))
+    ∙ sym (window_by_new i w unit event knows is.row.stripe is.row.opening c.window.freed simple.mount is.row.waits is.row.life
+    (rows_of_chunks i w is.row.opening unit simple.mount))
 
 -- ---- the map
 
@@ -248,7 +248,8 @@ slots_now i w c unit event knows of slot low high lba simple st is range chunk o
   where
     after_is : slot_of i (after (log_of w) (Landed unit event) knows) lba ≡ read_slot i (log_of w) is.row.opening unit
         (block_among i.shape (log_of w 0) is.row.opening unit) (slot_of i (log_of w) lba)
-    after_is = slot_by_new i w unit event knows is.row.stripe is.row.opening lba simple is.row.waits is.row.life (rows_of_chunks i w is.row.opening unit simple)
+    after_is = slot_by_new i w unit event knows is.row.stripe is.row.opening lba simple.mount is.row.waits is.row.life
+        (rows_of_chunks i w is.row.opening unit simple.mount)
 
     from_is : low ≡ readable_blocks i.shape (landed_blocks i.shape (log_of w 0) is.row.opening unit)
     from_is = range.from ∙ ap (readable_blocks i.shape) (sym (chunk_now i w unit of simple is).landed)

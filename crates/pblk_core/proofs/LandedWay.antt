@@ -21,6 +21,7 @@ use Rattle.stripe_placer.specs.OpenLines.{OpenLine, opened, width, unit_of, numb
 use Rattle.stripe_placer.specs.OpenLines.Stripe.{Unplaced, Unanswered}
 use Rattle.stripe_placer.specs.Placing.{Program}
 use Rattle.stripe_placer.specs.Placing.UnitRow.{Idle, UnderWay, Stopped}
+use Rattle.core_laws.proofs.PlainLogs.{none_failed}
 use Rattle.core_laws.specs.OpenedLines.{as_opened, by_answer, is_stripe_at, outcome, open_line, open_lines, standing}
 use Rattle.core_laws.specs.PlacerOf.{IsAwaited, number_of, placing_of, program_of_placed, row_in, row_of, contains_unit, unanswered_on, waits_again, was_stopped_on}
 use Rattle.core_laws.specs.SimpleMounts.{IsSimpleMount}
@@ -148,11 +149,12 @@ on_way i w unit of simple row =
     let log : List Logged = log_of w 0 in
     let o : Opening = row.opening in
     let p : Placed = row.stripe in
-    let steady : IsFollowed i (now_units i w) w = follow i w simple in
+    let steady : IsFollowed i (now_units i w) w = follow i w simple.mount in
     let first = first_unanswered (log_of w 0) unit p row.waits in
     let stands : life_of (log_of w 0) row.stripe.stripe.line ≡ Opened row.opening = first_open i w unit p simple.mount.legal row.waits ∙ row.life in
     let its_line : row.opening.line ≡ row.stripe.stripe.line = (opened_lines i (now_units i w) w steady row.stripe.stripe.line row.opening stands).its_line in
-    let line_is : IsLineOf i (now_units i w) w row.opening = line_of i (now_units i w) w row.opening steady (ap (life_of (log_of w 0)) its_line ∙ stands) in
+    let line_is : IsLineOf i (now_units i w) w row.opening = line_of i (now_units i w) w row.opening steady (ap (life_of (log_of w 0)) its_line ∙ stands)
+    (none_failed (log_of w 0) simple.engine.lost row.opening) in
     let among : IsAmong (stripes_of (log_of w 0) row.opening) row.stripe =
     in_filter (λ (q : Placed). is_life row.opening.number q.life) (placements (log_of w 0)) row.stripe first.among
     (ap (is_life row.opening.number) row.life ∙ same_number row.opening.number) in
@@ -204,7 +206,7 @@ pub left_there : (i : Image) (w : World) (unit : ℕ) (of : Program) → IsSimpl
 left_there i w unit of simple is =
     let l : OpenLine = open_line i (log_of w) is.row.opening in
     in_filter (λ (o : Opening). has_left (open_line i (log_of w) o)) (standing (log_of w 0)) is.row.opening
-    (life_stands i (now_units i w) w (follow i w simple) is.row.opening.line is.row.opening (ap (life_of (log_of w 0)) is.its_line ∙ is.stands))
+    (life_stands i (now_units i w) w (follow i w simple.mount) is.row.opening.line is.row.opening (ap (life_of (log_of w 0)) is.its_line ∙ is.stands))
     (or_right (list_any (is_to_place l) (numbers l)) (list_any is_unanswered l.stripes)
     (any_member is_unanswered l.stripes is.number Unanswered (waits_there i w unit of is) refl))
 

@@ -7,7 +7,6 @@ pub mod FillingRows
 pub mod SteadyLines
 pub mod HoldRows
 pub mod LineUnits
-pub mod ChunkRows
 pub mod KnownAfter
 pub mod LandedProgram
 pub mod UsedBits

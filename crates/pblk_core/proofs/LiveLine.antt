@@ -1,9 +1,9 @@
 -- The line in which a sector is live, by its slot.
-use Rattle.std.proofs.Common.{◌≡◌, ℕ, ◌+◌, ◌-◌, ◌<◌, ◌≤◌, ◌&&◌, drop, if◌then◌else◌, not, zero, suc, Bool, true, false, cond, Some, None, Option, List, [], ◌∷◌, length, refl, sym, subst, ap, ◌∙◌, arith}
+use Rattle.std.proofs.Common.{◌≡◌, ℕ, ◌+◌, ◌-◌, ◌<◌, ◌≤◌, ◌&&◌, drop, if◌then◌else◌, not, Bool, true, false, Some, None, Option, List, length, refl, sym, ap, ◌∙◌, arith}
 use Rattle.std.specs.Prelude.{slice_get, ◌%◌}
-use Rattle.std.specs.List.{filter, find}
+use Rattle.std.specs.List.{find}
 use Rattle.std.specs.Option.{option_map, option_map_or, option_and_then}
-use Rattle.std.proofs.lemmas.Option.{same_Some, none-some, slice_get-map, slice_get_within}
+use Rattle.std.proofs.lemmas.Option.{slice_get-map, slice_get_within}
 use Rattle.pblk_model.specs.declared.shape.Shape.{Shape}
 use Rattle.pblk_model.specs.Image.{Image}
 use Rattle.pblk_model.specs.Records.{Record}
@@ -18,7 +18,6 @@ use Rattle.pblk_world.specs.Space.{gives_back, freed}
 use Rattle.pblk_world.specs.Victims.{is_in_force, line_of_position, line_of, landed_line, landed_line_of}
 use Rattle.l2p_map.specs.declared.slot.Slot.TheVariants.{Cached}
 use Rattle.core_laws.specs.SimpleMounts.{IsSimpleMount}
-use Rattle.core_laws.proofs.SimpleMounts.{engine_plain}
 use Rattle.core_laws.specs.SlotOf.{slot_of, slot_by, slot_of_entry, slot_of_winner, media_of}
 use Rattle.core_laws.specs.WindowOf.{HeldSector, HeldSectors, held_of, is_given_back, progress_by, without_frame}
 use Rattle.core_laws.proofs.Placing.{not_below}
@@ -27,15 +26,16 @@ use Rattle.write_window.specs.Window as view
 use Rattle.write_window.specs.declared.held.Held.{Held}
 use Rattle.core_laws.proofs.LatestLines.{latest_stands, winner_as_found}
 use Rattle.core_laws.proofs.StandingLines.{in_force}
-use Rattle.core_laws.proofs.PlainLogs.{none_lost}
+use Rattle.core_laws.proofs.PlainLogs.{never_lost}
 use Rattle.core_laws.proofs.Growing.{given_holds, given_landed}
 use Rattle.core_laws.proofs.UsersEntries.{in_order}
 use Rattle.core_laws.proofs.LeastPositions.{least_below}
 use Rattle.core_laws.proofs.NewlyHeld.{member_of}
 use Rattle.core_laws.proofs.CachedEntries.{last_is_among, numbered_at}
-use Rattle.core_laws.proofs.HeldOnce.{held_once, one_holder}
+use Rattle.core_laws.proofs.HeldOnce.{held_once}
+use Rattle.core_laws.proofs.PlacedAnew.{landed_not_lost}
 use Rattle.core_laws.specs.EntryHolds.{placed_line}
-use Rattle.core_laws.proofs.EntryHolds.{line_unlost}
+use Rattle.core_laws.proofs.EntryHolds.{line_of_holder}
 use Rattle.pblk_core.specs.declared.hold.Hold.{Hold}
 use Rattle.pblk_core.specs.declared.hold.Holds.{Holds}
 use Rattle.pblk_core.specs.Holds.{line_of_slot, has_landed_in}
@@ -46,39 +46,6 @@ use Rattle.lemmas.proofs.Maps.{any_member, find_agree, found_none, found_passes}
 use Rattle.lemmas.proofs.Parts.{contained_among, get_dropped, is_in}
 use Rattle.lemmas.proofs.Tests.{first_of, second_of}
 use Rattle.pblk_model.proofs.MarksLemmas.{accepted_small}
-
--- ---- lists
-
-filter_true : {X : Type 0} (f : X → Bool) (y : X) (xs : List X) → f y ≡ true → length (filter f (y ∷ xs)) ≡ length (filter f xs) + 1
-filter_true f y xs h = ap (λ b. length (cond b (y ∷ filter f xs) (filter f xs))) h ∙ omega arith
-
-filter_false : {X : Type 0} (f : X → Bool) (y : X) (xs : List X) → f y ≡ false → length (filter f (y ∷ xs)) ≡ length (filter f xs)
-filter_false f y xs h = ap (λ b. length (cond b (y ∷ filter f xs) (filter f xs))) h
-
-none_by : {X : Type 0} (f : X → Bool) (y : X) (xs : List X) (b : Bool) → f y ≡ b → length (filter f (y ∷ xs)) ≤ 0 → (length (filter f xs) ≤ 0 → ⊥) → ⊥
-none_by f y xs true h few rest = let more : length (filter f (y ∷ xs)) ≡ length (filter f xs) + 1 = filter_true f y xs h in absurd (omega arith)
-none_by f y xs false h few rest = rest (subst (λ n. n ≤ 0) (filter_false f y xs h) few)
-
-none_there : {X : Type 0} (f : X → Bool) (xs : List X) (x : X) (k : ℕ) → length (filter f xs) ≤ 0 → slice_get xs k ≡ Some x → f x ≡ true → ⊥
-none_there f [] x k few at is = none-some x at
-none_there f (y ∷ xs) x zero few at is =
-    let more : length (filter f (y ∷ xs)) ≡ length (filter f xs) + 1 = filter_true f y xs (subst (λ z. f z ≡ true) (sym (same_Some y x at)) is) in
-    absurd (omega arith)
-none_there f (y ∷ xs) x (suc k) few at is = none_by f y xs (f y) refl few (λ h. none_there f xs x k h at is)
-
-single_by : {X : Type 0} (f : X → Bool) (y : X) (xs : List X) (x : X) (k : ℕ) (b : Bool) → f y ≡ b → length (filter f (y ∷ xs)) ≤ 1 → slice_get xs k ≡ Some x
-    → f x ≡ true
-    → (length (filter f xs) ≤ 1 → find f xs ≡ Some x) → find f (y ∷ xs) ≡ Some x
-single_by f y xs x k true h few at is rest =
-    let more : length (filter f (y ∷ xs)) ≡ length (filter f xs) + 1 = filter_true f y xs h in
-    absurd (none_there f xs x k (omega arith) at is)
-single_by f y xs x k false h few at is rest = ap (λ b. cond b (Some y) (find f xs)) h ∙ rest (subst (λ n. n ≤ 1) (filter_false f y xs h) few)
-
-pub single_found : {X : Type 0} (f : X → Bool) (xs : List X) (x : X) (k : ℕ) → length (filter f xs) ≤ 1 → slice_get xs k ≡ Some x → f x ≡ true
-    → find f xs ≡ Some x
-single_found f [] x k few at is = absurd (none-some x at)
-single_found f (y ∷ xs) x zero few at is = ap (λ b. cond b (Some y) (find f xs)) (subst (λ z. f z ≡ true) (sym (same_Some y x at)) is) ∙ at
-single_found f (y ∷ xs) x (suc k) few at is = single_by f y xs x k (f y) refl few at is (λ h. single_found f xs x k h at is)
 
 -- ---- the line of a position
 
@@ -114,7 +81,7 @@ landed_line_is i w q simple lands = ap (option_map (λ (p : Placed). p.stripe.li
     (λ p. holds_position i.shape q p && has_landed (log_of w 0) p && is_in_force (log_of w 0) p.life p.stripe.line)
     (λ p. holds_position i.shape q p && not (was_lost (log_of w 0) p) && is_in_force (log_of w 0) p.life p.stripe.line)
     (λ p among. by (holds_position i.shape q p) (has_landed (log_of w 0) p) (was_lost (log_of w 0) p) (is_in_force (log_of w 0) p.life p.stripe.line)
-    (none_lost (log_of w 0) (engine_plain i w simple) p) (each p among)) (placements (log_of w 0)) (among_all (placements (log_of w 0))))
+    (never_lost (log_of w 0) simple.engine.lost p) (each p among)) (placements (log_of w 0)) (among_all (placements (log_of w 0))))
   where
     by : (a b l f : Bool) → l ≡ false → (a ≡ true → b ≡ true) → (a && b && f) ≡ (a && not l && f)
     by false b l f none lands = refl
@@ -127,8 +94,9 @@ landed_line_is i w q simple lands = ap (option_map (λ (p : Placed). p.stripe.li
 
     each : (p : Placed) → IsAmong (placements (log_of w 0)) p → holds_position i.shape q p ≡ true → has_landed (log_of w 0) p ≡ true
     each p among held =
-        let same : p ≡ one.0 = one_holder i.shape (log_of w 0) q p one.0 (held_once i w simple) among one.2 held
-        (second_of (has_landed (log_of w 0) one.0) (holds_position i.shape q one.0) one.1) in
+        let same : p ≡ one.0 = held_once i w simple.mount q p one.0 among one.2 held
+        (second_of (has_landed (log_of w 0) one.0) (holds_position i.shape q one.0) one.1)
+        (never_lost (log_of w 0) simple.engine.lost p) (never_lost (log_of w 0) simple.engine.lost one.0) in
         ap (has_landed (log_of w 0)) same ∙ first_of (has_landed (log_of w 0) one.0) (holds_position i.shape q one.0) one.1
 
 -- ---- an entry in the window
@@ -201,9 +169,9 @@ entry_line i w holds t simple are among = go (find (gives_back i.shape (log_of w
         found_passes (gives_back i.shape (log_of w 0) t.entry.position) (placements (log_of w 0)) p e in
         let held : holds_position i.shape t.entry.position p ≡ true =
         second_of (has_landed (log_of w 0) p) (holds_position i.shape t.entry.position p) (given_holds i.shape (log_of w 0) t.entry.position p found.0) in
-        sym (line_unlost i.shape (log_of w 0) t.entry.position (none_lost (log_of w 0) (engine_plain i w simple))
-        ∙ ap (option_map (λ (p : Placed). p.stripe.line))
-        (single_found (holds_position i.shape t.entry.position) (placements (log_of w 0)) p found.1.0 (held_once i w simple t.entry.position) found.1.1 held))
+        sym (line_of_holder i.shape (log_of w 0) t.entry.position p (held_once i w simple.mount) found.1 held
+        (landed_not_lost (log_of w 0) p (first_of (has_landed (log_of w 0) p) (holds_position i.shape t.entry.position p)
+        (given_holds i.shape (log_of w 0) t.entry.position p found.0))))
 
 pub line_is : (i : Image) (w : World) (holds : Holds) (lba : ℕ) → IsSimpleMount i w → lba < i.shape.capacity → AreHolds i.shape (log_of w 0) holds
     → line_of_slot holds.rows.items (slot_of i (log_of w) lba) ≡ line_of i (log_of w) lba (last_take (log_of w 0) lba)

@@ -5,7 +5,7 @@ use Rattle.std.specs.Prelude.{if◌then◌else◌, is_some, map, slice_get, slic
 use Rattle.std.specs.List.{AllByRecursion, Contains, list_any}
 use Rattle.std.specs.Option.{option_map, option_map_or}
 use Rattle.std.proofs.lemmas.Bool.{eqb-true}
-use Rattle.std.proofs.lemmas.Option.{same_Some, slice_get_within}
+use Rattle.std.proofs.lemmas.Option.{same_Some, slice_get_within, slice_get-get_or}
 use Rattle.pblk_model.specs.declared.shape.Shape.{Shape}
 use Rattle.pblk_model.specs.Image.{Image}
 use Rattle.pblk_model.specs.Marks.{meta_lba, void_lba}
@@ -19,7 +19,6 @@ use Rattle.core_laws.specs.ChangedTables.{note_by}
 use Rattle.core_laws.specs.PlacedEntries.{next_take, taker_of, place_by, place_entry, place_entries, note_entry, note_entries}
 use Rattle.core_laws.specs.PlacerOf.{positions_of, positions_in_stripe}
 use Rattle.pblk_world.specs.Fronts.{waiting}
-use Rattle.std.proofs.lemmas.Option.{slice_get-get_or}
 use Rattle.core_laws.specs.SimpleMounts.{IsSimpleMount}
 use Rattle.core_laws.specs.WindowOf.{is_given_back}
 use Rattle.core_laws.proofs.Placing.{with_place, IsPlacing}
@@ -193,7 +192,7 @@ one_row : (i : Image) (w : World) (c : Core) (t u : Taken) (j k : ℕ) → IsSim
     → row_at c.holds.rows.items u.entry.position ≡ Some (hold_of i.shape (log_of w 0) u)
     → t.entry.position % length c.holds.rows.items ≡ u.entry.position % length c.holds.rows.items → t.entry.position ≡ u.entry.position
 one_row i w c t u j k simple at bt a b same =
-    let marked = (ordered i w simple).marked in
+    let marked = (ordered i w simple.mount).marked in
     let hold : hold_of i.shape (log_of w 0) t ≡ hold_of i.shape (log_of w 0) u =
     same_Some (hold_of i.shape (log_of w 0) t) (hold_of i.shape (log_of w 0) u) (sym a ∙ ap (slice_get c.holds.rows.items) same ∙ b) in
     sym (all_at (λ (t : Taken). t.mark.position ≡ t.entry.position) (takes (log_of w 0)) j t at marked)

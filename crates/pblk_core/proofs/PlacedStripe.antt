@@ -21,6 +21,8 @@ use Rattle.pblk_world.specs.Starts.{has_landed_start}
 use Rattle.stripe_placer.specs.Entries.{Entries, has_stripe, waiting}
 use Rattle.stripe_placer.specs.OpenLines.{OpenLine, numbers, is_to_place, is_unanswered, has_left, start_has_landed}
 use Rattle.stripe_placer.proofs.Named.{IsProgramIn, its_program}
+use Rattle.core_laws.specs.PlainLogs.{NoLineFailed}
+use Rattle.core_laws.proofs.PlainLogs.{none_failed as whole_lines}
 use Rattle.core_laws.proofs.LeftLines.{left_apart}
 use Rattle.stripe_placer.specs.Placing.{Program, allows, next_in, next_stripe, stopped_in}
 use Rattle.core_laws.specs.OpenedLines.{open_line, standing}
@@ -35,7 +37,8 @@ use Rattle.core_laws.proofs.StripesInOrder.{stripe_count}
 use Rattle.core_laws.proofs.LineForms.{formed}
 use Rattle.core_laws.proofs.NextStripes.{unfailed}
 use Rattle.core_laws.proofs.OfferedStripes.{IsOffered, what_is_offered}
-use Rattle.core_laws.proofs.Placeable.{HasParts, parts_of, kind_in, kind_by, IsPart, part_of, next_may_be_placed, next_is_its, offered_is_for}
+use Rattle.core_laws.proofs.Placeable.{HasParts, parts_of, kind_in, kind_by, IsPart, part_of, offered_is_for}
+use Rattle.core_laws.proofs.PadsPlaced.{next_may_be_placed, next_is_its}
 use Rattle.core_laws.proofs.PlacedLines.{found_any as found_some}
 use Rattle.pblk_core.specs.Stands.{Stands, left_openings, IsOpenLine}
 use Rattle.pblk_core.specs.Slots.{IsSlot}
@@ -130,8 +133,9 @@ pub offered_now : (i : Image) (w : World) (pad : ℕ) (again : List ℕ) (busy :
     → stopped_in (row_of i (log_of w) again of.unit) ≡ None → (o : Opening) × IsOfferedNow i w pad o of
 offered_now i w pad again busy of simple next none =
     let us : ℕ → List ℕ = line_units (known_image i (log_of w)) in
-    let is : IsFollowed i (line_units (known_image i (log_of w))) w = follow i w simple in
-    let its = what_is_offered i us w pad again busy of is next none in
+    let is : IsFollowed i (line_units (known_image i (log_of w))) w = follow i w simple.mount in
+    let whole : NoLineFailed (log_of w 0) = whole_lines (log_of w 0) simple.engine.lost in
+    let its = what_is_offered i us w pad again busy of is whole next none in
     let o : Opening = its.0 in
     let off : IsOffered i us w pad of o = its.1 in
     let log : List Logged = log_of w 0 in
@@ -140,10 +144,10 @@ offered_now i w pad again busy of simple next none =
     let c : ℕ = start_len i.shape / i.shape.ws_opt in
     let parts : HasParts i us w o = parts_of i us w o off.line_is in
     let kind : kind_in k c l.data_count ≡ of.kind =
-    sym (kind_by l k (unfailed l log (stripes_of log o) (stripe_count i us o.line - k) (engine_plain i w simple) (formed i us w o off.line_is)))
+    sym (kind_by l k (unfailed l log (stripes_of log o) (stripe_count i us o.line - k) (whole o) (formed i us w o off.line_is)))
     ∙ off.kind in
     let life : life_of log of.line ≡ Opened o = ap (life_of log) off.its_line ∙ off.life in
-    let for = offered_is_for i us w pad again busy of is next none in
+    let for = offered_is_for i us w pad again busy of is whole next none in
     let same : for.0 ≡ o = opened_same for.0 o (sym for.1.opened ∙ life) in
     let made = (its_program i.shape (entries_of i.shape log pad) l of off.next).1.is in
     let program : IsProgramFor i (log_of w) o of = subst (λ p. IsProgramFor i (log_of w) p of) same for.1 in (
@@ -159,8 +163,8 @@ offered_now i w pad again busy of simple next none =
         part = subst (λ a. IsInPart i.shape o a of.kind) (sym off.at)
             (in_part i.shape o k c l.data_count of.kind parts.start_is parts.ends_is (subst (IsPart k c l.data_count) kind (part_of k c l.data_count)));
         positions = program.positions;
-        may = λ stripe its. next_may_be_placed i us w pad again busy of o stripe is next none its;
-        its = λ stripe its. next_is_its i us w pad again busy of o stripe is next none its;
+        may = λ stripe its. next_may_be_placed i w pad again busy of o stripe simple.mount next none its;
+        its = λ stripe its. next_is_its i w pad again busy of o stripe simple.mount next none its;
         urgent = allowed_urgent i.shape log pad l of.kind off.allowed;
         count = sym (ap (λ (x : Program). x.count) made) ∙ ap (λ (x : Program). length x.positions) made;
         start_is = parts.start_is;

@@ -48,7 +48,7 @@ small i w c simple st =
     let begins : first_position (log_of w 0) ≤ 2 ^ 62 = subst (λ n. n ≤ 2 ^ 62) st.first st.fits.first in
     let most : taken (log_of w 0) ≤ 2 ^ 62 = taken_bounded i w simple begins in
     let within : c.window.freed ≤ taken (log_of w 0) = freed_taken_within i w c st in
-    let front : placed_front i.shape (log_of w 0) ≤ taken (log_of w 0) = front_within i.shape (log_of w 0) (ordered i w simple) in
+    let front : placed_front i.shape (log_of w 0) ≤ taken (log_of w 0) = front_within i.shape (log_of w 0) (ordered i w simple.mount) in
     let lines : i.shape.chunks ≤ 1024 = simple.mount.accepted.drive.lines_high in
     record {
       freed = omega arith;

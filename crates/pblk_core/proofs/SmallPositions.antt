@@ -89,7 +89,7 @@ unplaced_short i w line AsFound simple is = omega arith
 unplaced_short i w line (Freed was knows) simple is = omega arith
 unplaced_short i w line (Opened o) simple is =
     let wide : o.start.width ≡ length (line_units (known_image i (log_of w)) line) =
-    (opened_lines i (line_units (known_image i (log_of w))) w (follow i w simple) line o is).width in
+    (opened_lines i (line_units (known_image i (log_of w))) w (follow i w simple.mount) line o is).width in
     let few : length (line_units (known_image i (log_of w)) line) ≤ units i.shape = known_units i w (log_of w) line simple.mount in
     let short : data_len i.shape o.start.width ≤ 65536 = data_short i.shape o.start.width simple.mount.accepted (omega arith) in
     go (has_failed (log_of w 0) o) (max (start_len i.shape) (next_address i.shape (log_of w 0) o)) (omega arith) short

@@ -24,6 +24,7 @@ use Rattle.write_window.specs.Window.{WindowView, has_landed_at, turned}
 use Rattle.write_window.specs.declared.held.Progress.TheVariants as progress
 use Rattle.stripe_placer.specs.Placing.{Program, landed}
 use Rattle.stripe_placer.specs.declared.placement.StripeKind.TheVariants as kinds
+use Rattle.core_laws.proofs.PlainLogs.{none_failed}
 use Rattle.core_laws.specs.ClosedLines.{ClosedLine, closed_line, placed_top}
 use Rattle.core_laws.proofs.ClosedKept.{closed_others}
 use Rattle.core_laws.proofs.ClosedLanded.{closed_if, closed_landed}
@@ -74,7 +75,7 @@ use Rattle.pblk_core.proofs.NotedEntries.{AreEntriesOf, entries_of_way}
 use Rattle.pblk_core.proofs.PlacedEntries.{lines_noted_are}
 use Rattle.core_laws.proofs.SimpleMounts.{simple_after}
 use Rattle.pblk_core.proofs.LandedLines.{HasSlot, fewer_landed}
-use Rattle.pblk_core.proofs.ChunkRows.{rows_of_chunks}
+use Rattle.core_laws.proofs.ChunksInRows.{rows_of_chunks}
 use Rattle.pblk_core.proofs.LandedLogs.{takes_landed, openings_landed, users_landed, stripes_landed, live_landed, freed_landed, chunk_landed, one_less_under_way}
 use Rattle.pblk_core.proofs.LandedOpen.{IsLandedIn, IsRemoved, lines_stay, line_leaves}
 use Rattle.pblk_core.proofs.LandedWay.{IsOnWay, line_of_way, unit_is}
@@ -127,7 +128,7 @@ pub whole_now : (i : Image) (w : World) (unit event : ℕ) (knows : List ℕ) (o
     → have_landed (after (log_of w) (Landed unit event) knows 0) is.row.opening (line_end i.shape is.row.opening / i.shape.ws_opt) ≡
     (landed_count (log_of w 0) is.row.opening + 1 == stripe_count i (now_units i w) is.row.opening.line)
 whole_now i w unit event knows of simple is =
-    let room : HasRoom i.shape (log_of w 0) is.row.opening = has_room i w is.row.stripe.stripe.line is.row.opening simple is.stands in
+    let room : HasRoom i.shape (log_of w 0) is.row.opening = has_room i w is.row.stripe.stripe.line is.row.opening simple.mount is.stands in
     landed_whole i.shape (after (log_of w) (Landed unit event) knows 0) is.row.opening is.line_is.striped.some
     (record {
       some = room.some;
@@ -144,8 +145,9 @@ pub table_now : (i : Image) (w : World) (unit event : ℕ) (knows : List ℕ) (o
     → AreItsEntries i (log_of w) is.row.stripe ts
     → rows_of i (after (log_of w) (Landed unit event) knows) ≡ with_row of.line (full_if full) (note_entries (log_of w 0) of.line (rows_of i (log_of w)) ts)
 table_now i w unit event knows of full simple is may e ts are =
-    let order = in_order i w simple in
-    rows_landed i (log_of w) unit event knows is.row.stripe is.row.opening ts order.freed order.failed is.row.waits is.row.life is.stands
+    let order = in_order i w simple.mount in
+    rows_landed i (log_of w) unit event knows is.row.stripe is.row.opening ts order.freed is.line_is.striped.some
+    (has_room i w is.row.stripe.stripe.line is.row.opening simple.mount is.stands) is.row.waits is.row.life is.stands
     (chunk_landed i w unit event is.row.stripe simple may is.row.waits)
     (rising_by (first_position (log_of w 0)) (length (takes (log_of w 0))) (takes (log_of w 0)) order.numbered) are
     ∙ ap₂ (λ ln b. with_row ln (full_if b) (note_entries (log_of w 0) ln (rows_of i (log_of w)) ts)) (sym is.its_line ∙ line_of_way i w unit of is)
@@ -169,8 +171,8 @@ holds_now i w unit event knows of kept simple is are = record {
       let before : is_given_back i.shape (log_of w 0) t.entry.position ≡ false =
       given_before (is_given_back i.shape (log_of w 0) t.entry.position)
       (can_be_read i.shape (after (log_of w) (Landed unit event) knows 0) is.row.opening unit t.entry.position)
-      (sym (given_back_landed i w unit event knows is.row.stripe is.row.opening t.entry.position simple is.row.waits is.row.life
-      (rows_of_chunks i w is.row.opening unit simple)) ∙ given) in
+      (sym (given_back_landed i w unit event knows is.row.stripe is.row.opening t.entry.position simple.mount is.row.waits is.row.life
+      (rows_of_chunks i w is.row.opening unit simple.mount)) ∙ given) in
       are.each t (subst (λ (ts : List Taken). Contains ts t) (takes_landed (log_of w) unit event knows) there) before
       ∙ ap₂ (λ ln (u : Option Taken). told_hold t ln u)
       (sym (line_same i.shape (log_of w 0) (after (log_of w) (Landed unit event) knows 0) (stripes_kept (log_of w 0) (Landed unit event) knows refl).placements
@@ -333,7 +335,8 @@ landed_stands i w unit event knows old new of mid full from to simple st is wait
         let seq : ℕ = is.row.opening.start.seq in
         let top : ℕ = placed_top i.shape (log_of w 0) is.row.opening in
         absurd (none-some c (sym (ap (λ t. closed_if t (record { seq = seq; top = top })) (whole ∙ e))
-        ∙ sym (closed_landed i w unit event knows is.row.stripe is.row.opening simple.mount simple.engine.lost may is.row.waits is.row.life is.stands)
+        ∙ sym (closed_landed i w unit event knows is.row.stripe is.row.opening simple.mount
+        (none_failed (log_of w 0) simple.engine.lost is.row.opening) may is.row.waits is.row.life is.stands)
         ∙ ap (closed_line i new_logs) (sym its_line) ∙ closed))
 
     live_there : slice_get old.live.items of.line ≡ Some (live_now i (log_of w) of.line)

@@ -29,6 +29,7 @@ use Rattle.stripe_placer.specs.OpenLines.{has_left}
 use Rattle.stripe_placer.specs.Placing.{Program, Placing, placed}
 use Rattle.stripe_placer.proofs.Rising.{le_false}
 use Rattle.line_table.specs.Rows.{Table}
+use Rattle.core_laws.proofs.PlainLogs.{never_lost, none_failed}
 use Rattle.core_laws.specs.ClosedLines.{closed_line, placed_top, top_of}
 use Rattle.core_laws.specs.InOrder.{IsInOrder}
 use Rattle.core_laws.specs.PlacedEntries.{place_entries}
@@ -53,7 +54,7 @@ use Rattle.core_laws.proofs.TakenNumbers.{first_stays}
 use Rattle.core_laws.proofs.PlacedLines.{placing_placed}
 use Rattle.core_laws.proofs.Placing.{IsPlacing, with_place}
 use Rattle.core_laws.proofs.LeftLines.{left_before, left_placed}
-use Rattle.core_laws.proofs.PlacedInOrder.{ordered, lost_are_none}
+use Rattle.core_laws.proofs.PlacedInOrder.{IsOrdered, ordered, lost_are_none}
 use Rattle.core_laws.proofs.StandingOpenings.{rise_filtered, standing_rise, one_place}
 use Rattle.core_laws.proofs.StripeBlocks.{have_blocks, length_joined as blocks_length}
 use Rattle.core_laws.specs.StripeFor.{IsStripeFor, blocks_for, positions_for}
@@ -140,14 +141,15 @@ positions_are s log kinds.End = refl
 
 -- ---- the table
 
-rows_by_kind : (i : Image) (logs : Logs) (stripe : Stripe) (knows : List ℕ) (o : Opening) (kind : StripeKind) → IsInOrder i logs → IsPlacing (logs 0) stripe o
+rows_by_kind : (i : Image) (logs : Logs) (stripe : Stripe) (knows : List ℕ) (o : Opening) (kind : StripeKind) → IsInOrder i logs → IsOrdered i.shape (logs 0)
+    → IsPlacing (logs 0) stripe o
     → IsOfKind i logs o stripe kind
     → rows_of i (after logs (Place stripe) knows) ≡ place_entries (logs 0) stripe.line (rows_of i logs)
     (take (entries_for kind i.shape.ws_opt) (waiting i.shape (logs 0)))
-rows_by_kind i logs stripe knows o kinds.Start is at its = rows_beside i logs stripe knows o is.small at is.freed is.numbered (inl its)
-rows_by_kind i logs stripe knows o kinds.Data is at its = rows_placed i logs stripe knows o is.small at is.freed is.lost is.numbered is.marked is.named its
-rows_by_kind i logs stripe knows o kinds.Pad is at its = absurd its
-rows_by_kind i logs stripe knows o kinds.End is at its = rows_beside i logs stripe knows o is.small at is.freed is.numbered (inr (inl its))
+rows_by_kind i logs stripe knows o kinds.Start is order at its = rows_beside i logs stripe knows o is.small at is.freed is.numbered (inl its)
+rows_by_kind i logs stripe knows o kinds.Data is order at its = rows_placed i logs stripe knows o is.small at is.freed order its
+rows_by_kind i logs stripe knows o kinds.Pad is order at its = absurd its
+rows_by_kind i logs stripe knows o kinds.End is order at its = rows_beside i logs stripe knows o is.small at is.freed is.numbered (inr (inl its))
 
 -- ---- addresses
 
@@ -408,7 +410,7 @@ pub line_unclosed : (i : Image) (w : World) (pad : ℕ) (o : Opening) (of : Prog
     → closed_line i (log_of w) of.line ≡ None
 line_unclosed i w pad o of simple now =
     ap (closed_line i (log_of w)) now.own
-    ∙ closed_now i w simple.mount o (ap (life_of (log_of w 0)) (sym now.own) ∙ now.opened) simple.engine.lost
+    ∙ closed_now i w simple.mount o (ap (life_of (log_of w 0)) (sym now.own) ∙ now.opened) (none_failed (log_of w 0) simple.engine.lost o)
     ∙ ap (λ t. closed_if t (record { seq = o.start.seq; top = placed_top i.shape (log_of w 0) o }))
     (some_left i w pad o of simple.mount.accepted.drive.ws_opt now)
 
@@ -488,7 +490,7 @@ placed_stands i w knows old new o of stripe simple st has now for count is = rec
     new_logs = after (log_of w) (Place stripe) knows
 
     order : IsInOrder i (log_of w)
-    order = in_order i w simple
+    order = in_order i w simple.mount
 
     ts : List Taken
     ts = take (entries_for of.kind i.shape.ws_opt) (waiting i.shape (log_of w 0))
@@ -517,7 +519,7 @@ placed_stands i w knows old new o of stripe simple st has now for count is = rec
         ∙ ap₂ (λ (t : Table) (qs : List ℕ). placed_lines old.holds.rows.items of.line t qs) st.table here.positions
         ∙ lines_placed_are i.shape (log_of w 0) of.line old.holds.rows.items (rows_of i (log_of w)) ts order.small refl names rows
         ∙ ap (λ line. place_entries (log_of w 0) line (rows_of i (log_of w)) ts) (sym for.line)
-        ∙ sym (rows_by_kind i (log_of w) stripe knows o of.kind order here.placing here.kind)
+        ∙ sym (rows_by_kind i (log_of w) stripe knows o of.kind order (ordered i w simple.mount) here.placing here.kind)
 
     in_stripe : positions_in_stripe i.shape stripe ≡ positions_of ts
     in_stripe = here.its.positions ∙ here.positions
@@ -545,7 +547,7 @@ placed_stands i w knows old new o of stripe simple st has now for count is = rec
         (of.count - length (entries_of i.shape (log_of w 0) old.placer.entries.pad).lost) =
         front_placed i (log_of w) knows old.placer.entries.pad o stripe of here.its order.numbered in
         let none : length (entries_of i.shape (log_of w 0) old.placer.entries.pad).lost ≡ 0 =
-        ap (λ (us : List Taken). length (positions_of us)) (lost_are_none i.shape (log_of w 0) (ordered i w simple)) in
+        ap (λ (us : List Taken). length (positions_of us)) (lost_are_none i.shape (log_of w 0) (never_lost (log_of w 0) simple.engine.lost)) in
         let before : old.first + old.placed ≡ placed_front i.shape (log_of w 0) = st.placed in
         let a : new.first ≡ old.first = is.first in
         let b : new.placed ≡ old.placed + length of.positions = is.placed in

@@ -1,8 +1,7 @@
 -- A core that took an entry stands for the log with it, where its tables tell of the sectors: for
 -- one that becomes the latest of its sector they do.
 use Rattle.std.proofs.Common.{◌≡◌, ◌≢◌, ◌⊎◌, eqb, ℕ, ◌+◌, ◌<◌, ◌≤◌, ◌==◌, ◌^◌, if◌then◌else◌, true, false, cond, Some, None, Option, List, [], ◌∷◌, ◌++◌, ◌&&◌, length, refl, sym, subst, ap, ap₂, ◌∙◌, arith, inl, inr, length-append, append-nil, le_trans, zero-add}
-use Rattle.std.specs.Prelude.{map}
-use Rattle.std.specs.List.{filter, range_with_len}
+use Rattle.std.specs.List.{filter, range_with_len, list_any}
 use Rattle.std.specs.Ordering.{nat_cmp, eq_by_cmp}
 use Rattle.std.specs.FinMap.{FinMap, get-insert}
 use Rattle.std.specs.FinMap as fin
@@ -14,10 +13,10 @@ use Rattle.pblk_model.specs.Marks.{meta_lba, sector_mark, void_lba}
 use Rattle.pblk_model.specs.Chunk.{Block, IsBlock}
 use Rattle.pblk_world.specs.Taking.{BearsIt, IsLatest, IsMarked, MayTake}
 use Rattle.pblk_world.specs.Events.{Entry, Source, Take, Decides, Logged}
-use Rattle.pblk_world.specs.World.{Logs, media}
-use Rattle.pblk_world.specs.EngineLog.{Begun, begun, Taken, block_of_taken, takes, openings, is_as_found}
-use Rattle.pblk_world.specs.Fronts.{first_position, taken, user_takes}
-use Rattle.pblk_world.specs.Space.{freed}
+use Rattle.pblk_world.specs.World.{Logs, media, World, log_of}
+use Rattle.pblk_world.specs.EngineLog.{Begun, begun, Taken, block_of_taken, takes, openings, is_as_found, placements}
+use Rattle.pblk_world.specs.Fronts.{first_position, taken, user_takes, is_users, last_take}
+use Rattle.pblk_world.specs.Space.{freed, gives_back}
 use Rattle.pblk_world.proofs.Appending.{openings_more, life_more}
 use Rattle.l2p_map.specs.declared.slot.Slot.{Slot}
 use Rattle.l2p_map.specs.declared.slot.Slot.TheVariants.{Unwritten, Cached, Media}
@@ -25,8 +24,8 @@ use Rattle.core_laws.specs.Stepping.{after}
 use Rattle.core_laws.specs.OpenedLines.{bits_of, live_now, standing}
 use Rattle.core_laws.specs.Positions.{AreNumbered, IsUnplaced}
 use Rattle.core_laws.specs.SlotOf.{slot_by, slot_of}
-use Rattle.core_laws.specs.WindowOf.{is_given_back, sectors_in, window_from, HeldSectors, waiting_sector}
-use Rattle.core_laws.proofs.Taking.{alike, with_take}
+use Rattle.core_laws.specs.WindowOf.{is_given_back, sectors_in, window_from, HeldSectors, waiting_sector, without_frame, class_of, source_of}
+use Rattle.core_laws.proofs.Taking.{alike, with_take, filter_last, placing_taken}
 use Rattle.core_laws.proofs.TakenSlots.{slot_taken, gives_back_same, any_same}
 use Rattle.core_laws.proofs.TakenWindow.{window_taken}
 use Rattle.core_laws.proofs.Steady.{AreAlike, standing_same}
@@ -46,19 +45,15 @@ use Rattle.pblk_core.proofs.StandsFacts.{freed_taken_within, window_taken_is, ne
 use Rattle.std.proofs.lemmas.List.{map-append}
 use Rattle.pblk_meta.specs.Records.{start_numbers}
 use Rattle.core_laws.specs.PlacerOf.{placing_of}
-use Rattle.core_laws.proofs.Taking.{filter_last, placing_taken}
 use Rattle.core_laws.proofs.PlacedFront.{front_taken}
-use Rattle.pblk_world.specs.Fronts.{is_users}
-use Rattle.core_laws.specs.WindowOf.{without_frame, class_of, source_of}
 use Rattle.sector_pool.specs.declared.entry.Class.{Class}
 use Rattle.sector_pool.specs.declared.entry.Class.TheVariants.{User, Copy}
 use Rattle.sector_pool.specs.declared.entry.Source.{Source as EntrySource}
 use Rattle.std.specs.Option.{option_map}
 use Rattle.pblk_core.proofs.TakenHolds.{holds_taken}
 use Rattle.pblk_core.proofs.LiveLine.{line_is, landed_is}
-use Rattle.pblk_world.specs.Fronts.{last_take}
-use Rattle.pblk_world.specs.Victims.{landed_line_of, line_of}
-use Rattle.core_laws.specs.RowsOf.{rows_of}
+use Rattle.pblk_world.specs.Victims.{landed_line_of, line_of, live}
+use Rattle.core_laws.specs.RowsOf.{rows_of, row_of_line}
 use Rattle.core_laws.proofs.TakenRows.{rows_taken}
 use Rattle.core_laws.proofs.LiveCounts.{live_some}
 use Rattle.std.proofs.lemmas.List.FromFn.{length-map-range_with_len}
@@ -66,9 +61,6 @@ use Rattle.core_laws.proofs.LogOrders.{in_order as plain_in_order}
 use Rattle.core_laws.proofs.LinesInRange.{line_in_range}
 use Rattle.line_table.specs.declared.row.Row.{Row}
 use Rattle.line_table.specs.Rows.{Table, IsRow}
-use Rattle.core_laws.specs.RowsOf.{row_of_line}
-use Rattle.pblk_world.specs.Victims.{live}
-use Rattle.std.specs.Prelude.{slice_get}
 use Rattle.core_laws.proofs.FreedMoments.{freed_before}
 use Rattle.core_laws.proofs.UsersEntries.{in_order}
 use Rattle.std.proofs.lemmas.Option.{same_Some}
@@ -88,11 +80,7 @@ use Rattle.core_laws.proofs.LiveSlots.{given_by}
 use Rattle.std.proofs.lemmas.Bool.{eqb-true}
 use Rattle.core_laws.proofs.SimpleMounts.{simple_after}
 use Rattle.pblk_model.specs.Contents.{least_missing}
-use Rattle.pblk_world.specs.EngineLog.{placements}
-use Rattle.pblk_world.specs.Space.{gives_back}
-use Rattle.pblk_world.specs.World.{World, log_of}
-use Rattle.std.specs.List.{list_any}
-use Rattle.std.specs.Prelude.{slice_set, ◌%◌}
+use Rattle.std.specs.Prelude.{slice_set, ◌%◌, map, slice_get}
 use Rattle.std.proofs.lemmas.Bool.Decides.{eqb_tells}
 use Rattle.pblk_core.proofs.FoundLines.{older_kept}
 use Rattle.pblk_core.proofs.KeptResets.{resets_quiet, fits_same}
@@ -402,7 +390,7 @@ pub live_inside : (i : Image) (w : World) (c : Core) (lba : ℕ) (slot : Slot) (
     → line_of_slot c.holds.rows.items slot ≡ Some line → line < length c.lines.rows
 live_inside i w c lba slot line simple st found inside is =
     let low : line < i.shape.chunks =
-    line_in_range i (log_of w) lba (last_take (log_of w 0) lba) line (plain_in_order i w simple).placed
+    line_in_range i (log_of w) lba (last_take (log_of w 0) lba) line (plain_in_order i w simple.mount).placed
     (slot_line i w c lba slot line simple st found inside is) in
     subst (λ n. line < n) (sym (ap (λ (t : Table). length t.rows) st.table ∙ length-map-range_with_len (row_of_line i (log_of w)) 0 i.shape.chunks)) low
 

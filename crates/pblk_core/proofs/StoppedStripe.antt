@@ -191,7 +191,7 @@ module _ (i : Image) (w : World) (unit : ℕ) (of : Program) (simple : IsSimpleM
   -- ---- the stripe as it is filled again
 
   its_chunk : is.row.stripe.stripe.chunk ≡ is.row.stripe.stripe.line
-  its_chunk = IsInPlace.chunk (all_at (IsInPlace i log) (placements log) among.0 p among.1 (in_order i w simple).placed)
+  its_chunk = IsInPlace.chunk (all_at (IsInPlace i log) (placements log) among.0 p among.1 (in_order i w simple.mount).placed)
 
   filled : (blocks : List Block) → blocks ≡ blocks_for i.shape (take is.row.stripe.number (log_of w 0)) is.row.opening of.at of.kind
       → stripe_of of blocks ≡ is.row.stripe.stripe
@@ -274,11 +274,11 @@ module _ (i : Image) (w : World) (unit : ℕ) (of : Program) (simple : IsSimpleM
       each k t e =
           let held : slice_get of.positions k ≡ Some t.entry.position =
           ap (λ qs. slice_get qs k) (positions_then kind) ∙ get_mapped (λ (u : Taken). u.entry.position) entries_then k t e in
-          let own = own_in_window i w unit p t.entry.position simple is.row.waits (holds_it i w unit of k t.entry.position is held) in
+          let own = own_in_window i w unit p t.entry.position simple.mount is.row.waits (holds_it i w unit of k t.entry.position is held) in
           let first = waiting_taken s (take p.number log) k t (get_whole s.ws_opt (waiting s (take p.number log)) k t e) in
           let at : slice_get (takes log) first.0 ≡ Some t =
           ap (λ ts. slice_get ts first.0) taken_parts ∙ get_more (takes (take p.number log)) (takes (drop p.number log)) first.0 t first.1 in
-          let number : t.entry.position ≡ first_position log + first.0 = numbered_at log first.0 t (in_order i w simple).numbered at in
+          let number : t.entry.position ≡ first_position log + first.0 = numbered_at log first.0 t (in_order i w simple.mount).numbered at in
           let low : c.window.freed ≤ freed s log = st.to_freed in
           let from : freed s log ≤ t.entry.position = own.1 in
           let sector : sector_at c.window t.entry.position ≡ Some t.entry.sector = sector_there i w c t first.0 st at (sym number) (omega arith) in

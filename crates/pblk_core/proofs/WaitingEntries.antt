@@ -15,6 +15,7 @@ use Rattle.pblk_world.specs.Legal.{MayDecide}
 use Rattle.pblk_world.specs.Space.{freed, placed_front}
 use Rattle.write_window.specs.Window.{WindowView, sector_at}
 use Rattle.write_window.specs.declared.held.Held.{Held}
+use Rattle.core_laws.proofs.PlainLogs.{never_lost}
 use Rattle.core_laws.specs.SimpleMounts.{IsSimpleMount}
 use Rattle.core_laws.specs.PlacerOf.{positions_of, placing_of}
 use Rattle.core_laws.specs.Positions.{AreNumbered}
@@ -99,10 +100,10 @@ pub waiting_at : (i : Image) (w : World) (c : Core) (k : ℕ) (t : Taken) → Is
 waiting_at i w c k t simple st e =
     let s : Shape = i.shape in
     let log : List Logged = log_of w 0 in
-    let is : IsOrdered s log = ordered i w simple in
+    let is : IsOrdered s log = ordered i w simple.mount in
     let n : ℕ = is.order.count in
     let there : slice_get (takes log) (n + k) ≡ Some t = sym (get_dropped n (takes log) k)
-    ∙ ap (λ (ts : List Taken). slice_get ts k) (sym (waiting_are_last s log is.numbered is.no_loss is.order)) ∙ e in
+    ∙ ap (λ (ts : List Taken). slice_get ts k) (sym (waiting_are_last s log (never_lost (log_of w 0) simple.engine.lost) is)) ∙ e in
     let at : t.entry.position ≡ first_position log + (n + k) = numbered_at log (n + k) t is.numbered there in
     let count = count_is s log is in
     let position : t.entry.position ≡ placed_front s log + k = omega arith in
@@ -125,7 +126,7 @@ waiting_at i w c k t simple st e =
       low = omega arith;
       high = high;
       kept = kept;
-      unplaced = not_noted (placed_line s log t.entry.position) (line_below_front s log t.entry.position is
+      unplaced = not_noted (placed_line s log t.entry.position) (line_below_front s log t.entry.position (never_lost (log_of w 0) simple.engine.lost) is
           ∙ and_false (nat_le (first_position log) t.entry.position) (nat_lt t.entry.position (placed_front s log))
           (not_below (placed_front s log) t.entry.position above));
       row = row_of_entry i w c t (n + k) st there kept;

@@ -1,5 +1,5 @@
 -- The contents of the media after a legal mount are those after a prefix of the history.
-use Rattle.std.proofs.Common.{◌≡◌, ◌⊎◌, inl, inr, ℕ, ◌<◌, ◌≤◌, true, Some, None, Option, List, [], ◌∷◌, ◌++◌, map, take, length, refl, sym, subst, ap, ◌∙◌, arith}
+use Rattle.std.proofs.Common.{◌≡◌, ◌⊎◌, inl, inr, ℕ, ◌<◌, ◌≤◌, true, false, Some, None, Option, List, [], ◌∷◌, ◌++◌, map, take, length, refl, sym, subst, ap, ◌∙◌, arith}
 use Rattle.std.specs.Prelude.{slice_get}
 use Rattle.std.specs.List.{Contains}
 use Rattle.std.proofs.Math.Seq.{take-length}
@@ -16,7 +16,7 @@ use Rattle.pblk_model.specs.Sealed.{IsSealed}
 use Rattle.pblk_model.proofs.ContentsLemmas.{contents_count}
 use Rattle.pblk_world.specs.Events.{Logged, Step}
 use Rattle.pblk_world.specs.World.{World, log_of, media}
-use Rattle.pblk_world.specs.EngineLog.{Begun, begun, life_of, Placed, placements, stripes_of, is_life, takes, is_answered, holds_position}
+use Rattle.pblk_world.specs.EngineLog.{Begun, begun, life_of, Placed, placements, stripes_of, is_life, Taken, takes, holds_position}
 use Rattle.pblk_world.specs.Fronts.{taken, synced, has_landed_at, history, user_positions}
 use Rattle.pblk_world.specs.Lines.{found_image, next_seq}
 use Rattle.pblk_world.proofs.SyncedFront.{synced_within, synced_missing}
@@ -28,15 +28,17 @@ use Rattle.world_laws.proofs.FoundImages.{found_holds, early_before, early_holds
 use Rattle.lemmas.proofs.Lists.{among_contained}
 use Rattle.lemmas.proofs.Maps.{from_filter}
 use Rattle.lemmas.proofs.Parts.{contained_among, same_lists, take_nothing}
-use Rattle.lemmas.proofs.Tests.{no_both}
-use Rattle.world_laws.specs.LegalMounts.{NoneLost, IsLegalMount}
+use Rattle.lemmas.proofs.Tests.{not_both}
+use Rattle.world_laws.specs.LegalMounts.{IsLegalMount}
 use Rattle.world_laws.proofs.Beginnings.{has_begun}
+use Rattle.world_laws.proofs.NewLines.{IsTakenRecord}
 use Rattle.world_laws.proofs.WinnerBlocks.{contents_at}
 use Rattle.world_laws.proofs.SectorValues.{latest_is_held, found_is_held}
 use Rattle.prefix_law.specs.Assembled.{IsAssembled}
 use Rattle.prefix_law.specs.AfterMount.{HasNewHead}
 use Rattle.prefix_law.specs.Cuts.{AreCuts}
-use Rattle.prefix_law.proofs.Answered.{placed_have_landed}
+use Rattle.prefix_law.specs.PlacedAgain.{ArePlacedAgain}
+use Rattle.prefix_law.proofs.Answered.{AreAnswered, placed_has_landed}
 use Rattle.prefix_law.proofs.Assembly as assembly
 use Rattle.prefix_law.proofs.CutUnits.{cut_mount, engine_uncut}
 use Rattle.prefix_law.proofs.LineFacts.{HasFacts, facts, sectors_below}
@@ -141,15 +143,11 @@ module _ (i : Image) (w : World) (b : Begun) (mount : IsLegalMount i w) (sealed 
       let held : HoldsTheSame i found = found_holds i w (log_of w) mount.accepted mount.fit sealed mount.legal (whole w) in
       contents_below ∙ ap (λ base. after base (take (users (user_positions (log_of w 0)) (end now)) (history (log_of w 0)))) held.contents
 
-  -- ---- the end where all that was placed has landed
+  -- ---- the end where the position at the front wasn't placed
 
-  abbrev pub PlacedHaveLanded : Type 0
-  PlacedHaveLanded =
-      (p : Placed) (q : ℕ) → Contains (placements (log_of w 0)) p → holds_position i.shape q p ≡ true → has_landed_at i.shape (log_of w 0) q ≡ true
-
-  -- a record of a line of the mount stands in a position that was placed
-  record_placed : (x : Record) → Contains (records now) x → next_seq (head found) ≤ x.seq
-      → (p : Placed) × Contains (placements (log_of w 0)) p × (holds_position i.shape x.position p ≡ true)
+  -- a record of a line of the mount is of an entry, and in a stripe that was placed
+  record_placed : (x : Record) → Contains (records now) x → next_seq (head found) ≤ x.seq → IsTakenRecord i w x
+      × ((p : Placed) × Contains (placements (log_of w 0)) p × (holds_position i.shape x.position p ≡ true))
   record_placed x there high =
       let at : IsAt now x = record_is_at now x there in
       elim (unopened_or_opened (life_of (log_of w 0) x.line)) [
@@ -160,34 +158,60 @@ module _ (i : Image) (w : World) (b : Begun) (mount : IsLegalMount i w) (sealed 
             let seq : x.seq ≡ at.start.seq = at.seq in
             absurd (omega arith)
         | inr opened ↦
-            let p = has.new.placed x.line opened.0 x opened.1 (contained_among (line_records now x.line) x at.there) in
+            let its : Contains (line_records now x.line) x = contained_among (line_records now x.line) x at.there in
+            let p = has.new.placed x.line opened.0 x opened.1 its in
             let among = from_filter (λ (q : Placed). is_life opened.0.number q.life) (placements (log_of w 0)) p.0
             (among_contained (stripes_of (log_of w 0) opened.0) p.0 p.1) in
-            (p.0, contained_among (placements (log_of w 0)) p.0 among, p.2)
+            (has.new.entries x.line opened.0 x opened.1 its, (p.0, contained_among (placements (log_of w 0)) p.0 among, p.2))
       ]
 
-  pub end_is_synced : PlacedHaveLanded → end now ≡ front
-  end_is_synced all = go (which i w b mount has begins)
-    where
-      none_more : (h : StartRecord) → HasNewHead found now (entries i w) front h → front < end now → ⊥
-      none_more h n more =
-          let from : h.front ≤ front = n.start.within in
-          let x = (end_is_end now h n.head).least front from more in
-          let mount_seq : h.first_seq ≤ x.0.seq = x.2.mount in
-          let first : h.first_seq ≡ next_seq (head found) = n.start.first_seq in
-          let p = record_placed x.0 x.1 (omega arith) in
-          let landed : has_landed_at i.shape (log_of w 0) x.0.position ≡ true = all p.0 x.0.position p.1 p.2 in
-          let within : end now ≤ taken (log_of w 0) = end_within in
-          no_both (has_landed_at i.shape (log_of w 0) front) (ap (has_landed_at i.shape (log_of w 0)) (sym x.2.position) ∙ landed)
-          (synced_missing i.shape (log_of w 0) (omega arith))
+  -- the entry at the front is in a stripe
+  abbrev IsFrontPlaced : Taken → Placed → Type 0
+  IsFrontPlaced t p =
+      Contains (takes (log_of w 0)) t × (t.entry.position ≡ front) × Contains (placements (log_of w 0)) p × (holds_position i.shape front p ≡ true)
 
+  past_front : front < end now → (h : StartRecord) → HasNewHead found now (entries i w) front h → (t : Taken) × (p : Placed) × IsFrontPlaced t p
+  past_front more h n =
+      let from : h.front ≤ front = n.start.within in
+      let x = (end_is_end now h n.head).least front from more in
+      let mount_seq : h.first_seq ≤ x.0.seq = x.2.mount in
+      let first : h.first_seq ≡ next_seq (head found) = n.start.first_seq in
+      let of = record_placed x.0 x.1 (omega arith) in (
+        of.0.0,
+        of.1.0,
+        (
+          contained_among (takes (log_of w 0)) of.0.0 of.0.1.there,
+          of.0.1.position ∙ x.2.position,
+          of.1.1,
+          subst (λ q. holds_position i.shape q of.1.0 ≡ true) x.2.position of.1.2,
+        ),
+      )
+
+  end_unless : (front < taken (log_of w 0) → (t : Taken) (p : Placed) → IsFrontPlaced t p → ⊥) → end now ≡ front
+  end_unless none = go (which i w b mount has begins)
+    where
       go : WhichHead i w b mount has begins → end now ≡ front
       go (AsBefore old) = end_before old
       go (OfMount h n) = elim (cases_order front (end now)) [
         | inl e ↦ sym e
-        | inr (inl less) ↦ absurd (none_more h n less)
+        | inr (inl less) ↦
+            let x = past_front less h n in
+            let within : end now ≤ taken (log_of w 0) = end_within in
+            absurd (none (omega arith) x.0 x.1 x.2)
         | inr (inr more) ↦ (let above : front ≤ end now = end_above in absurd (omega arith))
       ]
+
+  pub end_at_unplaced : ((p : Placed) → Contains (placements (log_of w 0)) p → holds_position i.shape (synced i.shape (log_of w 0)) p ≡ false)
+      → end now ≡ front
+  end_at_unplaced none = end_unless (λ inside t p is. not_both (holds_position i.shape front p) is.3 (none p is.2))
+
+  -- it wasn't, where each placed stripe is answered and what was lost was placed again
+  pub end_where_answered : ArePlacedAgain i.shape (log_of w 0) → AreAnswered (log_of w 0) → end now ≡ front
+  end_where_answered again answered = end_unless (λ inside t p is.
+      let landed : has_landed_at i.shape (log_of w 0) t.entry.position ≡ true =
+      placed_has_landed i.shape (log_of w 0) t p again answered is.0 is.2 (ap (λ q. holds_position i.shape q p) is.1 ∙ is.3) in
+      not_both (has_landed_at i.shape (log_of w 0) front) (ap (has_landed_at i.shape (log_of w 0)) (sym is.1) ∙ landed)
+      (synced_missing i.shape (log_of w 0) inside))
 
 -- ---- with a beginning or without
 
@@ -224,13 +248,6 @@ prefix_above i w mount sealed = go (begun (log_of w 0)) refl
         let empty : taken (log_of w 0) ≡ 0 = ap taken (nothing_logged i w mount e) in
         let most : synced i.shape (log_of w 0) ≤ taken (log_of w 0) = synced_within i.shape (log_of w 0) in
         omega arith
-
--- where each placed stripe is answered and none was lost
-pub end_where_answered : (i : Image) (w : World) (b : Begun) (mount : IsLegalMount i w) (sealed : IsSealed i) (begins : begun (log_of w 0) ≡ Some b)
-    → NoneLost (log_of w 0) → ((p : Placed) → Contains (placements (log_of w 0)) p → is_answered (log_of w 0) p ≡ true)
-    → end (media i (log_of w)) ≡ synced i.shape (log_of w 0)
-end_where_answered i w b mount sealed begins none answered =
-    end_is_synced i w b mount sealed begins (placed_have_landed i.shape (log_of w 0) none answered)
 
 -- ---- with cuts of units
 

@@ -1,3 +1,4 @@
 pub mod Assembled
 pub mod AfterMount
 pub mod Cuts
+pub mod PlacedAgain

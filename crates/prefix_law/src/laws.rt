@@ -1,6 +1,6 @@
 //! Laws on what recovery finds: each is the contract of a function that does nothing.
 
-ghost use Rattle.std.specs.Prelude.{◌≡◌, ◌≤◌, ◌++◌, true, take, ℕ, List};
+ghost use Rattle.std.specs.Prelude.{◌≡◌, ◌≤◌, ◌++◌, true, false, take, ℕ, List};
 ghost use Rattle.std.specs.Prelude.{Some, None};
 ghost use Rattle.std.specs.List.{Contains};
 ghost use Rattle.pblk_model.specs.Contents.{end, contents};
@@ -11,9 +11,10 @@ ghost use Rattle.pblk_world.specs.Events.{Step};
 ghost use Rattle.pblk_world.specs.World.{World, log_of, media};
 ghost use Rattle.pblk_world.specs.EngineLog.{Begun, begun, Placed, placements, is_answered};
 ghost use Rattle.pblk_world.specs.EngineLog.{holds_position};
-ghost use Rattle.pblk_world.specs.Fronts.{taken, synced, has_landed_at, history, user_positions};
-ghost use Rattle.world_laws.specs.LegalMounts.{IsLegalMount, NoneLost};
+ghost use Rattle.pblk_world.specs.Fronts.{taken, synced, history, user_positions};
+ghost use Rattle.world_laws.specs.LegalMounts.{IsLegalMount};
 ghost use Rattle.prefix_law.specs.Cuts.{AreCuts};
+ghost use Rattle.prefix_law.specs.PlacedAgain.{ArePlacedAgain};
 
 /// In a legal world over a sealed drive the contents of the media are those before, changed by the
 /// lines of the history below the end. The end is at the front synced or above it, and once the
@@ -46,22 +47,22 @@ pub fn a_cut_of_each_unit_leaves_a_prefix()
         → end (media i (log_of (steps ++ w))) ≤ taken (log_of w 0) }
 {}
 
-/// Where each placed stripe is answered and none was lost, the end is the front synced.
+/// Where each placed stripe is answered and what was lost was placed again, the end is the front
+/// synced.
 pub fn the_end_is_the_front_synced()
     ensures { (i : Image) (w : World) (b : Begun) → IsLegalMount i w → IsSealed i
-        → begun (log_of w 0) ≡ Some b → NoneLost (log_of w 0)
+        → begun (log_of w 0) ≡ Some b → ArePlacedAgain i.shape (log_of w 0)
         → ((p : Placed) → Contains (placements (log_of w 0)) p → is_answered (log_of w 0) p ≡ true)
         → end (media i (log_of w)) ≡ synced i.shape (log_of w 0) }
 {}
 
-/// So it is where each position that was placed has landed: what was lost was placed again, and
-/// landed.
-pub fn the_end_is_where_what_was_placed_has_landed()
+/// So it is wherever no stripe that was placed holds the position at the front synced. Else a part
+/// of a stripe that was lost, or isn't answered, may stand on the drive with that position.
+pub fn an_unplaced_front_is_the_end()
     ensures { (i : Image) (w : World) (b : Begun) → IsLegalMount i w → IsSealed i
         → begun (log_of w 0) ≡ Some b
-        → ((p : Placed) (position : ℕ) → Contains (placements (log_of w 0)) p
-        → holds_position i.shape position p ≡ true
-        → has_landed_at i.shape (log_of w 0) position ≡ true)
+        → ((p : Placed) → Contains (placements (log_of w 0)) p
+        → holds_position i.shape (synced i.shape (log_of w 0)) p ≡ false)
         → end (media i (log_of w)) ≡ synced i.shape (log_of w 0) }
 {}
 

@@ -5,7 +5,8 @@
 //!   the end. The end is at the front synced or above it, and once the mount has begun at most the
 //!   front taken.
 //! - The same holds after a stop that cuts any of the units.
-//! - Where each placed stripe is answered and none was lost, the end is the front synced.
+//! - Where each placed stripe is answered and what was lost was placed again, the end is the front
+//!   synced.
 //! - A world in which no mount has begun leaves the contents as they were.
 //! - The drive stays sealed.
 //!
@@ -16,6 +17,6 @@
 mod laws;
 
 pub use laws::{
-    a_cut_of_each_unit_leaves_a_prefix, contents_are_after_a_prefix, no_mount_changes_nothing,
-    the_end_is_the_front_synced, the_end_is_where_what_was_placed_has_landed, the_media_are_sealed,
+    a_cut_of_each_unit_leaves_a_prefix, an_unplaced_front_is_the_end, contents_are_after_a_prefix,
+    no_mount_changes_nothing, the_end_is_the_front_synced, the_media_are_sealed,
 };

@@ -1,13 +1,12 @@
 -- A line that is as the mount found it: each chunk is known as it was found, unless the line is a
 -- stray. So it is behind each start record of the mount, if it has a sequence number, or else empty.
-use Rattle.std.proofs.Common.{◌≡◌, ◌≢◌, ℕ, ◌+◌, ◌-◌, ◌<◌, ◌≤◌, ◌==◌, ◌&&◌, suc, not, Bool, true, false, Some, None, Option, List, [], ◌∷◌, length, refl, sym, subst, ap, ap₂, ◌∙◌, arith}
+use Rattle.std.proofs.Common.{◌≡◌, ◌≢◌, ℕ, ◌+◌, ◌-◌, ◌<◌, ◌≤◌, ◌==◌, ◌&&◌, suc, not, Bool, true, false, Some, None, Option, List, [], length, refl, sym, subst, ap, ap₂, ◌∙◌, arith}
 use Rattle.std.specs.Prelude.{slice_get, slice_index}
-use Rattle.std.specs.List.{AllByRecursion, cons_option, filter, filter_map, list_all, list_any, range_with_len}
+use Rattle.std.specs.List.{AllByRecursion, filter, list_all, list_any, range_with_len}
 use Rattle.std.specs.Option.{is_some, option_and_then, option_map, option_map_or}
 use Rattle.std.proofs.lemmas.Option.{slice_get_past}
 use Rattle.std.proofs.Math.Seq.{take-length}
 use Rattle.pblk_model.specs.declared.shape.Shape.{Shape}
-use Rattle.pblk_model.specs.declared.chunk.ChunkState.{ChunkState}
 use Rattle.pblk_model.specs.declared.chunk.ChunkState.TheVariants as states
 use Rattle.pblk_model.specs.Chunk.{Chunk}
 use Rattle.pblk_model.specs.Contents.{counted, end, head}
@@ -37,27 +36,9 @@ use Rattle.world_laws.proofs.KnownChunks.{IsKnownTo, known_first, known_later}
 use Rattle.world_laws.proofs.LifeUnits.{begun_within, chunk_known}
 use Rattle.world_laws.proofs.MediaChunks.{chunk_of_found}
 use Rattle.core_laws.proofs.EachChunk.{chunks_pass}
+use Rattle.core_laws.proofs.ClosedBegun.{over_unless_open}
+use Rattle.core_laws.proofs.VictimsAtWork.{same_chunks}
 use Rattle.rest_laws.specs.BehindLines.{IsBehind}
-
--- images that have the same chunk of a line on each unit
-same_chunks : (a b : Image) (line : ℕ) → length a.units ≡ length b.units → ((unit : ℕ) → chunk_in a line unit ≡ chunk_in b line unit)
-    → chunks_of a line ≡ chunks_of b line
-same_chunks a b line count same = go a.units b.units count same
-  where
-    go : (us vs : List (List Chunk)) → length us ≡ length vs
-        → ((u : ℕ) → option_and_then (λ (cs : List Chunk). slice_get cs line) (slice_get us u)
-        ≡ option_and_then (λ (cs : List Chunk). slice_get cs line) (slice_get vs u))
-        → filter_map (λ (cs : List Chunk). slice_get cs line) us ≡ filter_map (λ (cs : List Chunk). slice_get cs line) vs
-    go [] [] count same = refl
-    go [] (v ∷ vs) count same = absurd (omega arith)
-    go (u ∷ us) [] count same = absurd (omega arith)
-    go (u ∷ us) (v ∷ vs) count same = ap₂ (λ o xs. cons_option o xs) (same 0) (go us vs (omega (arith, count)) (λ k. same (suc k)))
-
-over_unless_open : (state : ChunkState) → state ≢ states.Open → is_over_state true state ≡ true
-over_unless_open states.Free apart = refl
-over_unless_open states.Open apart = absurd (apart refl)
-over_unless_open states.Closed apart = refl
-over_unless_open states.Offline apart = refl
 
 module _ (i : Image) (w : World) (mount : IsLegalMount i w) (b : Begun) (begins : begun (log_of w 0) ≡ Some b) (line : ℕ)
     (is_found : life_of (log_of w 0) line ≡ AsFound) where

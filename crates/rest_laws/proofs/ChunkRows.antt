@@ -34,6 +34,7 @@ use Rattle.core_laws.proofs.LandedNow.{opened_now}
 use Rattle.core_laws.proofs.LineRoom.{few_stripes, has_room}
 use Rattle.core_laws.proofs.StripeEnds.{below_end}
 use Rattle.core_laws.proofs.StripesInOrder.{IsAtPlace, IsInOrder, in_order}
+use Rattle.core_laws.proofs.PlainLogs.{none_failed}
 
 module _ (s : Shape) (log : List Logged) (o : Opening) (landed : (p : Placed) → Contains (stripes_of log o) p → has_landed log p ≡ true) where
   -- where all stripes have landed, so have all blocks
@@ -70,7 +71,8 @@ module _ (i : Image) (w : World) (simple : IsSimpleMount i w) (o : Opening) (is_
   opened = (opened_now i w mount o.line o is_open).0
 
   order : IsInOrder i (line_units (known_image i (log_of w))) (log_of w 0) o.line o
-  order = in_order i (line_units (known_image i (log_of w))) w (follow i w simple) o.line o is_open
+  order = in_order i (line_units (known_image i (log_of w))) w (follow i w mount) o.line o is_open
+      (none_failed (log_of w 0) simple.engine.lost o)
 
   -- where the k-th stripe of the line stands
   pub record IsInRow (k : ℕ) (p : Placed) : Type 0 where
@@ -129,7 +131,7 @@ module _ (i : Image) (w : World) (simple : IsSimpleMount i w) (o : Opening) (is_
     pub all_landed : (p : Placed) → Contains (stripes_of (log_of w 0) o) p → has_landed (log_of w 0) p ≡ true
     all_landed p its =
         let at : IsAmong (stripes_of log o) p = among_contained (stripes_of log o) p its in
-        let room : HasRoom s log o = has_room i w o.line o simple is_open in
+        let room : HasRoom s log o = has_room i w o.line o mount is_open in
         let few : length (stripes_of log o) ≤ line_end s o / s.ws_opt =
         few_stripes (length (stripes_of log o)) (line_end s o) s.ws_opt mount.accepted.drive.ws_opt room.within in
         let below : at.0 < length (stripes_of log o) = get_below (stripes_of log o) at.0 p at.1 in
@@ -160,7 +162,8 @@ module _ (i : Image) (w : World) (simple : IsSimpleMount i w) (o : Opening) (is_
         few : length (stripes_on (log_of w 0) o p.stripe.unit) * i.shape.ws_opt ≤ i.shape.clba
         few = by m refl
           where
-            by : (n : ℕ) → length (stripes_on (log_of w 0) o p.stripe.unit) ≡ n → length (stripes_on (log_of w 0) o p.stripe.unit) * i.shape.ws_opt ≤ i.shape.clba
+            by : (n : ℕ) → length (stripes_on (log_of w 0) o p.stripe.unit) ≡ n
+                → length (stripes_on (log_of w 0) o p.stripe.unit) * i.shape.ws_opt ≤ i.shape.clba
             by zero e = subst (λ n. n * s.ws_opt ≤ s.clba) (sym e) (omega arith)
             by (suc n) e =
                 let last = got_within (stripes_on log o p.stripe.unit) n (omega arith) in

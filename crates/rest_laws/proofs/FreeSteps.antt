@@ -1,9 +1,8 @@
 -- How the data addresses of the Free lines change with each event of the engine.
-use Rattle.std.proofs.Common.{◌≡◌, ◌≢◌, ℕ, ◌+◌, ◌<◌, ◌==◌, ◌&&◌, not, nat_lt, Bool, true, false, Some, None, is_some, List, length, refl, sym, subst, ap, ◌∙◌, arith, if◌then◌else◌}
+use Rattle.std.proofs.Common.{◌≡◌, ◌≢◌, ℕ, ◌+◌, ◌<◌, ◌&&◌, not, nat_lt, Bool, true, false, Some, None, is_some, List, length, refl, sym, subst, ap, ◌∙◌, arith, if◌then◌else◌}
 use Rattle.std.specs.Prelude.{slice_get}
 use Rattle.std.specs.List.{range_with_len}
 use Rattle.std.specs.Option.{option_and_then}
-use Rattle.std.proofs.lemmas.Bool.{eqb-true}
 use Rattle.std.proofs.lemmas.Option.{none-some, same_Some}
 use Rattle.pblk_model.specs.Image.{Image}
 use Rattle.pblk_model.specs.LineOrder.{data_len}
@@ -25,11 +24,11 @@ use Rattle.world_laws.proofs.NextLives.{IsPlacedIn, placed_in}
 use Rattle.world_laws.proofs.Programs.{program_of_stripe}
 use Rattle.core_laws.specs.PlacerOf.{unanswered_on}
 use Rattle.core_laws.proofs.UnansweredLines.{first_open}
-use Rattle.std.proofs.Common.{nat_eq}
 use Rattle.core_laws.specs.Stepping.{after}
 use Rattle.core_laws.proofs.KeptRows.{KeepsChunks}
 use Rattle.core_laws.proofs.LandedRows.{keeps_chunks}
 use Rattle.core_laws.proofs.RangeSums.{sum_more, sum_same}
+use Rattle.core_laws.proofs.ClosedKept.{one_told}
 use Rattle.rest_laws.specs.RoomSteps.{free_data}
 use Rattle.rest_laws.proofs.UsedResets.{in_range, unempty_now}
 
@@ -69,17 +68,6 @@ free_kept i logs e knows begins none life =
 
 -- ---- a stripe has landed
 
--- what is told is the event that is named
-pub one_event : (logs : Logs) (unit number u : ℕ) (x y : UnitEvent) → unit_event_at logs unit number ≡ Some y
-    → (if unit == u then unit_event_at logs u number else None) ≡ Some x → x ≡ y
-one_event logs unit number u x y is told = go (nat_eq unit u) refl
-  where
-    go : (t : Bool) → nat_eq unit u ≡ t → x ≡ y
-    go true e =
-        let same : unit ≡ u = eqb-true unit u e in
-        same_Some x y (sym told ∙ ap (λ t. if t then unit_event_at logs u number else None) e ∙ ap (λ n. unit_event_at logs n number) (sym same) ∙ is)
-    go false e = absurd (none-some x (sym (ap (λ t. if t then unit_event_at logs u number else None) e) ∙ told))
-
 module _ (i : Image) (w : World) (mount : IsLegalMount i w) (unit number : ℕ) (knows : List ℕ) (may : MayLand (log_of w) unit number) where
   -- its line is opened
   pub its_line : (u : ℕ) (x : UnitEvent) → told_by (log_of w) u (Decides (Landed unit number)) ≡ Some x → is_opened (life_of (log_of w 0) x.chunk) ≡ true
@@ -95,7 +83,7 @@ module _ (i : Image) (w : World) (mount : IsLegalMount i w) (unit number : ℕ) 
       let it : IsPlacedIn i w mount.legal unit (length (answers (log_of w 0) unit)) s.placed =
       placed_in i w mount.legal unit (length (answers (log_of w 0) unit)) s.placed waits in
       let chunk : x.chunk ≡ s.placed.stripe.line =
-      ap (λ (y : UnitEvent). y.chunk) (one_event (log_of w) unit number u x may.program at told) ∙ s.chunk ∙ it.chunk in
+      ap (λ (y : UnitEvent). y.chunk) (one_told (log_of w) unit number u x may.program at told) ∙ s.chunk ∙ it.chunk in
       ap (λ m. is_opened (life_of (log_of w 0) m)) chunk ∙ ap is_opened (first_open i w unit s.placed mount.legal waits ∙ it.its_life)
 
   pub free_landed : free_addresses i (after (log_of w) (Landed unit number) knows) ≡ free_addresses i (log_of w)
@@ -192,4 +180,4 @@ module _ (i : Image) (w : World) (mount : IsLegalMount i w) (b : Begun) (begins 
       beside : (m : ℕ) → m ≢ may.reset.chunk → free_data i new m ≡ free_data i (log_of w) m
       beside m apart = data_kept i (log_of w) new m (life_more (log_of w 0) (record { event = Decides (ResetDone unit number); knows = knows }) m)
           (keeps_chunks i (log_of w) (ResetDone unit number) knows m refl (λ u x told same. apart (same
-          ∙ ap (λ (y : UnitEvent). y.chunk) (one_event (log_of w) unit number u x may.reset at told))))
+          ∙ ap (λ (y : UnitEvent). y.chunk) (one_told (log_of w) unit number u x may.reset at told))))

@@ -29,8 +29,8 @@ use Rattle.world_laws.proofs.Stripes.{one_opening, stripe_is}
 use Rattle.core_laws.specs.SimpleMounts.{IsSimpleMount}
 use Rattle.core_laws.specs.Spent.{OpensWhenFull}
 use Rattle.core_laws.proofs.Distinct.{passing}
-use Rattle.core_laws.proofs.LandedOver.{no_losses}
-use Rattle.core_laws.proofs.PlacedInOrder.{IsOrdered, count_is, front_within, never_lost, ordered, some_hold_below, waiting_are_last}
+use Rattle.core_laws.proofs.PlacedInOrder.{IsOrdered, count_is, front_within, ordered, some_hold_below, waiting_are_last}
+use Rattle.core_laws.proofs.PlainLogs.{never_lost}
 use Rattle.rest_laws.specs.NewestOpened.{IsLastOpened}
 use Rattle.rest_laws.proofs.ChunkRows.{IsInRow, blocks_landed, few_rows, in_row}
 use Rattle.rest_laws.proofs.FullChunks.{closed_chunk}
@@ -44,9 +44,9 @@ pub taken_waits : (i : Image) (w : World) → IsSimpleMount i w
     → taken (log_of w 0) ≡ placed_front i.shape (log_of w 0) + length (waiting i.shape (log_of w 0))
 taken_waits i w simple =
     let log : List Logged = log_of w 0 in
-    let order : IsOrdered i.shape log = ordered i w simple in
+    let order : IsOrdered i.shape log = ordered i w simple.mount in
     let left : length (waiting i.shape log) ≡ length (takes log) - order.order.count =
-    ap (λ (ts : List Taken). length ts) (waiting_are_last i.shape log order.numbered order.no_loss order.order)
+    ap (λ (ts : List Taken). length ts) (waiting_are_last i.shape log (never_lost log simple.engine.lost) order)
     ∙ length-drop order.order.count (takes log) in
     let count : length (filter (was_placed i.shape log) (takes log)) ≡ order.order.count = count_is i.shape log order in
     let few : order.order.count ≤ length (takes log) = order.order.within in
@@ -89,10 +89,10 @@ module _ (i : Image) (w : World) (simple : IsSimpleMount i w) (full : OpensWhenF
   mount = simple.mount
 
   order : IsOrdered i.shape (log_of w 0)
-  order = ordered i w simple
+  order = ordered i w simple.mount
 
   not_lost : (p : Placed) → was_lost (log_of w 0) p ≡ false
-  not_lost p = never_lost log (no_losses log simple.engine.lost) p
+  not_lost p = never_lost log simple.engine.lost p
 
   landed : (p : Placed) → Contains (placements (log_of w 0)) p → has_landed (log_of w 0) p ≡ true
   landed p there = landed_of_answered log p (answered p there) (not_lost p)
@@ -190,7 +190,8 @@ module _ (i : Image) (w : World) (simple : IsSimpleMount i w) (full : OpensWhenF
           → placed_front i.shape (log_of w 0) ≤ freed i.shape (log_of w 0) + units i.shape * (i.shape.mw_cunits + (i.shape.ws_opt - 1))
       in_last p h its =
           let is_open : life_of log n.line ≡ Opened n = last_stands i w simple n last in
-          let at : IsAmong (stripes_of log n) p = in_filter (λ (y : Placed). is_life n.number y.life) (placements log) p (among_contained (placements log) p h.there)
+          let at : IsAmong (stripes_of log n) p =
+          in_filter (λ (y : Placed). is_life n.number y.life) (placements log) p (among_contained (placements log) p h.there)
           (ap (is_life n.number) its.life ∙ same_number n.number) in
           let j : ℕ = at.0 in
           let us : List ℕ = line_units (known_image i (log_of w)) n.line in
@@ -211,7 +212,8 @@ module _ (i : Image) (w : World) (simple : IsSimpleMount i w) (full : OpensWhenF
           let low : h.index < length p.stripe.blocks = get_below p.stripe.blocks h.index h.block h.is_block in
           let bound : s.ws_opt * (length (stripes_of log n) - j) ≤ length us * (s.mw_cunits + (s.ws_opt - 1)) =
           row_bound (length (stripes_of log n)) j m (j / length us) (j % length us) (length us) s.ws_opt h.index s.mw_cunits few here
-          (near_row (landed_blocks s log n p.stripe.unit) (m * s.ws_opt) p.stripe.at h.index s.mw_cunits (j / length us * s.ws_opt) blocks near at_row) (below_by low long) in
+          (near_row (landed_blocks s log n p.stripe.unit) (m * s.ws_opt) p.stripe.at h.index s.mw_cunits (j / length us * s.ws_opt) blocks near at_row)
+          (below_by low long) in
           let all_units : length us ≡ units s = line_units_count (known_image i (log_of w)) n.line ∙ wide in
           let since : placed_front s log ≤ placed_front s (take p.number log) + s.ws_opt * (length (stripes_of log n) - j) =
           placed_since i w simple full n last j p at.1 h.there its.before in

@@ -27,6 +27,7 @@ use Rattle.world_laws.proofs.ToldSince.{told_when_made}
 use Rattle.core_laws.specs.SimpleMounts.{IsSimpleMount}
 use Rattle.core_laws.proofs.LandedOver.{over_is}
 use Rattle.core_laws.proofs.SimpleMounts.{simple_made}
+use Rattle.core_laws.proofs.PlainLogs.{none_failed}
 use Rattle.rest_laws.proofs.ChunkRows.{all_landed, closed_when, count_full}
 
 module _ (i : Image) (w : World) (simple : IsSimpleMount i w) (o : Opening) (opened : Contains (openings (log_of w 0)) o) where
@@ -58,7 +59,7 @@ module _ (i : Image) (w : World) (simple : IsSimpleMount i w) (o : Opening) (ope
         (ap (λ (xs : List Logged). life_of xs o.line) (whole_own i (step_by 0 f.logged) h.before h.step))) ∙ may.over
 
     was_landed : have_landed (log_of h.before 0) o (line_end i.shape o / i.shape.ws_opt) ≡ true
-    was_landed = sym (over_is i h.before earlier.mount o was_open earlier.engine.lost) ∙ was_over
+    was_landed = sym (over_is i h.before earlier.mount o was_open (none_failed (log_of h.before 0) earlier.engine.lost o)) ∙ was_over
 
     all_before : length (take f.number (log_of w 0)) ≡ f.number
     all_before = let far : f.number < length log = get_below log f.number f.logged f.there in omega (arith, length-take f.number log)
@@ -107,5 +108,5 @@ module _ (i : Image) (w : World) (simple : IsSimpleMount i w) (o : Opening) (ope
       go (inr f) = freed_full f p its
       go (inl stands) =
           let landed : have_landed log o (line_end i.shape o / i.shape.ws_opt) ≡ true =
-          sym (over_is i w mount o stands simple.engine.lost) ∙ over stands in
+          sym (over_is i w mount o stands (none_failed (log_of w 0) simple.engine.lost o)) ∙ over stands in
           closed_when i.shape log o (all_landed i w simple o stands landed) p.stripe.unit (count_full i w simple o stands landed p its)

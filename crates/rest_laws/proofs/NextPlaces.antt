@@ -27,16 +27,15 @@ use Rattle.core_laws.specs.SimpleMounts.{IsSimpleMount}
 use Rattle.core_laws.proofs.EachChunk.{all_hold}
 use Rattle.core_laws.proofs.FreedWidths.{opened_width}
 use Rattle.core_laws.proofs.LandedNow.{opened_now}
-use Rattle.core_laws.proofs.LandedOver.{no_losses}
 use Rattle.core_laws.proofs.OpenedRows.{has_width}
-use Rattle.core_laws.proofs.PlacedInOrder.{never_lost}
+use Rattle.core_laws.proofs.PlainLogs.{never_lost}
 
 module _ (i : Image) (w : World) (simple : IsSimpleMount i w) (o : Opening) where
   mount : IsLegalMount i w
   mount = simple.mount
 
   not_lost : (p : Placed) → was_lost (log_of w 0) p ≡ false
-  not_lost p = never_lost (log_of w 0) (no_losses (log_of w 0) simple.engine.lost) p
+  not_lost p = never_lost (log_of w 0) simple.engine.lost p
 
   -- ---- landed
 

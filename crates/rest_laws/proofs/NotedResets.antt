@@ -16,8 +16,8 @@ use Rattle.pblk_world.specs.World.{World, log_of, unit_event_of}
 use Rattle.lemmas.proofs.Options.{split_then}
 use Rattle.lemmas.proofs.Tests.{not_both}
 use Rattle.world_laws.specs.LegalMounts.{IsLegalMount}
+use Rattle.world_laws.specs.Orders.{AreReset}
 use Rattle.world_laws.proofs.Deeds.{IsDeed, deed}
-use Rattle.rest_laws.specs.BehindLines.{AreReset}
 use Rattle.rest_laws.proofs.UsedResets.{in_range, still_given, unempty_now}
 use Rattle.std.proofs.lemmas.Option.{same_Some}
 

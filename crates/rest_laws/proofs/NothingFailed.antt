@@ -88,7 +88,7 @@ all_online line (cs ∷ us) all =
 
 module _ (i : Image) (w : World) (mount : IsLegalMount i w) (b : Begun) (begins : begun (log_of w 0) ≡ Some b) where
   -- the engine knows a chunk of each line on each unit
-  known_chunk : (unit line : ℕ) → unit < units i.shape → line < i.shape.chunks → (c : Chunk) × (chunk_in (known_image i (log_of w)) line unit ≡ Some c)
+  pub known_chunk : (unit line : ℕ) → unit < units i.shape → line < i.shape.chunks → (c : Chunk) × (chunk_in (known_image i (log_of w)) line unit ≡ Some c)
   known_chunk unit line unit_in line_in = by (got_within i.units unit (omega (arith, unit_in, mount.fit.units)))
     where
       own : List Logged
@@ -100,7 +100,8 @@ module _ (i : Image) (w : World) (mount : IsLegalMount i w) (b : Begun) (begins 
       on_media : (c : Chunk) × (chunk_in (media i (log_of w)) line unit ≡ Some c)
       on_media =
           let cs = got_within (media i (log_of w)).units unit (omega (arith, unit_in, fit.units)) in
-          let count : length cs.0 ≡ i.shape.chunks = all_at (λ (xs : List Chunk). length xs ≡ i.shape.chunks) (media i (log_of w)).units unit cs.0 cs.1 fit.chunks in
+          let count : length cs.0 ≡ i.shape.chunks =
+          all_at (λ (xs : List Chunk). length xs ≡ i.shape.chunks) (media i (log_of w)).units unit cs.0 cs.1 fit.chunks in
           let c = got_within cs.0 line (omega arith) in
           (c.0, ap (option_and_then (λ (xs : List Chunk). slice_get xs line)) cs.1 ∙ c.1)
 

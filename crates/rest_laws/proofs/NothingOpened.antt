@@ -28,7 +28,7 @@ unopened_waits i w simple none = go (cases_lt q (placed_front i.shape (log_of w 
     all = taken_waits i w simple
 
     order : IsOrdered i.shape (log_of w 0)
-    order = ordered i w simple
+    order = ordered i w simple.mount
 
     front : IsLeast (λ position. list_any (gives_back i.shape (log_of w 0) position) (placements (log_of w 0))) (length (takes (log_of w 0)))
         (first_position (log_of w 0)) (freed i.shape (log_of w 0))

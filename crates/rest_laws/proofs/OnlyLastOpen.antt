@@ -25,10 +25,10 @@ use Rattle.world_laws.proofs.Stripes.{IsOpening, opening_is}
 use Rattle.core_laws.specs.SimpleMounts.{IsSimpleMount}
 use Rattle.core_laws.specs.Spent.{OpensWhenFull}
 use Rattle.core_laws.proofs.LandedNow.{opened_now}
-use Rattle.core_laws.proofs.LandedOver.{no_losses, over_is}
-use Rattle.core_laws.proofs.PlacedInOrder.{never_lost}
+use Rattle.core_laws.proofs.LandedOver.{over_is}
 use Rattle.rest_laws.proofs.NextPlaces.{first_landed, stripe_with}
-use Rattle.rest_laws.proofs.OverSynced.{none_in_sum}
+use Rattle.core_laws.proofs.LaterLines.{none_in_sum}
+use Rattle.core_laws.proofs.PlainLogs.{never_lost, none_failed}
 
 module _ (i : Image) (w : World) (simple : IsSimpleMount i w) (full : OpensWhenFull i (log_of w)) (n : Opening)
     (opened : Contains (openings (log_of w 0)) n) (o : Opening) (before : o.number < n.number) (is_open : life_of (log_of w 0) o.line ≡ Opened o)
@@ -75,7 +75,7 @@ module _ (i : Image) (w : World) (simple : IsSimpleMount i w) (full : OpensWhenF
           go false e = e
           go true e = absurd (not_both (has_failed log o) (failed_later log o n.number e)
               (any_fail (was_lost log) (stripes_of log o) (all_of (λ p. was_lost log p ≡ false)
-              (λ p. never_lost log (no_losses log simple.engine.lost) p) (stripes_of log o))))
+              (λ p. never_lost log simple.engine.lost p) (stripes_of log o))))
 
   pub others_over : are_over i (log_of w) o.line ≡ true
   others_over = go (cases_lt (next_address i.shape log o) (line_end i.shape o))
@@ -90,7 +90,8 @@ module _ (i : Image) (w : World) (simple : IsSimpleMount i w) (full : OpensWhenF
       go : (next_address i.shape (log_of w 0) o < line_end i.shape o) ⊎ (line_end i.shape o ≤ next_address i.shape (log_of w 0) o)
           → are_over i (log_of w) o.line ≡ true
       go (inr past) =
-          over_is i w mount o is_open simple.engine.lost ∙ first_landed i w simple o own answered (line_end i.shape o / i.shape.ws_opt) (fit (line_end i.shape o) past)
+          over_is i w mount o is_open (none_failed (log_of w 0) simple.engine.lost o)
+          ∙ first_landed i w simple o own answered (line_end i.shape o / i.shape.ws_opt) (fit (line_end i.shape o) past)
       go (inl more) =
           let stripe = stripe_with i w simple o is_open
           (stripe_at i.shape (end_blocks i.shape log o) (end_address i.shape o) (next_address i.shape log o)) in

@@ -42,6 +42,7 @@ use Rattle.core_laws.proofs.LaterLines.{seq_rises}
 use Rattle.core_laws.proofs.LineRoom.{few_stripes, has_room}
 use Rattle.core_laws.proofs.OverLines.{IsOfStripe, of_stripe, positions_written}
 use Rattle.core_laws.proofs.SimpleMounts.{simple_made}
+use Rattle.core_laws.proofs.PlainLogs.{none_failed}
 use Rattle.rest_laws.specs.BehindLines.{IsBehind}
 use Rattle.rest_laws.proofs.OverSynced.{below_synced}
 
@@ -96,13 +97,13 @@ module _ (i : Image) (w : World) (simple : IsSimpleMount i w) (full : OpensWhenF
 
     module _ (over : are_over i (log_of h.before) o.line ≡ true) where
       landed_then : have_landed (log_of h.before 0) o (line_end i.shape o / i.shape.ws_opt) ≡ true
-      landed_then = sym (over_is i h.before earlier.mount o open_then earlier.engine.lost) ∙ over
+      landed_then = sym (over_is i h.before earlier.mount o open_then (none_failed (log_of h.before 0) earlier.engine.lost o)) ∙ over
 
       over_now : are_over i (log_of w) o.line ≡ true
       over_now =
           let count : ℕ = line_end i.shape o / i.shape.ws_opt in
           let first : have_landed (take n.number log) o count ≡ true = ap (λ (xs : List Logged). have_landed xs o count) (sym own) ∙ landed_then in
-          over_is i w mount o is_open simple.engine.lost
+          over_is i w mount o is_open (none_failed (log_of w 0) simple.engine.lost o)
           ∙ subst (λ (xs : List Logged). have_landed xs o count ≡ true) (take_and_drop n.number log)
           (have_landed_later (take n.number log) (drop n.number log) o count first)
 
@@ -111,7 +112,7 @@ module _ (i : Image) (w : World) (simple : IsSimpleMount i w) (full : OpensWhenF
       placed_then p its =
           let count : ℕ = line_end i.shape o / i.shape.ws_opt in
           let at : IsAmong (stripes_of log o) p = among_contained (stripes_of log o) p its in
-          let room : HasRoom i.shape log o = has_room i w o.line o simple is_open in
+          let room : HasRoom i.shape log o = has_room i w o.line o mount is_open in
           let few : length (stripes_of log o) ≤ line_end i.shape o / i.shape.ws_opt =
           few_stripes (length (stripes_of log o)) (line_end i.shape o) i.shape.ws_opt mount.accepted.drive.ws_opt room.within in
           let below : at.0 < length (stripes_of log o) = get_below (stripes_of log o) at.0 p at.1 in
@@ -139,7 +140,8 @@ module _ (i : Image) (w : World) (simple : IsSimpleMount i w) (full : OpensWhenF
         seq = o.start.seq;
         has_seq = ap (λ (l : LineLife). seq_in i (log_of w) l o.line) is_open;
         older = seq_rises i w mount o n (opened_now i w mount o.line o is_open).0 opened before;
-        below_front = subst (λ (l : LineLife). AllByRecursion (λ position. position < n.start.front) (positions_in i (log_of w) l o.line)) (sym is_open) all_below;
+        below_front = subst (λ (l : LineLife). AllByRecursion (λ position. position < n.start.front) (positions_in i (log_of w) l o.line))
+            (sym is_open) all_below;
       }
 
     pub left_or_behind : (has_stripe_left i (engine_prefix n.number (log_of w)) o.line ≡ true) ⊎ IsBehind i (log_of w) n.start o.line

@@ -1,28 +1,26 @@
 -- Where nothing was lost and each line was opened once the open ones were full: once all stripes of a
 -- line have landed, all its positions are below the front synced.
-use Rattle.std.proofs.Common.{◌≡◌, ◌⊎◌, inl, inr, ℕ, ◌+◌, ◌-◌, ◌*◌, ◌/◌, ◌%◌, ◌<◌, ◌≤◌, ◌&&◌, nat_le, nat_lt, max, Bool, true, false, Some, Option, List, length, take, drop, refl, sym, subst, ap, ◌∙◌, arith, length-append, length-take, if◌then◌else◌}
+use Rattle.std.proofs.Common.{◌≡◌, ◌⊎◌, inl, inr, ℕ, ◌*◌, ◌/◌, ◌%◌, ◌<◌, ◌≤◌, ◌&&◌, nat_le, nat_lt, Bool, true, false, Some, Option, List, length, take, drop, refl, sym, subst, ap, ◌∙◌, arith, length-take}
 use Rattle.std.specs.Prelude.{slice_get}
-use Rattle.std.specs.List.{Contains, list_any, range_with_len, sum_by}
+use Rattle.std.specs.List.{Contains, list_any}
 use Rattle.std.proofs.lemmas.Bool.{cases_lt, cases_order}
-use Rattle.std.proofs.lemmas.List.{take-take}
 use Rattle.std.proofs.lemmas.Option.{same_Some}
-use Rattle.std.proofs.Math.Nat.{max-le, mod-eq_of_lt, mul-le-mul_left, mul-le-mul_right}
+use Rattle.std.proofs.Math.Nat.{mod-eq_of_lt, mul-le-mul_left}
 use Rattle.pblk_model.specs.declared.shape.Shape.{Shape}
 use Rattle.pblk_model.specs.Image.{Image, line_units, width}
-use Rattle.pblk_model.specs.LineOrder.{start_len}
 use Rattle.pblk_model.specs.Shape.{units}
 use Rattle.pblk_laws.proofs.LineUnits.{line_units_count}
 use Rattle.std.specs.Option.{option_map_or}
-use Rattle.pblk_world.specs.EngineLog.{Begun, Opened, Opening, has_failed, has_landed, holds_position, is_answered, is_life, life_of, openings, Placed, placed_on, placements, stripes_of, was_lost}
+use Rattle.pblk_world.specs.EngineLog.{Begun, Opened, Opening, has_landed, holds_position, is_answered, is_life, life_of, openings, Placed, placed_on, placements, stripes_of, was_lost}
 use Rattle.pblk_world.specs.Events.{Logged}
 use Rattle.pblk_world.specs.Fronts.{first_position, has_landed_at, synced, taken}
 use Rattle.pblk_world.specs.Lines.{known_image}
-use Rattle.pblk_world.specs.Placing.{IsData, MayPlace, end_address, line_end, next_address}
-use Rattle.pblk_world.specs.Space.{placed_front, unplaced_in}
+use Rattle.pblk_world.specs.Placing.{MayPlace, line_end}
+use Rattle.pblk_world.specs.Space.{placed_front}
 use Rattle.pblk_world.specs.Starts.{have_landed}
 use Rattle.pblk_world.specs.Victims.{engine_prefix}
 use Rattle.pblk_world.specs.World.{World, log_of}
-use Rattle.pblk_world.proofs.EngineLogLemmas.{begun_taken, opened_same}
+use Rattle.pblk_world.proofs.EngineLogLemmas.{begun_taken}
 use Rattle.pblk_world.proofs.LinesLemmas.{length_known}
 use Rattle.pblk_world.proofs.SyncedFront.{synced_missing}
 use Rattle.lemmas.proofs.Lists.{IsAmong, among_contained}
@@ -33,80 +31,27 @@ use Rattle.world_laws.specs.LegalMounts.{IsLegalMount}
 use Rattle.world_laws.proofs.Fronts.{synced_from}
 use Rattle.world_laws.proofs.Later.{answered_later, placed_later, placed_within}
 use Rattle.world_laws.proofs.LineStarts.{landed_of}
-use Rattle.world_laws.proofs.LineStripes.{IsSplit, data_behind_start, failed_later, stripes_split}
 use Rattle.world_laws.proofs.Made.{IsMade, made, own_then}
-use Rattle.world_laws.proofs.NextLives.{IsOpenSince, open_since}
 use Rattle.world_laws.proofs.NextPrograms.{landed_of_answered}
 use Rattle.world_laws.proofs.Openings.{placed_at}
 use Rattle.world_laws.proofs.Stripes.{IsPlaced, life_of_stripe, one_opening, opening_then, placed_is, stripe_is}
 use Rattle.core_laws.specs.SimpleMounts.{IsSimpleMount}
 use Rattle.core_laws.specs.Spent.{OpensWhenFull}
+use Rattle.core_laws.specs.PlainLogs.{NoStripeLost}
 use Rattle.core_laws.proofs.Distinct.{passing}
 use Rattle.core_laws.proofs.FreedWidths.{opened_width}
 use Rattle.core_laws.proofs.KeptLines.{on_drive}
 use Rattle.core_laws.proofs.LandedNow.{opened_now}
-use Rattle.core_laws.proofs.LandedOver.{no_losses}
 use Rattle.core_laws.proofs.LineRoom.{few_stripes}
-use Rattle.core_laws.proofs.PlacedAnew.{WasWaiting, earlier_stripe, one_kept, one_number, was_waiting}
-use Rattle.core_laws.proofs.PlacedInOrder.{IsOrdered, front_within, never_lost, ordered, some_hold_below}
+use Rattle.core_laws.proofs.PlacedAnew.{earlier_stripe, one_kept, one_number}
+use Rattle.core_laws.proofs.PlacedInOrder.{IsOrdered, front_within, ordered, some_hold_below}
 use Rattle.core_laws.proofs.SimpleMounts.{simple_made}
+use Rattle.core_laws.proofs.LaterLines.{none_in_older}
+use Rattle.core_laws.proofs.PlainLogs.{never_lost}
 use Rattle.rest_laws.proofs.ChunkRows.{IsInRow, all_landed, in_row}
 use Rattle.rest_laws.proofs.WideLines.{column_of_unit}
-use Rattle.std.proofs.lemmas.List.Folds.{sum_by-zero}
-use Rattle.std.specs.List.{list_all}
-use Rattle.world_laws.proofs.FoundEmpty.{all_pass}
-use Rattle.lemmas.proofs.Maps.{range_get}
 use Rattle.lemmas.proofs.Tests.{same}
 use Rattle.std.proofs.Common.{◌==◌}
-
--- each part of a sum of 0 is 0
-pub none_in_sum : (f : ℕ → ℕ) (n : ℕ) → sum_by f (range_with_len 0 n) ≡ 0 → (k : ℕ) → k < n → f k ≡ 0
-none_in_sum f n none k below =
-    let all : list_all (λ m. f m == 0) (range_with_len 0 n) ≡ true =
-    sym (sum_by-zero f (range_with_len 0 n)) ∙ ap (λ m. m == 0) none ∙ same_number 0 in
-    let at : 0 + k ≡ k = omega arith in
-    same (f k) 0 (all_pass (λ m. f m == 0) (range_with_len 0 n) k k all (range_get 0 n k below ∙ ap (λ m. Some m) at))
-
-module _ (i : Image) (w : World) (mount : IsLegalMount i w) (full : OpensWhenFull i (log_of w)) where
-  -- once a line is opened, no stripe of entries is placed in a line that was opened before it
-  pub none_in_older : (o q : Opening) (p : Placed) (position : ℕ) → Contains (openings (log_of w 0)) o → Contains (placements (log_of w 0)) p
-      → p.life ≡ Opened q → holds_position i.shape position p ≡ true → o.number < p.number → q.number < o.number → ⊥
-  none_in_older o q p position opened there life holds later before =
-      let log : List Logged = log_of w 0 in
-      let h : WasWaiting i w mount p position = was_waiting i w mount p position there holds in
-      let stands = life_of_stripe i w p mount.legal there in
-      let its : q ≡ stands.0 = opened_same q stands.0 (sym life ∙ stands.1) in
-      let same : h.may.opening ≡ q = opened_same h.may.opening q (sym h.may.is_open ∙ stands.2 ∙ ap Opened (sym its)) in
-      let inside : p.number < length log = placed_within log p there in
-      let since : IsOpenSince i w mount.legal p.stripe.line p.number q =
-      open_since i w mount.legal p.number p.stripe.line q (omega arith) (stands.2 ∙ ap Opened (sym its)) in
-      let then_ : life_of (take o.number log) p.stripe.line ≡ Opened q = since.since o.number before (omega arith) in
-      let none : unplaced_in i.shape (take o.number log) (Opened q) ≡ 0 =
-      ap (unplaced_in i.shape (take o.number log)) (sym then_)
-      ∙ none_in_sum (λ line. unplaced_in i.shape (take o.number log) (life_of (take o.number log) line)) i.shape.chunks (full o opened) p.stripe.line
-      h.may.in_range in
-      go (has_failed (take o.number log) q) refl none (subst (λ x. IsData i (engine_prefix p.number (log_of w)) x p.stripe) same h.data_is)
-    where
-      go : (b : Bool) → has_failed (take o.number (log_of w 0)) q ≡ b
-          → (if b then 0 else end_address i.shape q - max (start_len i.shape) (next_address i.shape (take o.number (log_of w 0)) q)) ≡ 0
-          → IsData i (engine_prefix p.number (log_of w)) q p.stripe → ⊥
-      go true failed none data_is = not_both (has_failed (take p.number (log_of w 0)) q)
-          (failed_later (take p.number (log_of w 0)) q o.number
-          (ap (λ (xs : List Logged). has_failed xs q) (take-take o.number p.number (log_of w 0) (omega arith)) ∙ failed)) data_is.next.not_failed
-      go false kept none data_is =
-          let log : List Logged = log_of w 0 in
-          let split : IsSplit (take p.number log) q o.number = stripes_split (take p.number log) q o.number in
-          let parts : length (stripes_of (take p.number log) q) ≡ length (stripes_of (take o.number (take p.number log)) q) + length split.more =
-          ap length split.parts ∙ length-append (stripes_of (take o.number (take p.number log)) q) split.more in
-          let same : length (stripes_of (take o.number (take p.number log)) q) ≡ length (stripes_of (take o.number log) q) =
-          ap (λ (xs : List Logged). length (stripes_of xs q)) (take-take o.number p.number log (omega arith)) in
-          let few : next_address i.shape (take o.number log) q ≤ next_address i.shape (take p.number log) q =
-          mul-le-mul_right i.shape.ws_opt (omega arith) in
-          let start : start_len i.shape ≤ next_address i.shape (take p.number log) q =
-          data_behind_start i (engine_prefix p.number (log_of w)) q p.stripe mount.accepted.drive.ws_opt data_is in
-          let most : max (start_len i.shape) (next_address i.shape (take o.number log) q) ≤ next_address i.shape (take p.number log) q = max-le start few in
-          let within : next_address i.shape (take p.number log) q < end_address i.shape q = data_is.within in
-          omega arith
 
 module _ (i : Image) (w : World) (simple : IsSimpleMount i w) (full : OpensWhenFull i (log_of w)) where
   abbrev log : List Logged
@@ -119,10 +64,10 @@ module _ (i : Image) (w : World) (simple : IsSimpleMount i w) (full : OpensWhenF
   mount = simple.mount
 
   order : IsOrdered i.shape (log_of w 0)
-  order = ordered i w simple
+  order = ordered i w simple.mount
 
   not_lost : (p : Placed) → was_lost (log_of w 0) p ≡ false
-  not_lost p = never_lost log (no_losses log simple.engine.lost) p
+  not_lost p = never_lost log simple.engine.lost p
 
   -- how a stripe's line had been opened when it was placed
   pub record IsOf (p : Placed) (o : Opening) : Type 0 where
@@ -141,7 +86,14 @@ module _ (i : Image) (w : World) (simple : IsSimpleMount i w) (full : OpensWhenF
   ordered_then p there =
       let is : IsPlaced log p = placed_is log p there in
       let h : IsMade i w 0 p.number is.logged = made i w 0 p.number is.logged mount.legal is.there in
-      subst (IsOrdered s) (own_then i w 0 p.number is.logged h) (ordered i h.before (simple_made i w p.number is.logged simple h))
+      subst (IsOrdered s) (own_then i w 0 p.number is.logged h) (ordered i h.before (simple_made i w p.number is.logged simple h).mount)
+
+  pub lost_then : (p : Placed) → Contains (placements (log_of w 0)) p → NoStripeLost (take p.number (log_of w 0))
+  lost_then p there =
+      let is : IsPlaced log p = placed_is log p there in
+      let h : IsMade i w 0 p.number is.logged = made i w 0 p.number is.logged mount.legal is.there in
+      subst NoStripeLost (own_then i w 0 p.number is.logged h)
+      (never_lost (log_of h.before 0) (simple_made i w p.number is.logged simple h).engine.lost)
 
   pub first_then : (n : ℕ) → 0 < n → first_position (take n (log_of w 0)) ≡ first_position (log_of w 0)
   first_then n some = ap (λ (b : Option Begun). option_map_or (λ (x : Begun). x.beginning.first) b 0) (begun_taken n (log_of w 0) some)
@@ -157,7 +109,8 @@ module _ (i : Image) (w : World) (simple : IsSimpleMount i w) (full : OpensWhenF
       let its : IsAmong (placements (take n log)) p = earlier_stripe i w mount p n p_there earlier in
       let held : list_any (holds_position s r) (placements (take n log)) ≡ true =
       any_member (holds_position s r) (placements (take n log)) its.0 p its.1 p_holds in
-      let parts = both (nat_le (first_position (take n log)) r) (nat_lt r (placed_front s (take n log))) (sym (some_hold_below s (take n log) then_ r) ∙ held) in
+      let parts = both (nat_le (first_position (take n log)) r) (nat_lt r (placed_front s (take n log)))
+      (sym (some_hold_below s (take n log) then_ r) ∙ held) in
       let below : r < placed_front s (take n log) = below_of r (placed_front s (take n log)) parts.1 in
       let also : list_any (holds_position s m) (placements (take n log)) ≡ true =
       some_hold_below s (take n log) then_ m

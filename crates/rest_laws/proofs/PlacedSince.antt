@@ -4,7 +4,6 @@ use Rattle.std.specs.Prelude.{slice_get}
 use Rattle.std.specs.List.{AllByRecursion, Contains, cons_option, filter, filter_map, flat_map}
 use Rattle.std.proofs.lemmas.Bool.{cases_order}
 use Rattle.std.proofs.lemmas.Grind.{flat_map-append}
-use Rattle.std.proofs.lemmas.List.FromFn.{length-range_with_len}
 use Rattle.std.proofs.Math.Nat.{mul-le-mul_left, mul-suc}
 use Rattle.pblk_model.specs.declared.shape.Shape.{Shape}
 use Rattle.pblk_model.specs.Image.{Image}
@@ -26,13 +25,17 @@ use Rattle.core_laws.specs.PlacerOf.{positions_in_stripe}
 use Rattle.core_laws.specs.SimpleMounts.{IsSimpleMount}
 use Rattle.core_laws.specs.Spent.{OpensWhenFull}
 use Rattle.core_laws.proofs.Placed.{is_in_list, stripe_holds}
-use Rattle.core_laws.proofs.PlacedInOrder.{IsOrdered, in_order, ordered}
+use Rattle.core_laws.proofs.PlacedInOrder.{IsOrdered, ordered}
+use Rattle.core_laws.specs.PlainLogs.{NoStripeLost}
+use Rattle.core_laws.proofs.PlainLogs.{never_lost}
+use Rattle.rest_laws.proofs.PlacedOnce.{placed_once}
 use Rattle.rest_laws.specs.NewestOpened.{IsLastOpened}
-use Rattle.rest_laws.proofs.OverSynced.{IsOf, first_then, none_in_older, of, ordered_then}
+use Rattle.core_laws.proofs.LaterLines.{none_in_older}
+use Rattle.rest_laws.proofs.OverSynced.{IsOf, first_then, lost_then, of, ordered_then}
 
 -- ---- lists
 
-made_fewer : {X Y : Type 0} (give : X → Option Y) (xs : List X) → length (filter_map give xs) ≤ length xs
+pub made_fewer : {X Y : Type 0} (give : X → Option Y) (xs : List X) → length (filter_map give xs) ≤ length xs
 made_fewer give [] = omega arith
 made_fewer {X} {Y} give (x ∷ xs) = go (give x) (made_fewer give xs)
   where
@@ -91,7 +94,8 @@ module _ (i : Image) (w : World) (simple : IsSimpleMount i w) (full : OpensWhenF
       by_opening x its = by (cases_order x.number n.number)
         where
           by : (x.number ≡ n.number) ⊎ ((x.number < n.number) ⊎ (n.number < x.number))
-              → ((is_life n.number p.life ≡ true) × (length (positions_in_stripe i.shape p.stripe) ≤ i.shape.ws_opt)) ⊎ (positions_in_stripe i.shape p.stripe ≡ [])
+              → ((is_life n.number p.life ≡ true) × (length (positions_in_stripe i.shape p.stripe) ≤ i.shape.ws_opt))
+              ⊎ (positions_in_stripe i.shape p.stripe ≡ [])
           by (inr (inr after)) = let few : x.number ≤ n.number = last.last x its.opened in absurd (omega arith)
           by (inl same) =
               let mine : is_life x.number p.life ≡ true = ap (is_life x.number) its.life ∙ same_number x.number in
@@ -111,11 +115,10 @@ module _ (i : Image) (w : World) (simple : IsSimpleMount i w) (full : OpensWhenF
                   absurd (none_in_older i w mount full n x p r last.opened there its.life holds later older)
 
   -- the front placed is as far from the first position as positions are placed
-  placed_length : (xs : List Logged) → IsOrdered i.shape xs → placed_front i.shape xs ≡ first_position xs + length (placed_positions i.shape xs)
-  placed_length xs is =
-      let count : length (placed_positions s xs) ≡ length (filter (was_placed s xs) (takes xs)) =
-      ap (λ (ps : List ℕ). length ps) (in_order s xs is)
-      ∙ length-range_with_len (first_position xs) (length (filter (was_placed s xs) (takes xs))) in
+  placed_length : (xs : List Logged) → NoStripeLost xs → IsOrdered i.shape xs
+      → placed_front i.shape xs ≡ first_position xs + length (placed_positions i.shape xs)
+  placed_length xs none is =
+      let count : length (placed_positions s xs) ≡ length (filter (was_placed s xs) (takes xs)) = placed_once s xs none is in
       omega (arith, count)
 
   pub placed_since : (j : ℕ) (p : Placed) → slice_get (stripes_of (log_of w 0) n) j ≡ Some p → Contains (placements (log_of w 0)) p → n.number < p.number
@@ -144,8 +147,10 @@ module _ (i : Image) (w : World) (simple : IsSimpleMount i w) (full : OpensWhenF
       let all_positions : length (placed_positions s log) ≡ length (placed_positions s then_) + length (flat_map f ps) =
       ap (λ (xs : List Placed). length (flat_map f xs)) split ∙ ap (λ (xs : List ℕ). length xs) (flat_map-append f (placements then_) ps)
       ∙ length-append (flat_map f (placements then_)) (flat_map f ps) in
-      let now : placed_front s log ≡ first_position log + length (placed_positions s log) = placed_length log (ordered i w simple) in
-      let was : placed_front s then_ ≡ first_position then_ + length (placed_positions s then_) = placed_length then_ order_then in
+      let now : placed_front s log ≡ first_position log + length (placed_positions s log) =
+      placed_length log (never_lost log simple.engine.lost) (ordered i w simple.mount) in
+      let was : placed_front s then_ ≡ first_position then_ + length (placed_positions s then_) =
+      placed_length then_ (lost_then i w simple full p there) order_then in
       let first : first_position then_ ≡ first_position log = first_then i w simple full m (omega arith) in
       let left : length (filter test ps) ≡ length (stripes_of log n) - j = omega arith in
       let most : length (flat_map f ps) ≤ s.ws_opt * (length (stripes_of log n) - j) = subst (λ k. length (flat_map f ps) ≤ s.ws_opt * k) left made_few in

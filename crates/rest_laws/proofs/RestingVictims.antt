@@ -61,7 +61,7 @@ module _ (i : Image) (w : World) (asked : ℕ) (r : IsRestingMount i w asked) wh
       takers : taken_up_to i (log_of w) line ≤ synced i.shape (log_of w 0)
       takers = target_synced i w asked r (taken_up_to i (log_of w) line) some asks
           (taken_within i w r.mount.legal line (taken log) (λ t there took.
-          all_at (λ (u : Taken). u.entry.position < taken log) (takes log) there.0 t there.1 (all_below log (ordered i w simple).numbered)))
+          all_at (λ (u : Taken). u.entry.position < taken log) (takes log) there.0 t there.1 (all_below log (ordered i w simple.mount).numbered)))
 
       newer : (n : ℕ) → v.from ≡ n → IsSpentBy i (log_of w) line
       newer zero e = let more : 0 < v.from = v.some in absurd (omega arith)

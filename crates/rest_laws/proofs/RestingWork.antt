@@ -29,15 +29,15 @@ use Rattle.world_laws.proofs.Stripes.{one_opening}
 use Rattle.core_laws.specs.SimpleMounts.{IsSimpleMount}
 use Rattle.core_laws.proofs.Distinct.{passing}
 use Rattle.core_laws.proofs.LandedNow.{opened_now}
-use Rattle.core_laws.proofs.LandedOver.{no_losses}
-use Rattle.core_laws.proofs.PlacedInOrder.{IsOrdered, count_is, never_lost, ordered, some_hold_below, waiting_are_last}
+use Rattle.core_laws.proofs.PlacedInOrder.{IsOrdered, count_is, ordered, some_hold_below, waiting_are_last}
 use Rattle.rest_laws.specs.NewestOpened.{IsLastOpened}
 use Rattle.rest_laws.specs.RestingMounts.{IsRestingMount}
 use Rattle.rest_laws.specs.RoomSteps.{free_data}
 use Rattle.rest_laws.proofs.LastStarts.{start_landed}
 use Rattle.rest_laws.proofs.NextPlaces.{stripe_with}
 use Rattle.rest_laws.proofs.OnlyLastOpen.{others_over}
-use Rattle.rest_laws.proofs.OverSynced.{none_in_sum}
+use Rattle.core_laws.proofs.LaterLines.{none_in_sum}
+use Rattle.core_laws.proofs.PlainLogs.{never_lost}
 use Rattle.rest_laws.proofs.SomeOpened.{last_of_some}
 
 -- the first part of a sum that isn't 0
@@ -79,7 +79,7 @@ module _ (i : Image) (w : World) (asked : ℕ) (r : IsRestingMount i w asked) wh
   target = pad_target i (log_of w) asked
 
   not_lost : (p : Placed) → was_lost (log_of w 0) p ≡ false
-  not_lost p = never_lost log (no_losses log r.none_lost) p
+  not_lost p = never_lost log r.none_lost p
 
   -- ---- lines
 
@@ -253,7 +253,7 @@ module _ (i : Image) (w : World) (asked : ℕ) (r : IsRestingMount i w asked) wh
   target_synced position some low within = go (cases_lt (synced s log) position)
     where
       order : IsOrdered i.shape (log_of w 0)
-      order = ordered i w simple
+      order = ordered i w simple.mount
 
       m : ℕ
       m = synced i.shape (log_of w 0)
@@ -284,7 +284,7 @@ module _ (i : Image) (w : World) (asked : ℕ) (r : IsRestingMount i w asked) wh
           let its : t.0.entry.position ≡ first_position log + k = position_of i w k t.0 r.mount.legal t.1 in
           let far : c + (k - c) ≡ k = omega arith in
           let at : slice_get (waiting s log) (k - c) ≡ Some t.0 =
-          ap (λ (ts : List Taken). slice_get ts (k - c)) (waiting_are_last s log order.numbered order.no_loss order.order)
+          ap (λ (ts : List Taken). slice_get ts (k - c)) (waiting_are_last s log not_lost order)
           ∙ get_dropped c (takes log) (k - c) ∙ ap (slice_get (takes log)) far ∙ t.1 in
           none_urgent some (inr (t.0, contained_among (waiting s log) t.0 (k - c, at), omega arith))
 

@@ -31,6 +31,7 @@ use Rattle.lemmas.proofs.Maps.{all_in_range, filter_at, from_given}
 use Rattle.lemmas.proofs.Parts.{all_at, contained_among, get_below, got_within}
 use Rattle.lemmas.proofs.Tests.{same_number, within_is}
 use Rattle.world_laws.specs.LegalMounts.{IsLegalMount}
+use Rattle.world_laws.specs.Orders.{AreReset}
 use Rattle.world_laws.proofs.Beginnings.{first_begins}
 use Rattle.world_laws.proofs.FitMedia.{found_fit}
 use Rattle.world_laws.proofs.FoundEmpty.{all_pass}
@@ -40,7 +41,6 @@ use Rattle.world_laws.proofs.NextLives.{life_next}
 use Rattle.world_laws.proofs.StartRecords.{numbers_rise}
 use Rattle.world_laws.proofs.Stripes.{opening_of_prefix}
 use Rattle.world_laws.proofs.ToldImages.{found_at}
-use Rattle.rest_laws.specs.BehindLines.{AreReset}
 use Rattle.rest_laws.proofs.FreeNow.{all_data, found_free}
 use Rattle.rest_laws.proofs.LiveSums.{sum_of_passing}
 use Rattle.rest_laws.proofs.RoomyShapes.{eight_stripes}
@@ -159,8 +159,14 @@ module _ (i : Image) (w : World) (mount : IsLegalMount i w) (b : Begun) (begins 
 
 pub last_of_some : (log : List Logged) (k : ℕ) → length (openings log) ≡ suc k → (o : Opening) × IsLastOpened log o
 last_of_some log k long =
-    let at = got_within (openings log) k (omega arith) in
-    (at.0, record { opened = contained_among (openings log) at.0 (k, at.1); last = λ other there. go at.0 at.1 other (among_contained (openings log) other there) })
+    let at = got_within (openings log) k (omega arith) in (
+      at.0,
+      record {
+        opened = contained_among (openings log) at.0 (k, at.1);
+        last =
+            λ other there. go at.0 at.1 other (among_contained (openings log) other there);
+      },
+    )
   where
     go : (o : Opening) → slice_get (openings log) k ≡ Some o → (other : Opening) → IsAmong (openings log) other → other.number ≤ o.number
     go o at other there = by (cases_order there.0 k)

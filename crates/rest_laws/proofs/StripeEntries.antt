@@ -19,12 +19,13 @@ use Rattle.lemmas.proofs.Tests.{and_both, both, not_both, same_number}
 use Rattle.core_laws.specs.SimpleMounts.{IsSimpleMount}
 use Rattle.core_laws.proofs.Distinct.{passing}
 use Rattle.core_laws.proofs.LogOrders.{small_capacity}
+use Rattle.core_laws.proofs.PlainLogs.{never_lost}
 use Rattle.core_laws.proofs.PlacedInOrder.{IsOrdered, ordered, waiting_are_last}
 use Rattle.core_laws.proofs.PlacedPlaces.{BearsThese, IsNamed, data_bears, others_bear}
 use Rattle.rest_laws.specs.RoomSteps.{has_entry}
 
 -- a block that bears an entry bears it at a position
-some_position : (s : Shape) (stripe : Stripe) → has_entry s stripe ≡ true → (q : ℕ) × (list_any (bears_position s q) stripe.blocks ≡ true)
+pub some_position : (s : Shape) (stripe : Stripe) → has_entry s stripe ≡ true → (q : ℕ) × (list_any (bears_position s q) stripe.blocks ≡ true)
 some_position s stripe has =
     let at = passing (λ (b : Block). is_some (named s b.mark)) stripe.blocks has in (
       at.0.mark.position,
@@ -49,12 +50,12 @@ unfolding BearsThese
 data_have_one i w o stripe simple is = go (waiting i.shape (log_of w 0)) refl is.has_entry
   where
     order : IsOrdered i.shape (log_of w 0)
-    order = ordered i w simple
+    order = ordered i w simple.mount
 
     all_named : AllByRecursion (IsNamed i.shape) (take i.shape.ws_opt (waiting i.shape (log_of w 0)))
     all_named =
         subst (λ (ts : List Taken). AllByRecursion (IsNamed i.shape) (take i.shape.ws_opt ts))
-        (sym (waiting_are_last i.shape (log_of w 0) order.numbered order.no_loss order.order))
+        (sym (waiting_are_last i.shape (log_of w 0) (never_lost (log_of w 0) simple.engine.lost) order))
         (all_taken (IsNamed i.shape) i.shape.ws_opt (drop order.order.count (takes (log_of w 0)))
         (all_dropped (IsNamed i.shape) order.order.count (takes (log_of w 0))
         (zipped (λ (t : Taken). is_some (named i.shape t.mark) ≡ true) (λ (t : Taken). t.mark.position ≡ t.entry.position) (IsNamed i.shape)

@@ -31,7 +31,7 @@ use Rattle.rest_laws.proofs.NothingFailed.{faultless_wide}
 use Rattle.rest_laws.proofs.WholeChunks.{found_whole, known_whole}
 
 -- where all that pass one test pass another
-more_pass : (f g : ℕ → Bool) → ((x : ℕ) → f x ≡ true → g x ≡ true) → (xs : List ℕ) → length (filter f xs) ≤ length (filter g xs)
+pub more_pass : (f g : ℕ → Bool) → ((x : ℕ) → f x ≡ true → g x ≡ true) → (xs : List ℕ) → length (filter f xs) ≤ length (filter g xs)
 more_pass f g says [] = omega arith
 more_pass f g says (x ∷ xs) = go (f x) (g x) refl refl (passing_first f x xs) (passing_first g x xs) (more_pass f g says xs)
   where
@@ -46,7 +46,7 @@ more_pass f g says (x ∷ xs) = go (f x) (g x) refl refl (passing_first f x xs) 
     go false t e k first second rest = let here : as_number (f x) ≡ 0 = ap as_number e in omega arith
 
 -- each chunk of a line passes
-chunk_passes : (j : Image) (test : Chunk → Bool) (line unit : ℕ) (c : Chunk) → list_all test (chunks_of j line) ≡ true → chunk_in j line unit ≡ Some c
+pub chunk_passes : (j : Image) (test : Chunk → Bool) (line unit : ℕ) (c : Chunk) → list_all test (chunks_of j line) ≡ true → chunk_in j line unit ≡ Some c
     → test c ≡ true
 chunk_passes j test line unit c all there =
     let at = split_then (λ (cs : List Chunk). slice_get cs line) (slice_get j.units unit) c there in
@@ -54,12 +54,12 @@ chunk_passes j test line unit c all there =
     all_pass test (chunks_of j line) among.0 c all among.1
 
 -- an image whose chunks are whole one by one
-whole_image : (j : Image) → ((line unit : ℕ) (c : Chunk) → chunk_in j line unit ≡ Some c → IsWholeChunk j.shape c) → HasWholeChunks j
+pub whole_image : (j : Image) → ((line unit : ℕ) (c : Chunk) → chunk_in j line unit ≡ Some c → IsWholeChunk j.shape c) → HasWholeChunks j
 whole_image j whole =
     all_by_get (AllByRecursion (IsWholeChunk j.shape)) j.units (λ unit cs there.
     all_by_get (IsWholeChunk j.shape) cs (λ line c at. whole line unit c (ap (option_and_then (λ (xs : List Chunk). slice_get xs line)) there ∙ at)))
 
-free_or_offline : (state : ChunkState) → is_empty_state state ≡ true → state ≢ states.Offline → is_free_state state ≡ true
+pub free_or_offline : (state : ChunkState) → is_empty_state state ≡ true → state ≢ states.Offline → is_free_state state ≡ true
 free_or_offline states.Free empty apart = refl
 free_or_offline states.Open empty apart = absurd cc
 free_or_offline states.Closed empty apart = absurd cc
@@ -72,7 +72,7 @@ open_apart states.Closed free e = absurd cc
 open_apart states.Offline free e = absurd cc
 
 module _ (i : Image) (w : World) (mount : IsLegalMount i w) (b : Begun) (begins : begun (log_of w 0) ≡ Some b) where
-  same_shape : (found_image i (log_of w)).shape ≡ i.shape
+  pub same_shape : (found_image i (log_of w)).shape ≡ i.shape
   same_shape = ap (λ (x : Option Begun). (found_by i (log_of w) x).shape) begins
 
   all_prefixes : ArePrefixes w (log_of w)
@@ -83,7 +83,8 @@ module _ (i : Image) (w : World) (mount : IsLegalMount i w) (b : Begun) (begins 
 
   -- a line with Free chunks alone is found so
   found_free : (line : ℕ) → has_free_chunks i line ≡ true → has_free_chunks (found_image i (log_of w)) line ≡ true
-  found_free line free = chunks_pass (found_image i (log_of w)) line (λ (c : Chunk). is_free_state c.state) (λ unit c there. by unit c there (padded.chunks line unit))
+  found_free line free = chunks_pass (found_image i (log_of w)) line (λ (c : Chunk). is_free_state c.state)
+      (λ unit c there. by unit c there (padded.chunks line unit))
     where
       by : (unit : ℕ) (c : Chunk) → chunk_in (found_image i (log_of w)) line unit ≡ Some c
           → (chunk_in (found_image i (log_of w)) line unit ≡ chunk_in i line unit) ⊎ IsPaddedAt i (found_image i (log_of w)) line unit

@@ -26,8 +26,9 @@ use Rattle.core_laws.proofs.FreedWidths as widths
 use Rattle.core_laws.proofs.KeptRows.{KeepsChunks}
 use Rattle.core_laws.proofs.LandedRows.{keeps_chunks}
 use Rattle.core_laws.proofs.RangeSums.{sum_more, sum_same}
+use Rattle.core_laws.proofs.ClosedKept.{one_told}
 use Rattle.rest_laws.specs.RoomSteps.{is_unreset, unreset_lines}
-use Rattle.rest_laws.proofs.FreeSteps.{its_line, one_event}
+use Rattle.rest_laws.proofs.FreeSteps.{its_line}
 use Rattle.rest_laws.proofs.LiveSums.{as_number, passing_first}
 use Rattle.rest_laws.proofs.UsedResets.{in_range, still_given, unempty_now}
 use Rattle.std.proofs.lemmas.List.Sums.{sum_by-cons}
@@ -103,7 +104,8 @@ module _ (i : Image) (w : World) (mount : IsLegalMount i w) (b : Begun) (begins 
       by line true opened = opened_none i new line (ap is_opened (life line) ∙ opened) ∙ sym (opened_none i (log_of w) line opened)
       by line false closed = line_kept i (log_of w) (Landed unit number) knows b line begins (life line)
           (keeps_chunks i (log_of w) (Landed unit number) knows line refl (λ u x told same.
-          not_both (is_opened (life_of (log_of w 0) line)) (ap (λ m. is_opened (life_of (log_of w 0) m)) same ∙ its_line i w mount unit number knows may u x told)
+          not_both (is_opened (life_of (log_of w 0) line))
+          (ap (λ m. is_opened (life_of (log_of w 0) m)) same ∙ its_line i w mount unit number knows may u x told)
           closed))
 
   -- ---- a line is opened
@@ -170,7 +172,8 @@ module _ (i : Image) (w : World) (mount : IsLegalMount i w) (b : Begun) (begins 
 
   -- ---- a reset is noted
 
-  pub unreset_reset : (unit number : ℕ) → (may : MayNoteReset (log_of w) unit number) → unreset_lines i (log_of w) ≡ unreset_lines i (after (log_of w) (ResetDone unit number) knows)
+  pub unreset_reset : (unit number : ℕ) → (may : MayNoteReset (log_of w) unit number)
+      → unreset_lines i (log_of w) ≡ unreset_lines i (after (log_of w) (ResetDone unit number) knows)
       + (if are_empty (known_image i (after (log_of w) (ResetDone unit number) knows)) may.reset.chunk then 1 else 0)
   unreset_reset unit number may =
       count_more (is_unreset i new) (is_unreset i (log_of w)) i.shape.chunks line (if are_empty (known_image i new) line then 1 else 0)
@@ -212,4 +215,4 @@ module _ (i : Image) (w : World) (mount : IsLegalMount i w) (b : Begun) (begins 
       beside : (m : ℕ) → m ≢ may.reset.chunk → is_unreset i new m ≡ is_unreset i (log_of w) m
       beside m apart = line_kept i (log_of w) (ResetDone unit number) knows b m begins (life m)
           (keeps_chunks i (log_of w) (ResetDone unit number) knows m refl (λ u x told same. apart (same
-          ∙ ap (λ (y : UnitEvent). y.chunk) (one_event (log_of w) unit number u x may.reset at told))))
+          ∙ ap (λ (y : UnitEvent). y.chunk) (one_told (log_of w) unit number u x may.reset at told))))

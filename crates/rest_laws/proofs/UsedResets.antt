@@ -2,7 +2,6 @@
 -- line isn't opened, and is still given up.
 use Rattle.std.proofs.Common.{◌≡◌, ◌⊎◌, inl, inr, ℕ, ◌+◌, ◌-◌, ◌<◌, ◌≤◌, ◌&&◌, suc, zero, nat_eq, nat_lt, not, Bool, true, false, Some, None, Option, List, [], length, take, refl, sym, subst, ap, ap₂, ◌∙◌, arith, if◌then◌else◌}
 use Rattle.std.specs.Prelude.{slice_get, slice_index}
-use Rattle.std.specs.List.{Contains}
 use Rattle.std.specs.Option.{option_and_then, option_map_or}
 use Rattle.std.proofs.lemmas.Bool.{cases_lt, eqb-true}
 use Rattle.std.proofs.lemmas.Option.{none-some, same_Some}
@@ -15,7 +14,7 @@ use Rattle.pblk_model.specs.UnitLog.{after_log, UnitEvent, UnitOutcome, Answered
 use Rattle.pblk_laws.specs.LineBlocks.{chunk_in}
 use Rattle.pblk_world.specs.Answering.{IsDoneReset, MayNoteReset}
 use Rattle.pblk_world.specs.Commanding.{is_program, is_reset, was_stopped}
-use Rattle.pblk_world.specs.EngineLog.{Begun, begun, Freed, last_opening, life_of, LineLife, named_by, named_events, Opened, turned_by}
+use Rattle.pblk_world.specs.EngineLog.{Begun, begun, Freed, last_opening, life_of, LineLife, Opened, turned_by}
 use Rattle.pblk_world.specs.Events.{Again, Begin, Decides, Does, Event, Free, Landed, Logged, Lost, Open, Place, ResetDone, Take}
 use Rattle.pblk_world.specs.Lines.{are_empty, has_number, is_empty_state, is_given_up, is_given_up_by, known_image, line_data, strays_of}
 use Rattle.pblk_world.specs.Opening.{MayOpen}
@@ -24,7 +23,6 @@ use Rattle.pblk_world.specs.World.{World, Logs, knows_engine, log_of, media}
 use Rattle.pblk_world.proofs.EngineLogLemmas.{begun_taken}
 use Rattle.pblk_world.proofs.LinesLemmas.{used_is}
 use Rattle.pblk_world.proofs.VictimsLemmas.{whole_prefix}
-use Rattle.lemmas.proofs.Maps.{given_at}
 use Rattle.lemmas.proofs.Options.{split_then}
 use Rattle.lemmas.proofs.Parts.{all_at, contained_among, get_below, get_taken, got_within}
 use Rattle.lemmas.proofs.Tests.{both, not_both}
@@ -43,17 +41,13 @@ use Rattle.world_laws.proofs.Openings.{opened_at}
 use Rattle.world_laws.proofs.Resets.{IsReset, empty_until, reset}
 use Rattle.world_laws.proofs.ToldBefore.{IsActive, IsNamedFor, all_named, going_before}
 use Rattle.world_laws.proofs.UnitChunks.{still_there}
+use Rattle.world_laws.proofs.KnownPrefixes.{named_there}
 
 -- a reset that wasn't stopped
 going_reset : (o : UnitOutcome) → IsDoneReset o → was_stopped o ≡ false
 going_reset (Answered answer) done = refl
 going_reset (Failed k) done = refl
 going_reset (Stopped k) done = absurd done
-
--- what is named stands among the names
-named_there : (log : List Logged) (unit q n : ℕ) (l : Logged) → slice_get log q ≡ Some l → named_by unit l.event ≡ Some n → Contains (named_events log unit) n
-named_there log unit q n l there names =
-    contained_among (named_events log unit) n (given_at (λ (x : Logged). named_by unit x.event) log l n q there names)
 
 abbrev IsGivenBy : List ℕ → ℕ → LineLife → Type 0
 IsGivenBy strays line life = is_given_up_by strays line life ≡ true
@@ -172,7 +166,8 @@ module _ (i : Image) (w : World) (mount : IsLegalMount i w) (b : Begun) (begins 
                   let active : IsActive i w mount.legal b begins unit line m l e = inl (record {
                     from = omega arith;
                     at = record { there = there; is_event = is_event; its_chunk = its_chunk; passes = program };
-                    going = going_before i w mount.legal b begins unit line m number l may.new.logged e may.reset before there is_event may.new.is_known may.new.event going;
+                    going = going_before i w mount.legal b begins unit line m number l may.new.logged e may.reset before there is_event may.new.is_known
+                        may.new.event going;
                   }) in
                   let told : IsNamedFor i w mount.legal b begins unit line m may.new.logged =
                   all_named i w mount.legal b begins unit line (suc number) m number l may.new.logged e may.reset before (omega arith) active is_active in
@@ -242,11 +237,13 @@ module _ (i : Image) (w : World) (mount : IsLegalMount i w) (b : Begun) (begins 
       some : 0 < k
       some = let first : 0 < knows_engine may.new.logged = is_reset_of.knew in omega (arith, knew)
 
-      by_test : (t : Bool) (life : LineLife) → (t ≡ true → IsGivenBy (strays_of (take k (log_of w 0))) may.reset.chunk life) → IsGivenBy (strays_of (take k (log_of w 0))) may.reset.chunk (if t then life else life_of (take k (log_of w 0)) may.reset.chunk)
+      by_test : (t : Bool) (life : LineLife) → (t ≡ true → IsGivenBy (strays_of (take k (log_of w 0))) may.reset.chunk life)
+          → IsGivenBy (strays_of (take k (log_of w 0))) may.reset.chunk (if t then life else life_of (take k (log_of w 0)) may.reset.chunk)
       by_test true life says = says refl
       by_test false life says = given
 
-      by_event : (e : Event) → l.event ≡ e → IsGivenBy (strays_of (take k (log_of w 0))) may.reset.chunk (turned_by may.reset.chunk (life_of (take k (log_of w 0)) may.reset.chunk) k l.knows e)
+      by_event : (e : Event) → l.event ≡ e
+          → IsGivenBy (strays_of (take k (log_of w 0))) may.reset.chunk (turned_by may.reset.chunk (life_of (take k (log_of w 0)) may.reset.chunk) k l.knows e)
       by_event (Does e maker) is = given
       by_event (Decides (Begin b)) is = given
       by_event (Decides (Take entry mark)) is = given

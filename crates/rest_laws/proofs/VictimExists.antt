@@ -18,13 +18,14 @@ use Rattle.pblk_world.specs.Space.{free_addresses, full_data, is_due}
 use Rattle.pblk_world.specs.Starts.{newest_start}
 use Rattle.pblk_world.specs.Victims.{Candidate, candidate, candidate_of, engine_prefix, is_failed, live, may_be_collected, next_victim, positions_in}
 use Rattle.pblk_world.specs.World.{World, Logs, log_of}
-use Rattle.rest_laws.specs.BehindLines.{AreReset, IsBehind}
+use Rattle.rest_laws.specs.BehindLines.{IsBehind}
 use Rattle.rest_laws.specs.NewestOpened.{IsLastOpened}
 use Rattle.rest_laws.specs.Tidy.{AreWide}
 use Rattle.lemmas.proofs.Lists.{all_imply, among_contained}
 use Rattle.lemmas.proofs.Maps.{all_in_range}
 use Rattle.lemmas.proofs.Tests.{and_both, le_true, lt_true, not_both, or_left, or_right, same, same_number, within_is}
 use Rattle.world_laws.specs.LegalMounts.{IsLegalMount}
+use Rattle.world_laws.specs.Orders.{AreReset}
 use Rattle.world_laws.proofs.StartRecords.{front_from_first, seq_of_nth}
 use Rattle.world_laws.proofs.Stripes.{one_opening}
 use Rattle.core_laws.specs.SimpleMounts.{IsSimpleMount}

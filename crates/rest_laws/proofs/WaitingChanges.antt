@@ -5,7 +5,6 @@ use Rattle.std.specs.List.{cons_option, filter_map, flat_map, list_any}
 use Rattle.std.specs.Option.{option_to_list}
 use Rattle.std.proofs.lemmas.Grind.{flat_map-append}
 use Rattle.std.proofs.lemmas.List.{length-map}
-use Rattle.std.proofs.lemmas.List.FromFn.{length-range_with_len}
 use Rattle.pblk_model.specs.declared.shape.Shape.{Shape}
 use Rattle.pblk_model.specs.declared.chunk.Mark.{Mark}
 use Rattle.pblk_model.specs.Chunk.{Block}
@@ -35,7 +34,9 @@ use Rattle.core_laws.specs.Stepping.{after}
 use Rattle.core_laws.proofs.BlockPositions.{data_positions}
 use Rattle.core_laws.proofs.LogOrders.{small_capacity}
 use Rattle.core_laws.proofs.PlacedFront.{front_kept, front_taken}
-use Rattle.core_laws.proofs.PlacedInOrder.{in_order, ordered}
+use Rattle.core_laws.proofs.PlacedInOrder.{ordered}
+use Rattle.core_laws.proofs.PlainLogs.{never_lost}
+use Rattle.rest_laws.proofs.PlacedOnce.{placed_once}
 use Rattle.core_laws.proofs.PlacedPositions.{taken_is_unplaced}
 use Rattle.core_laws.proofs.TakenNumbers.{first_stays}
 use Rattle.core_laws.proofs.UsersEntries as entries
@@ -67,7 +68,8 @@ module _ (i : Image) (s : Step) (w : World) (mount : IsLegalMount i (s ∷ w)) (
   was = before i s w mount
 
   with_events : (e : EngineEvent) → s.logged.event ≡ Decides e
-      → (taken (after (log_of w) e s.logged.knows 0) ≡ taken (log_of w 0)) × (placed_front i.shape (after (log_of w) e s.logged.knows 0) ≡ placed_front i.shape (log_of w 0))
+      → (taken (after (log_of w) e s.logged.knows 0) ≡ taken (log_of w 0))
+      × (placed_front i.shape (after (log_of w) e s.logged.knows 0) ≡ placed_front i.shape (log_of w 0))
       → (taken (log_of (s ∷ w) 0) ≡ taken (log_of w 0)) × (placed_front i.shape (log_of (s ∷ w) 0) ≡ placed_front i.shape (log_of w 0))
   with_events e is = by_logs i s w mount e own is b begins
       (λ ls. (taken (ls 0) ≡ taken (log_of w 0)) × (placed_front i.shape (ls 0) ≡ placed_front i.shape (log_of w 0)))
@@ -155,8 +157,7 @@ module _ (i : Image) (s : Step) (w : World) (mount : IsLegalMount i (s ∷ w)) (
 
     count_of : (x : World) → IsSimpleMount i x → length (placed_positions i.shape (log_of x 0)) ≡ placed_count i.shape (log_of x 0)
     count_of x is =
-        ap (λ (qs : List ℕ). length qs) (in_order i.shape (log_of x 0) (ordered i x is))
-        ∙ length-range_with_len (first_position (log_of x 0)) (placed_count i.shape (log_of x 0))
+        placed_once i.shape (log_of x 0) (never_lost (log_of x 0) is.engine.lost) (ordered i x is.mount)
 
     counts : placed_count i.shape (log_of (s ∷ w) 0) ≡ placed_count i.shape (log_of w 0) + length (positions_in_stripe i.shape stripe)
     counts =

@@ -19,7 +19,7 @@ use Rattle.pblk_world.specs.Commanding.{is_program, is_reset, was_stopped}
 use Rattle.pblk_world.specs.EngineLog.{Begun, begun}
 use Rattle.pblk_world.specs.Events.{Logged}
 use Rattle.pblk_world.specs.Lines.{found_by, found_image, known_image}
-use Rattle.pblk_world.specs.World.{World, log_of, unit_event_at, unit_event_of}
+use Rattle.pblk_world.specs.World.{World, log_of, media, unit_event_at, unit_event_of}
 use Rattle.lemmas.proofs.Options.{split_then}
 use Rattle.lemmas.proofs.Parts.{all_at, got_within}
 use Rattle.world_laws.specs.KnownChunks.{IsChange}
@@ -28,8 +28,9 @@ use Rattle.world_laws.specs.UnitChunks.{chunk_after, first_events}
 use Rattle.world_laws.proofs.Deeds.{IsDeed, deed, fetch_leaves}
 use Rattle.world_laws.proofs.KnownPrefixes.{known_prefix}
 use Rattle.world_laws.proofs.LifeUnits.{begun_within}
-use Rattle.world_laws.proofs.MediaChunks.{chunk_of_found}
+use Rattle.world_laws.proofs.MediaChunks.{chunk_of_found, chunk_of_media}
 use Rattle.world_laws.proofs.UnitChunks.{still_there}
+use Rattle.rest_laws.specs.TidyMounts.{HasNoFailures}
 use Rattle.rest_laws.specs.Tidy.{HasWholeChunks, IsFaultless, IsFoundFaultless}
 use Rattle.pblk_laws.proofs.ChunkStep.{IsPlaced, write_placed}
 use Rattle.lemmas.proofs.Tests.{le_of_lt_false, same_number}
@@ -175,6 +176,16 @@ module _ (i : Image) (w : World) (mount : IsLegalMount i w) (unit line : ℕ) wh
   whole_first all c0 there =
       let at = split_then (λ (cs : List Chunk). slice_get cs line) (slice_get i.units unit) c0 there in
       all_at (IsWholeChunk i.shape) at.0 line c0 at.2 (all_at (AllByRecursion (IsWholeChunk i.shape)) i.units unit at.0 at.1 all)
+
+  -- ---- what it leaves
+
+  pub media_whole : HasNoFailures (log_of w) → HasWholeChunks i → (c : Chunk) → chunk_in (media i (log_of w)) line unit ≡ Some c → IsWholeChunk i.shape c
+  media_whole fine all c left =
+      let there : chunk_after i (log_of w) line unit (length own) ≡ Some c = sym (chunk_of_media i (log_of w) line unit) ∙ left in
+      let first = still_there i (log_of w) line unit (length own) 0 c there in
+      let from_none : 0 + length own ≡ length own = omega arith in
+      whole_until 0 (length own) (length own) (omega arith) (λ m from below h k. fine.none_failed unit m k h.event (event_is m h)) (omega arith)
+      first.0 c first.1 (whole_first all first.0 first.1) (ap (chunk_after i (log_of w) line unit) from_none ∙ there)
 
   -- ---- what the mount found
 

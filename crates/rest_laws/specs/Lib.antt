@@ -5,3 +5,7 @@ pub mod NewestOpened
 pub mod Untroubled
 pub mod RoomSteps
 pub mod RestingMounts
+pub mod Copies
+pub mod AtWork
+pub mod TidyMounts
+pub mod RoomRuns

@@ -3,8 +3,8 @@ use Rattle.pblk_model.specs.Image.{Image}
 use Rattle.pblk_world.specs.Lines.{known_image}
 use Rattle.pblk_world.specs.World.{World, log_of}
 use Rattle.world_laws.specs.LegalMounts.{IsLegalMount, NoneLost}
+use Rattle.world_laws.specs.Orders.{AreReset}
 use Rattle.core_laws.specs.Spent.{OpensWhenFull}
-use Rattle.rest_laws.specs.BehindLines.{AreReset}
 use Rattle.rest_laws.specs.Tidy.{AreWide}
 
 -- A legal mount in which no stripe was lost and each line was opened once the open ones were full. No line is

@@ -36,7 +36,8 @@ pub fn a_sector_is_live_in_one_line()
 {}
 
 /// Where nothing was lost, and each line was opened once the open ones were full: once all stripes
-/// of a line that is as wide as the drive have landed, all its positions are below the front synced.
+/// of a line that is as wide as the drive have landed, all its positions are below the front
+/// synced.
 pub fn what_has_landed_whole_is_synced()
     ensures { (i : Image) (w : World) (o : Opening) (p : Placed) (position : ℕ)
         → IsLegalMount i w → NoneLost (log_of w 0) → OpensWhenFull i (log_of w)

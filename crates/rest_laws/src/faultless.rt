@@ -13,8 +13,8 @@ ghost use Rattle.rest_laws.specs.Tidy.{IsFoundFaultless, IsTidy, has_free_chunks
 
 /// Where no unit event failed that the engine heard of, no stripe was lost (clause `lost`). If the
 /// mount found whole chunks, the engine knows whole ones (clause `whole`), so that no line is
-/// narrower than the drive (clause `wide`). As long as collection isn't due, at least four lines are
-/// known to have Free chunks alone (clause `free`).
+/// narrower than the drive (clause `wide`). As long as collection isn't due, at least four lines
+/// are known to have Free chunks alone (clause `free`).
 pub fn a_faultless_mount_loses_nothing()
     ensures lost { (i : Image) (w : World) → IsLegal i w → IsFaultless (log_of w)
         → NoneLost (log_of w 0) }

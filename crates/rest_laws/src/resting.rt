@@ -31,10 +31,10 @@ pub fn only_the_last_line_is_open()
         → are_over i (log_of w) o.line ≡ true }
 {}
 
-/// How far the front taken is beyond the front freed, where no stripe is under way and only the line
-/// that was opened last may be written to. What was placed and can't be read yet stands in that
-/// line, in the last MW_CUNITS blocks of its chunks, and in stripes with such blocks: clause `near`.
-/// Beside it there is what waits. Where no line was opened all that was taken waits: clause
+/// How far the front taken is beyond the front freed, where no stripe is under way and only the
+/// line that was opened last may be written to. What was placed and can't be read yet stands in
+/// that line, in the last MW_CUNITS blocks of its chunks, and in stripes with such blocks: clause
+/// `near`. Beside it there is what waits. Where no line was opened all that was taken waits: clause
 /// `unopened`.
 pub fn the_front_freed_is_near()
     ensures near { (i : Image) (w : World) (last : Opening)
@@ -62,10 +62,10 @@ pub fn at_rest_all_is_done()
         → position ≤ taken (log_of w 0) → position ≤ synced i.shape (log_of w 0) }
 {}
 
-/// A mount at rest has room for sixteen more sectors, if it found four lines with Free chunks alone,
-/// more addresses are left than entries wait, and positions aren't near their end (clause `room`).
-/// Collection isn't due (clause `due`): a victim at work would have a sector to copy, or could be
-/// freed.
+/// A mount at rest has room for sixteen more sectors, if it found four lines with Free chunks
+/// alone, more addresses are left than entries wait, and positions aren't near their end (clause
+/// `room`). Collection isn't due (clause `due`): a victim at work would have a sector to copy, or
+/// could be freed.
 pub fn at_rest_there_is_room()
     ensures due { (i : Image) (w : World) (asked : ℕ) → IsRestingMount i w asked
         → 4 ≤ length (filter (has_free_chunks (found_image i (log_of w)))

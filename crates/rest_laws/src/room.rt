@@ -16,8 +16,8 @@ ghost use Rattle.pblk_world.specs.Lines.{are_empty, is_given_up, known_image};
 ghost use Rattle.pblk_world.specs.Space.{addresses, free_addresses, full_data, placed_front};
 ghost use Rattle.pblk_world.specs.World.{Logs, World, log_of, unit_event_at};
 ghost use Rattle.world_laws.specs.LegalMounts.{IsLegalMount, NoneLost};
+ghost use Rattle.world_laws.specs.Orders.{AreReset};
 ghost use Rattle.core_laws.specs.OpenAddresses.{keeps_placed};
-ghost use Rattle.rest_laws.specs.BehindLines.{AreReset};
 ghost use Rattle.rest_laws.specs.RoomSteps.{free_data, free_lines, has_entry};
 ghost use Rattle.rest_laws.specs.RoomSteps.{keeps_free, keeps_room};
 ghost use Rattle.rest_laws.specs.RoomSteps.{keeps_unreset, unreset_lines};
@@ -47,10 +47,10 @@ pub fn stripes_take_addresses_and_resets_give_them()
 {}
 
 /// The data addresses of the Free lines are those of so many full lines, where no line is narrower
-/// than the drive (clause `whole`). A step of a unit leaves them as they are (clause `unit`), and so
-/// do most of the engine's (clause `kept`). A line that is opened takes its own (clause `opened`). A
-/// reset gives those of the line of its chunk, where the line is Free once it is noted (clause
-/// `reset`).
+/// than the drive (clause `whole`). A step of a unit leaves them as they are (clause `unit`), and
+/// so do most of the engine's (clause `kept`). A line that is opened takes its own (clause
+/// `opened`). A reset gives those of the line of its chunk, where the line is Free once it is noted
+/// (clause `reset`).
 pub fn free_lines_are_opened_and_come_by_resets()
     ensures whole { (i : Image) (logs : Logs) → AreWide (known_image i logs)
         → free_addresses i logs ≡ free_lines i logs * full_data i.shape }
@@ -74,9 +74,10 @@ pub fn free_lines_are_opened_and_come_by_resets()
 
 /// How many lines are to be reset: freed ones and strays with a chunk that isn't yet Free or
 /// Offline. A step of a unit leaves their number as it is (clause `unit`), and so do most of the
-/// engine's (clause `kept`). A line that is freed is one more (clause `free`). A reset that is noted
-/// makes it one less, where all chunks of its line are empty then (clause `reset`). Where no line is
-/// narrower than the drive, the unplaced data addresses come in place of the line's: clause `sum`.
+/// engine's (clause `kept`). A line that is freed is one more (clause `free`). A reset that is
+/// noted makes it one less, where all chunks of its line are empty then (clause `reset`). Where no
+/// line is narrower than the drive, the unplaced data addresses come in place of the line's: clause
+/// `sum`.
 pub fn freed_lines_are_to_be_reset()
     ensures unit { (i : Image) (s : Step) (w : World) (unit : ℕ) → IsLegalMount i (s ∷ w)
         → s.author ≡ suc unit → unreset_lines i (log_of (s ∷ w)) ≡ unreset_lines i (log_of w) }
@@ -102,8 +103,8 @@ pub fn freed_lines_are_to_be_reset()
         ≡ addresses i (log_of w) + full_data i.shape * unreset_lines i (log_of w) }
 {}
 
-/// A reset that may be noted is of a line that is given up and not empty (clauses `given` and `used`). So
-/// where no reset is left to be made, none goes unnoted (clause `noted`).
+/// A reset that may be noted is of a line that is given up and not empty (clauses `given` and
+/// `used`). So where no reset is left to be made, none goes unnoted (clause `noted`).
 pub fn a_reset_not_noted_is_of_a_line_to_be_reset()
     ensures given { (i : Image) (w : World) (unit number : ℕ) → IsLegalMount i w
         → 0 < length (log_of w 0) → (may : MayNoteReset (log_of w) unit number)
@@ -118,7 +119,8 @@ pub fn a_reset_not_noted_is_of_a_line_to_be_reset()
 
 /// Where no stripe was lost, what waits was taken and not placed (clause `waits`). An entry that is
 /// taken waits (clause `take`). A stripe with an entry places as many as it has blocks, or all that
-/// wait, and another none (clause `stripe`). All else leaves both fronts as they are (clause `kept`).
+/// wait, and another none (clause `stripe`). All else leaves both fronts as they are (clause
+/// `kept`).
 pub fn what_waits_was_taken_and_not_placed()
     ensures waits { (i : Image) (w : World) → IsLegalMount i w → NoneLost (log_of w 0)
         → taken (log_of w 0) ≡ placed_front i.shape (log_of w 0)

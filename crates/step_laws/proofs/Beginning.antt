@@ -17,17 +17,17 @@ use Rattle.pblk_world.specs.Commanding.{ends_program, ends_stripe, ended_stripes
 use Rattle.pblk_world.specs.Opening.{MayBegin}
 use Rattle.pblk_world.specs.Legal.{IsLegal}
 use Rattle.world_laws.proofs.Made.{known_within}
-use Rattle.core_laws.specs.SimpleMounts.{IsSimpleMount}
+use Rattle.world_laws.specs.LegalMounts.{IsLegalMount}
 use Rattle.step_laws.specs.Whole.{knows_all, after_begin, IsLevel, IsKnown}
 use Rattle.step_laws.proofs.ChunkEvents.{same_images}
-use Rattle.step_laws.proofs.EngineSteps.{decided_next, engine_logs, media_still}
+use Rattle.step_laws.proofs.EngineSteps.{decided_legal, engine_logs, media_still}
 use Rattle.step_laws.proofs.Knowing.{known_whole}
 use Rattle.step_laws.proofs.Levels.{level_by}
 use Rattle.lemmas.proofs.Maps.{numbered_at}
 use Rattle.lemmas.proofs.Numbers.{fun_same}
 
-pub mount_begins : (i : Image) (w : World) (b : Beginning) → IsSimpleMount i w → MayBegin i (log_of w) b → IsSimpleMount i (after_begin i.shape b w)
-mount_begins i w b simple may = decided_next i w (Begin b) simple may refl
+pub mount_begins : (i : Image) (w : World) (b : Beginning) → IsLegalMount i w → MayBegin i (log_of w) b → IsLegalMount i (after_begin i.shape b w)
+mount_begins i w b mount may = decided_legal i w (Begin b) mount may
 
 -- ---- the engine's log
 

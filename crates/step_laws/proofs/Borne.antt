@@ -1,7 +1,7 @@
 -- A block that a stripe writes is that of an entry that was taken, where it bears a position.
-use Rattle.std.proofs.Common.{◌≡◌, ◌⊎◌, inl, inr, ℕ, ◌+◌, ◌-◌, ◌≤◌, ◌&&◌, not, true, false, List, [], ◌∷◌, ◌++◌, length, take, drop, replicate, refl, sym, subst, ◌∙◌, append-nil}
+use Rattle.std.proofs.Common.{◌≡◌, ◌⊎◌, inl, inr, ℕ, ◌+◌, ◌-◌, ◌≤◌, true, false, List, [], ◌∷◌, ◌++◌, length, take, drop, replicate, refl, sym, subst, ◌∙◌, append-nil}
 use Rattle.std.specs.Prelude.{map, slice_range}
-use Rattle.std.specs.List.{AllByRecursion, filter}
+use Rattle.std.specs.List.{AllByRecursion}
 use Rattle.std.specs.Option.{option_to_list}
 use Rattle.pblk_model.specs.declared.shape.Shape.{Shape}
 use Rattle.pblk_model.specs.Chunk.{Block}
@@ -13,14 +13,14 @@ use Rattle.pblk_model.specs.EndRecord.{end_bytes}
 use Rattle.pblk_world.specs.Events.{EngineEvent, Place, Decides, Stripe, Logged}
 use Rattle.pblk_world.specs.World.{World, Logs, log_of}
 use Rattle.pblk_world.specs.EngineLog.{Begun, Taken, taken_by, takes, Opening, Placed, placements, block_of_taken, bears_position}
-use Rattle.pblk_world.specs.Fronts.{waits, was_placed, waiting}
+use Rattle.pblk_world.specs.Fronts.{waiting}
 use Rattle.pblk_world.specs.Placing.{next_address, end_address, end_record, IsStart, IsData, IsEnd, IsPad, data_blocks, record_blocks}
 use Rattle.pblk_world.specs.Legal.{IsLegal, IsDecision}
 use Rattle.pblk_world.proofs.Appending.{placements_more}
 use Rattle.core_laws.proofs.KeptByEvents.{IsKept, kept}
 use Rattle.core_laws.proofs.BorneOnce.{BearsNone, records_none, pads_none}
-use Rattle.lemmas.proofs.Lists.{IsAmong, all_append, all_imply, all_replicated, all_true, among_all, among_more}
-use Rattle.lemmas.proofs.Maps.{all_filter}
+use Rattle.core_laws.proofs.PlacedInOrder.{waiting_among}
+use Rattle.lemmas.proofs.Lists.{IsAmong, all_append, all_imply, all_replicated, all_true, among_more}
 use Rattle.lemmas.proofs.Parts.{all_dropped, all_taken}
 use Rattle.pblk_world.proofs.EngineLogLemmas.{takes_more}
 
@@ -44,12 +44,6 @@ no_entrys s ts b none q e = go (bears_position s q b) (none q) e
     go false f g = absurd (cc)
 
 -- ---- entries that wait
-
-waiting_among : (s : Shape) (log : List Logged) → AllByRecursion (IsAmong (takes log)) (waiting s log)
-waiting_among s log =
-    all_append (IsAmong (takes log)) (filter (λ t. waits s log t && was_placed s log t) (takes log)) (filter (λ t. not (was_placed s log t)) (takes log))
-    (all_filter (IsAmong (takes log)) (λ t. waits s log t && was_placed s log t) (takes log) (among_all (takes log)))
-    (all_filter (IsAmong (takes log)) (λ t. not (was_placed s log t)) (takes log) (among_all (takes log)))
 
 all_mapped : (s : Shape) (all ts : List Taken) → AllByRecursion (IsAmong all) ts → AllByRecursion (IsEntrys s all) (map block_of_taken ts)
 all_mapped s all [] each = tt

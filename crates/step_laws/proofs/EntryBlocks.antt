@@ -18,7 +18,6 @@ use Rattle.pblk_world.specs.Fronts.{first_position, last_take}
 use Rattle.pblk_world.specs.Space.{is_readable_in}
 use Rattle.pblk_laws.specs.LineBlocks.{chunk_in}
 use Rattle.core_laws.specs.OpenedLines.{live_now, as_opened, opened_units}
-use Rattle.core_laws.specs.SimpleMounts.{IsSimpleMount}
 use Rattle.world_laws.specs.LegalMounts.{IsLegalMount}
 use Rattle.core_laws.specs.Positions.{AreNumbered}
 use Rattle.core_laws.specs.SlotOf.{address_in}
@@ -30,7 +29,7 @@ use Rattle.core_laws.specs.StripeTurns.{IsAtTurn}
 use Rattle.core_laws.proofs.StripeBlocks.{have_blocks}
 use Rattle.core_laws.proofs.KeptLines.{keeps_units}
 use Rattle.core_laws.proofs.LatestLines.{latest_stands}
-use Rattle.core_laws.proofs.OpenedTurns.{bits_are_units, few_stripes, turns_are}
+use Rattle.core_laws.proofs.OpenedTurns.{bits_are_units, turn_of}
 use Rattle.core_laws.proofs.PlacedAnew.{landed_not_lost}
 use Rattle.world_laws.proofs.Stripes.{life_of_stripe}
 use Rattle.step_laws.proofs.Given.{given}
@@ -116,17 +115,18 @@ still_open i w lba t p mount inside last read =
           (landed_not_lost (log_of w 0) p read.landed) ∙ life.1;
     }
 
-pub entry_address : (i : Image) (w : World) (line at q : ℕ) (t : Taken) → IsSimpleMount i w → (is : IsEntryOnDrive i (log_of w) t line at q)
+pub entry_address : (i : Image) (w : World) (line at q : ℕ) (t : Taken) → IsLegalMount i w → (is : IsEntryOnDrive i (log_of w) t line at q)
     → IsOpenIn i (log_of w) is.stripe → IsAddressed i (log_of w) is.stripe is.read.number at
-entry_address i w line at q t simple is open_in =
-    let mount : IsLegalMount i w = simple.mount in
+entry_address i w line at q t mount is open_in =
     let p : Placed = is.stripe in
     let read : IsReadIn i (log_of w) t.entry.position is.stripe = is.read in
     let o : Opening = open_in.opening in
     let opened : life_of (log_of w 0) p.stripe.line ≡ Opened o = open_in.opened in
     let among : IsAmong (stripes_of (log_of w 0) o) p =
     in_filter (λ (x : Placed). is_life o.number x.life) (placements (log_of w 0)) p read.among (ap (is_life o.number) open_in.life ∙ same_number o.number) in
-    let turn : IsAtTurn i.shape (opened_units i (log_of w) o) p.stripe.line among.0 p = turns_are i w p.stripe.line o simple opened among.0 p among.1 in
+    let turn_is = turn_of i w p.stripe.line o mount opened p among in
+    let n : ℕ = turn_is.0 in
+    let turn : IsAtTurn i.shape (opened_units i (log_of w) o) p.stripe.line n p = turn_is.1 in
     let count : length p.stripe.blocks ≡ i.shape.ws_opt =
     all_at (λ (x : Placed). length x.stripe.blocks ≡ i.shape.ws_opt) (placements (log_of w 0)) read.among.0 p read.among.1
     (have_blocks i w mount.accepted mount.legal).blocks in
@@ -135,35 +135,31 @@ entry_address i w line at q t simple is open_in =
     let some : 0 < i.shape.ws_opt = mount.accepted.drive.ws_opt in
     let whole = mount.accepted.drive.whole_stripes in
     let live : units_in (as_opened i (log_of w) o).live ≡ opened_units i (log_of w) o = bits_are_units i w o mount in
-    let few : length (stripes_of (log_of w 0) o) ≤ i.shape.clba / i.shape.ws_opt * length (opened_units i (log_of w) o) =
-    few_stripes i w p.stripe.line o simple opened in
-    let nth : among.0 < length (stripes_of (log_of w 0) o) = slice_get_within (stripes_of (log_of w 0) o) among.0 p among.1 in
-    let below : among.0 < i.shape.clba / i.shape.ws_opt * length (opened_units i (log_of w) o) = omega arith in
-    let number = number_is i (log_of w) o (opened_units i (log_of w) o) p.stripe.line among.0 p some whole live turn read.number inside below in
+    let below : n < i.shape.clba / i.shape.ws_opt * length (opened_units i (log_of w) o) = turn_is.2 in
+    let number = number_is i (log_of w) o (opened_units i (log_of w) o) p.stripe.line n p some whole live turn read.number inside below in
     let left : p.stripe.at + read.number - p.stripe.at ≡ read.number = omega arith in
-    let address : at ≡ among.0 * i.shape.ws_opt + read.number =
+    let address : at ≡ n * i.shape.ws_opt + read.number =
     sym is.address ∙ ap (λ l. address_in i (log_of w) l p (p.stripe.at + read.number)) open_in.life ∙ ap₂ (λ m n. m * i.shape.ws_opt + n) number left in
     let now : units_in (live_now i (log_of w) p.stripe.line) ≡ opened_units i (log_of w) o = live_units i w p.stripe.line mount
     ∙ keeps_units i w p.stripe.line o mount opened in
     record {
       place = ap₂ (λ (xs : List ℕ) n. slice_get (line_order i.shape xs) n) now address
-          ∙ place_is i (log_of w) o (opened_units i (log_of w) o) p.stripe.line among.0 p some whole live turn read.number inside below;
+          ∙ place_is i (log_of w) o (opened_units i (log_of w) o) p.stripe.line n p some whole live turn read.number inside below;
       within = subst (λ (xs : List ℕ). at < length xs * i.shape.clba) (sym now)
           (subst (λ n. n < length (opened_units i (log_of w) o) * i.shape.clba) (sym address)
-          (address_within i (log_of w) o (opened_units i (log_of w) o) p.stripe.line among.0 p some whole live turn read.number inside below));
+          (address_within i (log_of w) o (opened_units i (log_of w) o) p.stripe.line n p some whole live turn read.number inside below));
     }
 
 -- ---- the block
 
-pub block_of_entry : (i : Image) (w : World) (lba line at q : ℕ) (t : Taken) → IsSimpleMount i w → lba < i.shape.capacity → last_take (log_of w 0) lba ≡ Some t
+pub block_of_entry : (i : Image) (w : World) (lba line at q : ℕ) (t : Taken) → IsLegalMount i w → lba < i.shape.capacity → last_take (log_of w 0) lba ≡ Some t
     → IsEntryOnDrive i (log_of w) t line at q → IsBlockOfSlot i (log_of w) lba line at q
-block_of_entry i w lba line at q t simple small last is =
-    let mount : IsLegalMount i w = simple.mount in
+block_of_entry i w lba line at q t mount small last is =
     let p : Placed = is.stripe in
     let read : IsReadIn i (log_of w) t.entry.position is.stripe = is.read in
     let last_one = last_is_among (log_of w 0) lba t last in
     let place : IsInPlace i (log_of w 0) is.stripe =
-    all_at (IsInPlace i (log_of w 0)) (placements (log_of w 0)) read.among.0 is.stripe read.among.1 (ordered i w simple).placed in
+    all_at (IsInPlace i (log_of w 0)) (placements (log_of w 0)) read.among.0 is.stripe read.among.1 (ordered i w mount).placed in
     let open_in : IsOpenIn i (log_of w) is.stripe = still_open i w lba t is.stripe mount small last read in
     let o : Opening = open_in.opening in
     let opened : life_of (log_of w 0) p.stripe.line ≡ Opened o = open_in.opened in
@@ -176,11 +172,11 @@ block_of_entry i w lba line at q t simple small last is =
     (have_blocks i w mount.accepted mount.legal).blocks in
     let short : read.number < length p.stripe.blocks = slice_get_within p.stripe.blocks read.number read.block read.there in
     let inside : read.number < i.shape.ws_opt = omega arith in
-    let stands = given i w p.stripe.line p.stripe.unit on.0 read.number o p read.block simple opened on.1 inside read.there read.landed
+    let stands = given i w p.stripe.line p.stripe.unit on.0 read.number o p read.block mount opened on.1 inside read.there read.landed
     (subst (λ l. is_readable_in i.shape (log_of w 0) p.stripe.unit (p.stripe.at + read.number) l ≡ true) open_in.life read.readable) in
     let unit : p.stripe.unit < length (media i (log_of w)).units = unit_within (media i (log_of w)) p.stripe.line p.stripe.unit stands.0 stands.1 in
     let drive : p.stripe.unit < units i.shape = subst (λ n. p.stripe.unit < n) (length_media i (log_of w) ∙ mount.fit.units) unit in
-    let addressed : IsAddressed i (log_of w) is.stripe is.read.number at = entry_address i w line at q t simple is open_in in
+    let addressed : IsAddressed i (log_of w) is.stripe is.read.number at = entry_address i w line at q t mount is open_in in
     let block : read.block ≡ block_of_taken t = its_block i w t p read.number read.block mount last_one.0 read.among read.there read.bears in
     let mark : t.mark ≡ sector_mark lba t.entry.position = ap₂ sector_mark last_one.1 (its_mark i w t mount last_one.0) in
     let its : IsOfEntry i (log_of w) lba p.stripe.line t.entry.position read.block t = record {

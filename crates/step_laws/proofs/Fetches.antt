@@ -12,7 +12,7 @@ use Rattle.pblk_world.specs.Events.{Maker}
 use Rattle.pblk_world.specs.World.{World, Logs, log_of, media}
 use Rattle.pblk_world.specs.EngineLog.{Begun, begun}
 use Rattle.pblk_world.specs.Commanding.{is_program, IsCommand}
-use Rattle.core_laws.specs.SimpleMounts.{IsSimpleMount}
+use Rattle.world_laws.specs.LegalMounts.{IsLegalMount}
 use Rattle.step_laws.specs.NextEvents.{CanFetch}
 use Rattle.step_laws.specs.Whole.{after_unit, IsLevel}
 use Rattle.step_laws.proofs.ChunkEvents.{same_images, fetch_leaves}
@@ -29,10 +29,10 @@ may_read i logs unit chunk block c command o is = subst (λ (x : ChunkCommand). 
     go None = tt
     go (Some b) = tt
 
-pub fetch_next : (i : Image) (w : World) (unit block : ℕ) (e : UnitEvent) (maker : Maker) → IsSimpleMount i w → CanFetch i (log_of w) unit block e
-    → IsSimpleMount i (after_unit i.shape unit e maker w)
-fetch_next i w unit block e maker simple fetch =
-    unit_next i w unit e maker simple fetch.can
+pub fetch_next : (i : Image) (w : World) (unit block : ℕ) (e : UnitEvent) (maker : Maker) → IsLegalMount i w → CanFetch i (log_of w) unit block e
+    → IsLegalMount i (after_unit i.shape unit e maker w)
+fetch_next i w unit block e maker mount fetch =
+    unit_next i w unit e maker mount fetch.can
     (may_read i (log_of w) unit e.chunk block fetch.can.event.found e.command (begun (log_of w 0)) fetch.command)
 
 pub fetch_level : (s : Shape) (unit block : ℕ) (e : UnitEvent) (maker : Maker) (w : World) → e.command ≡ Read block → IsLevel w

@@ -1,7 +1,7 @@
 -- A fetch of a block that has landed gives it.
 use Rattle.std.proofs.Common.{◌≡◌, ◌⊎◌, inl, inr, ℕ, ◌+◌, ◌-◌, ◌*◌, ◌<◌, ◌≤◌, ◌==◌, nat_lt, zero, suc, cond, Bool, true, false, Some, None, List, [], ◌∷◌, length, refl, sym, subst, ap, ◌∙◌, arith, if◌then◌else◌}
 use Rattle.std.specs.Prelude.{slice_get}
-use Rattle.std.specs.List.{Contains, filter, list_any}
+use Rattle.std.specs.List.{Contains, filter, find, list_any}
 use Rattle.std.specs.Option.{option_and_then}
 use Rattle.std.proofs.Math.Nat.{mul-le-mul_right}
 use Rattle.std.proofs.lemmas.Bool.{eqb-true}
@@ -18,11 +18,10 @@ use Rattle.pblk_world.specs.Events.{Logged}
 use Rattle.pblk_world.specs.World.{World, log_of, media}
 use Rattle.pblk_world.specs.EngineLog.{Opening, Opened, life_of, last_opening, openings, Placed, stripes_of, stripes_on, has_landed, was_lost}
 use Rattle.pblk_world.specs.Space.{is_closed_in, is_readable_in, landed_blocks}
-use Rattle.lemmas.proofs.Lists.{all_everywhere}
-use Rattle.lemmas.proofs.Maps.{all_passed, any_fail, from_filter}
-use Rattle.lemmas.proofs.Options.{split_then}
+use Rattle.lemmas.proofs.Maps.{all_passed, any_found, found_passes, from_filter}
+use Rattle.lemmas.proofs.Options.{some_value, split_then}
 use Rattle.lemmas.proofs.Parts.{all_at, contained_among, got_within}
-use Rattle.lemmas.proofs.Tests.{either, lt_true, not_both}
+use Rattle.lemmas.proofs.Tests.{either, lt_true}
 use Rattle.stripe_placer.proofs.Chunks.{lt_of}
 use Rattle.world_laws.specs.LegalMounts.{IsLegalMount}
 use Rattle.world_laws.proofs.Lives.{life_is_known}
@@ -31,10 +30,8 @@ use Rattle.world_laws.proofs.LineStripes.{stripe_count}
 use Rattle.world_laws.proofs.MediaChunks.{chunk_of_media}
 use Rattle.world_laws.proofs.StripePlaces.{kth_place}
 use Rattle.world_laws.proofs.UnitLogs.{chunk_fits}
-use Rattle.core_laws.specs.SimpleMounts.{IsSimpleMount}
 use Rattle.core_laws.proofs.OpeningNumbers.{life_at}
-use Rattle.core_laws.proofs.PlainEventsLemmas.{not_lost}
-use Rattle.core_laws.proofs.SimpleMounts.{engine_plain}
+use Rattle.core_laws.proofs.LostChunks.{lost_stays_closed}
 
 -- ---- chunks
 
@@ -51,13 +48,14 @@ in_chunk states.Open clba wp b fits within = omega (arith, fits)
 in_chunk states.Closed clba wp b fits within = (let few : wp ≤ clba = fits in omega arith)
 in_chunk states.Offline clba wp b fits within = absurd (let none : wp ≡ 0 = fits in omega arith)
 
--- and can be read where what has landed below the pointer fills the chunk, or is far enough behind
--- the block
-readable_by : (state : ChunkState) (clba mw wp landed b : ℕ) → PointerFits state clba wp → b < wp → landed ≤ wp → (landed ≡ clba) ⊎ (b + mw < landed)
-    → ReadableIn state mw wp b
+-- and can be read where the chunk is closed, or what has landed below the pointer fills it, or is
+-- far enough behind the block
+readable_by : (state : ChunkState) (clba mw wp landed b : ℕ) → PointerFits state clba wp → b < wp → landed ≤ wp
+    → (state ≡ states.Closed) ⊎ ((landed ≡ clba) ⊎ (b + mw < landed)) → ReadableIn state mw wp b
 readable_by states.Free clba mw wp landed b fits within below may = absurd (let none : wp ≡ 0 = fits in omega arith)
-readable_by states.Open clba mw wp landed b fits within below (inl full) = absurd (omega (arith, fits))
-readable_by states.Open clba mw wp landed b fits within below (inr far) = omega arith
+readable_by states.Open clba mw wp landed b fits within below (inl closed) = absurd cc
+readable_by states.Open clba mw wp landed b fits within below (inr (inl full)) = absurd (omega (arith, fits))
+readable_by states.Open clba mw wp landed b fits within below (inr (inr far)) = omega arith
 readable_by states.Closed clba mw wp landed b fits within below may = within
 readable_by states.Offline clba mw wp landed b fits within below may = absurd (let none : wp ≡ 0 = fits in omega arith)
 
@@ -146,37 +144,39 @@ module _ (i : Image) (w : World) (mount : IsLegalMount i w) (o : Opening) (is_op
             let all : landed_blocks i.shape (log_of w 0) o unit ≡ suc n * i.shape.ws_opt = ap (λ m. m * i.shape.ws_opt) count in
             omega arith
 
--- ---- where nothing was lost, a landed block can be read where the engine says so
+    -- where the engine says that a landed block can be read, the chunk is closed, or filled, or the
+    -- block is far enough below
+    may_read : (b : ℕ) → is_readable_in i.shape (log_of w 0) unit b (Opened o) ≡ true
+        → (c.state ≡ states.Closed)
+        ⊎ ((landed_blocks i.shape (log_of w 0) o unit ≡ i.shape.clba) ⊎ (b + i.shape.mw_cunits < landed_blocks i.shape (log_of w 0) o unit))
+    may_read b may = go (either (is_closed_in i.shape log o unit) (nat_lt (b + i.shape.mw_cunits) (landed_blocks i.shape log o unit)) may)
+      where
+        -- a stripe of it was lost
+        by_loss : list_any (was_lost (log_of w 0)) (stripes_on (log_of w 0) o unit) ≡ true → c.state ≡ states.Closed
+        by_loss some_lost =
+            let found = some_value (find (was_lost log) (stripes_on log o unit)) (sym (any_found (was_lost log) (stripes_on log o unit)) ∙ some_lost) in
+            let passes = found_passes (was_lost log) (stripes_on log o unit) found.0 found.1 in
+            lost_stays_closed i w mount o found.0 is_open (its_opening passes.1.0 found.0 passes.1.1) passes.0 c
+            (ap (chunk_in (media i (log_of w)) o.line) (its_unit passes.1.0 found.0 passes.1.1) ∙ there)
 
-may_read : (i : Image) (w : World) (o : Opening) (unit b : ℕ) → IsSimpleMount i w → is_readable_in i.shape (log_of w 0) unit b (Opened o) ≡ true
-    → (landed_blocks i.shape (log_of w 0) o unit ≡ i.shape.clba) ⊎ (b + i.shape.mw_cunits < landed_blocks i.shape (log_of w 0) o unit)
-may_read i w o unit b simple may =
-    let log : List Logged = log_of w 0 in
-    let landed : ℕ = landed_blocks i.shape (log_of w 0) o unit in
-    go (either (is_closed_in i.shape log o unit) (nat_lt (b + i.shape.mw_cunits) landed) may)
-  where
-    unlost : list_any (was_lost (log_of w 0)) (stripes_on (log_of w 0) o unit) ≡ false
-    unlost = any_fail (was_lost (log_of w 0)) (stripes_on (log_of w 0) o unit)
-        (all_everywhere (λ (p : Placed). was_lost (log_of w 0) p ≡ false) (stripes_on (log_of w 0) o unit)
-        (λ p. not_lost (log_of w 0) p (engine_plain i w simple)))
+        closed : (list_any (was_lost (log_of w 0)) (stripes_on (log_of w 0) o unit) ≡ true)
+            ⊎ ((landed_blocks i.shape (log_of w 0) o unit == i.shape.clba) ≡ true)
+            → (c.state ≡ states.Closed)
+            ⊎ ((landed_blocks i.shape (log_of w 0) o unit ≡ i.shape.clba) ⊎ (b + i.shape.mw_cunits < landed_blocks i.shape (log_of w 0) o unit))
+        closed (inl lost) = inl (by_loss lost)
+        closed (inr full) = inr (inl (eqb-true (landed_blocks i.shape log o unit) i.shape.clba full))
 
-    closed : (list_any (was_lost (log_of w 0)) (stripes_on (log_of w 0) o unit) ≡ true) ⊎ ((landed_blocks i.shape (log_of w 0) o unit == i.shape.clba) ≡ true)
-        → (landed_blocks i.shape (log_of w 0) o unit ≡ i.shape.clba) ⊎ (b + i.shape.mw_cunits < landed_blocks i.shape (log_of w 0) o unit)
-    closed (inl lost) = absurd (not_both (list_any (was_lost (log_of w 0)) (stripes_on (log_of w 0) o unit)) lost unlost)
-    closed (inr full) = inl (eqb-true (landed_blocks i.shape (log_of w 0) o unit) i.shape.clba full)
+        go : (is_closed_in i.shape (log_of w 0) o unit ≡ true) ⊎ (nat_lt (b + i.shape.mw_cunits) (landed_blocks i.shape (log_of w 0) o unit) ≡ true)
+            → (c.state ≡ states.Closed)
+            ⊎ ((landed_blocks i.shape (log_of w 0) o unit ≡ i.shape.clba) ⊎ (b + i.shape.mw_cunits < landed_blocks i.shape (log_of w 0) o unit))
+        go (inl is) = closed (either (list_any (was_lost log) (stripes_on log o unit)) (landed_blocks i.shape log o unit == i.shape.clba) is)
+        go (inr far) = inr (inr (lt_of (b + i.shape.mw_cunits) (landed_blocks i.shape log o unit) far))
 
-    go : (is_closed_in i.shape (log_of w 0) o unit ≡ true) ⊎ (nat_lt (b + i.shape.mw_cunits) (landed_blocks i.shape (log_of w 0) o unit) ≡ true)
-        → (landed_blocks i.shape (log_of w 0) o unit ≡ i.shape.clba) ⊎ (b + i.shape.mw_cunits < landed_blocks i.shape (log_of w 0) o unit)
-    go (inl is) = closed (either (list_any (was_lost (log_of w 0)) (stripes_on (log_of w 0) o unit))
-        (landed_blocks i.shape (log_of w 0) o unit == i.shape.clba) is)
-    go (inr far) = inr (lt_of (b + i.shape.mw_cunits) (landed_blocks i.shape (log_of w 0) o unit) far)
-
-given_there : (i : Image) (w : World) (unit k r : ℕ) (o : Opening) (p : Placed) (block : Block) → IsSimpleMount i w → life_of (log_of w 0) o.line ≡ Opened o
+given_there : (i : Image) (w : World) (unit k r : ℕ) (o : Opening) (p : Placed) (block : Block) → IsLegalMount i w → life_of (log_of w 0) o.line ≡ Opened o
     → slice_get (stripes_on (log_of w 0) o unit) k ≡ Some p → slice_get p.stripe.blocks r ≡ Some block → has_landed (log_of w 0) p ≡ true
     → is_readable_in i.shape (log_of w 0) unit (p.stripe.at + r) (Opened o) ≡ true
     → (c : Chunk) × (chunk_in (media i (log_of w)) o.line unit ≡ Some c) × ChunkStep i.shape c (Read (p.stripe.at + r)) (Gave block) c
-given_there i w unit k r o p block simple is_open there its_block landed may =
-    let mount : IsLegalMount i w = simple.mount in
+given_there i w unit k r o p block mount is_open there its_block landed may =
     let found = split_then (λ (c : Chunk). slice_get c.blocks (p.stripe.at + r)) (chunk_in (media i (log_of w)) o.line unit) block
     (stands i w mount o is_open unit k r p block there landed its_block) in
     let is : IsChunk i.shape found.0 = fits i w mount o is_open unit found.0 found.1 in
@@ -185,17 +185,17 @@ given_there i w unit k r o p block simple is_open there its_block landed may =
     let readable : IsReadable i.shape found.0 (p.stripe.at + r) =
     readable_by found.0.state i.shape.clba i.shape.mw_cunits (length found.0.blocks) (landed_blocks i.shape (log_of w 0) o unit) (p.stripe.at + r)
     is.place within
-    (landed_below i w mount o is_open unit found.0 found.1) (may_read i w o unit (p.stripe.at + r) simple may) in (
+    (landed_below i w mount o is_open unit found.0 found.1) (may_read i w mount o is_open unit found.0 found.1 (p.stripe.at + r) may) in (
       found.0,
       found.1,
       (read_taken i.shape found.0.state (length found.0.blocks) (p.stripe.at + r) readable inside, readable, found.2, refl),
     )
 
-pub given : (i : Image) (w : World) (line unit k r : ℕ) (o : Opening) (p : Placed) (block : Block) → IsSimpleMount i w → life_of (log_of w 0) line ≡ Opened o
+pub given : (i : Image) (w : World) (line unit k r : ℕ) (o : Opening) (p : Placed) (block : Block) → IsLegalMount i w → life_of (log_of w 0) line ≡ Opened o
     → slice_get (stripes_on (log_of w 0) o unit) k ≡ Some p → r < i.shape.ws_opt → slice_get p.stripe.blocks r ≡ Some block
     → has_landed (log_of w 0) p ≡ true → is_readable_in i.shape (log_of w 0) unit (p.stripe.at + r) (Opened o) ≡ true
     → (c : Chunk) × (chunk_in (media i (log_of w)) line unit ≡ Some c) × ChunkStep i.shape c (Read (p.stripe.at + r)) (Gave block) c
-given i w line unit k r o p block simple life there inside its_block landed may =
+given i w line unit k r o p block mount life there inside its_block landed may =
     let its_line : o.line ≡ line = (life_at (log_of w 0) line o life).1 in
     subst (λ n. (c : Chunk) × (chunk_in (media i (log_of w)) n unit ≡ Some c) × ChunkStep i.shape c (Read (p.stripe.at + r)) (Gave block) c) its_line
-    (given_there i w unit k r o p block simple (ap (life_of (log_of w 0)) its_line ∙ life) there its_block landed may)
+    (given_there i w unit k r o p block mount (ap (life_of (log_of w 0)) its_line ∙ life) there its_block landed may)

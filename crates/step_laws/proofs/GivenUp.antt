@@ -18,7 +18,7 @@ use Rattle.pblk_world.specs.Lines.{is_given_up, known_image}
 use Rattle.pblk_world.specs.Commanding.{is_program, was_stopped, is_stopped_reset, IsCommand}
 use Rattle.pblk_world.specs.Answering.{IsDoneReset, MayNoteReset}
 use Rattle.pblk_world.specs.Legal.{IsLegal}
-use Rattle.core_laws.specs.SimpleMounts.{IsSimpleMount}
+use Rattle.world_laws.specs.LegalMounts.{IsLegalMount}
 use Rattle.core_laws.specs.PlacerOf.{unanswered_on, was_stopped_on}
 use Rattle.core_laws.proofs.BegunOnce.{begun_once}
 use Rattle.step_laws.specs.NextEvents.{CanDo, CanReset}
@@ -77,11 +77,11 @@ module _ (i : Image) (w : World) (unit : ℕ) (e : UnitEvent) (maker : Maker) (r
   some : 0 < length (log_of w 0)
   some = some_given (log_of w 0) e.chunk reset.given.line
 
-  pub reset_next : IsSimpleMount i w → IsSimpleMount i (after_unit i.shape unit e maker w)
-  reset_next simple =
-      let begins = begun_once i w simple.mount.legal some in
+  pub reset_next : IsLegalMount i w → IsLegalMount i (after_unit i.shape unit e maker w)
+  reset_next mount =
+      let begins = begun_once i w mount.legal some in
       let c : Chunk = reset.can.event.found in
-      unit_next i w unit e maker simple reset.can
+      unit_next i w unit e maker mount reset.can
       (subst (λ (command : ChunkCommand). IsCommand i (log_of w) unit c e.chunk command (begun (log_of w 0))) (sym reset.command)
       (subst (λ (o : Option Begun). IsCommand i (log_of w) unit c e.chunk Reset o) (sym begins.1) reset.given))
 
@@ -107,14 +107,14 @@ module _ (i : Image) (w : World) (unit : ℕ) (e : UnitEvent) (maker : Maker) (r
       refl,
     )
 
-    pub noted_legal : IsSimpleMount i w → IsSimpleMount i end_
-    noted_legal simple =
-        let begins = begun_once i w simple.mount.legal some in
-        engine_next i mid begins.0 (ResetDone unit (next_event w unit)) (reset_next simple)
-        (ap begun (engine_log i.shape unit e maker w) ∙ begins.1) (may_note simple.mount.legal).0 refl
+    pub noted_legal : IsLegalMount i w → IsLegalMount i end_
+    noted_legal mount =
+        let begins = begun_once i w mount.legal some in
+        engine_next i mid begins.0 (ResetDone unit (next_event w unit)) (reset_next mount)
+        (ap begun (engine_log i.shape unit e maker w) ∙ begins.1) (may_note mount.legal).0
 
-    pub noted_known : IsSimpleMount i w → IsKnown i w → IsKnown i end_
-    noted_known simple = known_told i w unit e maker (ResetDone unit (next_event w unit)) reset.can ends simple.mount.legal (reset_next simple).mount.legal
+    pub noted_known : IsLegalMount i w → IsKnown i w → IsKnown i end_
+    noted_known mount = known_told i w unit e maker (ResetDone unit (next_event w unit)) reset.can ends mount.legal (reset_next mount).legal
         some (λ logs u. refl)
 
   pub noted_level : IsLevel w → IsLevel end_

@@ -1,19 +1,20 @@
--- The engine notes what became of a unit's stripe: it has landed, or its program was stopped.
+-- The engine notes what became of a unit's stripe: it has landed, it was lost, or its program was
+-- stopped.
 use Rattle.std.proofs.Common.{◌≡◌, ◌≢◌, ℕ, ◌<◌, ◌==◌, ◌&&◌, not, true, false, Some, None, length, refl, sym, ap, ap₂, ◌∙◌, if◌then◌else◌}
 use Rattle.pblk_model.specs.ChunkStep.{Done}
 use Rattle.pblk_model.specs.UnitLog.{UnitEvent, Answered, Failed, Stopped}
 use Rattle.pblk_model.specs.Image.{Image}
-use Rattle.pblk_world.specs.Events.{Landed, Lost, Again, Maker}
-use Rattle.pblk_world.specs.World.{World, log_of}
-use Rattle.pblk_world.specs.EngineLog.{begun, Placed, DidLand}
+use Rattle.pblk_world.specs.Events.{EngineEvent, Landed, Lost, Again, Decides, Maker}
+use Rattle.pblk_world.specs.World.{World, Logs, log_of, unit_event_at}
+use Rattle.pblk_world.specs.EngineLog.{begun, Placed, placed_by, Answer, DidLand, WasLost, answer_by}
+use Rattle.pblk_world.specs.Lines.{told_by}
 use Rattle.pblk_world.specs.Commanding.{is_program, was_stopped, ends_program}
-use Rattle.core_laws.specs.SimpleMounts.{IsSimpleMount}
 use Rattle.core_laws.specs.PlacerOf.{unanswered_on, was_stopped_on}
 use Rattle.core_laws.proofs.PlainStripes.{one_unanswered}
 use Rattle.world_laws.specs.LegalMounts.{IsLegalMount}
 use Rattle.step_laws.specs.NextEvents.{CanProgram}
-use Rattle.step_laws.specs.Whole.{noted, after_unit, next_event, after_landing, after_stopping, IsLevel, IsKnown}
-use Rattle.step_laws.proofs.EngineSteps.{decided_legal, engine_next}
+use Rattle.step_laws.specs.Whole.{noted, after_unit, next_event, after_landing, after_losing, after_stopping, IsLevel, IsKnown}
+use Rattle.step_laws.proofs.EngineSteps.{engine_next}
 use Rattle.step_laws.proofs.Known.{known_still, known_told, known_at_stop}
 use Rattle.step_laws.proofs.Levels.{ends_by_stop, level_by, level_unit, level_answered}
 use Rattle.step_laws.proofs.Programs.{program_begun, program_next, may_land, may_lose, may_offer_again}
@@ -21,69 +22,108 @@ use Rattle.step_laws.proofs.UnitSteps.{engine_log, engine_longer}
 use Rattle.step_laws.proofs.Waiting.{waits_still, waits_no_more, stopped_now, own_again, others_again}
 use Rattle.lemmas.proofs.Tests.{other_number, same_number}
 
-module _ (i : Image) (w : World) (unit : ℕ) (p : Placed) (e : UnitEvent) (maker : Maker) (simple : IsSimpleMount i w)
+module _ (i : Image) (w : World) (unit : ℕ) (p : Placed) (e : UnitEvent) (maker : Maker) (mount : IsLegalMount i w)
     (can : CanProgram i (log_of w) unit p e) where
   abbrev mid : World
   mid = after_unit i.shape unit e maker w
 
-  mid_simple : IsSimpleMount i mid
-  mid_simple = program_next i w unit p e maker can simple
+  mid_legal : IsLegalMount i mid
+  mid_legal = program_next i w unit p e maker can mount
 
   some : 0 < length (log_of w 0)
-  some = let begins = program_begun i w unit p e maker can simple.mount.legal in engine_longer w begins.0 begins.1
+  some = let begins = program_begun i w unit p e maker can mount.legal in engine_longer w begins.0 begins.1
 
-  -- ---- it was done, and has landed
+  -- ---- the engine notes an answer: of a program that was done, or that failed
 
-  module _ (done : e.outcome ≡ Answered Done) where
-    abbrev landed : World
-    landed = after_landing i.shape unit e maker w
-
-    pub landing_legal : IsSimpleMount i landed
-    landing_legal =
-        let begins = program_begun i w unit p e maker can simple.mount.legal in
-        engine_next i mid begins.0 (Landed unit (next_event w unit)) mid_simple
-        (ap begun (engine_log i.shape unit e maker w) ∙ begins.1) (may_land i w unit p e maker can simple.mount.legal done) refl
-
-    goes_on : was_stopped e.outcome ≡ false
-    goes_on = ap was_stopped done
+  module _ (tells : EngineEvent) (answer : Answer) (goes_on : was_stopped e.outcome ≡ false)
+      (answers : (u : ℕ) → answer_by u (Decides tells) ≡ (if unit == u then Some answer else None))
+      (told : (logs : Logs) (u : ℕ) → told_by logs u (Decides tells) ≡ (if unit == u then unit_event_at logs u (next_event w unit) else None))
+      (places : placed_by (log_of mid 0) (length (log_of mid 0)) (Decides tells) ≡ None) where
+    abbrev answered : World
+    answered = noted i.shape tells mid
 
     ends : ends_program e ≡ true
     ends = ap₂ (λ a b. a && not b) (ap is_program can.command) goes_on
 
-    own_answer : (if unit == unit then Some (DidLand (next_event w unit)) else None) ≡ Some (DidLand (next_event w unit))
-    own_answer = ap (λ b. if b then Some (DidLand (next_event w unit)) else None) (same_number unit)
+    own_answer : answer_by unit (Decides tells) ≡ Some answer
+    own_answer = answers unit ∙ ap (λ b. if b then Some answer else None) (same_number unit)
 
-    others_answer : (u : ℕ) → u ≢ unit → (if unit == u then Some (DidLand (next_event w unit)) else None) ≡ None
-    others_answer u apart = ap (λ b. if b then Some (DidLand (next_event w unit)) else None) (other_number unit u (λ same. apart (sym same)))
+    others_answer : (u : ℕ) → u ≢ unit → answer_by u (Decides tells) ≡ None
+    others_answer u apart = answers u ∙ ap (λ b. if b then Some answer else None) (other_number unit u (λ same. apart (sym same)))
 
-    pub landing_level : IsLevel w → IsLevel landed
-    landing_level = level_answered i w unit e maker (Landed unit (next_event w unit)) (DidLand (next_event w unit)) simple.mount.legal some ends own_answer
-        others_answer
+    answered_level : IsLevel w → IsLevel answered
+    answered_level = level_answered i w unit e maker tells answer mount.legal some ends own_answer others_answer
 
-    pub landing_known : IsKnown i w → IsKnown i landed
-    landing_known = known_told i w unit e maker (Landed unit (next_event w unit)) can.can goes_on simple.mount.legal mid_simple.mount.legal some
-        (λ logs u. refl)
+    answered_known : IsKnown i w → IsKnown i answered
+    answered_known = known_told i w unit e maker tells can.can goes_on mount.legal mid_legal.legal some told
 
     -- the unit's stripe is answered, those of the others wait as before
+    answered_waits : unanswered_on (log_of answered 0) unit ≡ None
+    answered_waits = waits_no_more i.shape tells mid places unit answer own_answer (one_unanswered i mid mid_legal.legal unit)
+
+    others_still : (u : ℕ) → u ≢ unit → unanswered_on (log_of answered 0) u ≡ unanswered_on (log_of w 0) u
+    others_still u apart = waits_still i.shape tells mid places u (others_answer u apart) ∙ ap (λ log. unanswered_on log u) (engine_log i.shape unit e maker w)
+
+  -- ---- it was done, and has landed
+
+  module _ (done : e.outcome ≡ Answered Done) where
+    abbrev lands : EngineEvent
+    lands = Landed unit (next_event w unit)
+
+    abbrev landed : World
+    landed = after_landing i.shape unit e maker w
+
+    pub landing_legal : IsLegalMount i landed
+    landing_legal =
+        let begins = program_begun i w unit p e maker can mount.legal in
+        engine_next i mid begins.0 lands mid_legal (ap begun (engine_log i.shape unit e maker w) ∙ begins.1)
+        (may_land i w unit p e maker can mount.legal done)
+
+    pub landing_level : IsLevel w → IsLevel landed
+    landing_level = answered_level lands (DidLand (next_event w unit)) (ap was_stopped done) (λ u. refl) (λ logs u. refl) refl
+
+    pub landing_known : IsKnown i w → IsKnown i landed
+    landing_known = answered_known lands (DidLand (next_event w unit)) (ap was_stopped done) (λ u. refl) (λ logs u. refl) refl
+
     pub own_waits : unanswered_on (log_of landed 0) unit ≡ None
-    own_waits = waits_no_more i.shape (Landed unit (next_event w unit)) mid refl unit (DidLand (next_event w unit)) own_answer
-        (one_unanswered i mid mid_simple.mount.legal unit)
+    own_waits = answered_waits lands (DidLand (next_event w unit)) (ap was_stopped done) (λ u. refl) (λ logs u. refl) refl
 
     pub others_wait : (u : ℕ) → u ≢ unit → unanswered_on (log_of landed 0) u ≡ unanswered_on (log_of w 0) u
-    others_wait u apart = waits_still i.shape (Landed unit (next_event w unit)) mid refl u (others_answer u apart)
-        ∙ ap (λ log. unanswered_on log u) (engine_log i.shape unit e maker w)
+    others_wait = others_still lands (DidLand (next_event w unit)) (ap was_stopped done) (λ u. refl) (λ logs u. refl) refl
 
-    -- and the stripes of the same units were stopped
+    -- the stripes of the same units were stopped
     pub landing_stops : (u : ℕ) → was_stopped_on (log_of landed 0) u ≡ was_stopped_on (log_of w 0) u
-    landing_stops u = stopped_now i.shape (Landed unit (next_event w unit)) mid u ∙ ap (λ log. was_stopped_on log u) (engine_log i.shape unit e maker w)
+    landing_stops u = stopped_now i.shape lands mid u ∙ ap (λ log. was_stopped_on log u) (engine_log i.shape unit e maker w)
 
   -- ---- it failed, and was lost
 
-  pub losing_legal : (k : ℕ) → e.outcome ≡ Failed k → IsLegalMount i (noted i.shape (Lost unit (next_event w unit)) (after_unit i.shape unit e maker w))
-  losing_legal k failed =
-      let begins = program_begun i w unit p e maker can simple.mount.legal in
-      decided_legal i mid (Lost unit (next_event w unit)) mid_simple.mount
-      (begins.0, ap begun (engine_log i.shape unit e maker w) ∙ begins.1, may_lose i w unit p e maker can k simple.mount.legal failed)
+  module _ (k : ℕ) (failed : e.outcome ≡ Failed k) where
+    abbrev loses : EngineEvent
+    loses = Lost unit (next_event w unit)
+
+    abbrev lost : World
+    lost = after_losing i.shape unit e maker w
+
+    pub losing_legal : IsLegalMount i lost
+    losing_legal =
+        let begins = program_begun i w unit p e maker can mount.legal in
+        engine_next i mid begins.0 loses mid_legal (ap begun (engine_log i.shape unit e maker w) ∙ begins.1)
+        (may_lose i w unit p e maker can k mount.legal failed)
+
+    pub losing_level : IsLevel w → IsLevel lost
+    losing_level = answered_level loses (WasLost (next_event w unit)) (ap was_stopped failed) (λ u. refl) (λ logs u. refl) refl
+
+    pub losing_known : IsKnown i w → IsKnown i lost
+    losing_known = answered_known loses (WasLost (next_event w unit)) (ap was_stopped failed) (λ u. refl) (λ logs u. refl) refl
+
+    pub own_lost : unanswered_on (log_of lost 0) unit ≡ None
+    own_lost = answered_waits loses (WasLost (next_event w unit)) (ap was_stopped failed) (λ u. refl) (λ logs u. refl) refl
+
+    pub others_lost : (u : ℕ) → u ≢ unit → unanswered_on (log_of lost 0) u ≡ unanswered_on (log_of w 0) u
+    others_lost = others_still loses (WasLost (next_event w unit)) (ap was_stopped failed) (λ u. refl) (λ logs u. refl) refl
+
+    pub losing_stops : (u : ℕ) → was_stopped_on (log_of lost 0) u ≡ was_stopped_on (log_of w 0) u
+    losing_stops u = stopped_now i.shape loses mid u ∙ ap (λ log. was_stopped_on log u) (engine_log i.shape unit e maker w)
 
   -- ---- it was stopped, and is offered again
 
@@ -94,18 +134,18 @@ module _ (i : Image) (w : World) (unit : ℕ) (p : Placed) (e : UnitEvent) (make
     was : was_stopped e.outcome ≡ true
     was = ap was_stopped stops
 
-    pub stopping_legal : IsSimpleMount i stopped
+    pub stopping_legal : IsLegalMount i stopped
     stopping_legal =
-        let begins = program_begun i w unit p e maker can simple.mount.legal in
-        engine_next i mid begins.0 (Again unit (next_event w unit)) mid_simple
-        (ap begun (engine_log i.shape unit e maker w) ∙ begins.1) (may_offer_again i w unit p e maker can k simple.mount.legal stops) refl
+        let begins = program_begun i w unit p e maker can mount.legal in
+        engine_next i mid begins.0 (Again unit (next_event w unit)) mid_legal
+        (ap begun (engine_log i.shape unit e maker w) ∙ begins.1) (may_offer_again i w unit p e maker can k mount.legal stops)
 
     pub stopping_level : IsLevel w → IsLevel stopped
     stopping_level level = level_by i.shape (Again unit (next_event w unit)) mid (λ u. refl) (level_unit i.shape unit e maker w (ends_by_stop e was) level)
 
     pub stopping_known : IsKnown i w → IsKnown i stopped
     stopping_known known = known_still i mid (Again unit (next_event w unit)) refl (λ u. refl)
-        (known_at_stop i w unit e maker simple.mount.legal can.can was known)
+        (known_at_stop i w unit e maker mount.legal can.can was known)
 
     -- the same stripes wait for their answers
     pub stopping_waits : (u : ℕ) → unanswered_on (log_of stopped 0) u ≡ unanswered_on (log_of w 0) u

@@ -17,7 +17,7 @@ use Rattle.pblk_world.specs.EngineLog.{Begun, begun, Placed, placements, placed_
 use Rattle.pblk_world.specs.Commanding.{is_program, has_stopped, ended_stripes, IsCommand, IsStripe}
 use Rattle.pblk_world.specs.Answering.{IsOfStripe, MayLand, MayLose, MayOfferAgain}
 use Rattle.pblk_world.specs.Legal.{IsLegal}
-use Rattle.core_laws.specs.SimpleMounts.{IsSimpleMount}
+use Rattle.world_laws.specs.LegalMounts.{IsLegalMount}
 use Rattle.core_laws.specs.PlacerOf.{unanswered_on}
 use Rattle.core_laws.proofs.UnitTurns.{filtered_is}
 use Rattle.core_laws.proofs.KeptLines.{on_drive}
@@ -32,27 +32,27 @@ use Rattle.lemmas.proofs.Parts.{contained_among}
 
 -- ---- the stripe
 
-pub unit_in_range : (i : Image) (w : World) (unit k : ℕ) (p : Placed) → IsSimpleMount i w → slice_get (placed_on (log_of w 0) unit) k ≡ Some p
+pub unit_in_range : (i : Image) (w : World) (unit k : ℕ) (p : Placed) → IsLegalMount i w → slice_get (placed_on (log_of w 0) unit) k ≡ Some p
     → unit < units i.shape
-unit_in_range i w unit k p simple there =
+unit_in_range i w unit k p mount there =
     let among : IsAmong (placements (log_of w 0)) p = from_filter (λ (q : Placed). q.stripe.unit == unit) (placements (log_of w 0)) p (k, there) in
     let on : p.stripe.unit ≡ unit = eqb-true p.stripe.unit unit (filtered_is (λ (q : Placed). q.stripe.unit == unit) (placements (log_of w 0)) k p there) in
-    subst (λ n. n < units i.shape) on (on_drive i w p simple.mount (contained_among (placements (log_of w 0)) p among))
+    subst (λ n. n < units i.shape) on (on_drive i w p mount (contained_among (placements (log_of w 0)) p among))
 
 -- its unit has the chunk
-pub program_chunk : (i : Image) (w : World) (unit : ℕ) (p : Placed) → IsSimpleMount i w → unanswered_on (log_of w 0) unit ≡ Some p
+pub program_chunk : (i : Image) (w : World) (unit : ℕ) (p : Placed) → IsLegalMount i w → unanswered_on (log_of w 0) unit ≡ Some p
     → (c : Chunk) × (chunk_in (media i (log_of w)) p.stripe.chunk unit ≡ Some c)
-program_chunk i w unit p simple waits =
+program_chunk i w unit p mount waits =
     let k : ℕ = length (answers (log_of w 0) unit) in
-    let found = has_chunk_of i w unit k p simple.mount (unit_in_range i w unit k p simple waits) waits in
+    let found = has_chunk_of i w unit k p mount (unit_in_range i w unit k p mount waits) waits in
     (found.0, found.1)
 
 -- and the chunk doesn't refuse the program, unless the unit was stopped
-pub program_fits : (i : Image) (w : World) (unit : ℕ) (p : Placed) → IsSimpleMount i w → unanswered_on (log_of w 0) unit ≡ Some p
+pub program_fits : (i : Image) (w : World) (unit : ℕ) (p : Placed) → IsLegalMount i w → unanswered_on (log_of w 0) unit ≡ Some p
     → ended_stripes (log_of w (suc unit)) ≡ length (answers (log_of w 0) unit) → has_stopped (unit_events (log_of w) unit) ≡ false
     → (c : Chunk) × (chunk_in (media i (log_of w)) p.stripe.chunk unit ≡ Some c) × (refusal i.shape c (Write p.stripe.at p.stripe.blocks) ≡ None)
-program_fits i w unit p simple waits level running =
-    program_is_taken i w unit p simple.mount (unit_in_range i w unit (length (answers (log_of w 0) unit)) p simple waits)
+program_fits i w unit p mount waits level running =
+    program_is_taken i w unit p mount (unit_in_range i w unit (length (answers (log_of w 0) unit)) p mount waits)
     (ap (slice_get (placed_on (log_of w 0) unit)) level ∙ waits) running
 
 -- ---- its program
@@ -70,11 +70,11 @@ module _ (i : Image) (w : World) (unit : ℕ) (p : Placed) (e : UnitEvent) (make
   pub program_begun : IsLegal i w → (b : Begun) × (begun (log_of w 0) ≡ Some b)
   program_begun legal = has_begun i w unit (length (answers (log_of w 0) unit)) p legal can.waits
 
-  pub program_next : IsSimpleMount i w → IsSimpleMount i (after_unit i.shape unit e maker w)
-  program_next simple =
-      let begins = program_begun simple.mount.legal in
+  pub program_next : IsLegalMount i w → IsLegalMount i (after_unit i.shape unit e maker w)
+  program_next mount =
+      let begins = program_begun mount.legal in
       let c : Chunk = can.can.event.found in
-      unit_next i w unit e maker simple can.can
+      unit_next i w unit e maker mount can.can
       (subst (λ (command : ChunkCommand). IsCommand i (log_of w) unit c e.chunk command (begun (log_of w 0))) (sym can.command)
       (subst (λ (o : Option Begun). IsCommand i (log_of w) unit c e.chunk (Write p.stripe.at p.stripe.blocks) o) (sym begins.1) stripe))
 

@@ -19,18 +19,25 @@ use Rattle.unit_port.specs.Armed.{IsUnarmed, is_fail, is_stop}
 use Rattle.unit_port.specs.Unit.{ModelUnit, IsStopped}
 use Rattle.unit_port.specs.Commands.{EventAt, IsNext, AreNext, command_of, with_event, after_one, after_all, events_of}
 use Rattle.scan_recovery.specs.Fetches.{IsFetch}
-use Rattle.scan_recovery.specs.MayStop.{MayStop}
+use Rattle.scan_recovery.specs.MayStop.{AllMayStop, MayStop}
 use Rattle.scan_recovery.specs.Pads.{ArePads, IsNextPad, pads_from}
 use Rattle.scan_recovery.specs.Units.{image_of}
 use Rattle.scan_recovery.specs.Readying.{WereReadied}
 use Rattle.scan_recovery.proofs.PadSteps.{event_was, next_above}
 use Rattle.scan_recovery.proofs.PadsLemmas.{pads_count}
 use Rattle.scan_recovery.proofs.UnitLogs.{others_event, own_event}
+use Rattle.step_laws.specs.Opened.{AreArmed, IsArmed}
 use Rattle.step_laws.proofs.UnitEvents.{IsPadOrFetch, IsReadying, AreReadying}
 use Rattle.lemmas.proofs.Lists.{all_replicated}
 use Rattle.lemmas.proofs.Tests.{not_both, or_no, or_right}
 
--- ---- units that a fuse may stop
+-- ---- units that a fuse or a plan may stop
+
+-- one that a fuse alone may stop is such a one
+pub may_stop_armed : (us : List ModelUnit) → AllMayStop us → AreArmed us
+may_stop_armed us may number u there =
+    let one : MayStop u = may number u there in
+    elim one.fuse [ inl none ↦ inl (one.plans, none) | inr since ↦ inr since ]
 
 pub stop_is : (o : UnitOutcome) → was_stopped o ≡ is_stop o
 stop_is (Answered a) = refl
@@ -38,12 +45,12 @@ stop_is (Failed k) = refl
 stop_is (Stopped k) = refl
 
 -- its log tells a stop
-tells_stop : (u : ModelUnit) (e : UnitEvent) → MayStop u → (IsUnarmed u.armed → (is_fail e.outcome ≡ false) × (is_stop e.outcome ≡ false))
+tells_stop : (u : ModelUnit) (e : UnitEvent) → IsArmed u → (IsUnarmed u.armed → (is_fail e.outcome ≡ false) × (is_stop e.outcome ≡ false))
     → was_stopped e.outcome ≡ true → IsStopped (with_event u e)
-tells_stop u e may quiet was =
+tells_stop u e armed quiet was =
     let stop : is_stop e.outcome ≡ true = sym (stop_is e.outcome) ∙ was in
-    elim may.fuse [
-      | inl none ↦ absurd (not_both (is_stop e.outcome) stop (quiet (may.plans, none)).1)
+    elim armed [
+      | inl none ↦ absurd (not_both (is_stop e.outcome) stop (quiet none).1)
       | inr since ↦
           let stops = λ (x : UnitEvent). is_stop x.outcome in
           ap (list_any stops) (drop-append-le u.armed.since u.log (e ∷ []) since)
@@ -51,25 +58,22 @@ tells_stop u e may quiet was =
           ∙ or_right (list_any stops (drop u.armed.since u.log)) (list_any stops (e ∷ [])) (or_no (is_stop e.outcome) ∙ stop)
     ]
 
-may_after : (u : ModelUnit) (e : UnitEvent) → MayStop u → MayStop (with_event u e)
-may_after u e may = record {
-  plans = may.plans;
-  fuse = elim may.fuse [ inl none ↦ inl none | inr since ↦ inr (omega (arith, length-append u.log (e ∷ []))) ];
-}
+armed_after : (u : ModelUnit) (e : UnitEvent) → IsArmed u → IsArmed (with_event u e)
+armed_after u e armed = elim armed [ inl none ↦ inl none | inr since ↦ inr (omega (arith, length-append u.log (e ∷ []))) ]
 
 -- of a drive of this shape
 abbrev pub AreTelling : Shape → List ModelUnit → Type 0
-AreTelling s us = (k : ℕ) (u : ModelUnit) → slice_get us k ≡ Some u → (u.shape ≡ s) × MayStop u
+AreTelling s us = (k : ℕ) (u : ModelUnit) → slice_get us k ≡ Some u → (u.shape ≡ s) × IsArmed u
 
 telling_after : (s : Shape) (us : List ModelUnit) (e : EventAt) → IsNext us e → AreTelling s us → AreTelling s (after_one us e)
 telling_after s us e next telling = λ k u there. go k u there (ℕ_discrete e.unit k)
   where
-    go : (k : ℕ) (u : ModelUnit) → slice_get (after_one us e) k ≡ Some u → Dec (e.unit ≡ k) → (u.shape ≡ s) × MayStop u
+    go : (k : ℕ) (u : ModelUnit) → slice_get (after_one us e) k ≡ Some u → Dec (e.unit ≡ k) → (u.shape ≡ s) × IsArmed u
     go k u there (yes same) =
         let was : slice_get us k ≡ Some next.unit = ap (slice_get us) (sym same) ∙ next.there in
         let is : with_event next.unit e.event ≡ u = same_Some (with_event next.unit e.event) u (sym (own_event e us k next.unit was same) ∙ there) in
         let of = telling k next.unit was in
-        subst (λ (x : ModelUnit). (x.shape ≡ s) × MayStop x) is (of.0, may_after next.unit e.event of.1)
+        subst (λ (x : ModelUnit). (x.shape ≡ s) × IsArmed x) is (of.0, armed_after next.unit e.event of.1)
     go k u there (no apart) = telling k u (sym (others_event e us k apart) ∙ there)
 
 -- ---- events of several units

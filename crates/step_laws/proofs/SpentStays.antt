@@ -15,12 +15,12 @@ use Rattle.pblk_world.specs.Victims.{position_in, positions_in, taken_up_to}
 use Rattle.pblk_world.specs.World.{World, Logs, log_of}
 use Rattle.world_laws.specs.LegalMounts.{IsLegalMount}
 use Rattle.world_laws.specs.SameTold.{AreSameTold}
+use Rattle.world_laws.specs.Orders.{NoneToFree}
 use Rattle.world_laws.proofs.ToldImages.{by_three, image_same, told_back}
 use Rattle.world_laws.proofs.ToldTables.{live_told, newest_told, seq_told, takers_told}
 use Rattle.core_laws.specs.Spent.{IsSpent, OpensWhenFull}
 use Rattle.core_laws.proofs.FreeLines.{may_free}
 use Rattle.core_laws.proofs.SpentLines.{is_spent}
-use Rattle.step_laws.specs.FreedWorlds.{NoneToFree}
 use Rattle.step_laws.specs.Whole.{unit_step}
 use Rattle.step_laws.proofs.UnitStays.{told_stays}
 

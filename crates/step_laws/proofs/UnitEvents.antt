@@ -13,7 +13,7 @@ use Rattle.pblk_world.specs.World.{World, Logs, log_of, media, unit_events}
 use Rattle.pblk_world.specs.EngineLog.{Begun, begun}
 use Rattle.pblk_world.specs.Commanding.{was_stopped, has_stopped, IsPadding, IsCommand}
 use Rattle.pblk_world.proofs.WorldLemmas.{media_at}
-use Rattle.core_laws.specs.SimpleMounts.{IsSimpleMount}
+use Rattle.world_laws.specs.LegalMounts.{IsLegalMount}
 use Rattle.unit_port.specs.Unit.{ModelUnit, IsStopped}
 use Rattle.unit_port.specs.Commands.{with_event}
 use Rattle.unit_port.proofs.Units.{stays_stopped}
@@ -118,19 +118,19 @@ may_be_told i logs unit chunk c (Write at blocks) does = does
 may_be_told i logs unit chunk c (Read b) does = tt
 may_be_told i logs unit chunk c Reset does = absurd does
 
-one_step : (i : Image) (w : World) (unit : ℕ) (u : ModelUnit) (e : UnitEvent) (maker : Maker) → IsSimpleMount i w → log_of w 0 ≡ [] → IsAt i w unit u
-    → IsReadying i u e → IsSimpleMount i (unit_step i.shape unit e maker w ∷ w)
-one_step i w unit u e maker simple none at is =
-    unit_next i w unit e maker simple
+one_step : (i : Image) (w : World) (unit : ℕ) (u : ModelUnit) (e : UnitEvent) (maker : Maker) → IsLegalMount i w → log_of w 0 ≡ [] → IsAt i w unit u
+    → IsReadying i u e → IsLegalMount i (unit_step i.shape unit e maker w ∷ w)
+one_step i w unit u e maker mount none at is =
+    unit_next i w unit e maker mount
     (record { chunks = u.media; has_chunks = at.media; event = is.event; stopped = λ was. is.stopped (at.stopped was) })
     (subst (λ (o : Option Begun). IsCommand i (log_of w) unit is.event.found e.chunk e.command o) (sym (ap (λ (log : List Logged). begun log) none))
     (may_be_told i (log_of w) unit e.chunk is.event.found e.command is.does))
 
-pub all_steps : (i : Image) (events : List UnitEvent) (w : World) (unit : ℕ) (u : ModelUnit) → IsSimpleMount i w → log_of w 0 ≡ [] → IsAt i w unit u
-    → AreReadying i u events → IsSimpleMount i (after_events i.shape unit w events)
-all_steps i [] w unit u simple none at are = simple
-all_steps i (e ∷ events) w unit u simple none at are =
+pub all_steps : (i : Image) (events : List UnitEvent) (w : World) (unit : ℕ) (u : ModelUnit) → IsLegalMount i w → log_of w 0 ≡ [] → IsAt i w unit u
+    → AreReadying i u events → IsLegalMount i (after_events i.shape unit w events)
+all_steps i [] w unit u mount none at are = mount
+all_steps i (e ∷ events) w unit u mount none at are =
     all_steps i events (unit_step i.shape unit e (opening_maker w) w ∷ w) unit (with_event u e)
-    (one_step i w unit u e (opening_maker w) simple none at are.0)
+    (one_step i w unit u e (opening_maker w) mount none at are.0)
     (engine_log i.shape unit e (opening_maker w) w ∙ none)
     (at_next i w unit u e (opening_maker w) at are.0) are.1

@@ -20,7 +20,6 @@ use Rattle.pblk_world.specs.Commanding.{was_stopped, has_stopped, IsCommand}
 use Rattle.pblk_world.specs.Answering.{IsNew}
 use Rattle.pblk_world.specs.Legal.{IsAllowed, IsLegal}
 use Rattle.world_laws.specs.LegalMounts.{IsLegalMount}
-use Rattle.core_laws.specs.SimpleMounts.{IsSimpleLog, IsSimpleMount}
 use Rattle.core_laws.proofs.BegunOnce.{begun_once}
 use Rattle.core_laws.specs.StripePrograms.{HasHappened}
 use Rattle.core_laws.proofs.Happened.{happened}
@@ -223,24 +222,16 @@ running i logs unit e can ends = go (has_stopped (unit_events logs unit)) refl
     go false was = refl
 
 -- a unit does what it can do and may be told to
-pub next_legal_mount : (i : Image) (w : World) (unit : ℕ) (e : UnitEvent) (maker : Maker) → IsLegalMount i w → (can : CanDo i (log_of w) unit e)
+pub unit_next : (i : Image) (w : World) (unit : ℕ) (e : UnitEvent) (maker : Maker) → IsLegalMount i w → (can : CanDo i (log_of w) unit e)
     → IsCommand i (log_of w) unit can.event.found e.chunk e.command (begun (log_of w 0))
     → IsLegalMount i (after_unit i.shape unit e maker w)
-next_legal_mount i w unit e maker mount can command =
+unit_next i w unit e maker mount can command =
     let range : unit < units i.shape = unit_inside i (log_of w) unit can.chunks mount.fit can.has_chunks in record {
       accepted = mount.accepted;
       fit = mount.fit;
       legal = next_legal i w (suc unit) (Does e maker) mount.legal (omega arith)
           (record { chunks = can.chunks; has_chunks = can.has_chunks; event = can.event; stopped = can.stopped; command = command });
     }
-
-pub unit_next : (i : Image) (w : World) (unit : ℕ) (e : UnitEvent) (maker : Maker) → IsSimpleMount i w → (can : CanDo i (log_of w) unit e)
-    → IsCommand i (log_of w) unit can.event.found e.chunk e.command (begun (log_of w 0))
-    → IsSimpleMount i (after_unit i.shape unit e maker w)
-unit_next i w unit e maker simple can command = record {
-  mount = next_legal_mount i w unit e maker simple.mount can command;
-  engine = subst IsSimpleLog (sym (engine_log i.shape unit e maker w)) simple.engine;
-}
 
 -- ---- the engine didn't name it yet
 

@@ -15,16 +15,15 @@ use Rattle.pblk_world.specs.Commanding.{has_stopped}
 use Rattle.pblk_world.specs.World.{World, log_of, media, unit_events}
 use Rattle.pblk_world.specs.Legal.{IsLegal}
 use Rattle.pblk_world.proofs.WorldLemmas.{length_media, media_at}
-use Rattle.core_laws.specs.SimpleMounts.{IsSimpleMount}
+use Rattle.world_laws.specs.LegalMounts.{IsLegalMount}
 use Rattle.unit_port.specs.Unit.{ModelUnit, IsStopped}
 use Rattle.unit_port.specs.Commands.{EventAt, after_one, after_all, events_of}
 use Rattle.scan_recovery.specs.Lost.{grown_by}
-use Rattle.scan_recovery.specs.MayStop.{AllMayStop}
 use Rattle.scan_recovery.specs.Readying.{WereReadied}
 use Rattle.scan_recovery.specs.Units.{AreFit, image_of}
 use Rattle.scan_recovery.proofs.PadLoops.{fit_image}
 use Rattle.scan_recovery.proofs.UnitLogs.{as_many, grown_after, media_after, unit_after, with_events}
-use Rattle.step_laws.specs.Opened.{new_events, after_events, after_units}
+use Rattle.step_laws.specs.Opened.{AreArmed, new_events, after_events, after_units}
 use Rattle.step_laws.proofs.ChunkEvents.{same_images}
 use Rattle.step_laws.proofs.Readied.{all_ready, own_ready}
 use Rattle.step_laws.proofs.UnitEvents.{AreReadying, IsAt, all_steps, at_elsewhere, events_quiet, others_events, own_events, stopped_after}
@@ -64,12 +63,12 @@ CanHave i w n events = (u : ModelUnit) × IsAt i w n u × AreReadying i u events
 abbrev CanAll : Image → World → ℕ → List (List UnitEvent) → Type 0
 CanAll i w unit all = (n k : ℕ) (events : List UnitEvent) → n ≡ unit + k → slice_get all k ≡ Some events → CanHave i w n events
 
-all_units : (i : Image) (all : List (List UnitEvent)) (unit : ℕ) (w : World) → IsSimpleMount i w → log_of w 0 ≡ [] → CanAll i w unit all
-    → IsSimpleMount i (after_units i.shape unit w all)
-all_units i [] unit w simple none can = simple
-all_units i (first ∷ all) unit w simple none can =
+all_units : (i : Image) (all : List (List UnitEvent)) (unit : ℕ) (w : World) → IsLegalMount i w → log_of w 0 ≡ [] → CanAll i w unit all
+    → IsLegalMount i (after_units i.shape unit w all)
+all_units i [] unit w mount none can = mount
+all_units i (first ∷ all) unit w mount none can =
     let its : CanHave i w unit first = can unit 0 first (omega arith) refl in
-    all_units i all (suc unit) (after_events i.shape unit w first) (all_steps i first w unit its.0 simple none its.1 its.2)
+    all_units i all (suc unit) (after_events i.shape unit w first) (all_steps i first w unit its.0 mount none its.1 its.2)
     (events_quiet i.shape unit first w ∙ none)
     (λ n k events at there.
     let h : CanHave i w n events = can n (suc k) events (omega arith) there in
@@ -90,12 +89,9 @@ at_first s us k u fit there = record {
   stopped = λ was. absurd cc;
 }
 
-nothing_done : (s : Shape) (us : List ModelUnit) → IsAccepted s → AreFit s us → IsSimpleMount (image_of s us) []
+nothing_done : (s : Shape) (us : List ModelUnit) → IsAccepted s → AreFit s us → IsLegalMount (image_of s us) []
 unfolding IsLegal
-nothing_done s us accepted fit = record {
-  mount = record { accepted = accepted; fit = fit_image s us fit; legal = tt };
-  engine = record { lost = tt };
-}
+nothing_done s us accepted fit = record { accepted = accepted; fit = fit_image s us fit; legal = tt }
 
 -- ---- an opening
 
@@ -170,11 +166,11 @@ module _ (s : Shape) (old new : List ModelUnit) (were : WereReadied s old new) w
           ∙ sym (get_past (map (λ (u : ModelUnit). u.media) new) k (omega arith))
 
 -- where a stop shows in the logs
-module _ (s : Shape) (old new : List ModelUnit) (accepted : IsAccepted s) (fit : AreFit s old) (may : AllMayStop old) (were : WereReadied s old new) where
+module _ (s : Shape) (old new : List ModelUnit) (accepted : IsAccepted s) (fit : AreFit s old) (armed : AreArmed old) (were : WereReadied s old new) where
   ready : (k : ℕ) (u : ModelUnit) → slice_get old k ≡ Some u → AreReadying (image_of s old) u (events_of k (were.pads ++ were.fetches))
   ready k u there =
       own_ready (image_of s old) (were.pads ++ were.fetches) old k u there
-      (all_ready (image_of s old) old new accepted.drive.ws_opt (λ n v at. ((fit.each n v at).shape, may n v at)) were)
+      (all_ready (image_of s old) old new accepted.drive.ws_opt (λ n v at. ((fit.each n v at).shape, armed n v at)) were)
 
   can : (n k : ℕ) (events : List UnitEvent) → n ≡ 0 + k → slice_get (new_events old new) k ≡ Some events → CanHave (image_of s old) [] n events
   can n k events at there =
@@ -184,8 +180,8 @@ module _ (s : Shape) (old new : List ModelUnit) (accepted : IsAccepted s) (fit :
       subst (λ m. CanHave (image_of s old) [] m events) same
       (of.0, at_first s old k of.0 fit of.2, subst (AreReadying (image_of s old) of.0) which (ready k of.0 of.2))
 
-  pub simple_mount : IsSimpleMount (image_of s old) (after_units s 0 [] (new_events old new))
-  simple_mount = all_units (image_of s old) (new_events old new) 0 [] (nothing_done s old accepted fit) refl can
+  pub legal_mount : IsLegalMount (image_of s old) (after_units s 0 [] (new_events old new))
+  legal_mount = all_units (image_of s old) (new_events old new) 0 [] (nothing_done s old accepted fit) refl can
 
   pub stops_there : (number : ℕ) (v : ModelUnit) → slice_get new number ≡ Some v
       → has_stopped (unit_events (log_of (after_units s 0 [] (new_events old new))) number) ≡ true → IsStopped v

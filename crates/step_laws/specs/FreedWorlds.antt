@@ -4,12 +4,8 @@ use Rattle.pblk_model.specs.declared.shape.Shape.{Shape}
 use Rattle.pblk_model.specs.Image.{Image}
 use Rattle.pblk_world.specs.Events.{Free}
 use Rattle.pblk_world.specs.Freeing.{MayFree}
-use Rattle.pblk_world.specs.World.{World, Logs, log_of}
+use Rattle.pblk_world.specs.World.{World, log_of}
 use Rattle.step_laws.specs.Whole.{engine_step}
-
--- no line may be freed
-abbrev pub NoneToFree : Image → Logs → Type 0
-NoneToFree i logs = (line : ℕ) → ¬ MayFree i logs line
 
 -- the world once these were freed
 abbrev pub freed_world : Shape → World → List ℕ → World

@@ -1,13 +1,22 @@
 -- What the units of a drive did while it was made ready for a mount, and the world that these steps
 -- make.
-use Rattle.std.specs.Prelude.{ℕ, suc, List, [], ◌∷◌}
+use Rattle.std.specs.Prelude.{ℕ, suc, ◌≡◌, ◌≤◌, ◌⊎◌, List, [], ◌∷◌, length, slice_get, Some}
 use Rattle.std.specs.List.{fold}
 use Rattle.pblk_model.specs.declared.shape.Shape.{Shape}
 use Rattle.pblk_model.specs.UnitLog.{UnitEvent}
 use Rattle.pblk_world.specs.World.{World}
+use Rattle.unit_port.specs.Armed.{IsUnarmed}
 use Rattle.unit_port.specs.Unit.{ModelUnit}
 use Rattle.scan_recovery.specs.Lost.{grown_by}
 use Rattle.step_laws.specs.Whole.{unit_step, opening_maker}
+
+-- The unit is armed with nothing, or was armed when its log was at most as long as it is now. So
+-- its log tells of each command that a plan or a fuse stops.
+abbrev pub IsArmed : ModelUnit → Type 0
+IsArmed u = IsUnarmed u.armed ⊎ (u.armed.since ≤ length u.log)
+
+abbrev pub AreArmed : List ModelUnit → Type 0
+AreArmed us = (number : ℕ) (u : ModelUnit) → slice_get us number ≡ Some u → IsArmed u
 
 -- what each unit did, in the order of the units
 abbrev pub new_events : List ModelUnit → List ModelUnit → List (List UnitEvent)

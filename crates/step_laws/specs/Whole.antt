@@ -9,7 +9,7 @@ use Rattle.pblk_model.specs.ChunkStep.{ChunkAnswer, Write, Read, Reset, Done}
 use Rattle.pblk_model.specs.UnitLog.{UnitOutcome, UnitEvent, Answered, after_outcome}
 use Rattle.pblk_model.specs.Image.{Image}
 use Rattle.pblk_laws.specs.LineBlocks.{chunk_in}
-use Rattle.pblk_world.specs.Events.{Beginning, EngineEvent, Begin, Landed, Again, ResetDone, Stripe, Decides, Does, Maker, Step}
+use Rattle.pblk_world.specs.Events.{Beginning, EngineEvent, Begin, Landed, Lost, Again, ResetDone, Stripe, Decides, Does, Maker, Step}
 use Rattle.pblk_world.specs.Makers.{maker_of, opening_worker}
 use Rattle.pblk_world.specs.World.{World, Logs, log_of, unit_events, media}
 use Rattle.pblk_world.specs.EngineLog.{answers}
@@ -81,10 +81,13 @@ after_unit s unit e maker w = unit_step s unit e maker w ∷ w
 abbrev pub next_event : World → ℕ → ℕ
 next_event w unit = length (log_of w (suc unit))
 
--- After the engine noted what a unit did: as the program of a stripe that was done, as one that was
--- stopped, and as a reset that wasn't stopped.
+-- After the engine noted what a unit did: as the program of a stripe that was done, as one that
+-- failed, as one that was stopped, and as a reset that wasn't stopped.
 abbrev pub after_landing : Shape → ℕ → UnitEvent → Maker → World → World
 after_landing s unit e maker w = noted s (Landed unit (next_event w unit)) (after_unit s unit e maker w)
+
+abbrev pub after_losing : Shape → ℕ → UnitEvent → Maker → World → World
+after_losing s unit e maker w = noted s (Lost unit (next_event w unit)) (after_unit s unit e maker w)
 
 abbrev pub after_stopping : Shape → ℕ → UnitEvent → Maker → World → World
 after_stopping s unit e maker w = noted s (Again unit (next_event w unit)) (after_unit s unit e maker w)

@@ -11,13 +11,13 @@ ghost use Rattle.pblk_world.specs.EngineLog.{Placed};
 ghost use Rattle.pblk_world.specs.EngineLog.{Opening, Opened, life_of, stripes_on, has_landed};
 ghost use Rattle.pblk_world.specs.Space.{is_readable_in};
 ghost use Rattle.pblk_laws.specs.LineBlocks.{chunk_in};
-ghost use Rattle.core_laws.specs.SimpleMounts.{IsSimpleMount};
+ghost use Rattle.world_laws.specs.LegalMounts.{IsLegalMount};
 
 /// A fetch of a block of a stripe that has landed isn't refused where the engine's log says that
 /// the block can be read. It gives that block.
 pub fn a_fetch_gives_what_landed()
     ensures { (i : Image) (w : World) (line unit k r : ℕ) (o : Opening) (p : Placed) (block : Block)
-        → IsSimpleMount i w → life_of (log_of w 0) line ≡ Opened o
+        → IsLegalMount i w → life_of (log_of w 0) line ≡ Opened o
         → slice_get (stripes_on (log_of w 0) o unit) k ≡ Some p → r < i.shape.ws_opt
         → slice_get p.stripe.blocks r ≡ Some block → has_landed (log_of w 0) p ≡ true
         → is_readable_in i.shape (log_of w 0) unit (p.stripe.at + r) (Opened o) ≡ true

@@ -13,5 +13,5 @@ mod openings;
 mod slots;
 
 pub use fetching::a_fetch_gives_what_landed;
-pub use openings::an_opening_is_a_simple_mount;
+pub use openings::an_opening_is_a_legal_mount;
 pub use slots::a_slot_has_the_latest_sector;

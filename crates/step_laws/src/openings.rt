@@ -7,24 +7,23 @@ ghost use Rattle.pblk_model.specs.Image.{IsFit};
 ghost use Rattle.pblk_model.specs.UnitLog.{UnitEvent};
 ghost use Rattle.pblk_world.specs.Commanding.{has_stopped};
 ghost use Rattle.pblk_world.specs.World.{log_of, media, unit_events};
-ghost use Rattle.core_laws.specs.SimpleMounts.{IsSimpleMount};
+ghost use Rattle.world_laws.specs.LegalMounts.{IsLegalMount};
 ghost use Rattle.unit_port.specs.Unit.{ModelUnit, IsStopped};
-ghost use Rattle.scan_recovery.specs.MayStop.{AllMayStop};
 ghost use Rattle.scan_recovery.specs.Units.{AreFit, image_of};
 ghost use Rattle.scan_recovery.specs.Readying.{WereReadied};
-ghost use Rattle.step_laws.specs.Opened.{new_events, after_units};
+ghost use Rattle.step_laws.specs.Opened.{AreArmed, new_events, after_units};
 
-/// What the units of a drive did while it was padded and scanned are the steps of a simple mount
+/// What the units of a drive did while it was padded and scanned are the steps of a legal mount
 /// over the image that they had: programs of Pad blocks and fetches, whatever became of them. Its
 /// media are the image that they have now, and the engine did nothing in it.
 ///
-/// Each unit's log grew by its events in that world, and a unit that stopped there is stopped. No
-/// plan has a command of the units fail, and those that a fuse may stop were armed before.
-pub fn an_opening_is_a_simple_mount()
+/// Each unit's log grew by its events in that world, and a unit that stopped there is stopped. The
+/// units may be armed with anything that they were armed with before: plans and a fuse.
+pub fn an_opening_is_a_legal_mount()
     ensures fit { (s : Shape) (us : List ModelUnit) → AreFit s us → IsFit (image_of s us) }
-    ensures simple { (s : Shape) (old new : List ModelUnit) → IsAccepted s → AreFit s old
-        → AllMayStop old → WereReadied s old new
-        → IsSimpleMount (image_of s old) (after_units s 0 [] (new_events old new)) }
+    ensures legal { (s : Shape) (old new : List ModelUnit) → IsAccepted s → AreFit s old
+        → AreArmed old → WereReadied s old new
+        → IsLegalMount (image_of s old) (after_units s 0 [] (new_events old new)) }
     ensures media { (s : Shape) (old new : List ModelUnit) → AreFit s old → WereReadied s old new
         → media (image_of s old) (log_of (after_units s 0 [] (new_events old new)))
         ≡ image_of s new }
@@ -36,7 +35,7 @@ pub fn an_opening_is_a_simple_mount()
         → v.log ≡ u.log
         ++ unit_events (log_of (after_units s 0 [] (new_events old new))) number }
     ensures stops { (s : Shape) (old new : List ModelUnit) → IsAccepted s → AreFit s old
-        → AllMayStop old → WereReadied s old new
+        → AreArmed old → WereReadied s old new
         → (number : ℕ) (v : ModelUnit) → slice_get new number ≡ Some v
         → has_stopped (unit_events (log_of (after_units s 0 [] (new_events old new))) number)
         ≡ true → IsStopped v }

@@ -30,7 +30,8 @@ use Rattle.world_laws.proofs.Tellings.{IsNamedAt}
 use Rattle.world_laws.proofs.ToldBefore.{IsActive, IsNamedFor, all_named}
 
 -- what is named stands among the engine's names, and the other way round
-named_there : (log : List Logged) (unit q n : ℕ) (l : Logged) → slice_get log q ≡ Some l → named_by unit l.event ≡ Some n → Contains (named_events log unit) n
+pub named_there : (log : List Logged) (unit q n : ℕ) (l : Logged) → slice_get log q ≡ Some l → named_by unit l.event ≡ Some n
+    → Contains (named_events log unit) n
 named_there log unit q n l there names =
     contained_among (named_events log unit) n (given_at (λ (x : Logged). named_by unit x.event) log l n q there names)
 

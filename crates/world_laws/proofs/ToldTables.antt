@@ -96,7 +96,7 @@ line_told i a b h lba None =
     option_and_then (λ (r : Record). if is_as_found (life_of log r.line) then Some r.line else None) (winner (counted found) lba)) h
 line_told i a b h lba (Some t) = ap (λ (log : List Logged). line_of_position i.shape log t.entry.position) h.own
 
-live_in_told : (i : Image) (a b : Logs) → AreSameTold i a b → (line lba : ℕ) → is_live_in i b line lba ≡ is_live_in i a line lba
+pub live_in_told : (i : Image) (a b : Logs) → AreSameTold i a b → (line lba : ℕ) → is_live_in i b line lba ≡ is_live_in i a line lba
 live_in_told i a b h line lba =
     ap (λ (log : List Logged). is_of line (line_of i b lba (last_take log lba))) h.own ∙ ap (is_of line) (line_told i a b h lba (last_take (a 0) lba))
 

@@ -40,7 +40,8 @@ TakesCopy l = (t : Taken) × (taken_by l.event ≡ Some t) × IsOfCopy t.entry.s
 
 -- A copy of this sector from this source was begun, at a length of the engine's log that is at most n.
 -- There a copy was due, the source's line was the victim at work, and the sector's latest was there. No
--- other copy was taken from that length on, so one is under way at a time.
+-- other copy was taken from that length on, so one is under way at a time. Positions are claimed in
+-- their order: users' entries that were taken from that length on had been granted there.
 pub record WasBegun (i : Image) (logs : Logs) (n lba : ℕ) (source : Source) : Type 0 where
   pub at : ℕ
   pub has_begun : 0 < at
@@ -49,6 +50,9 @@ pub record WasBegun (i : Image) (logs : Logs) (n lba : ℕ) (source : Source) : 
   pub line : source.line ≡ due.line
   pub latest : IsPlaceOfLatest i (logs_at at logs) lba source (last_take (take at (logs 0)) lba)
   pub alone : (k : ℕ) (l : Logged) → at ≤ k → k < n → slice_get (logs 0) k ≡ Some l → ¬ TakesCopy l
+  pub granted : (k : ℕ) (knows : List ℕ) (entry : Entry) (mark : Mark) → at ≤ k → k < n
+      → slice_get (logs 0) k ≡ Some (record { event = Decides (Take entry mark); knows = knows })
+      → entry.source ≡ None → WasRoom i logs at (entry.position + 1)
 
 -- Each copy that was taken had been begun.
 pub record AreBegun (i : Image) (logs : Logs) : Type 0 where

@@ -4,8 +4,8 @@ use crate::line::harness::{Asked, Bench, Told, ask};
 use line_table::LineState;
 use std::test::Fail;
 
-// What is asked in order, what is told, and then the free addresses and the least Free line. A line has 40
-// data addresses at width 2, 16 at width 1, and none at width 0.
+// What is asked in order, what is told, and then the free addresses and the least Free line. A line
+// has 40 data addresses at width 2, 16 at width 1, and none at width 0.
 const STEPS: &[(Asked, Told, u64, Option<u32>)] = &[
     (Asked::State(0), Told::State(LineState::Free), 320, Some(0)),
     (Asked::State(8), Told::Refused, 320, Some(0)),
@@ -163,8 +163,8 @@ fn a_line_goes_through_its_states(rt: HostRuntime) -> Result<(), Fail> {
     Ok(())
 }
 
-// Of a drive with lines of every kind, the state of each line, its live sectors, what took one from it, and
-// which Full or Failed line has none.
+// Of a drive with lines of every kind, the state of each line, its live sectors, what took one from
+// it, and which Full or Failed line has none.
 const OPENED: &[(Asked, Told)] = &[
     (Asked::State(0), Told::State(LineState::Full)),
     (Asked::State(1), Told::State(LineState::Failed)),

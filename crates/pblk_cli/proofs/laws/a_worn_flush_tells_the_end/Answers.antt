@@ -1,4 +1,4 @@
-use Rattle.std.proofs.Common.{◌≡◌, ◌⊎◌, inl, inr, ℕ, ◌<◌, ◌≤◌, Some, List, [], ◌∷◌, length, refl, subst, ap, arith}
+use Rattle.std.proofs.Common.{◌≡◌, ◌⊎◌, inl, inr, ℕ, ◌<◌, ◌≤◌, false, Some, List, [], ◌∷◌, length, take, refl, subst, ap, arith}
 use Rattle.std.specs.List.{Contains}
 use Rattle.pblk_model.specs.Image.{Image}
 use Rattle.pblk_model.specs.ImageFile.{image_of}
@@ -7,10 +7,13 @@ use Rattle.pblk_world.specs.EngineLog.{Begun, begun}
 use Rattle.pblk_world.specs.Events.{Logged}
 use Rattle.pblk_world.specs.Legal.{IsLegal}
 use Rattle.pblk_world.specs.World.{Logs, World, log_of}
+use Rattle.world_laws.specs.LegalMounts.{NoneLost, decides, is_losing}
 use Rattle.world_laws.proofs.Beginnings.{has_begun}
+use Rattle.prefix_law.proofs.Answered.{unlost_again}
 use Rattle.block_port.specs.declared.rows.WornAnswer.{WornAnswer}
 use Rattle.block_target.specs.Refusals.{AreRefusals, IsRefusal, IsRefusedAt}
 use Rattle.lemmas.proofs.Lists.{contains_cases}
+use Rattle.lemmas.proofs.Parts.{all_taken}
 use Rattle.pblk_cli.specs.Worn.{worns_of}
 use Rattle.pblk_cli.proofs.laws.a_worn_flush_tells_the_end.Goals as goal
 
@@ -43,5 +46,8 @@ returns c = λ found left stop commands t a run sealed among flush.
     let is = one i (log_of run.world) 0 (worns_of commands t) a run.worn among in
     let begun_is = begins i run.world is.0 a run.legal.mount.legal is.1 flush in
     let refused = subst (λ count. IsRefusal i (log_of run.world) is.0 count a.wanted a.have) flush is.1.cause in
-    let told = c.a_refused_flush_tells_the_end.ensures i run.world begun_is.0 is.0 a.wanted a.have run.legal sealed begun_is.1 refused in
+    let none_lost : NoneLost (take is.0 (log_of run.world 0)) =
+    all_taken (λ (l : Logged). decides is_losing l.event ≡ false) is.0 (log_of run.world 0) run.legal.engine.lost in
+    let told = c.a_refused_flush_tells_the_end.ensures i run.world begun_is.0 is.0 a.wanted a.have run.legal.mount sealed begun_is.1
+    (unlost_again i.shape (take is.0 (log_of run.world 0)) none_lost) refused in
     (is.0, told.0, told.1, told.2, told.3)

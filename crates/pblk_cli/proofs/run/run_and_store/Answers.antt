@@ -10,4 +10,4 @@ pub returns-in-Ok : goal.returns-in-Ok
 returns-in-Ok g c =
     IfOk-weaker c.store_run.result _ _ (λ made h.
     armed_run_to c.args.drive c.arm.new.self c.args.stop _ c.args.script.now c.in-Ok.drive c.in-Ok.records made.1.status made.1.text.items made.0.items refl
-    c.requires.quiet c.in_ok-arm.ensures.armed c.in-Ok.ensures.ran h) c.store_run.ensures
+    c.requires.quiet c.in_ok-arm.ensures.armed c.requires.one c.in-Ok.ensures.ran h) c.store_run.ensures

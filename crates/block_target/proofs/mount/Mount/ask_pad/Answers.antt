@@ -16,7 +16,8 @@ invariant_of-self g c =
     record {
       mount = mount_asked m c.ask_pad.new.self c.max-self-inside.result c.args.to
           (may_ask m c.args.to (subst (λ (x : MountView). c.args.to ≤ taken_in x) (sym c.self.view_is) c.requires)
-          ((c.may_pad.ensures v.image (world_in v) m.sound.legal.mount m.heart.stands m.heart.collects).0 c.if-may_pad.true)) c.ask_pad.ensures.beats c.ask_pad.ensures.rows c.ask_pad.ensures.copying
+          ((c.may_pad.ensures v.image (world_in v) m.sound.legal m.heart.stands m.heart.collects).0 c.if-may_pad.true)) c.ask_pad.ensures.beats
+          c.ask_pad.ensures.rows c.ask_pad.ensures.copying
           (omega arith);
       buffer_size = c.self.invariant.buffer_size;
     }
@@ -32,7 +33,7 @@ returns-then-may_pad-clause-asked g c =
       at_least = omega arith;
       at_most = omega arith;
       all = λ none. omega arith;
-      kept = λ due. absurd ((c.may_pad.ensures v.image (world_in v) m.sound.legal.mount m.heart.stands m.heart.collects).0 c.if-may_pad.true
+      kept = λ due. absurd ((c.may_pad.ensures v.image (world_in v) m.sound.legal m.heart.stands m.heart.collects).0 c.if-may_pad.true
           (subst (λ (x : MountView). IsCopyDue x.image (logs_in x)) (sym c.self.view_is) due));
     }
 
@@ -44,7 +45,7 @@ returns-else-may_pad-clause-asked g c =
     record {
       at_least = omega arith;
       at_most = omega arith;
-      all = λ none. absurd (refused c.if-may_pad.false ((c.may_pad.ensures v.image (world_in v) m.sound.legal.mount m.heart.stands m.heart.collects).1
+      all = λ none. absurd (refused c.if-may_pad.false ((c.may_pad.ensures v.image (world_in v) m.sound.legal m.heart.stands m.heart.collects).1
           (subst (λ (x : MountView). ¬ IsCopyDue x.image (logs_in x)) (sym c.self.view_is) none)));
       kept = λ due. refl;
     }

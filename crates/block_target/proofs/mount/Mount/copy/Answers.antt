@@ -54,27 +54,27 @@ pub unreachable-requires : goal.unreachable-requires
 unreachable-requires g c =
     let d = (goal.at.unreachable-requires g c).After-copy_ready in
     not_copying (m g d).idle
-    (c.in-None.ensures.none (v g d).image (world_in (v g d)) (m g d).sound.legal.mount (m g d).heart.stands (m g d).heart.collects) (due g d)
+    (c.in-None.ensures.none (v g d).image (world_in (v g d)) (m g d).sound.legal (m g d).heart.stands (m g d).heart.collects) (due g d)
 
 pub address-unit-requires-clause-line : goal.address-unit-requires-clause-line
 address-unit-requires-clause-line g c =
     let d = (goal.at.address-unit-requires-clause-line g c).After-copy_ready in
     let job = c.in-Some.job in
-    line_inside (v g d) c.self.inside.heart.core job.lba job.line job.at job.position (m g d).sound.legal.mount (m g d).heart.stands
+    line_inside (v g d) c.self.inside.heart.core job.lba job.line job.at job.position (m g d).sound.legal (m g d).heart.stands
     (its g d job c.in-Some.ensures.ready)
 
 pub address-unit-requires-clause-live : goal.address-unit-requires-clause-live
 address-unit-requires-clause-live g c =
     let d = (goal.at.address-unit-requires-clause-live g c).After-copy_ready in
     let job = c.in-Some.job in
-    line_live (v g d) c.self.inside.heart.core job.lba job.line job.at job.position (m g d).sound.legal.mount (m g d).heart.stands
+    line_live (v g d) c.self.inside.heart.core job.lba job.line job.at job.position (m g d).sound.legal (m g d).heart.stands
     (its g d job c.in-Some.ensures.ready)
 
 pub address-unit-requires-clause-inside : goal.address-unit-requires-clause-inside
 address-unit-requires-clause-inside g c =
     let d = (goal.at.address-unit-requires-clause-inside g c).After-copy_ready in
     let job = c.in-Some.job in
-    at_inside (v g d) c.self.inside.heart.core job.lba job.line job.at job.position (m g d).sound.legal.mount (m g d).heart.stands
+    at_inside (v g d) c.self.inside.heart.core job.lba job.line job.at job.position (m g d).sound.legal (m g d).heart.stands
     (its g d job c.in-Some.ensures.ready)
 
 pub fetch_block-requires-clause-size : goal.fetch_block-requires-clause-size
@@ -82,7 +82,7 @@ fetch_block-requires-clause-size g c =
     let d = (goal.at.fetch_block-requires-clause-size g c).After-copy_ready in
     let job = c.in-Some.job in
     let is : IsFetchable (v g d) c.address-unit.result.0 job.line c.address-unit.result.1 (its g d job c.in-Some.ensures.ready).block =
-    fetchable (v g d) c.self.inside.heart.core job.lba job.line job.at job.position (m g d).sound.legal.mount (m g d).heart.stands
+    fetchable (v g d) c.self.inside.heart.core job.lba job.line job.at job.position (m g d).sound.legal (m g d).heart.stands
     (its g d job c.in-Some.ensures.ready) c.address-unit.result c.address-unit.ensures in
     sized (m g d) c.address-unit.result.0 job.line c.address-unit.result.1 is (length c.as_mut_slice-sector.result.now)
     (ap (λ (xs : List ℕ). length xs) c.as_mut_slice-sector.ensures.value ∙ c.self.invariant.buffer_size)
@@ -92,7 +92,7 @@ fetch_block-requires-clause-there g c =
     let d = (goal.at.fetch_block-requires-clause-there g c).After-copy_ready in
     let job = c.in-Some.job in
     let is : IsFetchable (v g d) c.address-unit.result.0 job.line c.address-unit.result.1 (its g d job c.in-Some.ensures.ready).block =
-    fetchable (v g d) c.self.inside.heart.core job.lba job.line job.at job.position (m g d).sound.legal.mount (m g d).heart.stands
+    fetchable (v g d) c.self.inside.heart.core job.lba job.line job.at job.position (m g d).sound.legal (m g d).heart.stands
     (its g d job c.in-Some.ensures.ready) c.address-unit.result c.address-unit.ensures in
     let unit = its_unit (m g d) c.address-unit.result.0 job.line c.address-unit.result.1 is in (
       (v g d).image,
@@ -130,7 +130,7 @@ module _ (g : Over) (c : After-fetch_block g) where
   block = job_block m_before job ready
 
   is : IsFetchable v_before c.address-unit.result.0 job.line c.address-unit.result.1 block.block
-  is = fetchable v_before c.self.inside.heart.core job.lba job.line job.at job.position m_before.sound.legal.mount m_before.heart.stands
+  is = fetchable v_before c.self.inside.heart.core job.lba job.line job.at job.position m_before.sound.legal m_before.heart.stands
       block c.address-unit.result c.address-unit.ensures
 
   -- the units then

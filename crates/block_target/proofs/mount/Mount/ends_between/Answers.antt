@@ -16,6 +16,6 @@ returns g c =
     subst (λ (v : MountView). IsSealed v.image → (synced_in v ≤ end (media v.image (logs_in v))) × (end (media v.image (logs_in v)) ≤ taken_in v))
     c.self.view_is
     (λ sealed. (
-      end_above i w sound.beginning sound.legal.mount sealed sound.has_begun,
-      end_within i w sound.beginning sound.legal.mount sealed sound.has_begun,
+      end_above i w sound.beginning sound.legal sealed sound.has_begun,
+      end_within i w sound.beginning sound.legal sealed sound.has_begun,
     ))

@@ -1,5 +1,5 @@
+use Rattle.world_laws.specs.Orders.{NoneToFree}
 use Rattle.std.proofs.Common.{subst}
-use Rattle.step_laws.specs.FreedWorlds.{NoneToFree}
 use Rattle.block_target.specs.Mount.{MountView, logs_in}
 use Rattle.block_target.proofs.mount.Mount.is_settled.Goals as goal
 

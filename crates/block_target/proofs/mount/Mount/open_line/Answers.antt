@@ -35,7 +35,7 @@ module _ (g : Over) (c : After-open_line g) where
   start = next_start c.self.inside.heart.core
 
   may : (b : Begun) → begun (engine_log v) ≡ Some b → MayOpen v.image (logs_in v) b start.line start
-  may b has = c.open_line.ensures.legal v.image (world_in v) b m.sound.legal.mount m.heart has
+  may b has = c.open_line.ensures.legal v.image (world_in v) b m.sound.legal m.heart has
 
   its_work : work_in v ≡ works.Open
   its_work = ap work_in c.self.view_is ∙ c.requires

@@ -12,7 +12,7 @@ reset-requires-clause-named g c =
     let m = c.self.invariant.mount in
     ap work_in (sym c.self.view_is)
     ∙ sym (c.next_work.ensures.work (image_of c.self.inside.shape (drive_before c.self.inside.drives)) (world_of c.self.inside.shape c.self.inside.deeds)
-    m.sound.legal.mount m.heart.stands m.heart.collects ∙ named_work m) ∙ c.in-Reset.is
+    m.sound.legal m.heart.stands m.heart.collects ∙ named_work m) ∙ c.in-Reset.is
 
 pub reset-requires-clause-given_up : goal.reset-requires-clause-given_up
 reset-requires-clause-given_up g c =
@@ -25,21 +25,21 @@ program-requires g c =
     let m = c.self.invariant.mount in
     ap work_in (sym c.self.view_is)
     ∙ sym (c.next_work.ensures.work (image_of c.self.inside.shape (drive_before c.self.inside.drives)) (world_of c.self.inside.shape c.self.inside.deeds)
-    m.sound.legal.mount m.heart.stands m.heart.collects ∙ named_work m) ∙ c.in-Program.is
+    m.sound.legal m.heart.stands m.heart.collects ∙ named_work m) ∙ c.in-Program.is
 
 pub open_line-requires : goal.open_line-requires
 open_line-requires g c =
     let m = c.self.invariant.mount in
     ap work_in (sym c.self.view_is)
     ∙ sym (c.next_work.ensures.work (image_of c.self.inside.shape (drive_before c.self.inside.drives)) (world_of c.self.inside.shape c.self.inside.deeds)
-    m.sound.legal.mount m.heart.stands m.heart.collects ∙ named_work m) ∙ c.in-Open.is
+    m.sound.legal m.heart.stands m.heart.collects ∙ named_work m) ∙ c.in-Open.is
 
 pub copy-requires : goal.copy-requires
 copy-requires g c =
     let m = c.self.invariant.mount in record {
       named = ap work_in (sym c.self.view_is)
           ∙ sym (c.next_work.ensures.work (image_of c.self.inside.shape (drive_before c.self.inside.drives))
-          (world_of c.self.inside.shape c.self.inside.deeds) m.sound.legal.mount m.heart.stands m.heart.collects ∙ named_work m) ∙ c.in-Copy.is;
+          (world_of c.self.inside.shape c.self.inside.deeds) m.sound.legal m.heart.stands m.heart.collects ∙ named_work m) ∙ c.in-Copy.is;
     }
 
 pub returns-in-Nothing-clause-rest : goal.returns-in-Nothing-clause-rest
@@ -49,5 +49,5 @@ returns-in-Nothing-clause-rest g c = λ none.
       subst IsSpent c.self.view_is
           (spent m c.in-Nothing.field-0
           (sym (c.next_work.ensures.work (image_of c.self.inside.shape (drive_before c.self.inside.drives)) (world_of c.self.inside.shape c.self.inside.deeds)
-          m.sound.legal.mount m.heart.stands m.heart.collects ∙ named_work m) ∙ c.in-Nothing.is)),
+          m.sound.legal m.heart.stands m.heart.collects ∙ named_work m) ∙ c.in-Nothing.is)),
     )

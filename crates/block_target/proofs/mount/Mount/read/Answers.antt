@@ -9,6 +9,7 @@ use Rattle.step_laws.proofs.LatestSectors.{unwritten_zeros, media_latest}
 use Rattle.block_target.specs.Mount.{MountView, IsSound, IsFetchable, logs_in, world_in, latest, mount_view}
 use Rattle.block_target.proofs.ReadLook.{latest_at, cached_sector, cached_is_held, line_inside, line_live, at_inside, fetchable, zeros_are}
 use Rattle.block_target.proofs.mount.Mount.read.Goals as goal
+use Rattle.pblk_core.proofs.SimpleLogs.{simple_in}
 
 pub copy_from_slice-requires : goal.copy_from_slice-requires
 copy_from_slice-requires g c =
@@ -18,10 +19,11 @@ copy_from_slice-requires g c =
     let core = c.self.inside.heart.core in
     let simple = m.sound.legal in
     let st = m.heart.stands in
-    let slot : slot_of v.image (logs_in v) c.args.lba ≡ Cached c.in-Cached.position = sym (c.look.ensures v.image (world_in v) simple.mount st)
+    let slot : slot_of v.image (logs_in v) c.args.lba ≡ Cached c.in-Cached.position = sym (c.look.ensures v.image (world_in v) simple st)
     ∙ c.in-Cached.is in
     let size : length c.args.out.now ≡ v.image.shape.sector = c.requires.size ∙ ap (λ (x : MountView). x.image.shape.sector) (sym c.self.view_is) in
-    size ∙ sym (sectors_sized v.image (world_in v) core c.in-Cached.position c.in-Some.sector.now simple st c.in-Some.ensures.sector)
+    size ∙ sym (sectors_sized v.image (world_in v) core c.in-Cached.position c.in-Some.sector.now
+    (simple_in v.image (world_in v) simple st) st c.in-Some.ensures.sector)
 
 pub unreachable-requires : goal.unreachable-requires
 unreachable-requires g c =
@@ -32,7 +34,7 @@ unreachable-requires g c =
     let simple = m.sound.legal in
     let st = m.heart.stands in
     let inside : c.args.lba < v.image.shape.capacity = subst (λ (x : MountView). c.args.lba < x.image.shape.capacity) (sym c.self.view_is) c.requires.lba in
-    let slot : slot_of v.image (logs_in v) c.args.lba ≡ Cached c.in-Cached.position = sym (c.look.ensures v.image (world_in v) simple.mount st)
+    let slot : slot_of v.image (logs_in v) c.args.lba ≡ Cached c.in-Cached.position = sym (c.look.ensures v.image (world_in v) simple st)
     ∙ c.in-Cached.is in
     c.in-None.ensures.none.0 refl (cached_is_held v core c.args.lba m.sound st inside c.in-Cached.position slot)
 
@@ -46,11 +48,11 @@ address-unit-requires-clause-line g c =
     let st = m.heart.stands in
     let inside : c.args.lba < v.image.shape.capacity = subst (λ (x : MountView). c.args.lba < x.image.shape.capacity) (sym c.self.view_is) c.requires.lba in
     let slot : slot_of v.image (logs_in v) c.args.lba ≡ Media c.in-Media.line c.in-Media.at c.in-Media.position =
-    sym (c.look.ensures v.image (world_in v) simple.mount st) ∙ c.in-Media.is in
+    sym (c.look.ensures v.image (world_in v) simple st) ∙ c.in-Media.is in
     let is : IsBlockOfSlot v.image (logs_in v) c.args.lba c.in-Media.line c.in-Media.at c.in-Media.position =
     on_the_drive v.image (world_in v) m.sound.beginning c.args.lba c.in-Media.line c.in-Media.at c.in-Media.position simple
     m.sound.has_begun inside slot in
-    line_inside v core c.args.lba c.in-Media.line c.in-Media.at c.in-Media.position simple.mount st is
+    line_inside v core c.args.lba c.in-Media.line c.in-Media.at c.in-Media.position simple st is
 
 pub address-unit-requires-clause-live : goal.address-unit-requires-clause-live
 address-unit-requires-clause-live g c =
@@ -62,11 +64,11 @@ address-unit-requires-clause-live g c =
     let st = m.heart.stands in
     let inside : c.args.lba < v.image.shape.capacity = subst (λ (x : MountView). c.args.lba < x.image.shape.capacity) (sym c.self.view_is) c.requires.lba in
     let slot : slot_of v.image (logs_in v) c.args.lba ≡ Media c.in-Media.line c.in-Media.at c.in-Media.position =
-    sym (c.look.ensures v.image (world_in v) simple.mount st) ∙ c.in-Media.is in
+    sym (c.look.ensures v.image (world_in v) simple st) ∙ c.in-Media.is in
     let is : IsBlockOfSlot v.image (logs_in v) c.args.lba c.in-Media.line c.in-Media.at c.in-Media.position =
     on_the_drive v.image (world_in v) m.sound.beginning c.args.lba c.in-Media.line c.in-Media.at c.in-Media.position simple
     m.sound.has_begun inside slot in
-    line_live v core c.args.lba c.in-Media.line c.in-Media.at c.in-Media.position simple.mount st is
+    line_live v core c.args.lba c.in-Media.line c.in-Media.at c.in-Media.position simple st is
 
 pub address-unit-requires-clause-inside : goal.address-unit-requires-clause-inside
 address-unit-requires-clause-inside g c =
@@ -78,11 +80,11 @@ address-unit-requires-clause-inside g c =
     let st = m.heart.stands in
     let inside : c.args.lba < v.image.shape.capacity = subst (λ (x : MountView). c.args.lba < x.image.shape.capacity) (sym c.self.view_is) c.requires.lba in
     let slot : slot_of v.image (logs_in v) c.args.lba ≡ Media c.in-Media.line c.in-Media.at c.in-Media.position =
-    sym (c.look.ensures v.image (world_in v) simple.mount st) ∙ c.in-Media.is in
+    sym (c.look.ensures v.image (world_in v) simple st) ∙ c.in-Media.is in
     let is : IsBlockOfSlot v.image (logs_in v) c.args.lba c.in-Media.line c.in-Media.at c.in-Media.position =
     on_the_drive v.image (world_in v) m.sound.beginning c.args.lba c.in-Media.line c.in-Media.at c.in-Media.position simple
     m.sound.has_begun inside slot in
-    at_inside v core c.args.lba c.in-Media.line c.in-Media.at c.in-Media.position simple.mount st is
+    at_inside v core c.args.lba c.in-Media.line c.in-Media.at c.in-Media.position simple st is
 
 pub fetch-requires-clause-there : goal.fetch-requires-clause-there
 fetch-requires-clause-there g c =
@@ -94,12 +96,12 @@ fetch-requires-clause-there g c =
     let st = m.heart.stands in
     let inside : c.args.lba < v.image.shape.capacity = subst (λ (x : MountView). c.args.lba < x.image.shape.capacity) (sym c.self.view_is) c.requires.lba in
     let slot : slot_of v.image (logs_in v) c.args.lba ≡ Media c.in-Media.line c.in-Media.at c.in-Media.position =
-    sym (c.look.ensures v.image (world_in v) simple.mount st) ∙ c.in-Media.is in
+    sym (c.look.ensures v.image (world_in v) simple st) ∙ c.in-Media.is in
     let is : IsBlockOfSlot v.image (logs_in v) c.args.lba c.in-Media.line c.in-Media.at c.in-Media.position =
     on_the_drive v.image (world_in v) m.sound.beginning c.args.lba c.in-Media.line c.in-Media.at c.in-Media.position simple
     m.sound.has_begun inside slot in
     let there : IsFetchable v c.address-unit.result.0 c.in-Media.line c.address-unit.result.1 is.block =
-    fetchable v core c.args.lba c.in-Media.line c.in-Media.at c.in-Media.position simple.mount st is c.address-unit.result c.address-unit.ensures in
+    fetchable v core c.args.lba c.in-Media.line c.in-Media.at c.in-Media.position simple st is c.address-unit.result c.address-unit.ensures in
     let same : IsFetchable c.args.self.now c.address-unit.result.0 c.in-Media.line c.address-unit.result.1 is.block =
     subst (λ (x : MountView). IsFetchable x c.address-unit.result.0 c.in-Media.line c.address-unit.result.1 is.block) c.self.view_is there in
     (is.block, same)
@@ -113,7 +115,7 @@ returns-in-Unwritten-clause-latest g c = λ ok.
     let simple = m.sound.legal in
     let st = m.heart.stands in
     let inside : c.args.lba < v.image.shape.capacity = subst (λ (x : MountView). c.args.lba < x.image.shape.capacity) (sym c.self.view_is) c.requires.lba in
-    let slot : slot_of v.image (logs_in v) c.args.lba ≡ Unwritten = sym (c.look.ensures v.image (world_in v) simple.mount st) ∙ c.in-Unwritten.is in
+    let slot : slot_of v.image (logs_in v) c.args.lba ≡ Unwritten = sym (c.look.ensures v.image (world_in v) simple st) ∙ c.in-Unwritten.is in
     let size : length c.args.out.now ≡ v.image.shape.sector = c.requires.size ∙ ap (λ (x : MountView). x.image.shape.sector) (sym c.self.view_is) in
     let filled : c.fill.new.self ≡ replicate (length c.args.out.now) 0 = c.fill.ensures.after (λ y e. e) in
     subst (λ (x : MountView). slice_get (latest x) c.args.lba ≡ Some c.fill.new.self) c.self.view_is
@@ -129,7 +131,7 @@ returns-in-Some-clause-latest g c = λ ok.
     let simple = m.sound.legal in
     let st = m.heart.stands in
     let inside : c.args.lba < v.image.shape.capacity = subst (λ (x : MountView). c.args.lba < x.image.shape.capacity) (sym c.self.view_is) c.requires.lba in
-    let slot : slot_of v.image (logs_in v) c.args.lba ≡ Cached c.in-Cached.position = sym (c.look.ensures v.image (world_in v) simple.mount st)
+    let slot : slot_of v.image (logs_in v) c.args.lba ≡ Cached c.in-Cached.position = sym (c.look.ensures v.image (world_in v) simple st)
     ∙ c.in-Cached.is in
     let sector = c.in-Some.ensures.sector in
     let copied : c.copy_from_slice.new.self ≡ c.in-Some.sector.now = c.copy_from_slice.ensures.after in
@@ -146,12 +148,12 @@ returns-in_ok-fetch-in-Media-clause-latest g c = λ ok.
     let st = m.heart.stands in
     let inside : c.args.lba < v.image.shape.capacity = subst (λ (x : MountView). c.args.lba < x.image.shape.capacity) (sym c.self.view_is) c.requires.lba in
     let slot : slot_of v.image (logs_in v) c.args.lba ≡ Media c.in-Media.line c.in-Media.at c.in-Media.position =
-    sym (c.look.ensures v.image (world_in v) simple.mount st) ∙ c.in-Media.is in
+    sym (c.look.ensures v.image (world_in v) simple st) ∙ c.in-Media.is in
     let is : IsBlockOfSlot v.image (logs_in v) c.args.lba c.in-Media.line c.in-Media.at c.in-Media.position =
     on_the_drive v.image (world_in v) m.sound.beginning c.args.lba c.in-Media.line c.in-Media.at c.in-Media.position simple
     m.sound.has_begun inside slot in
     let there : IsFetchable v c.address-unit.result.0 c.in-Media.line c.address-unit.result.1 is.block =
-    fetchable v core c.args.lba c.in-Media.line c.in-Media.at c.in-Media.position simple.mount st is c.address-unit.result c.address-unit.ensures in
+    fetchable v core c.args.lba c.in-Media.line c.in-Media.at c.in-Media.position simple st is c.address-unit.result c.address-unit.ensures in
     let same : IsFetchable c.args.self.now c.address-unit.result.0 c.in-Media.line c.address-unit.result.1 is.block =
     subst (λ (x : MountView). IsFetchable x c.address-unit.result.0 c.in-Media.line c.address-unit.result.1 is.block) c.self.view_is there in
     subst (λ (x : MountView). slice_get (latest x) c.args.lba ≡ Some c.fetch.new.out) c.self.view_is

@@ -41,7 +41,7 @@ invariant_of-self g c =
     let next = window.taken c.self.inside.heart.core.window in
     record {
       mount = mount_taken m (user_entry next c.args.lba c.args.sector.now) (sector_mark c.args.lba next)
-          (c.take.ensures.legal v.image (world_in v) m.sound.legal.mount m.heart) tt c.take.new.self c.add.new.self
+          (c.take.ensures.legal v.image (world_in v) m.sound.legal m.heart) tt c.take.new.self c.add.new.self
           (done c.self.inside.deeds c.add.new.self c.front.result.position next c.args.lba c.args.sector.now c.add.ensures c.front.ensures.position)
           c.take.ensures.beats c.take.ensures.rows (c.take.ensures.copying ∙ m.idle) c.take.ensures.pad;
       buffer_size = c.self.invariant.buffer_size;

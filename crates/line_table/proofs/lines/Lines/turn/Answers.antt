@@ -17,7 +17,8 @@ invariant_of-self c =
     let here : slice_get c.self.inside.rows.items c.args.line ≡ Some c.index.result.now =
     slice_get_read c.self.inside.rows.items _ c.args.line c.index.result.now refl inside c.index.ensures in
     let within = term_within (free_len c.self.inside.layout) c.self.inside.rows.items c.args.line c.index.result.now here in
-    keeps_changed c.self.inside.layout c.self.inside.free c.set.new.self c.self.inside.outlived c.set-2.new.self c.self.inside.free_addresses _ c.self.inside.rows.items c.args.line
+    keeps_changed c.self.inside.layout c.self.inside.free c.set.new.self c.self.inside.outlived c.set-2.new.self c.self.inside.free_addresses _
+    c.self.inside.rows.items c.args.line
     c.index.result.now _ c.self.invariant here
     (omega (arith, c.requires.width, ap (λ (t : Table). units t.shape) c.self.view_is))
     (omega (arith, c.free_addresses_of-after.ensures.addresses, c.free_addresses_of-after.ensures.short))

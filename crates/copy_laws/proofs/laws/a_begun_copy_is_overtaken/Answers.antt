@@ -1,5 +1,0 @@
-use Rattle.copy_laws.proofs.OneCopy.{all_before, overtaken_exists}
-use Rattle.copy_laws.proofs.laws.a_begun_copy_is_overtaken.Goals as goal
-
-pub returns : goal.returns
-returns c = record { overtaken = overtaken_exists; before = all_before }

@@ -1,5 +1,0 @@
-use Rattle.copy_laws.proofs.CameToWork.{room_clause}
-use Rattle.copy_laws.proofs.laws.a_victim_came_to_work_with_room.Goals as goal
-
-pub returns : goal.returns
-returns c = room_clause

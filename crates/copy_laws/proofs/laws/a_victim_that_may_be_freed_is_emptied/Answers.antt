@@ -1,5 +1,0 @@
-use Rattle.copy_laws.proofs.OneCopy.{freeable_emptied}
-use Rattle.copy_laws.proofs.laws.a_victim_that_may_be_freed_is_emptied.Goals as goal
-
-pub returns : goal.returns
-returns c = freeable_emptied

@@ -1,5 +1,0 @@
-use Rattle.copy_laws.proofs.CopiesOfVictim.{copies_have_room}
-use Rattle.copy_laws.proofs.laws.copies_of_the_victim_have_room.Goals as goal
-
-pub returns : goal.returns
-returns c = copies_have_room

@@ -1,5 +1,0 @@
-use Rattle.copy_laws.proofs.OneCopy.{last_clause, under_way_clause, void_clause}
-use Rattle.copy_laws.proofs.laws.one_copy_at_most_is_not_synced.Goals as goal
-
-pub returns : goal.returns
-returns c = record { void = void_clause; last = last_clause; under_way = under_way_clause }

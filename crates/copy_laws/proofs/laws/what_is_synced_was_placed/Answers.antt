@@ -1,5 +1,0 @@
-use Rattle.copy_laws.proofs.OneCopy.{synced_placed, synced_within_placed}
-use Rattle.copy_laws.proofs.laws.what_is_synced_was_placed.Goals as goal
-
-pub returns : goal.returns
-returns c = record { placed = synced_placed; front = synced_within_placed }
