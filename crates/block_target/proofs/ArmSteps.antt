@@ -1,6 +1,6 @@
 -- What a unit may be given, and what its command leaves once it told its outcome: the world has one
 -- further event, and the unit is an arm of it.
-use Rattle.std.proofs.Common.{◌≡◌, ◌⊎◌, inl, inr, ℕ, ◌+◌, ◌-◌, ◌≤◌, ◌==◌, ◌&&◌, Bool, true, false, Some, None, List, [], ◌∷◌, ◌++◌, append_assoc, drop, length, length-append, refl, sym, subst, ap, ap₂, ◌∙◌, arith}
+use Rattle.std.proofs.Common.{◌≡◌, ◌⊎◌, inl, inr, ℕ, ◌+◌, ◌-◌, ◌≤◌, ◌==◌, ◌&&◌, Bool, true, false, Some, List, [], ◌∷◌, ◌++◌, append_assoc, drop, length, length-append, refl, sym, subst, ap, ap₂, ◌∙◌, arith}
 use Rattle.std.specs.List.{list_any}
 use Rattle.std.specs.Option.{option_and_then, option_map}
 use Rattle.std.specs.Prelude.{slice_get}
@@ -65,12 +65,12 @@ module _ (i : Image) (w : World) (number : ℕ) (handed old new : ModelUnit) (ma
       let end : length new.log - 1 ≡ length old.log = omega arith in
       ap₂ (λ (log : List UnitEvent) n. slice_get log n) steps.log end ∙ get_last old.log event
 
-  -- where the unit is armed with a fuse, its log tells a stop
+  -- where the unit is armed, its log tells a stop
   tells : (IsUnarmed old.armed → is_stop outcome ≡ false) → was_stopped outcome ≡ true → IsStopped (with_event old event)
   tells quiet was =
       let stop : is_stop outcome ≡ true = sym (stop_is outcome) ∙ was in
-      elim arm.armed.fuse [
-        | inl none ↦ absurd (not_both (is_stop outcome) stop (quiet (arm.armed.plans, none)))
+      elim arm.armed [
+        | inl none ↦ absurd (not_both (is_stop outcome) stop (quiet none))
         | inr since ↦
             let stops = λ (x : UnitEvent). is_stop x.outcome in
             let long : length old.log ≡ length handed.log + length (unit_events (log_of w) number) =
@@ -104,10 +104,7 @@ module _ (i : Image) (w : World) (number : ℕ) (handed old new : ModelUnit) (ma
       fit = fits arm.fit;
       log = log_now;
       arms = steps.armed ∙ arm.arms;
-      armed = record {
-        plans = ap (λ (a : Armed). a.plans) steps.armed ∙ arm.armed.plans;
-        fuse = subst (λ (a : Armed). (a.fuse ≡ None) ⊎ (a.since ≤ length handed.log)) (sym steps.armed) arm.armed.fuse;
-      };
+      armed = subst (λ (a : Armed). IsUnarmed a ⊎ (a.since ≤ length handed.log)) (sym steps.armed) arm.armed;
       stopped = λ was. ap₂ (λ (a : Armed) (log : List UnitEvent). was_stopped_since a log) steps.armed steps.log ∙ stopped_now quiet was;
     };
   }
@@ -137,14 +134,14 @@ module _ (i : Image) (w : World) (stripe : Stripe) (handed old : ModelUnit) (the
       go : (b : Bool) → has_stopped (unit_events (log_of w) stripe.unit) ≡ b
           → Takes old there.placed.stripe.chunk (Write there.placed.stripe.at there.placed.stripe.blocks)
       go true was =
-          let c = program_chunk i w stripe.unit there.placed there.simple there.waits in
+          let c = program_chunk i w stripe.unit there.placed there.mount there.waits in
           record {
             found = c.0;
             there = own_chunk i w stripe.unit there.placed.stripe.chunk handed old c.0 there.arm c.1;
             taken = inr (there.arm.stopped was);
           }
       go false runs =
-          let c = program_fits i w stripe.unit there.placed there.simple there.waits there.level runs in
+          let c = program_fits i w stripe.unit there.placed there.mount there.waits there.level runs in
           record {
             found = c.0;
             there = own_chunk i w stripe.unit there.placed.stripe.chunk handed old c.0 there.arm c.1;
@@ -165,7 +162,7 @@ module _ (i : Image) (w : World) (stripe : Stripe) (handed old : ModelUnit) (the
         level = there.level;
         chunk = ap (λ (s : Stripe). s.chunk) (sym there.same);
         command = ap (λ (s : Stripe). Write s.at s.blocks) (sym there.same);
-      }) there.simple)
+      }) there.mount)
     where
       steps : Steps old stripe.chunk (Write stripe.at stripe.blocks) outcome new
       steps = same_steps old new chunk stripe.chunk command (Write stripe.at stripe.blocks) outcome its_chunk its_command did
@@ -201,7 +198,7 @@ module _ (i : Image) (w : World) (number line : ℕ) (handed old : ModelUnit) (t
           line = there.given_up;
           used = subst (λ (c : Chunk). IsUsed c.state ⊎ (list_any (is_stopped_reset line) (unit_events (log_of w) number) ≡ true)) same there.used;
         };
-      }) there.simple)
+      }) there.mount)
     where
       e : UnitEvent
       e = record { chunk = line; command = Reset; outcome = outcome }
@@ -230,5 +227,5 @@ module _ (i : Image) (w : World) (number line block : ℕ) (handed old : ModelUn
       → WasGiven i w number handed maker line (Read block) told new
   fetch_given new maker outcome told steps fits quiet is =
       was_given i w number handed old new maker line (Read block) outcome there.arm steps fits quiet told is
-      (fetch_next i w number block (record { chunk = line; command = Read block; outcome = outcome }) maker there.simple
+      (fetch_next i w number block (record { chunk = line; command = Read block; outcome = outcome }) maker there.mount
       (record { can = can_do i w number handed old new maker line (Read block) outcome there.arm steps; command = refl }))

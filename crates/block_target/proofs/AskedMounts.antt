@@ -29,7 +29,6 @@ sound_asked v pad asked sound = record {
   handed = sound.handed;
   count = sound.count;
   each = sound.each;
-  none_lost = sound.none_lost;
   begun = sound.begun;
   urgent = sound.urgent;
   in_order = sound.in_order;
@@ -59,7 +58,7 @@ pub mount_asked : {v : MountView} {h : Heart} {f : Filling} (m : IsMount v h f) 
     → IsMount (with_asked (moved_on v v.deeds v.units v.wear new.granted (pad_of new.core)) (pad_of new.core) asked) new f
 mount_asked {v} {h} {f} m new asked to may beats rows copying within = record {
   sound = sound_asked (moved_on v v.deeds v.units v.wear new.granted (pad_of new.core)) (pad_of new.core) asked
-      (sound_on m.sound (goes_none v m.sound) v.deeds v.wear new.granted (pad_of new.core) refl m.sound.none_lost);
+      (sound_on m.sound (goes_none v m.sound) v.deeds v.wear new.granted (pad_of new.core) refl);
   heart = beats v.image (world_in v) m.sound.legal m.heart may;
   pad = refl;
   asked = within;

@@ -1,5 +1,5 @@
 -- A mount that begins with what was found of its drive.
-use Rattle.std.proofs.Common.{◌≡◌, ◌⊎◌, ℕ, ◌≤◌, Some, None, List, [], ◌∷◌, ◌++◌, drop, take, length, refl, sym, subst, ap, ap₂, ◌∙◌, arith, false}
+use Rattle.std.proofs.Common.{◌≡◌, ◌⊎◌, ℕ, ◌≤◌, Some, List, [], ◌∷◌, ◌++◌, drop, take, length, refl, sym, subst, ap, ap₂, ◌∙◌, arith, false}
 use Rattle.std.specs.Prelude.{map, slice_get}
 use Rattle.std.specs.List.{filter, flat_map}
 use Rattle.std.specs.Option.{option_map}
@@ -11,10 +11,9 @@ use Rattle.pblk_model.specs.Accepted.{IsAccepted}
 use Rattle.pblk_model.specs.Found.{IsFitFound}
 use Rattle.pblk_model.specs.Image.{Image}
 use Rattle.pblk_model.specs.UnitLog.{UnitEvent}
-use Rattle.unit_port.specs.Armed.{Armed}
+use Rattle.unit_port.specs.Armed.{Armed, IsUnarmed}
 use Rattle.unit_port.specs.Unit.{ModelUnit}
 use Rattle.unit_port.specs.Commands.{IsKept}
-use Rattle.scan_recovery.specs.MayStop.{AllMayStop, MayStop, MayStopFrom}
 use Rattle.scan_recovery.specs.Readying.{AreHandedBack, IsFoundAfter}
 use Rattle.scan_recovery.specs.Units.{AreFit, IsUnitOf, image_of}
 use Rattle.scan_recovery.proofs.PadLoops.{fit_image, fit_kept}
@@ -26,14 +25,14 @@ use Rattle.pblk_world.specs.Lines.{found_image}
 use Rattle.pblk_world.specs.Opening.{MayBegin}
 use Rattle.pblk_world.specs.World.{World, Logs, log_of, media, unit_events}
 use Rattle.pblk_world.specs.Space.{room}
-use Rattle.world_laws.specs.LegalMounts.{IsLegalMount, NoneLost}
+use Rattle.world_laws.specs.LegalMounts.{IsLegalMount}
 use Rattle.world_laws.specs.MountBeginnings.{beginning_of}
 use Rattle.world_laws.specs.Reasons.{AreBegun, AreUrgent}
 use Rattle.world_laws.specs.Finding.{IsFoundOf, NoneOpen}
 use Rattle.world_laws.proofs.MayBegin.{may_begin}
 use Rattle.world_laws.proofs.FoundFits.{found_fits}
-use Rattle.step_laws.specs.Opened.{new_events, after_units}
-use Rattle.step_laws.specs.Whole.{knows_all, after_begin, engine_step}
+use Rattle.step_laws.specs.Opened.{AreArmed, IsArmed, new_events, after_units}
+use Rattle.step_laws.specs.Whole.{knows_all, after_begin}
 use Rattle.step_laws.proofs.Beginning.{mount_begins, begun_is, found_is, known_is, begins_level}
 use Rattle.step_laws.proofs.EngineSteps.{engine_logs, media_still}
 use Rattle.step_laws.proofs.FreedWorlds.{room_then}
@@ -61,8 +60,6 @@ use Rattle.block_target.proofs.InOrder.{in_order_decided}
 use Rattle.block_target.proofs.NotedResets.{noted_before, noted_decided}
 use Rattle.block_target.proofs.GrantedTakes.{none_taken}
 use Rattle.block_target.proofs.Reasoned.{begun_decided, urgent_decided}
-use Rattle.step_laws.proofs.Readied.{may_stop_armed}
-use Rattle.pblk_world.proofs.WorldLemmas.{log_here}
 
 -- ---- the world
 
@@ -70,16 +67,13 @@ use Rattle.pblk_world.proofs.WorldLemmas.{log_here}
 abbrev first_log : Beginning → List ℕ → List Logged
 first_log b knows = record { event = Event (Begin b); knows = knows } ∷ []
 
--- a unit that may be stopped, with more in its log
-may_stop_from : (old new : ModelUnit) → new.armed ≡ old.armed → MayStop old → MayStopFrom new (length old.log)
-may_stop_from old new same may = record {
-  plans = ap (λ (a : Armed). a.plans) same ∙ may.plans;
-  fuse = subst (λ (a : Armed). (a.fuse ≡ None) ⊎ (a.since ≤ length old.log)) (sym same) may.fuse;
-}
+-- a unit with more in its log is armed as it was
+armed_still : (old new : ModelUnit) → new.armed ≡ old.armed → IsArmed old → IsUnarmed new.armed ⊎ (new.armed.since ≤ length old.log)
+armed_still old new same = subst (λ (a : Armed). IsUnarmed a ⊎ (a.since ≤ length old.log)) (sym same)
 
 -- ---- the drive is made ready, or its units are handed back
 
-module _ (s : Shape) (us new : List ModelUnit) (accepted : IsAccepted s) (fit : AreFit s us) (may : AllMayStop us) (back : AreHandedBack s us new) where
+module _ (s : Shape) (us new : List ModelUnit) (accepted : IsAccepted s) (fit : AreFit s us) (armed : AreArmed us) (back : AreHandedBack s us new) where
   unit_readied : (number : ℕ) (u : ModelUnit) → slice_get new number ≡ Some u
       → (was : ModelUnit) × (slice_get us number ≡ Some was) × IsArm (image_of s us) (log_of (readied_world s us new)) number was u
   unit_readied number u there =
@@ -94,22 +88,22 @@ module _ (s : Shape) (us new : List ModelUnit) (accepted : IsAccepted s) (fit : 
           fit = of.fits;
           log = logs_are s us new back.readied number was.0 u was.1 there;
           arms = was.2.armed;
-          armed = may_stop_from was.0 u was.2.armed (may number was.0 was.1);
-          stopped = stops_there s us new accepted fit (may_stop_armed us may) back.readied number u there;
+          armed = armed_still was.0 u was.2.armed (armed number was.0 was.1);
+          stopped = stops_there s us new accepted fit armed back.readied number u there;
         },
       )
 
   -- what they did is of a legal world
   pub are_readied : AreReadied s us new
   are_readied = record {
-    legal = legal_mount s us new accepted fit (may_stop_armed us may) back.readied;
+    legal = legal_mount s us new accepted fit armed back.readied;
     none = units_quiet s 0 [] (new_events us new);
     each = unit_readied;
   }
 
 -- ---- and a mount begins
 
-module _ (s : Shape) (us new : List ModelUnit) (f : Found) (accepted : IsAccepted s) (fit : AreFit s us) (may : AllMayStop us)
+module _ (s : Shape) (us new : List ModelUnit) (f : Found) (accepted : IsAccepted s) (fit : AreFit s us) (armed : AreArmed us)
     (is : IsFoundAfter s us new f) where
   abbrev i : Image
   i = image_of s us
@@ -124,7 +118,7 @@ module _ (s : Shape) (us new : List ModelUnit) (f : Found) (accepted : IsAccepte
   first_world = after_begin s b before
 
   readied : AreReadied s us new
-  readied = are_readied s us new accepted fit may is.units
+  readied = are_readied s us new accepted fit armed is.units
 
   legal_before : IsLegalMount i before
   legal_before = readied.legal
@@ -201,10 +195,6 @@ module _ (s : Shape) (us new : List ModelUnit) (f : Found) (accepted : IsAccepte
             (sym (ap (λ (log : List Logged). slice_get log k) none_before) ∙ at));
       })
 
-  none_lost : NoneLost (log_of first_world 0)
-  none_lost = subst NoneLost (sym (log_here (engine_step s (Begin b) before) before 0 refl
-      ∙ ap (λ (log : List Logged). log ++ (engine_step s (Begin b) before).logged ∷ []) none_before)) (refl, tt)
-
   none_placed : AreUrgent i (log_of first_world)
   none_placed = urgent_decided i before legal_before.legal (Begin b) tt
       (record {
@@ -229,7 +219,6 @@ module _ (s : Shape) (us new : List ModelUnit) (f : Found) (accepted : IsAccepte
     handed = refl;
     count = fit_new.count;
     each = λ number u there. unit_begins wear granted pad number u there;
-    none_lost = none_lost;
     begun = none_begun;
     urgent = none_placed;
     in_order = none_ordered;

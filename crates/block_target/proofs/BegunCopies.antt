@@ -1,4 +1,5 @@
--- The copy that a mount takes next was begun where a copy is due, at the place of its sector's latest.
+-- The copy that a mount takes next was begun where a copy is due, at the place of its sector's
+-- latest.
 use Rattle.std.proofs.Common.{◌≡◌, ◌<◌, length, sym, subst, ◌∙◌, arith, le_refl}
 use Rattle.std.proofs.lemmas.Option.{same_Some}
 use Rattle.pblk_model.specs.declared.shape.Shape.{Shape}
@@ -44,7 +45,7 @@ module _ {v : MountView} {h : Heart} {f : Filling} (m : IsMount v h f) (job : Co
   source = record { line = job.line; at = job.at; position = job.position }
 
   latest : IsPlaceOfLatest v.image (log_of left.left) job.lba source (last_take (log_of left.left 0) job.lba)
-  latest = named_is_place v.image left.left left.simple job.lba job.line job.at job.position inside (left.slots job.lba ∙ slot)
+  latest = named_is_place v.image left.left left.mount job.lba job.line job.at job.position inside (left.slots job.lba ∙ slot)
 
   pub copy_begun : WasBegun v.image (logs_in v) (length (engine_log v)) job.lba (record { line = job.line; at = job.at; position = job.position })
   copy_begun =

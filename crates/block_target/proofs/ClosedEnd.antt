@@ -1,4 +1,5 @@
--- At rest each placed stripe is answered, and so the end of the media is the front synced.
+-- At rest each placed stripe is answered. So the end of the media is the front synced, where
+-- nothing waits that had been placed before.
 use Rattle.std.proofs.Common.{◌≡◌, ◌≤◌, ℕ, true, List, length, subst, arith}
 use Rattle.std.specs.List.{Contains}
 use Rattle.std.proofs.Math.Seq.{take-length}
@@ -10,12 +11,11 @@ use Rattle.pblk_world.specs.World.{media}
 use Rattle.pblk_world.specs.EngineLog.{Placed, is_answered, placements}
 use Rattle.prefix_law.proofs.Prefix.{end_where_answered}
 use Rattle.block_target.specs.Mount.{MountView, IsSound, engine_log, logs_in, synced_in, taken_in, world_in}
-use Rattle.prefix_law.proofs.Answered.{unlost_again}
+use Rattle.prefix_law.specs.PlacedAgain.{ArePlacedAgain}
 
-pub end_at_rest : (v : MountView) (asked : ℕ) → IsSound v → IsAtRest v.image (logs_in v) asked (length (engine_log v)) → IsSealed v.image
-    → end (media v.image (logs_in v)) ≡ synced_in v
-end_at_rest v asked sound rests sealed = end_where_answered v.image (world_in v) sound.beginning sound.legal sealed sound.has_begun
-    (unlost_again v.image.shape (engine_log v) sound.none_lost)
+pub end_at_rest : (v : MountView) (asked : ℕ) → IsSound v → ArePlacedAgain v.image.shape (engine_log v)
+    → IsAtRest v.image (logs_in v) asked (length (engine_log v)) → IsSealed v.image → end (media v.image (logs_in v)) ≡ synced_in v
+end_at_rest v asked sound again rests sealed = end_where_answered v.image (world_in v) sound.beginning sound.legal sealed sound.has_begun again
     (subst (λ (log : List Logged). (p : Placed) → Contains (placements log) p → is_answered log p ≡ true) (take-length (engine_log v))
     rests.resting.stripes)
 

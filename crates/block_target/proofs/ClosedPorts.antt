@@ -1,5 +1,5 @@
 -- A port that was closed, by what its close answers.
-use Rattle.std.proofs.Common.{◌≡◌, ◌≤◌, ℕ, Ok, Err, Result, true, List, ◌++◌, length, max, sym, subst, arith, append-nil}
+use Rattle.std.proofs.Common.{◌≡◌, ◌≤◌, ℕ, Ok, Err, Result, List, ◌++◌, length, max, sym, subst, arith, append-nil}
 use Rattle.std.specs.List.{flat_map}
 use Rattle.pblk_model.specs.Contents.{end}
 use Rattle.pblk_model.specs.Sealed.{IsSealed}
@@ -10,7 +10,7 @@ use Rattle.block_port.specs.declared.rows.WornAnswer.{WornAnswer}
 use Rattle.scan_recovery.specs.Lost.{IsLostAt, NoneLost}
 use Rattle.block_target.specs.Mount.{MountView, IsCollectionOver, IsSameMount, IsSound, IsStuckAt, logs_in, synced_in, taken_in, world_in}
 use Rattle.block_target.specs.Refusals.{AreRefusals}
-use Rattle.block_target.specs.Serial.{SerialView, AreNamed, IsClosed, IsSerial, SettleAsks, Settles, is_settled, settle_faults, settle_worns}
+use Rattle.block_target.specs.Serial.{SerialView, AreNamed, IsClosed, IsSerial, EndsAtSynced, SettleAsks, Settles, settle_faults, settle_worns}
 use Rattle.block_target.specs.Waiting.{AsksUpTo}
 use Rattle.block_target.specs.declared.opening.SettleErr.{SettleErr}
 use Rattle.block_target.specs.declared.opening.SettleErr.TheVariants as settle
@@ -42,7 +42,7 @@ module _ (s : SerialView) (v : MountView) (is : Closes s v) where
   closed : (settled : Result Unit SettleErr) → Settles s.mount settled v → AreNamed v (s.faults ++ settle_faults settled)
       → AreRefusals v.image (logs_in v) 0 (s.worns ++ settle_worns (length (flat_map lines_of s.own)) settled)
       → SettleAsks s.mount.asked (taken_in v) v.asked settled
-      → (IsSealed v.image → is_settled settled ≡ true → end (media v.image (logs_in v)) ≡ synced_in v) → IsClosed s settled v
+      → (IsSealed v.image → EndsAtSynced v settled → end (media v.image (logs_in v)) ≡ synced_in v) → IsClosed s settled v
   closed settled settles faults worns asked ends = record {
     same = is.same;
     sound = is.sound;
@@ -80,7 +80,7 @@ module _ (s : SerialView) (v : MountView) (is : Closes s v) where
       (named_with s.mount v s.faults unit event is.serial.sound is.sound is.serial.faults is.same lost)
       (subst (λ (ws : List WornAnswer). AreRefusals v.image (logs_in v) 0 ws) (sym (append-nil s.worns)) refusals)
       (asks.at_least, asks.at_most)
-      (λ sealed settled. absurd cc)
+      (λ sealed never. absurd never)
 
   pub closed_worn : (wanted have : ℕ) → NoneLost s.mount.units v.units → wanted ≡ taken_in v → have ≡ synced_in v → IsStuckAt v (taken_in v) have
       → AsksUpTo {T = Unit} s.mount v (taken_in v) (Err (Stuck wanted have)) → IsClosed s (Err (settle.Worn wanted have)) v
@@ -92,4 +92,4 @@ module _ (s : SerialView) (v : MountView) (is : Closes s v) where
       (refusals_more v.image (logs_in v) 0 s.worns (record { written = length (flat_map lines_of s.own); count = 0; wanted = wanted; have = have })
       (omega arith) refusals (record { written = users_later s v is.serial is.same; cause = cause }))
       (omega arith)
-      (λ sealed settled. end_at_rest v wanted is.sound cause.at_rest sealed)
+      (λ sealed again. end_at_rest v wanted is.sound again cause.at_rest sealed)

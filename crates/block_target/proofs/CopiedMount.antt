@@ -1,4 +1,5 @@
--- A mount that copies the sector that its core names: the block that it fetches, and what it leaves.
+-- A mount that copies the sector that its core names: the block that it fetches, and what it
+-- leaves.
 use Rattle.std.proofs.Common.{◌≡◌, ℕ, ◌+◌, ◌<◌, ◌≤◌, false, List, [], ◌∷◌, ◌++◌, length, refl, ap, ◌∙◌, arith, length-append}
 use Rattle.std.specs.Prelude.{Result}
 use Rattle.pblk_model.specs.Image.{Image, block_at}

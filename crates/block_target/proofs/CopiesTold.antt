@@ -1,5 +1,5 @@
--- What a core collects, and which sectors it copies, depends on what the engine was told alone. So a
--- step of a unit leaves it as it was.
+-- What a core collects, and which sectors it copies, depends on what the engine was told alone. So
+-- a step of a unit leaves it as it was.
 use Rattle.std.proofs.Common.{◌≡◌, ℕ, ◌≤◌, ◌==◌, ◌&&◌, nat_lt, max, false, None, Some, Option, List, ◌∷◌, length, refl, sym, subst, ap, ap₂, ◌∙◌, if◌then◌else◌}
 use Rattle.std.specs.Option.{option_map_or}
 use Rattle.pblk_model.specs.Image.{Image}

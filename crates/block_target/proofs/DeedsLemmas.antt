@@ -1,15 +1,15 @@
 -- Lemmas on the words of Deeds.
 use Rattle.std.proofs.Common.{List, [], Option, Some, ap, length, length-append, arith, suc, ℕ, ◌++◌, ◌+◌, ◌-◌, ◌∙◌, ◌∷◌, ◌≡◌}
 use Rattle.std.proofs.lemmas.List.Sums.{fold-append}
-use Rattle.block_target.specs.Deeds.{Decides, Deed, Does, Lands, NotesReset, Offers, after_deed, last_event, world_of}
+use Rattle.block_target.specs.Deeds.{Decides, Deed, Does, Lands, Loses, NotesReset, Offers, after_deed, last_event, world_of}
 use Rattle.core_laws.specs.Stepping.{after}
 use Rattle.pblk_model.specs.UnitLog.{UnitEvent}
 use Rattle.pblk_model.specs.declared.shape.Shape.{Shape}
-use Rattle.pblk_world.specs.Events.{Again, EngineEvent, Landed, Logged, ResetDone}
+use Rattle.pblk_world.specs.Events.{Again, EngineEvent, Landed, Lost, Logged, ResetDone}
 use Rattle.pblk_world.specs.World.{World, log_of}
 use Rattle.step_laws.proofs.EngineSteps.{engine_logs}
 use Rattle.step_laws.proofs.UnitSteps.{unit_log}
-use Rattle.step_laws.specs.Whole.{after_landing, after_reset_noted, after_stopping, after_unit, engine_step, knows_all, next_event, next_maker, unit_step}
+use Rattle.step_laws.specs.Whole.{after_landing, after_losing, after_reset_noted, after_stopping, after_unit, engine_step, knows_all, next_event, next_maker, unit_step}
 
 -- the world with one thing more
 pub world_more : (s : Shape) (deeds : List Deed) (d : Deed) → world_of s (deeds ++ d ∷ []) ≡ after_deed s (world_of s deeds) d
@@ -43,6 +43,11 @@ module _ (s : Shape) (deeds : List Deed) (unit : ℕ) (o : Option UnitEvent) (e 
   landed_world = world_more s (deeds ++ Does unit o ∷ []) (Lands unit)
       ∙ ap (λ (w : World). after_deed s w (Lands unit)) given_world
       ∙ ap (λ n. engine_step s (Landed unit n) mid ∷ mid) its_number
+
+  pub lost_world : world_of s ((deeds ++ Does unit o ∷ []) ++ Loses unit ∷ []) ≡ after_losing s unit e (next_maker (world_of s deeds)) (world_of s deeds)
+  lost_world = world_more s (deeds ++ Does unit o ∷ []) (Loses unit)
+      ∙ ap (λ (w : World). after_deed s w (Loses unit)) given_world
+      ∙ ap (λ n. engine_step s (Lost unit n) mid ∷ mid) its_number
 
   pub stopped_world : world_of s ((deeds ++ Does unit o ∷ []) ++ Offers unit ∷ []) ≡ after_stopping s unit e (next_maker (world_of s deeds)) (world_of s deeds)
   stopped_world = world_more s (deeds ++ Does unit o ∷ []) (Offers unit)

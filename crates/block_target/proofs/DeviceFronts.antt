@@ -82,7 +82,7 @@ front_taken_is s sound =
     within k t there =
         let at : t.entry.position ≡ first_position (engine_log s.mount) + k =
         numbered_at (first_position (engine_log s.mount)) (length (takes (engine_log s.mount))) (takes (engine_log s.mount)) k t
-        (numbered_in s.mount.image (world_in s.mount) (record { mount = sound.legal; engine = record { lost = sound.none_lost } })) there in
+        (numbered_in s.mount.image (world_in s.mount) sound.legal) there in
         let low : k < length (takes (engine_log s.mount)) = slice_get_within (takes (engine_log s.mount)) k t there in
         omega arith
 

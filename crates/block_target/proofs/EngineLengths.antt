@@ -9,7 +9,7 @@ use Rattle.std.proofs.lemmas.List.Sums.{fold-append}
 use Rattle.pblk_model.specs.declared.shape.Shape.{Shape}
 use Rattle.pblk_model.specs.Image.{Image}
 use Rattle.pblk_model.specs.UnitLog.{UnitEvent}
-use Rattle.pblk_world.specs.Events.{EngineEvent, Again, Landed, ResetDone, Maker, Logged, Step}
+use Rattle.pblk_world.specs.Events.{EngineEvent, Again, Landed, Lost, ResetDone, Maker, Logged, Step}
 use Rattle.pblk_world.specs.World.{World, log_of, known}
 use Rattle.pblk_world.specs.AtRest.{knows_last, logs_at, pad_target, victim_now}
 use Rattle.pblk_world.specs.Space.{room}
@@ -25,7 +25,7 @@ use Rattle.step_laws.proofs.UnitStays.{room_stays, slot_stays}
 use Rattle.step_laws.specs.Opened.{after_events, after_units}
 use Rattle.pblk_core.specs.Copies.{is_copy_due}
 use Rattle.pblk_core.specs.Named.{work_of}
-use Rattle.block_target.specs.Deeds.{Deed, Readies, Decides, Does, Lands, NotesReset, Offers, after_deed, world_of, last_event}
+use Rattle.block_target.specs.Deeds.{Deed, Readies, Decides, Does, Lands, Loses, NotesReset, Offers, after_deed, world_of, last_event}
 use Rattle.block_target.proofs.CopiesTold.{copies_beside, pads_beside, victim_beside}
 use Rattle.block_target.proofs.OnceRoom.{last_within}
 use Rattle.block_target.proofs.UnitStands.{work_beside}
@@ -69,6 +69,7 @@ deed_later s w (Decides e) = (engine_step s e w ∷ [], refl)
 deed_later s w (Does unit None) = ([], refl)
 deed_later s w (Does unit (Some e)) = (unit_step s unit e (next_maker w) w ∷ [], refl)
 deed_later s w (Lands unit) = (engine_step s (Landed unit (last_event w unit)) w ∷ [], refl)
+deed_later s w (Loses unit) = (engine_step s (Lost unit (last_event w unit)) w ∷ [], refl)
 deed_later s w (Offers unit) = (engine_step s (Again unit (last_event w unit)) w ∷ [], refl)
 deed_later s w (NotesReset unit) = (engine_step s (ResetDone unit (last_event w unit)) w ∷ [], refl)
 
@@ -84,19 +85,19 @@ world_grown i deeds more =
     (is.0, fold-append (after_deed i.shape) [] deeds more ∙ is.1)
 
 -- an earlier mount is as legal
-simple_tail : (i : Image) (step : Step) (w : World) → IsLegalMount i (step ∷ w) → IsLegalMount i w
+mount_tail : (i : Image) (step : Step) (w : World) → IsLegalMount i (step ∷ w) → IsLegalMount i w
 unfolding IsLegal
-simple_tail i step w mount = record { accepted = mount.accepted; fit = mount.fit; legal = mount.legal.1 }
+mount_tail i step w mount = record { accepted = mount.accepted; fit = mount.fit; legal = mount.legal.1 }
 
-pub simple_earlier : (i : Image) (later w : World) → IsLegalMount i (later ++ w) → IsLegalMount i w
-simple_earlier i [] w simple = simple
-simple_earlier i (step ∷ later) w simple = simple_earlier i later w (simple_tail i step (later ++ w) simple)
+pub mount_earlier : (i : Image) (later w : World) → IsLegalMount i (later ++ w) → IsLegalMount i w
+mount_earlier i [] w mount = mount
+mount_earlier i (step ∷ later) w mount = mount_earlier i later w (mount_tail i step (later ++ w) mount)
 
-simple_then : (i : Image) (w new : World) → (later : World) × (new ≡ later ++ w) → IsLegalMount i new → IsLegalMount i w
-simple_then i w new is simple = simple_earlier i is.0 w (subst (IsLegalMount i) is.1 simple)
+mount_then : (i : Image) (w new : World) → (later : World) × (new ≡ later ++ w) → IsLegalMount i new → IsLegalMount i w
+mount_then i w new is mount = mount_earlier i is.0 w (subst (IsLegalMount i) is.1 mount)
 
-pub simple_before : (i : Image) (w : World) (deeds : List Deed) → IsLegalMount i (with_deeds i w deeds) → IsLegalMount i w
-simple_before i w deeds simple = simple_then i w (with_deeds i w deeds) (deeds_later i w deeds) simple
+pub mount_before : (i : Image) (w : World) (deeds : List Deed) → IsLegalMount i (with_deeds i w deeds) → IsLegalMount i w
+mount_before i w deeds mount = mount_then i w (with_deeds i w deeds) (deeds_later i w deeds) mount
 
 -- ---- as the engine's last event left the world
 
@@ -104,7 +105,7 @@ simple_before i w deeds simple = simple_then i w (with_deeds i w deeds) (deeds_l
 -- done.
 pub record IsLeft (i : Image) (w : World) : Type 0 where
   pub left : World
-  pub simple : IsLegalMount i left
+  pub mount : IsLegalMount i left
   pub own : log_of left 0 ≡ log_of w 0
   pub logs : logs_at (length (log_of w 0)) (log_of w) ≡ log_of left
   pub work : (pad : ℕ) → work_of i (log_of left) pad [] false ≡ work_of i (log_of w) pad [] false
@@ -116,9 +117,9 @@ pub record IsLeft (i : Image) (w : World) : Type 0 where
   pub spent : (line : ℕ) → IsSpent i (log_of left) line → IsSpent i (log_of w) line
 
 none_left : (i : Image) → IsLegalMount i [] → IsLeft i []
-none_left i simple = record {
+none_left i mount = record {
   left = [];
-  simple = simple;
+  mount = mount;
   own = refl;
   logs = fun_same (logs_at 0 (log_of [])) (log_of []) each;
   work = λ pad. refl;
@@ -137,13 +138,13 @@ none_left i simple = record {
 -- after an event of the engine it is the world
 pub whole_decided : (i : Image) (w : World) (e : EngineEvent) → IsLegalMount i (engine_step i.shape e w ∷ w)
     → logs_at (length (log_of (engine_step i.shape e w ∷ w) 0)) (log_of (engine_step i.shape e w ∷ w)) ≡ log_of (engine_step i.shape e w ∷ w)
-whole_decided i w e simple = fun_same (logs_at (length (log_of next 0)) (log_of next)) (log_of next) each
+whole_decided i w e mount = fun_same (logs_at (length (log_of next 0)) (log_of next)) (log_of next) each
   where
     next : World
     next = engine_step i.shape e w ∷ w
 
     before : IsLegalMount i w
-    before = simple_tail i (engine_step i.shape e w) w simple
+    before = mount_tail i (engine_step i.shape e w) w mount
 
     log_now : log_of next 0 ≡ log_of w 0 ++ (engine_step i.shape e w).logged ∷ []
     log_now = log_here (engine_step i.shape e w) w 0 refl
@@ -166,11 +167,11 @@ whole_decided i w e simple = fun_same (logs_at (length (log_of next 0)) (log_of 
         ∙ take-length (log_of w (suc unit)) ∙ sym still
 
 engine_left : (i : Image) (w : World) (e : EngineEvent) → IsLegalMount i (engine_step i.shape e w ∷ w) → IsLeft i (engine_step i.shape e w ∷ w)
-engine_left i w e simple = record {
+engine_left i w e mount = record {
   left = engine_step i.shape e w ∷ w;
-  simple = simple;
+  mount = mount;
   own = refl;
-  logs = whole_decided i w e simple;
+  logs = whole_decided i w e mount;
   work = λ pad. refl;
   pads = λ asked. refl;
   victim = refl;
@@ -182,19 +183,19 @@ engine_left i w e simple = record {
 
 unit_left : (i : Image) (w : World) (unit : ℕ) (e : UnitEvent) (maker : Maker) → IsLegalMount i w → IsLeft i w
     → IsLeft i (unit_step i.shape unit e maker w ∷ w)
-unit_left i w unit e maker simple was = record {
+unit_left i w unit e maker mount was = record {
   left = was.left;
-  simple = was.simple;
+  mount = was.mount;
   own = was.own ∙ sym engine;
   logs = ap (λ n. logs_at n (log_of next)) (ap (λ (log : List Logged). length log) engine)
       ∙ fun_same (logs_at (length (log_of w 0)) (log_of next)) (logs_at (length (log_of w 0)) (log_of w)) each ∙ was.logs;
-  work = λ pad. was.work pad ∙ sym (work_beside i w unit e maker pad simple);
-  pads = λ asked. was.pads asked ∙ sym (pads_beside i w unit e maker simple asked);
-  victim = was.victim ∙ sym (victim_beside i w unit e maker simple);
-  copies = was.copies ∙ sym (copies_beside i w unit e maker simple);
-  slots = λ lba. was.slots lba ∙ sym (slot_stays i w unit e maker lba simple.legal);
-  room = was.room ∙ sym (room_stays i w unit e maker simple.legal);
-  spent = λ line is. spent_stays i w unit e maker line simple (was.spent line is);
+  work = λ pad. was.work pad ∙ sym (work_beside i w unit e maker pad mount);
+  pads = λ asked. was.pads asked ∙ sym (pads_beside i w unit e maker mount asked);
+  victim = was.victim ∙ sym (victim_beside i w unit e maker mount);
+  copies = was.copies ∙ sym (copies_beside i w unit e maker mount);
+  slots = λ lba. was.slots lba ∙ sym (slot_stays i w unit e maker lba mount.legal);
+  room = was.room ∙ sym (room_stays i w unit e maker mount.legal);
+  spent = λ line is. spent_stays i w unit e maker line mount (was.spent line is);
 }
   where
     next : World
@@ -209,38 +210,39 @@ unit_left i w unit e maker simple was = record {
         let more : (more : List Logged) × (log_of next (suc u) ≡ log_of w (suc u) ++ more) = grows (unit_step i.shape unit e maker w ∷ []) w (suc u) in
         ap₂ (λ (own log : List Logged). take (knows_last (slice_get own (length (log_of w 0) - 1)) (suc u)) log) engine more.1
         ∙ take-append-le (knows_last (slice_get (log_of w 0) (length (log_of w 0) - 1)) (suc u)) (log_of w (suc u)) more.0
-        (last_within i w (length (log_of w 0) - 1) (suc u) simple.legal)
+        (last_within i w (length (log_of w 0) - 1) (suc u) mount.legal)
 
 events_left : (i : Image) (unit : ℕ) (w : World) (events : List UnitEvent) → IsLegalMount i (after_events i.shape unit w events) → IsLeft i w
     → IsLeft i (after_events i.shape unit w events)
-events_left i unit w [] simple was = was
-events_left i unit w (e ∷ events) simple was =
+events_left i unit w [] mount was = was
+events_left i unit w (e ∷ events) mount was =
     let next : World = unit_step i.shape unit e (opening_maker w) w ∷ w in
-    let before : IsLegalMount i w = simple_then i w (after_events i.shape unit w (e ∷ events)) (events_later i.shape unit w (e ∷ events)) simple in
-    events_left i unit next events simple (unit_left i w unit e (opening_maker w) before was)
+    let before : IsLegalMount i w = mount_then i w (after_events i.shape unit w (e ∷ events)) (events_later i.shape unit w (e ∷ events)) mount in
+    events_left i unit next events mount (unit_left i w unit e (opening_maker w) before was)
 
 units_left : (i : Image) (unit : ℕ) (w : World) (all : List (List UnitEvent)) → IsLegalMount i (after_units i.shape unit w all) → IsLeft i w
     → IsLeft i (after_units i.shape unit w all)
-units_left i unit w [] simple was = was
-units_left i unit w (events ∷ all) simple was =
+units_left i unit w [] mount was = was
+units_left i unit w (events ∷ all) mount was =
     let mid : World = after_events i.shape unit w events in
-    let before : IsLegalMount i mid = simple_then i mid (after_units i.shape (suc unit) mid all) (units_later i.shape (suc unit) mid all) simple in
-    units_left i (suc unit) mid all simple (events_left i unit w events before was)
+    let before : IsLegalMount i mid = mount_then i mid (after_units i.shape (suc unit) mid all) (units_later i.shape (suc unit) mid all) mount in
+    units_left i (suc unit) mid all mount (events_left i unit w events before was)
 
 one_left : (i : Image) (w : World) (d : Deed) → IsLegalMount i (after_deed i.shape w d) → IsLeft i w → IsLeft i (after_deed i.shape w d)
-one_left i w (Readies all) simple was = units_left i 0 w all simple was
-one_left i w (Decides e) simple was = engine_left i w e simple
-one_left i w (Does unit None) simple was = was
-one_left i w (Does unit (Some e)) simple was =
-    unit_left i w unit e (next_maker w) (simple_tail i (unit_step i.shape unit e (next_maker w) w) w simple) was
-one_left i w (Lands unit) simple was = engine_left i w (Landed unit (last_event w unit)) simple
-one_left i w (Offers unit) simple was = engine_left i w (Again unit (last_event w unit)) simple
-one_left i w (NotesReset unit) simple was = engine_left i w (ResetDone unit (last_event w unit)) simple
+one_left i w (Readies all) mount was = units_left i 0 w all mount was
+one_left i w (Decides e) mount was = engine_left i w e mount
+one_left i w (Does unit None) mount was = was
+one_left i w (Does unit (Some e)) mount was =
+    unit_left i w unit e (next_maker w) (mount_tail i (unit_step i.shape unit e (next_maker w) w) w mount) was
+one_left i w (Lands unit) mount was = engine_left i w (Landed unit (last_event w unit)) mount
+one_left i w (Loses unit) mount was = engine_left i w (Lost unit (last_event w unit)) mount
+one_left i w (Offers unit) mount was = engine_left i w (Again unit (last_event w unit)) mount
+one_left i w (NotesReset unit) mount was = engine_left i w (ResetDone unit (last_event w unit)) mount
 
 all_left : (i : Image) (w : World) (deeds : List Deed) → IsLegalMount i (with_deeds i w deeds) → IsLeft i w → IsLeft i (with_deeds i w deeds)
-all_left i w [] simple was = was
-all_left i w (d ∷ deeds) simple was =
-    all_left i (after_deed i.shape w d) deeds simple (one_left i w d (simple_before i (after_deed i.shape w d) deeds simple) was)
+all_left i w [] mount was = was
+all_left i w (d ∷ deeds) mount was =
+    all_left i (after_deed i.shape w d) deeds mount (one_left i w d (mount_before i (after_deed i.shape w d) deeds mount) was)
 
 pub deeds_left : (i : Image) (deeds : List Deed) → IsLegalMount i (world_of i.shape deeds) → IsLeft i (world_of i.shape deeds)
-deeds_left i deeds simple = all_left i [] deeds simple (none_left i (simple_before i [] deeds simple))
+deeds_left i deeds mount = all_left i [] deeds mount (none_left i (mount_before i [] deeds mount))

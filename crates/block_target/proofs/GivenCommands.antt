@@ -1,9 +1,9 @@
 -- What a unit was given, as the next step of its world: the unit could do it.
-use Rattle.std.proofs.Common.{◌≡◌, ◌≢◌, ℕ, suc, Some, Option, ◌∷◌, length, sym, subst, ap, ◌∙◌}
+use Rattle.std.proofs.Common.{◌≡◌, ℕ, suc, Some, Option, ◌∷◌, length, sym, subst, ap, ◌∙◌}
 use Rattle.std.specs.Prelude.{Result, Ok, Err}
 use Rattle.pblk_model.specs.ChunkStep.{ChunkCommand, Done, Reset, Write}
 use Rattle.pblk_model.specs.Image.{Image}
-use Rattle.pblk_model.specs.UnitLog.{Answered, Stopped, UnitEvent, UnitOutcome}
+use Rattle.pblk_model.specs.UnitLog.{Answered, Failed, Stopped, UnitEvent, UnitOutcome}
 use Rattle.pblk_world.specs.Commanding.{IsCommand, MayDo, ended_stripes}
 use Rattle.pblk_world.specs.EngineLog.{Begun, Placed, answers, begun}
 use Rattle.pblk_world.specs.Events.{Maker, Stripe}
@@ -28,13 +28,11 @@ next_may i w number e maker legal = subst (λ (logs : Logs). MayDo i logs number
 pub was_done : (o : UnitOutcome) (r : Result (Unit {0}) UnitErr) (x : Unit {0}) → r ≡ Ok x → TellsDone r o → o ≡ Answered Done
 was_done o r x is tells = subst (λ (s : Result (Unit {0}) UnitErr). TellsDone s o) is tells
 
-pub was_halted : (o : UnitOutcome) (r : Result (Unit {0}) UnitErr) (x : UnitErr) → r ≡ Err x → r ≢ Err errors.Failed → TellsDone r o
-    → (k : ℕ) × (o ≡ Stopped k)
-was_halted o r x is unfailing tells = go x is (subst (λ (s : Result (Unit {0}) UnitErr). TellsDone s o) is tells)
-  where
-    go : (x : UnitErr) → r ≡ Err x → TellsDone {T = Unit {0}} (Err x) o → (k : ℕ) × (o ≡ Stopped k)
-    go errors.Failed same told = absurd (unfailing same)
-    go errors.Stopped same told = told
+pub was_failed : (o : UnitOutcome) (r : Result (Unit {0}) UnitErr) → r ≡ Err errors.Failed → TellsDone r o → (k : ℕ) × (o ≡ Failed k)
+was_failed o r is tells = subst (λ (s : Result (Unit {0}) UnitErr). TellsDone s o) is tells
+
+pub was_halted : (o : UnitOutcome) (r : Result (Unit {0}) UnitErr) → r ≡ Err errors.Stopped → TellsDone r o → (k : ℕ) × (o ≡ Stopped k)
+was_halted o r is tells = subst (λ (s : Result (Unit {0}) UnitErr). TellsDone s o) is tells
 
 module _ {i : Image} {w : World} {number : ℕ} {handed : ModelUnit} {maker : Maker} {chunk : ℕ} {command : ChunkCommand} {tells : UnitOutcome → Type 0}
     {new : ModelUnit} (given : WasGiven i w number handed maker chunk command tells new) where

@@ -8,7 +8,7 @@ use Rattle.std.specs.Prelude.{slice_get, slice_set}
 use Rattle.std.proofs.lemmas.List.Elements.{filter_map-append}
 use Rattle.core_laws.proofs.HistorySectors.{set_length}
 use Rattle.core_laws.proofs.SteppingLemmas.{found_kept}
-use Rattle.world_laws.specs.LegalMounts.{IsLegalMount, NoneLost}
+use Rattle.world_laws.specs.LegalMounts.{IsLegalMount}
 use Rattle.pblk_model.specs.declared.shape.Shape.{Shape}
 use Rattle.pblk_model.specs.Image.{Image}
 use Rattle.pblk_model.specs.UnitLog.{UnitEvent}
@@ -213,9 +213,9 @@ pub record Leaves (v new : MountView) (h : Heart) (f : Filling) : Type 0 where
   pub asked : new.asked ≡ v.asked
 
 module _ {v : MountView} {w : World} {us : List ModelUnit} (sound : IsSound v) (goes : GoesOn v w us) where
-  pub sound_on : (deeds : List Deed) (wear : List (List ℕ)) (granted pad : ℕ) → world_of v.image.shape deeds ≡ w → NoneLost (log_of w 0)
+  pub sound_on : (deeds : List Deed) (wear : List (List ℕ)) (granted pad : ℕ) → world_of v.image.shape deeds ≡ w
       → IsSound (moved_on v deeds us wear granted pad)
-  sound_on deeds wear granted pad is none_lost = record {
+  sound_on deeds wear granted pad is = record {
     legal = subst (IsLegalMount v.image) (sym is) goes.legal;
     beginning = sound.beginning;
     has_begun = ap (λ (x : World). begun (log_of x 0)) is ∙ begun_on goes sound.beginning sound.has_begun;
@@ -224,7 +224,6 @@ module _ {v : MountView} {w : World} {us : List ModelUnit} (sound : IsSound v) (
     handed = sound.handed;
     count = goes.count ∙ sound.count;
     each = λ number u there. subst (λ (x : World). IsUnitAt v x number u) (sym is) (goes.each number u there);
-    none_lost = subst (λ (x : World). NoneLost (log_of x 0)) (sym is) none_lost;
     begun = subst (λ (x : World). AreBegun v.image (log_of x)) (sym is) (goes.begun sound.begun);
     urgent = subst (λ (x : World). AreUrgent v.image (log_of x)) (sym is) (goes.urgent sound.urgent);
     in_order = subst (λ (x : World). AreInOrder v.image (log_of x)) (sym is) (goes.in_order sound.in_order);
@@ -287,7 +286,7 @@ module _ {v : MountView} {w : World} {us : List ModelUnit} (sound : IsSound v) (
       → IsLevel w → AreResetsNoted (log_of w) → IsKnown v.image w → IsResting h.core → is_copying h.core ≡ false → NoneToFree v.image (log_of w)
       → f.shape ≡ v.image.shape → v.asked ≤ pad_of h.core → IsMount (moved_on v deeds us wear h.granted (pad_of h.core)) h f
   mount_on deeds wear h f is stands level noted known rests idle settled shape pads = record {
-    sound = sound_on deeds wear h.granted (pad_of h.core) is stands.stands.simple.lost;
+    sound = sound_on deeds wear h.granted (pad_of h.core) is;
     heart = subst (λ (x : World). IsHeart v.image (log_of x) h) (sym is) stands;
     pad = refl;
     asked = pads;

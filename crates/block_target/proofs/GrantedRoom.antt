@@ -19,8 +19,8 @@ use Rattle.block_target.proofs.OnceRoom.{room_later, room_less}
 -- there is room now
 pub room_now : (i : Image) (deeds : List Deed) (b : Begun) → IsLegalMount i (world_of i.shape deeds) → begun (log_of (world_of i.shape deeds) 0) ≡ Some b
     → WasRoom i (log_of (world_of i.shape deeds)) (length (log_of (world_of i.shape deeds) 0)) (room i (log_of (world_of i.shape deeds)))
-room_now i deeds b simple has =
-    let is : IsLeft i (world_of i.shape deeds) = deeds_left i deeds simple in
+room_now i deeds b mount has =
+    let is : IsLeft i (world_of i.shape deeds) = deeds_left i deeds mount in
     let same : room i (logs_at (length (log_of (world_of i.shape deeds) 0)) (log_of (world_of i.shape deeds))) ≡ room i (log_of (world_of i.shape deeds)) =
     ap (room i) is.logs ∙ is.room in
     record {

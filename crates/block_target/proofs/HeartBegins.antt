@@ -28,7 +28,6 @@ use Rattle.pblk_core.specs.Stands.{Stands, IsStanding}
 use Rattle.pblk_core.specs.declared.target_core.Core.{Core}
 use Rattle.pblk_core.proofs.FoundNotes.{none_found_open}
 use Rattle.pblk_core.proofs.FreedWindow.{unread_at_front}
-use Rattle.pblk_core.proofs.SimpleLogs.{simple_in}
 use Rattle.pblk_core.proofs.SmallGrant.{ring_kept}
 use Rattle.world_laws.specs.Reasons.{WasRoom}
 use Rattle.block_target.specs.Heart.{Begins, CanBegin, HasBegun, IsHeart, decided}
@@ -111,7 +110,7 @@ module _ (s : Shape) (f : Found) (core : Core) (has : HasBegunWith s f core) (co
         stands_first.to_freed (ap first_position its_log) (ap (freed i.shape) its_log ∙ nothing_freed i.shape (beginning_of f) knows)
 
     unread : window.is_readable_at core.window core.window.freed ≡ false
-    unread = unread_at_front i later core (simple_in i later is.legal stands_first) stands_first first_freed
+    unread = unread_at_front i later core is.legal stands_first first_freed
 
     no_entries : core.window.entries ≡ []
     no_entries = nothing_held core.window.entries

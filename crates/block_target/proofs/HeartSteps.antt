@@ -22,7 +22,6 @@ use Rattle.world_laws.specs.LegalMounts.{IsLegalMount}
 use Rattle.world_laws.specs.SameTold.{AreSameNamed}
 use Rattle.world_laws.proofs.ToldSince.{same_told}
 use Rattle.world_laws.proofs.ToldTables.{room_told}
-use Rattle.core_laws.specs.PlainEvents.{is_plain_decision}
 use Rattle.core_laws.specs.Stepping.{after}
 use Rattle.core_laws.proofs.FreedFront.{freed_rises}
 use Rattle.core_laws.proofs.TakenNumbers.{first_stays}
@@ -165,17 +164,16 @@ module _ (i : Image) (w : World) (e : EngineEvent) (knows : List ℕ) where
   decision (Begin x) b own has may = absurd (none-some b (ap (λ (log : List Logged). begun log) (sym may.is_first ∙ own) ∙ has))
   decision o b own has may = (may.0, may.2)
 
-  pub freed_later : (b : Begun) → begun (log_of w 0) ≡ Some b → is_plain_decision e ≡ true → (c : Core) → IsLegalMount i w
-      → Stands i (log_of w) c → IsLegal i later → freed i.shape (log_of w 0) ≤ freed i.shape (log_of later 0)
+  pub freed_later : (b : Begun) → begun (log_of w 0) ≡ Some b → IsLegalMount i w → IsLegal i later
+      → freed i.shape (log_of w 0) ≤ freed i.shape (log_of later 0)
   unfolding IsLegal
-  freed_later b has plain c mount st legal =
+  freed_later b has mount legal =
       let step = legal.0 in
       let own : prefixes last (log_of w) 0 ≡ log_of w 0 =
       ap (λ n. take n (log_of w 0)) step.knowledge.own ∙ take-length (log_of w 0) in
       let d = decision e b own has step.allowed in
       subst (λ (logs : Logs). freed i.shape (log_of w 0) ≤ freed i.shape (logs 0)) (sym logs_are)
-      (freed_rises i (prefixes last (log_of w)) w d.0 e knows mount
-      (λ o u. rows_of_chunks i w o u mount) own d.1)
+      (freed_rises i (prefixes last (log_of w)) w d.0 e knows mount (λ o u. rows_of_chunks i w o u mount) own d.1)
 
   -- the heart
   pub heart_later : (old new : Heart) → IsLegalMount i w → IsHeart i (log_of w) old → IsLegalMount i later
@@ -234,13 +232,13 @@ module _ (i : Image) (w : World) (e : EngineEvent) (knows : List ℕ) where
 
   -- by a core that stands for the logs with the event, once its frames and its grant are renewed
   pub beats_later : (old : Heart) (core : Core) (new : Heart) → IsLegalMount i w → IsHeart i (log_of w) old → IsLegalMount i later
-      → Stands i (after (log_of w) e knows) core → Collects i (after (log_of w) e knows) core → is_plain_decision e ≡ true
+      → Stands i (after (log_of w) e knows) core → Collects i (after (log_of w) e knows) core
       → length core.window.entries ≡ length old.core.window.entries → pad_of core ≤ max (pad_of old.core) (victim_asks core) → IsRenewed old core new
       → IsHeart i (log_of later) new
-  beats_later old core new mount was legal stands collects plain count pads is =
+  beats_later old core new mount was legal stands collects count pads is =
       heart_later old new mount was legal (is.stands i later legal now)
       (is.collects i (log_of later) collects_now) (is.drained i later legal now)
-      (freed_later was.stands.beginning was.stands.has_begun plain old.core mount was.stands legal.legal)
+      (freed_later was.stands.beginning was.stands.has_begun mount legal.legal)
       is.own (out_renewed _ _ _ _ _ is.out was.out count) is.region (is.granted i later legal now)
       (let low : victim_asks core ≤ pad_target i (log_of later) 0 = asks_at_most i later core legal now collects_now in
       let same : pad_of new.core ≡ pad_of core = is.pad in

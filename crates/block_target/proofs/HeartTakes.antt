@@ -39,7 +39,6 @@ use Rattle.pblk_core.specs.Stands.{Stands}
 use Rattle.pblk_core.specs.Taken.{HasItsSector, IsClassed, entry_of, is_source, mark_of}
 use Rattle.pblk_core.specs.declared.collecting.CopyJob.{CopyJob}
 use Rattle.pblk_core.specs.declared.target_core.Core.{Core}
-use Rattle.pblk_core.proofs.SimpleLogs.{simple_in}
 use Rattle.pblk_core.proofs.StandsFacts.{next_is_unplaced, window_taken_is}
 use Rattle.block_target.specs.Heart.{BeatsAfter, IsBeating, IsHeart, IsOfClass, OfItsMount, copy_entry, taken_entry, taken_mark}
 use Rattle.block_target.specs.declared.heart.Heart.{Heart}
@@ -218,7 +217,7 @@ module _ (old : Heart) (core : Core) (pool : PoolView) (position : ℕ) (class :
       (ap (λ (x : window.WindowView). x.freed) is.pushed) (own_now was.own) (out_now was.out) is.region refl is.pads
     where
       none : IsUnplaced i.shape (log_of w 0) (taken (log_of w 0))
-      none = next_is_unplaced i w (simple_in i w mount was.stands)
+      none = next_is_unplaced i w mount
 
 -- ---- a core that stands for the same logs
 

@@ -1,5 +1,5 @@
--- What holds before each event of the engine's log stays so as the world grows, where it holds before
--- each further one.
+-- What holds before each event of the engine's log stays so as the world grows, where it holds
+-- before each further one.
 use Rattle.std.proofs.Common.{◌≡◌, ◌≢◌, ◌⊎◌, inl, inr, ℕ, ◌<◌, ◌≤◌, zero, suc, Some, None, List, [], ◌∷◌, ◌++◌, length, take, refl, sym, subst, ap, ◌∙◌, arith, le_refl}
 use Rattle.std.specs.Prelude.{⊤, slice_get}
 use Rattle.std.proofs.lemmas.Bool.{cases_lt}

@@ -49,6 +49,7 @@ pub mod FreedMounts
 pub mod LostCommands
 pub mod OnceRoom
 pub mod GivenCommands
+pub mod FailedPrograms
 pub mod HeartBeside
 pub mod ArmSteps
 pub mod HeartTakes

@@ -15,7 +15,7 @@ use Rattle.pblk_world.proofs.EngineLogLemmas.{begun_taken}
 use Rattle.pblk_world.proofs.Growing.{grows}
 use Rattle.world_laws.specs.LegalMounts.{IsLegalMount}
 use Rattle.block_target.specs.Moments.{IsMoment}
-use Rattle.block_target.proofs.EngineLengths.{simple_earlier}
+use Rattle.block_target.proofs.EngineLengths.{mount_earlier}
 
 one_more : (s : Step) (w : World) → length (log_of (s ∷ w) 0) ≤ length (log_of w 0) + 1
 one_more s w = go (s.author == 0)
@@ -48,7 +48,7 @@ log_then w n past m =
 -- what is known of the moment of a refused flush
 pub record IsRefusedThen (i : Image) (w : World) (b : Begun) (n wanted have : ℕ) (past : World) : Type 0 where
   pub moment : IsMoment w n past
-  pub simple : IsLegalMount i past
+  pub mount : IsLegalMount i past
   pub begins : begun (log_of past 0) ≡ Some b
   pub answered : (p : Placed) → Contains (placements (log_of past 0)) p → is_answered (log_of past 0) p ≡ true
   pub all_taken : wanted ≤ taken (log_of past 0)
@@ -56,13 +56,13 @@ pub record IsRefusedThen (i : Image) (w : World) (b : Begun) (n wanted have : �
 
 pub refused_then : (i : Image) (w : World) (b : Begun) (n wanted have : ℕ) → IsLegalMount i w → begun (log_of w 0) ≡ Some b
     → IsWornFlush i (log_of w) n wanted have → (past : World) × IsRefusedThen i w b n wanted have past
-refused_then i w b n wanted have simple begins is =
+refused_then i w b n wanted have mount begins is =
     let m = moment w n is.at_rest.within in
     let log : take n (log_of w 0) ≡ log_of m.0 0 = log_then w n m.0 m.1 in (
       m.0,
       record {
         moment = m.1;
-        simple = simple_earlier i m.1.later m.0 (subst (IsLegalMount i) m.1.whole simple);
+        mount = mount_earlier i m.1.later m.0 (subst (IsLegalMount i) m.1.whole mount);
         begins = sym (ap begun log) ∙ begun_taken n (log_of w 0) is.at_rest.has_begun ∙ begins;
         answered = subst (λ ls. (p : Placed) → Contains (placements ls) p → is_answered ls p ≡ true) log is.at_rest.resting.stripes;
         all_taken = subst (λ ls. wanted ≤ taken ls) log is.all_taken;

@@ -69,7 +69,7 @@ same_from {old} {v} {new} is same = subst (λ (x : MountView). IsSameMount x new
 -- ---- a mount
 
 pub taken_small : (v : MountView) → IsSound v → taken_in v ≤ 2 ^ 62
-taken_small v sound = taken_bounded v.image (world_in v) (record { mount = sound.legal; engine = record { lost = sound.none_lost } })
+taken_small v sound = taken_bounded v.image (world_in v) sound.legal
     (subst (λ n. n ≤ 2 ^ 62) (sym (first_of (engine_log v) sound.beginning sound.has_begun)) sound.first_low)
 
 module _ {v : MountView} {h : Heart} {f : Filling} (m : IsMount v h f) where

@@ -20,7 +20,7 @@ module _ {v : MountView} {h : Heart} {f : Filling} (m : IsMount v h f) where
 
   pub none_to_free_then : NoneToFree v.image (log_of its_left.left)
   none_to_free_then =
-      none_by_spent v.image (world_in v) its_left.left m.sound.beginning m.sound.legal its_left.simple m.sound.has_begun m.heart.stands.full
+      none_by_spent v.image (world_in v) its_left.left m.sound.beginning m.sound.legal its_left.mount m.sound.has_begun m.heart.stands.full
       its_left.spent m.settled
 
   pub none_to_free_now : NoneToFree v.image (logs_at (length (engine_log v)) (logs_in v))
@@ -30,7 +30,7 @@ module _ {v : MountView} {h : Heart} {f : Filling} (m : IsMount v h f) where
   pub none_to_reset_now : (work : Work) → ((line unit : ℕ) → works.Reset line unit ≢ work) → work_in v ≡ work
       → AreReset v.image (logs_at (length (engine_log v)) (logs_in v))
   none_to_reset_now work apart named = subst (AreReset v.image) (sym its_left.logs)
-      (none_to_reset v.image its_left.left v.pad work its_left.simple apart (its_left.work v.pad ∙ named))
+      (none_to_reset v.image its_left.left v.pad work its_left.mount apart (its_left.work v.pad ∙ named))
 
   -- where it is the opening of a line
   pub lacks_address_now : work_in v ≡ works.Open → LacksAddress v.image (logs_at (length (engine_log v)) (logs_in v))

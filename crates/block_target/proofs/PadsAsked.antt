@@ -1,5 +1,5 @@
--- Up to which position pads were asked for, at an earlier length of the engine's log: that stays so as the world
--- grows. The victim at work asks by a core's tables for no more than by the logs.
+-- Up to which position pads were asked for, at an earlier length of the engine's log: that stays so
+-- as the world grows. The victim at work asks by a core's tables for no more than by the logs.
 use Rattle.std.proofs.Common.{◌≡◌, ◌⊎◌, inl, inr, ℕ, ◌+◌, ◌-◌, ◌^◌, ◌<◌, ◌≤◌, ◌==◌, nat_lt, max, min, Bool, true, false, Some, None, Option, ◌++◌, length, refl, sym, subst, ap, ◌∙◌, arith, le_trans, le_refl, if◌then◌else◌}
 use Rattle.std.specs.Prelude.{slice_get}
 use Rattle.std.specs.List.{filter, last_or}

@@ -1,17 +1,17 @@
 -- A mount that has a stripe programmed: what it asks of the unit, and the mount that this leaves.
-use Rattle.std.proofs.Common.{◌≡◌, ◌≢◌, Bool, ℕ, ◌+◌, ◌-◌, ◌<◌, ◌≤◌, ◌^◌, ◌&&◌, ◌||◌, min, true, false, Some, Option, List, [], ◌∷◌, ◌++◌, length, refl, sym, subst, ap, ap₂, ◌∙◌, arith, append-nil, append_assoc}
+use Rattle.std.proofs.Common.{◌≡◌, ◌≢◌, Bool, ℕ, ◌+◌, ◌-◌, ◌*◌, ◌<◌, ◌≤◌, ◌^◌, ◌&&◌, ◌||◌, min, true, false, Some, Option, List, [], ◌∷◌, ◌++◌, length, refl, sym, subst, ap, ap₂, ◌∙◌, arith, append-nil, append_assoc}
 use native.Mathlib.Decide.{ℕ_discrete}
 use Rattle.std.specs.Prelude.{slice_get, slice_set}
 use Rattle.pblk_model.specs.ChunkStep.{Done, Write}
 use Rattle.pblk_model.specs.Image.{Image}
-use Rattle.pblk_model.specs.UnitLog.{Answered, Stopped, UnitEvent, UnitOutcome}
+use Rattle.pblk_model.specs.UnitLog.{Answered, Failed, Stopped, UnitEvent, UnitOutcome}
 use Rattle.pblk_world.proofs.Answered.{answers_fit}
 use Rattle.pblk_world.proofs.WorldLemmas.{log_here}
-use Rattle.pblk_world.specs.Answering.{MayLand, MayOfferAgain}
-use Rattle.pblk_world.specs.AtRest.{IsDue, logs_at}
+use Rattle.pblk_world.specs.Answering.{MayLand, MayLose, MayOfferAgain}
+use Rattle.pblk_world.specs.AtRest.{logs_at}
 use Rattle.pblk_world.specs.Commanding.{is_reset}
 use Rattle.pblk_world.specs.EngineLog.{Answer, Placed, answers, placed_on, takes}
-use Rattle.pblk_world.specs.Events.{Again, EngineEvent, Landed, Logged, Place, Stripe}
+use Rattle.pblk_world.specs.Events.{Again, EngineEvent, Landed, Lost, Logged, Place, Stripe}
 use Rattle.pblk_world.specs.Placing.{MayPlace}
 use Rattle.pblk_world.specs.World.{World, log_of}
 use Rattle.core_laws.proofs.IdleUnits.{idle_fits}
@@ -23,10 +23,10 @@ use Rattle.world_laws.specs.Orders.{NoneToFree}
 use Rattle.step_laws.proofs.EngineSteps.{engine_next}
 use Rattle.step_laws.proofs.Known.{known_still}
 use Rattle.step_laws.proofs.Levels.{level_by}
-use Rattle.step_laws.proofs.Noted.{landing_known, landing_legal, landing_level, stopping_known, stopping_legal, stopping_level}
-use Rattle.step_laws.proofs.Programs.{may_land, may_offer_again, unit_in_range}
+use Rattle.step_laws.proofs.Noted.{landing_known, landing_legal, landing_level, losing_known, losing_legal, losing_level, stopping_known, stopping_legal, stopping_level}
+use Rattle.step_laws.proofs.Programs.{may_land, may_offer_again, of_stripe, unit_in_range}
 use Rattle.step_laws.specs.NextEvents.{CanProgram}
-use Rattle.step_laws.proofs.UnitSteps.{engine_longer}
+use Rattle.step_laws.proofs.UnitSteps.{engine_longer, is_new}
 use Rattle.step_laws.specs.Whole.{IsKnown, IsLevel, after_unit, engine_step, knows_all, next_event, next_maker, noted}
 use Rattle.stripe_placer.specs.Placing.{Program}
 use Rattle.stripe_placer.specs.Placing.UnitRow.{UnderWay}
@@ -39,13 +39,13 @@ use Rattle.pblk_core.specs.Named.{pad_of}
 use Rattle.pblk_core.specs.declared.target_core.Core.{Core}
 use Rattle.pblk_core.specs.declared.work.Work.TheVariants as works
 use Rattle.block_target.specs.Arm.{IsStripeThere, WasGiven, last_of}
-use Rattle.block_target.specs.Deeds.{Decides, Deed, Does, Lands, Offers, world_of}
+use Rattle.block_target.specs.Deeds.{Decides, Deed, Does, Lands, Loses, Offers, world_of}
 use Rattle.block_target.specs.Freed.{HaveFreed}
 use Rattle.block_target.specs.Heart.{BeatsAfter, IsBeating, IsHeart, OfItsMount, decided}
 use Rattle.scan_recovery.specs.Lost.{IsLostAt, NoneLost, is_fetch}
 use Rattle.block_target.specs.Mount.{AreResetsNoted, IsMount, MountView, engine_log, work_in, world_in}
 use Rattle.block_target.specs.declared.heart.Heart.{Heart}
-use Rattle.block_target.proofs.DeedsLemmas.{landed_world, stopped_world, world_more}
+use Rattle.block_target.proofs.DeedsLemmas.{landed_world, lost_world, stopped_world, world_more}
 use Rattle.block_target.proofs.FreedMounts.{leaves_freed}
 use Rattle.block_target.proofs.GivenCommands.{can_program}
 use Rattle.block_target.proofs.EngineLengths.{whole_decided}
@@ -60,6 +60,7 @@ use Rattle.block_target.proofs.NotedResets.{no_reset, noted_beside, noted_decide
 use Rattle.block_target.proofs.Reasoned.{PlacesFor}
 use Rattle.block_target.proofs.UrgentStripes.{placed_for}
 use Rattle.pblk_model.proofs.MarksLemmas.{accepted_small}
+use Rattle.pblk_world.specs.AtRest.{IsDue}
 use Rattle.lemmas.proofs.Tests.{same_number}
 
 -- ---- no program is under way, but maybe on one unit
@@ -229,7 +230,7 @@ module _ {v : MountView} {h : Heart} {f : Filling} (m : IsMount v h f) {mid : He
   pub stripe_there : (was : ModelUnit) (there : slice_get v.units stripe.unit ≡ Some was)
       → IsStripeThere v.image (world_of v.image.shape deeds) stripe (before_of was there) was
   stripe_there was there = record {
-    simple = ready.goes.legal;
+    mount = ready.goes.legal;
     arm = (ready.goes.each stripe.unit was there).2;
     placed = ready.placed;
     waits = ready.waits;
@@ -340,6 +341,82 @@ module _ {v : MountView} {h : Heart} {f : Filling} (m : IsMount v h f) {mid : He
       pub landed_done : (us : List ModelUnit) → us ≡ slice_set v.units stripe.unit new → NoneLost v.units us
       landed_done us is = subst (NoneLost v.units) (sym is)
           (none_lost_one v.units stripe.unit was new e there log_more (ap₂ (λ (o : UnitOutcome) b. is_stop o || (b && is_fail o)) done no_fetch))
+
+    -- it failed
+    module _ (k kept : ℕ) (failed : given.event.outcome ≡ Failed k) (is_kept : kept ≡ k * v.image.shape.ws_min) where
+      abbrev loss : EngineEvent
+      loss = Lost stripe.unit its_number
+
+      lost_legal : IsLegalMount v.image (noted v.image.shape loss programmed)
+      lost_legal = losing_legal v.image w stripe.unit ready.placed e (next_maker w) ready.goes.legal can k failed
+
+      abbrev losing : MayLose (log_of programmed) stripe.unit its_number
+      losing = record {
+        program = e;
+        new = is_new v.image w stripe.unit e (next_maker w) ready.goes.legal.legal;
+        stripe = of_stripe v.image w stripe.unit ready.placed e (next_maker w) can ready.goes.legal.legal;
+        landed_before = k;
+        failed = failed;
+      }
+
+      pub beating_lost : (after : Heart)
+          → ((i : Image) (w : World) (event : ℕ) (knows : List ℕ) → IsLegalMount i w → IsHeart i (log_of w) mid
+          → (may : MayLose (log_of w) stripe.unit event)
+          → kept ≡ may.landed_before * i.shape.ws_min
+          → IsLegalMount i (decided (Lost stripe.unit event) knows w) → IsHeart i (log_of (decided (Lost stripe.unit event) knows w)) after)
+          → IsBeating after
+      beating_lost after beats = record {
+        image = v.image;
+        world = noted v.image.shape loss programmed;
+        legal = lost_legal;
+        stands = beats v.image programmed its_number (knows_all v.image.shape programmed) given.legal heart_programmed losing is_kept lost_legal;
+      }
+
+      pub may_be_lost : (i : Image) × (w : World) × IsLegalMount i w × IsHeart i (log_of w) mid × (event : ℕ)
+          × (may : MayLose (log_of w) stripe.unit event) × (kept ≡ may.landed_before * i.shape.ws_min)
+      may_be_lost = (v.image, programmed, given.legal, heart_programmed, its_number, losing, is_kept)
+
+      goes_lost : GoesOn v (noted v.image.shape loss programmed) (slice_set v.units stripe.unit new)
+      goes_lost = goes_decided goes loss lost_legal (λ knows. refl) tt none_programmed
+
+      takes_lost : takes (log_of (noted v.image.shape loss programmed) 0) ≡ takes (engine_log v)
+      takes_lost = takes_still v.image.shape loss programmed refl ∙ takes_beside v.image.shape stripe.unit e (next_maker w) w ∙ ready.takes
+
+      pub leaves_lost : (last : List Deed) (us : List ModelUnit) (wear : List (List ℕ)) (after : Heart) (into : Filling)
+          → (more : List Deed) × (deeds ≡ v.deeds ++ more) → last ≡ with_answer deeds stripe.unit (last_of new) (Loses stripe.unit)
+          → us ≡ slice_set v.units stripe.unit new
+          → ((i : Image) (w : World) (event : ℕ) (knows : List ℕ) → IsLegalMount i w → IsHeart i (log_of w) mid
+          → (may : MayLose (log_of w) stripe.unit event)
+          → kept ≡ may.landed_before * i.shape.ws_min
+          → IsLegalMount i (decided (Lost stripe.unit event) knows w) → IsHeart i (log_of (decided (Lost stripe.unit event) knows w)) after)
+          → IsResting after.core → is_copying after.core ≡ is_copying h.core → into.shape ≡ v.image.shape → wear ≡ v.wear → v.granted ≤ after.granted
+          → pad_of h.core ≤ pad_of after.core
+          → (end : Heart) (all : List Deed) → HaveFreed after last end all
+          → Leaves v (moved_on v all us wear end.granted (pad_of end.core)) end into
+      leaves_lost last us wear after into grown is units_are beats rests copying shape same_wear grants pads end all frees =
+          let more = answer_more v deeds stripe.unit (last_of new) (Loses stripe.unit) grown in
+          subst (λ (xs : List ModelUnit). Leaves v (moved_on v all xs wear end.granted (pad_of end.core)) end into) (sym units_are)
+          (leaves_freed m.sound goes_lost last wear after end into all
+          (ap (world_of v.image.shape) is ∙ lost_world v.image.shape deeds stripe.unit (last_of new) e given.last)
+          (beats v.image programmed its_number (knows_all v.image.shape programmed) given.legal heart_programmed losing is_kept lost_legal)
+          frees more.0 (is ∙ more.1)
+          (losing_level v.image w stripe.unit ready.placed e (next_maker w) ready.goes.legal can k failed ready.level)
+          (noted_decided v.image.shape loss programmed noted_programmed)
+          (losing_known v.image w stripe.unit ready.placed e (next_maker w) ready.goes.legal can k failed ready.known)
+          rests (copying ∙ m.idle) shape takes_lost same_wear grants (asked_within m (pad_of after.core) pads))
+
+      pub lost_more : (last : List Deed) → last ≡ with_answer deeds stripe.unit (last_of new) (Loses stripe.unit)
+          → length (engine_log v) < length (log_of (world_of v.image.shape last) 0)
+      lost_more last is =
+          let long : length (log_of (noted v.image.shape loss programmed) 0) ≡ length (log_of programmed 0) + 1 =
+          longer_decided v.image.shape loss programmed in
+          let before : length (engine_log v) ≤ length (log_of programmed 0) = no_less goes in
+          subst (λ (x : World). length (engine_log v) < length (log_of x 0))
+          (sym (ap (world_of v.image.shape) is ∙ lost_world v.image.shape deeds stripe.unit (last_of new) e given.last)) (omega arith)
+
+      pub lost_done : (us : List ModelUnit) → us ≡ slice_set v.units stripe.unit new → NoneLost v.units us
+      lost_done us is = subst (NoneLost v.units) (sym is)
+          (none_lost_one v.units stripe.unit was new e there log_more (ap₂ (λ (o : UnitOutcome) b. is_stop o || (b && is_fail o)) failed no_fetch))
 
     -- it was stopped
     module _ (k : ℕ) (stops : given.event.outcome ≡ Stopped k) where

@@ -5,10 +5,10 @@ use Rattle.std.specs.List.{list_any}
 use Rattle.std.specs.Option.{option_and_then, option_map}
 use Rattle.std.proofs.lemmas.Option.{same_Some, slice_get_within}
 use Rattle.pblk_model.specs.Chunk.{Chunk}
-use Rattle.pblk_model.specs.ChunkStep.{ChunkCommand, Done, Reset}
+use Rattle.pblk_model.specs.ChunkStep.{ChunkCommand, Reset}
 use Rattle.pblk_model.specs.Found.{IsUsed}
 use Rattle.pblk_model.specs.Image.{Image}
-use Rattle.pblk_model.specs.UnitLog.{Answered, Stopped, UnitEvent, UnitOutcome, after_outcome}
+use Rattle.pblk_model.specs.UnitLog.{Stopped, UnitEvent, UnitOutcome, after_outcome}
 use Rattle.pblk_model.specs.declared.chunk.ChunkState.{ChunkState}
 use Rattle.pblk_model.specs.declared.chunk.ChunkState.TheVariants as states
 use Rattle.pblk_laws.specs.LineBlocks.{chunk_in}
@@ -21,6 +21,7 @@ use Rattle.world_laws.specs.LegalMounts.{IsLegalMount}
 use Rattle.world_laws.specs.Orders.{NoneToFree}
 use Rattle.step_laws.proofs.GivenUp.{may_note, noted_known, noted_legal, noted_level, reset_level, reset_stopped}
 use Rattle.step_laws.proofs.Known.{known_as_is, used_or_stopped}
+use Rattle.step_laws.proofs.Readied.{stop_is}
 use Rattle.step_laws.proofs.SpentStays.{none_beside}
 use Rattle.step_laws.proofs.UnitStays.{known_stays}
 use Rattle.step_laws.proofs.UnitSteps.{chunk_now, engine_longer, running}
@@ -78,7 +79,7 @@ module _ {v : MountView} {h : Heart} {f : Filling} (m : IsMount v h f) (line uni
 
   pub reset_there : (was : ModelUnit) (there : slice_get v.units unit ≡ Some was) → IsGivenUpThere v.image (world_in v) unit line (before_of was there) was
   reset_there was there = record {
-    simple = m.sound.legal;
+    mount = m.sound.legal;
     in_range = is.unit_in_range;
     arm = (m.sound.each unit was there).2;
     given_up = is.given_up;
@@ -151,14 +152,11 @@ module _ {v : MountView} {h : Heart} {f : Filling} (m : IsMount v h f) (line uni
       stopped_lost us n units_are number_is = subst (λ (xs : List ModelUnit). IsLostAt v.units xs unit n) (sym units_are)
           (is_lost_one v.units unit was new e there log_more n (ap₂ (λ (o : UnitOutcome) b. is_stop o || (b && is_fail o)) stops no_fetch) number_is)
 
-    -- ---- it was done
+    -- ---- it was done, or failed
 
-    module _ (done : given.event.outcome ≡ Answered Done) where
+    module _ (ends : was_stopped given.event.outcome ≡ false) where
       abbrev note : EngineEvent
       note = ResetDone unit number
-
-      ends : was_stopped e.outcome ≡ false
-      ends = ap was_stopped done
 
       noted_mount : IsLegalMount i (noted i.shape note left)
       noted_mount = noted_legal i w unit e (next_maker w) can ends m.sound.legal
@@ -237,4 +235,4 @@ module _ {v : MountView} {h : Heart} {f : Filling} (m : IsMount v h f) (line uni
 
       pub reset_kept : (us : List ModelUnit) → us ≡ slice_set v.units unit new → NoneLost v.units us
       reset_kept us units_are = subst (NoneLost v.units) (sym units_are)
-          (none_lost_one v.units unit was new e there log_more (ap₂ (λ (o : UnitOutcome) b. is_stop o || (b && is_fail o)) done no_fetch))
+          (none_lost_one v.units unit was new e there log_more (ap₂ (λ a b. a || (b && is_fail e.outcome)) (sym (stop_is e.outcome) ∙ ends) no_fetch))

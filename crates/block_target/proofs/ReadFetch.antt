@@ -144,7 +144,7 @@ module _ {v : MountView} {h : Heart} {f : Filling} (m : IsMount v h f) (unit chu
       sym (ap (option_and_then (λ (cs : List Chunk). slice_get cs chunk)) arm.media) ∙ its_chunk in
       let fits : IsChunk v.image.shape is.slot.chunk = subst (λ (s : Shape). IsChunk s is.slot.chunk) arm.shape
       (all_get (IsChunk was.shape) was.media chunk is.slot.chunk arm.fit.chunks in_media) in record {
-        simple = m.sound.legal;
+        mount = m.sound.legal;
         in_range = in_range;
         arm = arm;
         chunk = is.slot.chunk;

@@ -1,5 +1,5 @@
--- Each copy that was taken had been begun, and each stripe with an entry was placed where it was urgent. That stays
--- so as more is done, where each further one has its reason.
+-- Each copy that was taken had been begun, and each stripe with an entry was placed where it was
+-- urgent. That stays so as more is done, where each further one has its reason.
 use Rattle.std.proofs.Common.{◌≡◌, ◌⊎◌, inl, inr, true, ℕ, ◌+◌, ◌<◌, ◌≤◌, Some, None, Option, List, [], ◌∷◌, ◌++◌, length, take, refl, sym, subst, ap, ap₂, ◌∙◌, arith, le_refl, le_trans, length-append}
 use Rattle.std.specs.Prelude.{⊤, slice_get}
 use Rattle.std.specs.List.{list_any}
@@ -97,8 +97,8 @@ module _ (i : Image) (later w : World) (legal : IsLegal i w) where
 
 -- ---- one step more
 
--- Why the engine decides what it does: a copy that it takes was begun, and a stripe with an entry that it places is
--- urgent.
+-- Why the engine decides what it does: a copy that it takes was begun, and a stripe with an entry
+-- that it places is urgent.
 abbrev pub TakesFor : Image → Logs → ℕ → Option Source → Type 0
 TakesFor i logs lba None = ⊤
 TakesFor i logs lba (Some source) = WasBegun i logs (length (logs 0)) lba source

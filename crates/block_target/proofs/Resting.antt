@@ -1,4 +1,5 @@
--- Where the logs name no work, no stripe is under way, and each reset was noted, a mount is at rest.
+-- Where the logs name no work, no stripe is under way, and each reset was noted, a mount is at
+-- rest.
 use Rattle.std.proofs.Common.{◌≡◌, ◌≢◌, ◌⊎◌, inl, inr, ℕ, ◌+◌, ◌<◌, ◌≤◌, ◌^◌, ◌==◌, ◌&&◌, ◌||◌, not, nat_lt, Bool, true, false, Some, None, Option, List, [], ◌∷◌, length, refl, sym, ap, ap₂, ◌∙◌, arith}
 use Rattle.std.specs.Prelude.{nat_eq, slice_get, position}
 use Rattle.std.specs.List.{Contains, filter_map}
@@ -50,8 +51,7 @@ use Rattle.lemmas.proofs.Maps.{given_at}
 use Rattle.lemmas.proofs.Options.{none_there}
 use Rattle.lemmas.proofs.Parts.{all_at, get_more, got_within}
 use Rattle.lemmas.proofs.Tests.{both, lt_true, not_both, positive}
-use Rattle.world_laws.specs.LegalMounts.{IsLegalMount, NoneLost}
-use Rattle.core_laws.proofs.PlainLogs.{none_failed}
+use Rattle.world_laws.specs.LegalMounts.{IsLegalMount}
 
 -- ---- what is chosen
 
@@ -156,7 +156,7 @@ lacks_address i w pad is = record {
         (is_copy_due i (log_of w) && not false)
         (nat_lt 0 (under_way i.shape (log_of w 0)) || false) named)
 
-module _ (i : Image) (w : World) (pad : ℕ) (reason : Why) (simple : IsLegalMount i w) (lost : NoneLost (log_of w 0))
+module _ (i : Image) (w : World) (pad : ℕ) (reason : Why) (mount : IsLegalMount i w)
     (rests : (unit : ℕ) → unit < units i.shape → is_way_on (log_of w 0) unit ≡ false)
     (none : work_of i (log_of w) pad [] false ≡ works.Nothing reason) where
   abbrev otherwise : Work
@@ -166,7 +166,7 @@ module _ (i : Image) (w : World) (pad : ℕ) (reason : Why) (simple : IsLegalMou
   named = no_reset_named (slice_get (resets_of i (log_of w)) 0) otherwise (works.Nothing reason) (λ line unit e. absurd cc) none
 
   none_reset : AreReset i (log_of w)
-  none_reset = none_to_reset i w pad (works.Nothing reason) simple (λ line unit e. absurd cc) none
+  none_reset = none_to_reset i w pad (works.Nothing reason) mount (λ line unit e. absurd cc) none
 
   chosen : (is_some (next_stripe (placing_of i (log_of w) pad []) 0) ≡ false)
       × ((nat_lt 0 (length (waiting i.shape (log_of w 0))) && (open_addresses i (log_of w) == 0)) ≡ true
@@ -212,11 +212,11 @@ module _ (i : Image) (w : World) (pad : ℕ) (reason : Why) (simple : IsLegalMou
       ∙ ap (λ (r : UnitRow). Some r) (idle_of (row unit) (not_on_way unit inside) (none_stopped unit inside))
 
   answered : (p : Placed) → Contains (placements (log_of w 0)) p → is_answered (log_of w 0) p ≡ true
-  answered p there = idle_answered i (line_units (known_image i (log_of w))) w pad [] p (follow i w simple) row_idle there
+  answered p there = idle_answered i (line_units (known_image i (log_of w))) w pad [] p (follow i w mount) row_idle there
 
   none_due_now : (asked : ℕ) (stripe : Stripe) → asked ≤ pad → ¬ IsDue i (log_of w) asked stripe
   none_due_now asked stripe within =
-      none_due i (line_units (known_image i (log_of w))) w pad [] asked stripe (follow i w simple) (none_failed (log_of w 0) lost)
+      none_due i (line_units (known_image i (log_of w))) w pad [] asked stripe (follow i w mount)
       (none_there (next_stripe (placing_of i (log_of w) pad []) 0) chosen.0) answered within
 
   -- where a line may be opened, at most one has a stripe left
@@ -233,10 +233,10 @@ module _ (i : Image) (w : World) (pad : ℕ) (reason : Why) (simple : IsLegalMou
       left_at k o e = filtered_is (λ o. has_left (open_line i (log_of w) o)) (standing (log_of w 0)) k o e
 
       has_at : (k : ℕ) (o : Opening) → slice_get (left_openings i (log_of w)) k ≡ Some o → has_stripe_left i (log_of w) o.line ≡ true
-      has_at k o e = chunks_left i w o simple (opened_at k o e) (left_at k o e)
+      has_at k o e = chunks_left i w o mount (opened_at k o e) (left_at k o e)
 
       range_of : (line : ℕ) (o : Opening) → life_of (log_of w 0) line ≡ Opened o → line < i.shape.chunks
-      range_of line o life = (opened_lines i (line_units (known_image i (log_of w))) w (follow i w simple) line o life).in_range
+      range_of line o life = (opened_lines i (line_units (known_image i (log_of w))) w (follow i w mount) line o life).in_range
 
       two : (a c : Opening) → slice_get (left_openings i (log_of w)) 0 ≡ Some a → slice_get (left_openings i (log_of w)) 1 ≡ Some c → ⊥
       two a c e f =

@@ -15,7 +15,6 @@ use Rattle.block_target.proofs.OrderedMounts.{its_left, none_to_free_then}
 use Rattle.block_target.proofs.Resting.{is_resting, none_copied}
 use Rattle.block_target.proofs.NotedResets.{noted_at}
 use Rattle.block_target.proofs.RestingCores.{is_way_on, none_on_way}
-use Rattle.world_laws.specs.LegalMounts.{NoneLost}
 
 pub spent : {v : MountView} {h : Heart} {f : Filling} (m : IsMount v h f) (reason : Why) → work_in v ≡ works.Nothing reason → IsSpent v
 spent {v} {h} {f} m reason none = record {
@@ -23,7 +22,7 @@ spent {v} {h} {f} m reason none = record {
     has_begun = engine_longer (world_in v) m.sound.beginning m.sound.has_begun;
     within = le_refl (length (engine_log v));
     resting = subst (λ (logs : Logs). IsResting v.image logs asked) (sym (its_left m).logs)
-        (is_resting v.image (its_left m).left v.pad reason (its_left m).simple (subst NoneLost (sym (its_left m).own) m.sound.none_lost)
+        (is_resting v.image (its_left m).left v.pad reason (its_left m).mount
         (λ unit inside. ap (λ (log : List Logged). is_way_on log unit) (its_left m).own
         ∙ none_on_way v.image (logs_in v) h.core m.heart.stands m.resting unit inside)
         ((its_left m).work v.pad ∙ none) asked (padded asked within) resets_noted (none_to_free_then m));
@@ -34,7 +33,7 @@ spent {v} {h} {f} m reason none = record {
       let low : room v.image (logs_in v) ≤ h.granted = m.heart.room in
       let grants : v.granted ≡ h.granted = m.granted in
       omega arith;
-  no_copy = none_copied v.image (world_in v) v.pad reason m.sound.legal m.sound.none_lost
+  no_copy = none_copied v.image (world_in v) v.pad reason m.sound.legal
       (λ unit inside. none_on_way v.image (logs_in v) h.core m.heart.stands m.resting unit inside) none;
 }
   where

@@ -8,25 +8,25 @@ use Rattle.pblk_model.specs.UnitLog.{UnitEvent}
 use Rattle.pblk_world.specs.Events.{Logged, Maker}
 use Rattle.pblk_world.specs.World.{World, Logs, log_of}
 use Rattle.pblk_world.specs.EngineLog.{Begun, begun, life_of, Opening, openings}
-use Rattle.pblk_world.specs.Lines.{is_given_up}
+use Rattle.pblk_world.specs.Lines.{chunks_of, is_given_up}
 use Rattle.pblk_world.specs.Fronts.{first_position, synced, waiting, user_takes}
 use Rattle.pblk_world.specs.Legal.{IsLegal}
 use Rattle.pblk_world.specs.Space.{freed, placed_front, open_addresses}
 use Rattle.line_table.specs.Rows.{is_free}
 use Rattle.stripe_placer.specs.Placing.{next_stripe}
-use Rattle.core_laws.specs.ClosedLines.{placed_top, starts_left}
+use Rattle.core_laws.specs.ClosedLines.{starts_left}
 use Rattle.core_laws.specs.KnownLogs.{AreKnown}
 use Rattle.core_laws.specs.OpenedLines.{live_now, open_line}
+use Rattle.core_laws.proofs.AnsweredTops.{top_same}
 use Rattle.core_laws.proofs.NextVictims.{closed_known, newest_known}
 use Rattle.world_laws.specs.LegalMounts.{IsLegalMount}
-use Rattle.core_laws.specs.SimpleMounts.{IsSimpleLog}
 use Rattle.step_laws.specs.Whole.{unit_step}
 use Rattle.step_laws.proofs.UnitSteps.{engine_log}
 use Rattle.step_laws.proofs.UnitStays.{found_stays, known_stays, rows_stay, lines_stay, older_stay, live_stays, line_stays, left_stay, slot_stays, window_stays, placing_stays, addresses_stay}
 use Rattle.pblk_core.specs.Named.{choice, reset_or, work_of}
 use Rattle.pblk_core.specs.Resets.{in_line, resets_of, used_units}
-use Rattle.pblk_core.specs.Stands.{Stands, AreHolds, AreOpenLines, IsOpenLine, left_openings, under_way, unlanded, answer_counts}
-use Rattle.pblk_core.specs.LineRecords.{AreOf}
+use Rattle.pblk_core.specs.Stands.{Stands, AreHolds, AreOpenLines, IsOpenLine, left_openings, stripes_left, under_way, answer_counts}
+use Rattle.pblk_core.specs.LineRecords.{AreKept}
 use Rattle.pblk_core.proofs.NotesKept.{notes_kept, used_kept}
 use Rattle.pblk_core.specs.declared.open_lines.OpenLine.{OpenLine}
 use Rattle.pblk_core.specs.declared.open_lines.OpenLines.{OpenLines}
@@ -47,9 +47,9 @@ module _ (i : Image) (w : World) (unit : ℕ) (e : UnitEvent) (maker : Maker) wh
 
   open_beside : (o : Opening) (kept : OpenLine) → IsLegal i w → IsOpenLine i (log_of w) o kept → IsOpenLine i after_ o kept
   open_beside o kept legal is = record {
-    records = subst (λ log. AreOf i.shape log o kept.records) (sym engine) is.records;
+    records = subst (λ log. AreKept i.shape log o kept.records) (sym engine) is.records;
     live = is.live ∙ (λ k. (line_stays_back o legal k).live);
-    left = is.left ∙ ap (λ log. unlanded i.shape log o) (sym engine);
+    left = is.left ∙ ap stripes_left (line_stays_back o legal);
   }
 
   lines_beside : (kept : OpenLines) → IsLegal i w → AreOpenLines i (log_of w) kept → AreOpenLines i after_ kept
@@ -73,7 +73,6 @@ module _ (i : Image) (w : World) (unit : ℕ) (e : UnitEvent) (maker : Maker) wh
 
   pub stands_beside : (c : Core) → IsLegalMount i w → Stands i (log_of w) c → Stands i after_ c
   stands_beside c mount st = record {
-    simple = subst IsSimpleLog (sym engine) st.simple;
     layout = st.layout;
     beginning = st.beginning;
     has_begun = ap begun engine ∙ st.has_begun;
@@ -89,7 +88,8 @@ module _ (i : Image) (w : World) (unit : ℕ) (e : UnitEvent) (maker : Maker) wh
     notes = notes_kept i (log_of w) after_ c.notes (λ line. ap (λ log. life_of log line) engine)
         (λ line. closed_known i (log_of w) after_ (its_known mount.legal) line)
         (ap (option_map (λ start. record { seq = start.seq; front = start.front })) (newest_known i (log_of w) after_ (its_known mount.legal)))
-        (λ o. ap (λ log. starts_left i.shape log o) engine) (λ o. ap (λ log. placed_top i.shape log o) engine) st.notes;
+        (λ o. ap (λ log. starts_left i.shape log o) engine)
+        (λ line o life. top_same i (log_of w) after_ o (ap (λ (j : Image). chunks_of j o.line) (known_stays i w unit e maker mount.legal))) st.notes;
     size = st.size;
     window = st.window ∙ sym (window_stays i w unit e maker c.window.freed);
     from_first = subst (λ log. first_position log ≤ c.window.freed) (sym engine) st.from_first;
@@ -115,12 +115,12 @@ module _ (i : Image) (w : World) (unit : ℕ) (e : UnitEvent) (maker : Maker) wh
 
   -- what is to be done next is the same
   pub work_beside : (pad : ℕ) → IsLegalMount i w → work_of i after_ pad [] false ≡ work_of i (log_of w) pad [] false
-  work_beside pad simple = λ j. reset_or (slice_get (resets_stay simple.legal j) 0) (choice
-      (is_some (next_stripe (placing_stays i w unit e maker pad [] simple.legal j) 0))
+  work_beside pad mount = λ j. reset_or (slice_get (resets_stay mount.legal j) 0) (choice
+      (is_some (next_stripe (placing_stays i w unit e maker pad [] mount.legal j) 0))
       (nat_lt 0 (length (waiting i.shape (engine j))) && (addresses_stay i w unit e maker j == 0))
-      (is_some (position is_free (rows_stay i w unit e maker simple.legal j).rows))
-      (nat_lt (length (lines_stay i w unit e maker simple.legal j)) 2
+      (is_some (position is_free (rows_stay i w unit e maker mount.legal j).rows))
+      (nat_lt (length (lines_stay i w unit e maker mount.legal j)) 2
       && (nat_lt (option_map_or (λ (b : Begun). b.beginning.seq) (begun (engine j)) 0 + length (openings (engine j))) (2 ^ 61) && nat_lt
       (synced i.shape (engine j)) (2 ^ 61)))
-      (copies_beside i w unit e maker simple j && not false)
+      (copies_beside i w unit e maker mount j && not false)
       (nat_lt 0 (under_way i.shape (engine j)) || false))

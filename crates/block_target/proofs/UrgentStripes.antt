@@ -1,4 +1,5 @@
--- A stripe that is due, and has an entry, is placed where it is urgent: stripes of records and of pads have none.
+-- A stripe that is due, and has an entry, is placed where it is urgent: stripes of records and of
+-- pads have none.
 use Rattle.std.proofs.Common.{◌≡◌, ◌⊎◌, inl, inr, ℕ, ◌-◌, ◌<◌, ◌≤◌, ◌+◌, false, ◌||◌, List, [], ◌∷◌, length, drop, replicate, slice_range, refl, sym, subst, ap, ap₂, ◌∙◌}
 use Rattle.std.specs.List.{AllByRecursion, list_any}
 use Rattle.std.proofs.Math.Seq.{take-length}
@@ -53,7 +54,8 @@ placed_for i logs pad stripe small due asked position bears = go due.kind
         none (stripe_at i.shape (end_blocks i.shape (logs 0) o) (end_address i.shape o) a) ends.blocks
         (of_record i.shape o.start.seq (end_len i.shape o.start.width) (a - end_address i.shape o) (a - end_address i.shape o + i.shape.ws_opt)
         (end_bytes i.shape (end_record i.shape (logs 0) o)) small)
-    go (inr (inr (inl pads))) = none (replicate i.shape.ws_opt (pad_block i.shape)) pads.blocks (all_replicated (BearsNone i.shape) i.shape.ws_opt (pad_block i.shape) (pads_none i.shape small))
+    go (inr (inr (inl pads))) = none (replicate i.shape.ws_opt (pad_block i.shape)) pads.blocks
+        (all_replicated (BearsNone i.shape) i.shape.ws_opt (pad_block i.shape) (pads_none i.shape small))
     go (inr (inr (inr its))) = record {
       upto = pad;
       urgent = subst (λ (log : List Logged). IsUrgent i.shape log pad) (sym (take-length (logs 0))) its.1;

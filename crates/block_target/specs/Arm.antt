@@ -1,5 +1,5 @@
 -- A unit of a drive in a world, and the commands that it is given there.
-use Rattle.std.specs.Prelude.{ℕ, suc, ◌≡◌, ◌<◌, ◌⊎◌, ◌-◌, ◌++◌, true, ◌∷◌, length, slice_get, Option, Some, None}
+use Rattle.std.specs.Prelude.{ℕ, suc, ◌≡◌, ◌<◌, ◌≤◌, ◌⊎◌, ◌-◌, ◌++◌, true, ◌∷◌, length, slice_get, Option, Some, None}
 use Rattle.std.specs.List.{list_any}
 use Rattle.pblk_model.specs.Chunk.{Chunk}
 use Rattle.pblk_model.specs.ChunkStep.{ChunkCommand, Read, refusal}
@@ -13,8 +13,8 @@ use Rattle.pblk_world.specs.EngineLog.{Placed, answers}
 use Rattle.pblk_world.specs.Events.{Maker, Stripe}
 use Rattle.pblk_world.specs.Lines.{is_given_up}
 use Rattle.pblk_world.specs.World.{World, Logs, log_of, media, unit_events}
+use Rattle.unit_port.specs.Armed.{IsUnarmed}
 use Rattle.unit_port.specs.Unit.{ModelUnit, IsFitUnit, IsStopped}
-use Rattle.scan_recovery.specs.MayStop.{MayStopFrom}
 use Rattle.core_laws.specs.PlacerOf.{unanswered_on}
 use Rattle.world_laws.specs.LegalMounts.{IsLegalMount}
 use Rattle.step_laws.specs.Whole.{unit_step}
@@ -27,7 +27,8 @@ pub record IsArm (i : Image) (logs : Logs) (number : ℕ) (handed u : ModelUnit)
   pub fit : IsFitUnit u
   pub log : u.log ≡ handed.log ++ unit_events logs number
   pub arms : u.armed ≡ handed.armed
-  pub armed : MayStopFrom u (length handed.log)
+  -- it is armed with nothing, or was armed before it was handed in
+  pub armed : IsUnarmed u.armed ⊎ (u.armed.since ≤ length handed.log)
   -- where the world stopped it, it is stopped
   pub stopped : has_stopped (unit_events logs number) ≡ true → IsStopped u
 
@@ -51,7 +52,7 @@ pub record WasGiven (i : Image) (w : World) (number : ℕ) (handed : ModelUnit) 
 
 -- the stripe was placed on the unit and isn't answered, and each one before it is
 pub record IsStripeThere (i : Image) (w : World) (stripe : Stripe) (handed : ModelUnit) (u : ModelUnit) : Type 0 where
-  pub simple : IsLegalMount i w
+  pub mount : IsLegalMount i w
   pub arm : IsArm i (log_of w) stripe.unit handed u
   pub placed : Placed
   pub waits : unanswered_on (log_of w 0) stripe.unit ≡ Some placed
@@ -61,7 +62,7 @@ pub record IsStripeThere (i : Image) (w : World) (stripe : Stripe) (handed : Mod
 -- the line was given up, and the unit's chunk of it holds something, unless a reset of it was
 -- stopped
 pub record IsGivenUpThere (i : Image) (w : World) (number line : ℕ) (handed : ModelUnit) (u : ModelUnit) : Type 0 where
-  pub simple : IsLegalMount i w
+  pub mount : IsLegalMount i w
   pub in_range : number < units i.shape
   pub arm : IsArm i (log_of w) number handed u
   pub given_up : is_given_up (log_of w 0) line ≡ true
@@ -71,7 +72,7 @@ pub record IsGivenUpThere (i : Image) (w : World) (number line : ℕ) (handed : 
 
 -- the chunk has the block, unless the unit is stopped
 pub record IsBlockThere (i : Image) (w : World) (number line block : ℕ) (handed : ModelUnit) (u : ModelUnit) : Type 0 where
-  pub simple : IsLegalMount i w
+  pub mount : IsLegalMount i w
   pub in_range : number < units i.shape
   pub arm : IsArm i (log_of w) number handed u
   pub chunk : Chunk

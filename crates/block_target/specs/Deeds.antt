@@ -4,7 +4,7 @@ use Rattle.std.specs.Prelude.{ℕ, suc, ◌-◌, List, [], ◌∷◌, length, sl
 use Rattle.std.specs.List.{fold}
 use Rattle.pblk_model.specs.declared.shape.Shape.{Shape}
 use Rattle.pblk_model.specs.UnitLog.{UnitEvent}
-use Rattle.pblk_world.specs.Events.{EngineEvent, Landed, Again, ResetDone}
+use Rattle.pblk_world.specs.Events.{EngineEvent, Landed, Lost, Again, ResetDone}
 use Rattle.pblk_world.specs.World.{World, log_of}
 use Rattle.unit_port.specs.Unit.{ModelUnit}
 use Rattle.step_laws.specs.Opened.{after_units}
@@ -18,9 +18,10 @@ pub data Deed : Type 0 where
   Decides : EngineEvent → Deed
   -- a unit is given a command: this is then the last event of its log
   Does : ℕ → Option UnitEvent → Deed
-  -- the engine notes a unit's last event: as the program of its stripe that was done or was
+  -- the engine notes a unit's last event: as the program of its stripe that was done, failed or was
   -- stopped, or as a reset
   Lands : ℕ → Deed
+  Loses : ℕ → Deed
   Offers : ℕ → Deed
   NotesReset : ℕ → Deed
 
@@ -41,6 +42,7 @@ after_deed s w (Decides e) = engine_step s e w ∷ w
 after_deed s w (Does unit None) = w
 after_deed s w (Does unit (Some e)) = unit_step s unit e (next_maker w) w ∷ w
 after_deed s w (Lands unit) = engine_step s (Landed unit (last_event w unit)) w ∷ w
+after_deed s w (Loses unit) = engine_step s (Lost unit (last_event w unit)) w ∷ w
 after_deed s w (Offers unit) = engine_step s (Again unit (last_event w unit)) w ∷ w
 after_deed s w (NotesReset unit) = engine_step s (ResetDone unit (last_event w unit)) w ∷ w
 

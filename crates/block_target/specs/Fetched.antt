@@ -21,8 +21,8 @@ pub record IsReadableThere (i : Image) (w : World) (unit line number : ℕ) (han
   pub block : Block
   pub written : slice_get there.chunk.blocks number ≡ Some block
 
--- A fetch that gave the block was answered. One that didn't has failed or was stopped, and the error
--- names it as the last event of its unit, which has so many.
+-- A fetch that gave the block was answered. One that didn't has failed or was stopped, and the
+-- error names it as the last event of its unit, which has so many.
 abbrev pub TellsFetch : ℕ → ℕ → Result Unit DriveErr → UnitOutcome → Type 0
 TellsFetch unit count (Ok x) o = (answer : ChunkAnswer) × (o ≡ Answered answer)
 TellsFetch unit count (Err e) o = ((is_stop o || (true && is_fail o)) ≡ true) × (e.unit ≡ unit) × (e.event ≡ min count (2 ^ 64 - 1))

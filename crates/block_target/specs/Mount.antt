@@ -18,7 +18,7 @@ use Rattle.pblk_world.specs.Lines.{found_image}
 use Rattle.pblk_world.specs.Space.{freed, is_due, room}
 use Rattle.pblk_world.specs.AtRest.{IsAtRest, IsCopyDue, IsUnnotedReset, logs_at}
 use Rattle.world_laws.specs.Reasons.{AreBegun, AreUrgent}
-use Rattle.world_laws.specs.LegalMounts.{IsLegalMount, NoneLost}
+use Rattle.world_laws.specs.LegalMounts.{IsLegalMount}
 use Rattle.core_laws.specs.WindowOf.{users_below}
 use Rattle.step_laws.specs.Whole.{IsLevel, IsKnown}
 use Rattle.scan_recovery.specs.Units.{image_of}
@@ -99,9 +99,9 @@ abbrev pub IsUnitIn : MountView → ℕ → ModelUnit → Type 0
 IsUnitIn v number u = (old : ModelUnit) × (slice_get v.handed number ≡ Some old)
     × IsArm v.image (logs_in v) number old u
 
--- What was done is a legal mount that has begun, and the units are as it leaves them. No stripe was
--- lost. Each copy that was taken had been begun, and each stripe with an entry was placed where it was
--- urgent. The work was done in its order.
+-- What was done is a legal mount that has begun, and the units are as it leaves them. Each copy
+-- that was taken had been begun, and each stripe with an entry was placed where it was urgent. The
+-- work was done in its order.
 pub record IsSound (v : MountView) : Type 0 where
   pub legal : IsLegalMount v.image (world_in v)
   pub beginning : Begun
@@ -111,7 +111,6 @@ pub record IsSound (v : MountView) : Type 0 where
   pub handed : v.image ≡ image_of v.image.shape v.handed
   pub count : length v.units ≡ units v.image.shape
   pub each : (number : ℕ) (u : ModelUnit) → slice_get v.units number ≡ Some u → IsUnitIn v number u
-  pub none_lost : NoneLost (engine_log v)
   pub begun : AreBegun v.image (logs_in v)
   pub urgent : AreUrgent v.image (logs_in v)
   pub in_order : AreInOrder v.image (logs_in v)
@@ -150,8 +149,8 @@ HaveGrown old new = (number : ℕ) (v : ModelUnit) → slice_get new number ≡ 
     → (u : ModelUnit) × (slice_get old number ≡ Some u) × (more : List UnitEvent) × (v.log ≡ u.log ++ more)
 
 -- No more of a user was taken; copies may have been. What was done stays done, what was on the
--- drive is still there, no chunk's wear level index has changed, and no grant is taken back. No less
--- is asked for.
+-- drive is still there, no chunk's wear level index has changed, and no grant is taken back. No
+-- less is asked for.
 pub record IsSameMount (old new : MountView) : Type 0 where
   pub image : new.image ≡ old.image
   pub handed : new.handed ≡ old.handed

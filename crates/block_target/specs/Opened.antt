@@ -34,7 +34,8 @@ pub record IsReady (s : Shape) (old new : List ModelUnit) (ready : Ready) : Type
   pub deeds : ready.deeds ≡ first_deeds old new ready.found
 
 -- A mount of these units has begun, each line that might be freed was freed, and that is all. It
--- found the drive as that now is. It is granted what there is room for, and no flush asked for pads.
+-- found the drive as that now is. It is granted what there is room for, and no flush asked for
+-- pads.
 pub record IsOpened (s : Shape) (us : List ModelUnit) (v : MountView) : Type 0 where
   pub image : v.image ≡ image_of s us
   pub handed : v.handed ≡ us
@@ -52,7 +53,7 @@ open_error (scan.Drive unit event) = Drive unit event
 open_error scan.Memory = Memory
 
 -- Why no target was opened: the last event of this unit was a stopped command, or a fetch that
--- failed. Where there wasn't the memory, each command was done.
+-- failed. Where there wasn't the memory, no command was stopped and no fetch failed.
 abbrev pub OpenCause : OpenErr → List ModelUnit → List ModelUnit → Type 0
 OpenCause (Drive unit event) old new = IsLostAt old new unit event
 OpenCause Memory old new = NoneLost old new

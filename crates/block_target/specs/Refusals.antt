@@ -8,8 +8,9 @@ use Rattle.pblk_world.specs.AtRest.{IsWornFlush, IsWornWrite}
 use Rattle.block_port.specs.declared.rows.WornAnswer.{WornAnswer}
 use Rattle.world_laws.specs.Reasons.{WasRoom}
 
--- A refusal of a write of so many sectors there: there is no room for them. What there is was granted, so it is
--- no more than the room was once. What is wanted is room for the sectors behind all that was taken, and no less.
+-- A refusal of a write of so many sectors there: there is no room for them. What there is was
+-- granted, so it is no more than the room was once. What is wanted is room for the sectors behind
+-- all that was taken, and no less.
 pub record IsWriteRefusal (i : Image) (logs : Logs) (n count wanted have : ℕ) : Type 0 where
   pub worn : IsWornWrite i logs n count wanted have
   pub granted : WasRoom i logs n have
@@ -25,8 +26,8 @@ pub record IsRefusedAt (i : Image) (logs : Logs) (n : ℕ) (a : WornAnswer) : Ty
   pub written : length (user_takes (take n (logs 0))) ≡ a.written
   pub cause : IsRefusal i logs n a.count a.wanted a.have
 
--- Each of these answers is one, in their order: each at a length that isn't below the one before it, nor below
--- the one given.
+-- Each of these answers is one, in their order: each at a length that isn't below the one before
+-- it, nor below the one given.
 abbrev pub AreRefusals : Image → Logs → ℕ → List WornAnswer → Type 0
 AreRefusals i logs from [] = ⊤
 AreRefusals i logs from (a ∷ worns) =

@@ -1,5 +1,5 @@
 -- A port for one session: what contracts see of it, and the device that it is.
-use Rattle.std.specs.Prelude.{ℕ, ◌+◌, ◌-◌, ◌^◌, ◌<◌, ◌≤◌, ◌≡◌, ⊤, Bool, true, false, List, [], ◌∷◌, ◌++◌, max, min, map, length, slice_get, Some, Result, Ok, Err}
+use Rattle.std.specs.Prelude.{ℕ, ◌+◌, ◌-◌, ◌^◌, ◌<◌, ◌≤◌, ◌≡◌, ⊤, true, List, [], ◌∷◌, ◌++◌, max, min, map, length, slice_get, Some, Result, Ok, Err}
 use Rattle.std.specs.List.{flat_map}
 use Rattle.pblk_model.specs.declared.run.Front.{Front}
 use Rattle.pblk_model.specs.declared.run.Place.{Place}
@@ -25,6 +25,7 @@ use Rattle.world_laws.specs.Reasons.{WasRoom, AreBegun, AreGranted, AreUrgent}
 use Rattle.scan_recovery.specs.Lost.{IsLostAt, NoneLost, was_lost}
 use Rattle.world_laws.specs.Orders.{AreAfterResets, AreOpenedFull, NoneToFree, NoneWasLeft}
 use Rattle.pblk_world.specs.Space.{position_limit}
+use Rattle.prefix_law.specs.PlacedAgain.{ArePlacedAgain}
 use Rattle.rest_laws.specs.Tidy.{IsTidy}
 use Rattle.rest_laws.specs.TidyMounts.{HasNoFailures, HasNumbersLeft}
 use Rattle.block_target.specs.Refusals.{IsWriteRefusal, AreRefusals}
@@ -109,7 +110,8 @@ IsGrantedPlace v place =
     WasRoom v.image (logs_in v) (length (engine_log v) - place.count) (place.first + place.count)
 
 -- Why a call answers Drive: a command of it was stopped, or a fetch of it failed, and that is its
--- unit's last event. And only then: where it answers anything else each of its commands was done.
+-- unit's last event. And only then: where it answers anything else none of its commands was
+-- stopped, and none of its fetches failed. A program or a reset that failed is no cause.
 
 -- Why a write of so many sectors answers Worn, and why a flush does: at the end of the engine's
 -- log, as the call leaves it, the target is at rest. What a write is told that there is was
@@ -153,11 +155,12 @@ Settles old (Err (settle.Worn wanted have)) v = NoneLost old.units v.units × (w
     × (have ≡ synced_in v) × IsWornFlush v.image (logs_in v) (length (engine_log v)) wanted have
 Settles old (Err (settle.Drive unit event)) v = IsLostAt old.units v.units unit event
 
--- where no command of the close was lost
-abbrev pub is_settled : Result Unit SettleErr → Bool
-is_settled (Ok x) = true
-is_settled (Err (settle.Worn wanted have)) = true
-is_settled (Err (settle.Drive unit event)) = false
+-- Where what is found ends at the front synced: all that was taken is on the drive; or not all is,
+-- and of what waits nothing had been placed before.
+abbrev pub EndsAtSynced : MountView → Result Unit SettleErr → Type 0
+EndsAtSynced v (Ok x) = ⊤
+EndsAtSynced v (Err (settle.Worn wanted have)) = ArePlacedAgain v.image.shape (engine_log v)
+EndsAtSynced v (Err (settle.Drive unit event)) = ⊥
 
 -- the answer of a close that was Drive
 abbrev pub settle_faults : Result Unit SettleErr → List DriveAnswer
@@ -172,7 +175,8 @@ settle_worns written (Err (settle.Drive unit event)) = []
 settle_worns written (Err (settle.Worn wanted have)) =
     record { written = written; count = 0; wanted = wanted; have = have } ∷ []
 
--- A close that isn't refused for want of room, and leaves a tidy drive unless a command was stopped.
+-- A close that isn't refused for want of room, and leaves a tidy drive unless a command was
+-- stopped.
 abbrev pub IsTidyClose : MountView → Result Unit SettleErr → Type 0
 IsTidyClose v (Ok x) = IsTidy (media v.image (logs_in v))
 IsTidyClose v (Err (settle.Worn wanted have)) = ⊥
@@ -190,8 +194,8 @@ pub record IsClosed (target : SerialView) (settled : Result Unit SettleErr) (v :
   -- each Worn had its cause, this call's the last of them
   pub refusals : AreRefusals v.image (logs_in v) 0
       (target.worns ++ settle_worns (length (flat_map lines_of target.own)) settled)
-  -- All that users' writes took was granted before, and each copy that was taken had been begun. Each
-  -- stripe with an entry was placed where it was urgent.
+  -- All that users' writes took was granted before, and each copy that was taken had been begun.
+  -- Each stripe with an entry was placed where it was urgent.
   pub granted : AreGranted v.image (logs_in v)
   pub begun : AreBegun v.image (logs_in v)
   pub urgent : AreUrgent v.image (logs_in v)
@@ -200,14 +204,16 @@ pub record IsClosed (target : SerialView) (settled : Result Unit SettleErr) (v :
   pub after_resets : AreAfterResets v.image (logs_in v)
   pub opened_full : AreOpenedFull v.image (logs_in v)
   pub none_was_left : NoneWasLeft v.image (logs_in v)
-  -- Over a tidy drive, where no command failed and numbers are left, there was room, and the drive is
-  -- tidy again.
+  -- Over a tidy drive, where no command failed and numbers are left, there was room, and the drive
+  -- is tidy again.
   pub tidy : HasNoFailures (logs_in v) → IsTidy v.image → HasNumbersLeft v.image.shape (engine_log v)
       → taken_in v + 16 ≤ position_limit (engine_log v) → IsTidyClose v settled
   -- pads were asked for up to what was taken, or by an earlier call
   pub asked : SettleAsks target.mount.asked (taken_in v) v.asked settled
   -- What is now found on a drive that was sealed ends between the front synced and the front taken.
-  -- It ends at the front synced where no command of the close was stopped.
+  -- It ends at the front synced where all that was taken is on the drive. It does, too, at a close
+  -- that answers Worn, unless an entry waits that had been placed before, in a stripe that was
+  -- lost: blocks of that stripe may have been written.
   pub from_synced : IsSealed v.image → synced_in v ≤ end (media v.image (logs_in v))
   pub to_taken : IsSealed v.image → end (media v.image (logs_in v)) ≤ taken_in v
-  pub ends : IsSealed v.image → is_settled settled ≡ true → end (media v.image (logs_in v)) ≡ synced_in v
+  pub ends : IsSealed v.image → EndsAtSynced v settled → end (media v.image (logs_in v)) ≡ synced_in v

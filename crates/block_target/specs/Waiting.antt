@@ -5,7 +5,8 @@ use Rattle.block_target.specs.Mount.{MountView, IsStuckAt}
 use Rattle.block_target.specs.declared.opening.WaitErr.{WaitErr}
 use Rattle.block_target.specs.declared.opening.WaitErr.TheVariants.{Drive, Stuck}
 
--- A command of the call was stopped; or the mount is at rest, and what is wanted isn't reached.
+-- A command of the call was stopped, or a fetch of it failed; or the mount is at rest, and what is
+-- wanted isn't reached.
 abbrev pub Waits : MountView → MountView → ℕ → ℕ → WaitErr → Type 0
 Waits old new wanted at (Drive unit event) = IsLostAt old.units new.units unit event
 Waits old new wanted at (Stuck asked have) = NoneLost old.units new.units × (asked ≡ wanted) × (have ≡ at) × IsStuckAt new wanted have

@@ -12,8 +12,7 @@ use pblk_core::Stripe;
 use pblk_model::Got;
 use unit_port::{Unit, UnitErr};
 
-/// Has a unit program a stripe of its drive's shape that was placed on it and isn't answered. A
-/// program that isn't done was stopped.
+/// Has a unit program a stripe of its drive's shape that was placed on it and isn't answered.
 pub(crate) fn program<U: Unit>(unit: &mut U, stripe: &Stripe) -> Result<(), UnitErr>
     requires shape { stripe.now.shape ≡ (U.model unit.old).shape }
     requires there { (i : Image) × (w : World) × (handed : ModelUnit)
@@ -23,21 +22,19 @@ pub(crate) fn program<U: Unit>(unit: &mut U, stripe: &Stripe) -> Result<(), Unit
         → WasGiven i w stripe.now.stripe.unit handed maker stripe.now.stripe.chunk
         (Write stripe.now.stripe.at stripe.now.stripe.blocks) (TellsDone result)
         (U.model unit.new) }
-    ensures unfailing { result ≢ Err UnitErr.Failed }
     ensures wear { U.wear unit.new ≡ U.wear unit.old }
 {
     let (bytes, marks) = stripe.parts();
     unit.program(stripe.chunk(), stripe.at(), bytes, marks)
 }
 
-/// Has a unit reset its chunk of a line that was given up. A reset that isn't done was stopped.
+/// Has a unit reset its chunk of a line that was given up.
 pub(crate) fn reset<U: Unit>(unit: &mut U, line: u32) -> Result<(), UnitErr>
     requires there { (i : Image) × (w : World) × (number : ℕ) × (handed : ModelUnit)
         × IsGivenUpThere i w number line handed (U.model unit.old) }
     ensures given { (i : Image) (w : World) (number : ℕ) (handed : ModelUnit) (maker : Maker)
         → IsGivenUpThere i w number line handed (U.model unit.old)
         → WasGiven i w number handed maker line Reset (TellsDone result) (U.model unit.new) }
-    ensures unfailing { result ≢ Err UnitErr.Failed }
     ensures wear { U.wear unit.new ≡ U.wear unit.old }
 {
     unit.reset(line)

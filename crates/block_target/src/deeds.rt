@@ -6,7 +6,7 @@ ghost use Rattle.world_laws.specs.MountBeginnings.{beginning_of};
 ghost use Rattle.step_laws.specs.Opened.{new_events};
 ghost use Rattle.pblk_core.specs.Named.{next_start};
 ghost use Rattle.block_target.specs.Arm.{last_of};
-ghost use Rattle.block_target.specs.Deeds.{Decides, Does, Lands, Offers, drive_before};
+ghost use Rattle.block_target.specs.Deeds.{Decides, Does, Lands, Loses, Offers, drive_before};
 ghost use Rattle.block_target.specs.Deeds as deeds;
 ghost use Rattle.block_target.specs.Heart.{copy_entry, user_entry};
 
@@ -185,6 +185,18 @@ impl Shows for Landing {
     type Event = Deed;
 
     ghost shown = { λ l. Lands l.unit };
+}
+
+/// Shows that the engine notes the unit's last program as lost: it failed.
+#[derive(Drop)]
+pub(crate) struct Loss {
+    pub(crate) unit: u32,
+}
+
+impl Shows for Loss {
+    type Event = Deed;
+
+    ghost shown = { λ l. Loses l.unit };
 }
 
 /// Shows that the engine notes the unit's last program as stopped: its stripe is offered again.

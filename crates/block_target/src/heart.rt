@@ -1,6 +1,6 @@
 //! What decides for a target: its core, its frames and what is granted.
 
-ghost use Rattle.std.specs.Prelude.{ℕ, List, ◌≡◌, ◌≤◌, ◌<◌, ◌+◌, ◌^◌, ◌↔◌, true, false, length, max, slice_index, IfOk, IfSome, IfNone, IsTrue, OnSome};
+ghost use Rattle.std.specs.Prelude.{ℕ, List, ◌≡◌, ◌≤◌, ◌<◌, ◌+◌, ◌*◌, ◌^◌, ◌↔◌, true, false, length, max, slice_index, IfOk, IfSome, IfNone, IsTrue, OnSome};
 ghost use Rattle.std.specs.FinMap as fin;
 ghost use Rattle.pblk_model.specs.Frames.{count_out};
 ghost use Rattle.pblk_model.specs.Accepted.{IsAccepted};
@@ -8,9 +8,9 @@ ghost use Rattle.pblk_model.specs.Found.{IsFitFound};
 ghost use Rattle.pblk_model.specs.Image.{Image};
 ghost use Rattle.pblk_model.specs.Marks.{sector_mark};
 ghost use Rattle.pblk_world.specs.AtRest.{IsDue};
-ghost use Rattle.pblk_world.specs.Answering.{MayLand, MayOfferAgain};
+ghost use Rattle.pblk_world.specs.Answering.{MayLand, MayLose, MayOfferAgain};
 ghost use Rattle.pblk_world.specs.EngineLog.{Begun, begun};
-ghost use Rattle.pblk_world.specs.Events.{Again, Free, Landed, Open, Place, ResetDone, Take};
+ghost use Rattle.pblk_world.specs.Events.{Again, Free, Landed, Lost, Open, Place, ResetDone, Take};
 ghost use Rattle.pblk_world.specs.Freeing.{MayFree};
 ghost use Rattle.pblk_world.specs.Opening.{MayOpen};
 ghost use Rattle.pblk_world.specs.Placing.{MayPlace};
@@ -25,6 +25,7 @@ ghost use Rattle.sector_pool.specs.declared.entry.Class.TheVariants as classes;
 ghost use Rattle.write_window.specs.Window as window;
 ghost use Rattle.pblk_core.specs.Collecting.{Collects, IsReady};
 ghost use Rattle.pblk_core.specs.Copies.{is_copying};
+ghost use Rattle.pblk_core.specs.Losing.{HasItsEntries};
 ghost use Rattle.pblk_core.specs.Landing.{AreKeptBeside, IsResting, IsIdleOn, IsOfferedOn, IsUnderWayOn, WasStopped};
 ghost use Rattle.pblk_core.specs.Mounts.{InItsMount};
 ghost use Rattle.pblk_core.specs.Named.{named, next_start, pad_of};
@@ -182,6 +183,7 @@ impl Heart {
         ensures again { into.new.again ≡ true → OfItsMount self.old (λ i w.
             WasStopped (log_of w 0) into.new.stripe × IsHeart i (log_of w) self.new) }
         ensures under_way { IsUnderWayOn self.new.core into.new.stripe.unit }
+        ensures entries { HasItsEntries self.new.core into.new.stripe }
         ensures rows { AreKeptBeside into.new.stripe.unit self.old.core self.new.core }
         ensures copying { is_copying self.new.core ≡ is_copying self.old.core }
         ensures pad { pad_of self.old.core ≤ pad_of self.new.core }
@@ -212,6 +214,30 @@ impl Heart {
         self.renew();
     }
 
+    /// Notes that the program of a placed stripe failed, once the first `kept` of its blocks were
+    /// written. The stripe hasn't been answered before. Its entries wait again.
+    pub(crate) fn lost(&mut self, stripe: &Stripe, kept: u32)
+        requires under_way { IsUnderWayOn self.old.core stripe.now.stripe.unit }
+        requires entries { HasItsEntries self.old.core stripe.now.stripe }
+        requires may { (i : Image) × (w : World) × IsLegalMount i w × IsHeart i (log_of w) self.old
+            × (event : ℕ) × (may : MayLose (log_of w) stripe.now.stripe.unit event)
+            × (kept ≡ may.landed_before * i.shape.ws_min) }
+        ensures beats { (i : Image) (w : World) (event : ℕ) (knows : List ℕ) → IsLegalMount i w
+            → IsHeart i (log_of w) self.old
+            → (may : MayLose (log_of w) stripe.now.stripe.unit event)
+            → kept ≡ may.landed_before * i.shape.ws_min
+            → IsLegalMount i (decided (Lost stripe.now.stripe.unit event) knows w)
+            → IsHeart i (log_of (decided (Lost stripe.now.stripe.unit event) knows w)) self.new }
+        ensures idle { IsIdleOn self.new.core stripe.now.stripe.unit }
+        ensures rows { AreKeptBeside stripe.now.stripe.unit self.old.core self.new.core }
+        ensures copying { is_copying self.new.core ≡ is_copying self.old.core }
+        ensures pad { pad_of self.old.core ≤ pad_of self.new.core }
+        ensures granted { self.old.granted ≤ self.new.granted }
+    {
+        self.core.lost(stripe, kept);
+        self.renew();
+    }
+
     /// Notes that the program of a placed stripe was stopped. The stripe hasn't been answered
     /// before. It is offered again.
     pub(crate) fn stopped(&mut self, stripe: &Stripe)
@@ -230,7 +256,8 @@ impl Heart {
         self.core.stopped(stripe);
     }
 
-    /// Notes that the reset which the core names was done, and left its chunk in this state.
+    /// Notes that the reset which the core names was done or failed, and left its chunk in this
+    /// state.
     pub(crate) fn reset_done(&mut self, line: u32, unit: u32, state: ChunkState)
         requires named { named self.old.core ≡ works.Reset line unit }
         requires may { (i : Image) × (w : World) × IsLegalMount i w × IsHeart i (log_of w) self.old

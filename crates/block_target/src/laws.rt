@@ -15,9 +15,9 @@ ghost use Rattle.world_laws.specs.LegalMounts.{IsLegalMount};
 ghost use Rattle.block_target.specs.Moments.{IsMoment};
 ghost use Rattle.block_target.specs.Refusals.{IsWriteRefusal};
 ghost use Rattle.block_target.specs.Opened.{AreReadied};
-ghost use Rattle.scan_recovery.specs.MayStop.{AllMayStop};
 ghost use Rattle.scan_recovery.specs.Readying.{AreHandedBack};
 ghost use Rattle.scan_recovery.specs.Units.{AreFit};
+ghost use Rattle.step_laws.specs.Opened.{AreArmed};
 ghost use Rattle.unit_port.specs.Unit.{ModelUnit};
 ghost use Rattle.prefix_law.specs.PlacedAgain.{ArePlacedAgain};
 
@@ -30,9 +30,9 @@ pub fn a_refused_write_has_no_room()
         → room i (logs_at n logs) < taken (take n (logs 0)) + count }
 {}
 
-/// A flush, or the close, that is refused tells what is on the drive. Over a sealed drive there was
-/// a moment at which all that it wanted was taken, and what recovery would have found ended at what
-/// it has. No entry waited there that had been placed before.
+/// A flush, or the close, that is refused tells what is on the drive, unless an entry waited then
+/// that had been placed before: its stripe was lost. Over a sealed drive there was a moment at
+/// which all that it wanted was taken, and what recovery would have found ended at what it has.
 pub fn a_refused_flush_tells_the_end()
     ensures { (i : Image) (w : World) (b : Begun) (n wanted have : ℕ)
         → IsLegalMount i w → IsSealed i → begun (log_of w 0) ≡ Some b
@@ -46,6 +46,6 @@ pub fn a_refused_flush_tells_the_end()
 /// What units did that an opening hands back is of a legal world: a legal mount in which the
 /// engine did nothing. The units are as it leaves them.
 pub fn a_refused_opening_is_of_a_legal_world()
-    ensures { (s : Shape) (us new : List ModelUnit) → IsAccepted s → AreFit s us → AllMayStop us
+    ensures { (s : Shape) (us new : List ModelUnit) → IsAccepted s → AreFit s us → AreArmed us
         → AreHandedBack s us new → AreReadied s us new }
 {}

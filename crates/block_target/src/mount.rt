@@ -11,7 +11,7 @@ ghost use Rattle.pblk_core.specs.Resets.{IsToReset};
 ghost use Rattle.pblk_core.specs.declared.work.Work.TheVariants as works;
 ghost use Rattle.scan_recovery.specs.Units.{AreFit};
 ghost use Rattle.scan_recovery.specs.Readying.{AreHandedBack};
-ghost use Rattle.scan_recovery.specs.MayStop.{AllMayStop};
+ghost use Rattle.step_laws.specs.Opened.{AreArmed};
 ghost use Rattle.scan_recovery.specs.Lost.{IsLostAt, NoneLost};
 ghost use Rattle.unit_port.specs.Unit.{ModelUnit};
 ghost use Rattle.block_target.specs.Fetched.{IsReadableThere, WasFetched};
@@ -22,7 +22,8 @@ ghost use Rattle.block_target.specs.Opened.{IsOpened, OpenCause};
 
 use crate::arm;
 use crate::deeds::{
-    Commands, Copies, Deed, DriveRow, Frees, Landing, NotesReset, Opens, Stops, Takes, add_placed,
+    Commands, Copies, Deed, DriveRow, Frees, Landing, Loss, NotesReset, Opens, Stops, Takes,
+    add_placed,
 };
 use crate::heart::Heart;
 use crate::opening::{DriveErr, OpenErr, Refused};
@@ -32,11 +33,12 @@ use pblk_core::{Stripe, Work};
 use pblk_model::{Front, Got, Shape};
 use std::alloc::{AllocError, Global};
 use std::marker::Model;
-use unit_port::{Log, Unit};
+use unit_port::{Log, Unit, UnitErr};
 
 /// A mount for one session. It does all work in its own calls: an entry is taken as it is claimed,
 /// a stripe is programmed as it is placed, and a copy is taken as its block is fetched. A stripe
-/// whose program was stopped is offered again. Each call leaves no line that may be freed.
+/// whose program was stopped is offered again. The entries of one whose program failed wait again.
+/// Each call leaves no line that may be freed.
 pub(crate) struct Mount<U: Unit> {
     shape: Shape,
     pub(crate) heart: Heart,
@@ -139,9 +141,10 @@ fn fetch_block<U: Unit>(
 }
 
 impl<U: Unit> Mount<U> {
-    /// Opens a mount on the units of a drive. No plan has a command of them fail, and a fuse may
-    /// stop them. The drive is made ready, and the mount begins with what is found on it. Each line
-    /// that may be freed is freed. It is granted what there is room for, and no pads are asked for.
+    /// Opens a mount on the units of a drive, each of which is armed with nothing, or was armed no
+    /// later than it is handed in. The drive is made ready, and the mount begins with what is found
+    /// on it. Each line that may be freed is freed. It is granted what there is room for, and no
+    /// pads are asked for.
     pub(crate) fn open(
         alloc: Global,
         mut units: Vec<U>,
@@ -149,7 +152,7 @@ impl<U: Unit> Mount<U> {
     ) -> Result<Mount<U>, Refused<U>>
         requires accepted { IsAccepted shape.now }
         requires fit { AreFit shape.now (map U.model units.items) }
-        requires armed { AllMayStop (map U.model units.items) }
+        requires armed { AreArmed (map U.model units.items) }
         ensures opened { IfOk result (IsOpened shape.now (map U.model units.items)) }
         ensures sound { IfOk result IsSound }
         ensures done { IfOk result (λ m. NoneLost (map U.model units.items) m.units) }
@@ -276,8 +279,9 @@ impl<U: Unit> Mount<U> {
         });
         match answer {
             Ok(()) => (),
-            // it was stopped
-            Err(_) => {
+            // it is over, too: its chunk is Offline
+            Err(UnitErr::Failed) => (),
+            Err(UnitErr::Stopped) => {
                 return Err(DriveErr {
                     unit,
                     event: of.events(),
@@ -306,8 +310,8 @@ impl<U: Unit> Mount<U> {
         free_lines(&mut self.heart, &mut self.deeds);
     }
 
-    // Places the stripe that the core names, has its unit program it, and notes whether it landed
-    // or was stopped.
+    // Places the stripe that the core names, has its unit program it, and notes whether it landed,
+    // failed or was stopped.
     fn program(&mut self) -> Result<(), DriveErr>
         requires { work_in self.old ≡ works.Program }
         ensures same { IsSameMount self.old self.new }
@@ -332,8 +336,15 @@ impl<U: Unit> Mount<U> {
                 free_lines(&mut self.heart, &mut self.deeds);
                 Ok(())
             }
-            // it was stopped
-            Err(_) => {
+            Err(UnitErr::Failed) => {
+                let (_, pointer) = unit.state(self.stripe.chunk());
+                let kept = pointer - self.stripe.at();
+                self.deeds.add(&Loss { unit: number });
+                self.heart.lost(&self.stripe, kept);
+                free_lines(&mut self.heart, &mut self.deeds);
+                Ok(())
+            }
+            Err(UnitErr::Stopped) => {
                 let event = unit.events();
                 self.deeds.add(&Stops { unit: number });
                 self.heart.stopped(&self.stripe);

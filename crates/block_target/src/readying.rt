@@ -5,7 +5,7 @@ ghost use Rattle.std.specs.Prelude.{◌≡◌, [], map, IfOk, IfErr, IsOk, OnErr
 ghost use Rattle.pblk_model.specs.Accepted.{IsAccepted};
 ghost use Rattle.scan_recovery.specs.Units.{AreFit};
 ghost use Rattle.scan_recovery.specs.Readying.{AreHandedBack};
-ghost use Rattle.scan_recovery.specs.MayStop.{AllMayStop};
+ghost use Rattle.step_laws.specs.Opened.{AreArmed};
 ghost use Rattle.scan_recovery.specs.Lost.{NoneLost};
 ghost use Rattle.block_target.specs.Opened.{IsReady, OpenCause, open_error};
 
@@ -50,7 +50,7 @@ pub(crate) fn ready_drive<U: Unit>(
 ) -> Result<Ready, ScanErr>
     requires accepted { IsAccepted shape.now }
     requires fit { AreFit shape.now (map U.model units.old) }
-    requires armed { AllMayStop (map U.model units.old) }
+    requires armed { AreArmed (map U.model units.old) }
     ensures ready { IfOk result
         (IsReady shape.now (map U.model units.old) (map U.model units.new)) }
     ensures handed_back { OnErr result

@@ -7,7 +7,7 @@ ghost use Rattle.block_port.specs.Port.{AreSectors, IsPastEnd, IsSameTarget, Lea
 ghost use Rattle.block_port.specs.Port.{write_faults, write_worns, read_faults, flush_faults, flush_worns};
 ghost use Rattle.scan_recovery.specs.Units.{AreFit};
 ghost use Rattle.block_target.specs.Refusals.{IsRefusal};
-ghost use Rattle.scan_recovery.specs.MayStop.{AllMayStop};
+ghost use Rattle.step_laws.specs.Opened.{AreArmed};
 ghost use Rattle.scan_recovery.specs.Lost.{IsLostAt, NoneLost};
 ghost use Rattle.scan_recovery.specs.Readying.{AreHandedBack};
 ghost use Rattle.block_target.specs.Opened.{IsOpened, OpenCause};
@@ -32,7 +32,8 @@ use unit_port::{Log, Unit};
 /// Each call leaves no line that may be freed.
 ///
 /// A command that was stopped, or a fetch that failed, is told by the call that made it, and the
-/// session goes on. The stripe of a stopped program is programmed before all others.
+/// session goes on. The stripe of a stopped program is programmed before all others. A program or a
+/// reset that failed is no error of any call: the entries of a stripe that failed are placed again.
 ///
 /// Contracts see what was done, in order, as the steps of a legal world. They see what the session
 /// has seen as a position, its writes, and its calls that answered Drive and Worn.
@@ -73,21 +74,22 @@ fn make_lists(alloc: Global) -> Result<Lists, AllocError>
 }
 
 impl<U: Unit> Serial<U> {
-    /// Opens a target over the units of a drive. The shape is accepted, there are as many units as
-    /// it has, and no plan has a command of them fail; a fuse may stop them. Chunks that were left
-    /// Open are padded to their ends. Then the drive is scanned, and the mount begins with what is
-    /// found (Bjørling, González, Bonnet, FAST 2017, recovery). Lines that may be freed are freed.
-    /// It is granted what there is room for, and no pads are asked for. The call takes all memory
-    /// of the mount.
+    /// Opens a target over the units of a drive. The shape is accepted, and there are as many units
+    /// as it has. Each unit is armed with nothing, or was armed no later than it is handed in:
+    /// plans may have its commands fail, and a fuse may stop it. Chunks that were left Open are
+    /// padded to their ends. Then the drive is scanned, and the mount begins with what is found
+    /// (Bjørling, González, Bonnet, FAST 2017, recovery). Lines that may be freed are freed. It is
+    /// granted what there is room for, and no pads are asked for. The call takes all memory of the
+    /// mount.
     ///
     /// `Drive` comes where a program of the padding was stopped, or where a fetch of a written
-    /// block failed or was stopped; it names that event. `Memory` comes where there isn't the
-    /// memory. After an error the units are handed back. What a sealed drive held it holds still,
-    /// whatever is answered.
+    /// block failed or was stopped; it names that event. A program of the padding that failed is no
+    /// error. `Memory` comes where there isn't the memory. After an error the units are handed
+    /// back. What a sealed drive held it holds still, whatever is answered.
     pub fn open(alloc: Global, units: Vec<U>, shape: &Shape) -> Result<Serial<U>, Refused<U>>
         requires accepted { IsAccepted shape.now }
         requires fit { AreFit shape.now (map U.model units.items) }
-        requires armed { AllMayStop (map U.model units.items) }
+        requires armed { AreArmed (map U.model units.items) }
         ensures opened { IfOk result (λ s. IsOpened shape.now (map U.model units.items) s.mount) }
         ensures done { IfOk result (λ s. NoneLost (map U.model units.items) s.mount.units) }
         ensures wear { IfOk result (λ s. s.mount.wear ≡ map U.wear units.items) }
@@ -127,9 +129,11 @@ impl<U: Unit> Serial<U> {
 
     /// Brings all that was taken to the drive, and, while the Free lines are few, does what is left
     /// to do. No line is left that may be freed. It hands the units back. What is then found on a
-    /// drive that was sealed ends between the front synced and the front taken; where the answer is
-    /// `Ok` or `Worn` it ends at the front synced. All that was taken but copies are the session's
-    /// own writes, and each of these was granted before it was taken.
+    /// drive that was sealed ends between the front synced and the front taken. Where the answer is
+    /// `Ok` it ends at the front synced. Where it is `Worn` it does, too, unless an entry waits
+    /// that had been placed before: blocks of the stripe that was lost may have been written. All
+    /// that was taken but copies are the session's own writes, and each of these was granted before
+    /// it was taken.
     ///
     /// Over a tidy drive, as long as no command fails and numbers are left, there is room for all
     /// of it, and the drive is left tidy.

@@ -1,9 +1,10 @@
 -- Items: what is in lists of them, and which words they are.
-use Rattle.std.proofs.Common.{◌≡◌, ◌≢◌, ℕ, Bool, true, false, cond, Option, Some, None, List, [], ◌∷◌, ◌++◌, refl, sym, ap, ◌∙◌, inl, inr, bytes_eq}
+use Rattle.std.proofs.Common.{◌≡◌, ◌≢◌, ℕ, Bool, true, false, cond, if◌then◌else◌, Option, Some, None, List, [], ◌∷◌, ◌++◌, refl, sym, ap, ◌∙◌, inl, inr, bytes_eq}
 use Rattle.std.specs.List.{AllByRecursion}
 use Rattle.std.proofs.lemmas.Bool.{true≢false, cases_Bool}
+use Rattle.std.proofs.lemmas.List.{append-nil}
 use Rattle.std.proofs.lemmas.Slice.Eq.{bytes_eq-Decides}
-use Rattle.command_words.specs.Grammar.{Item, Name, Named, IsPlainWord, AreItems, names_in, options_in, value_in, AreDistinct}
+use Rattle.command_words.specs.Grammar.{Item, Name, Named, IsPlainWord, AreItems, names_in, options_in, value_in, values_in, AreDistinct}
 use Rattle.command_words.specs.Words.{IsItemBefore}
 use Rattle.lemmas.proofs.Bytes.{same_bytes, true_same}
 use Rattle.lemmas.proofs.Lists.{all_append}
@@ -109,3 +110,24 @@ plain_items (Name n ∷ items) words (rest, plain, is, others) e =
     let more = plain_items items rest others e in
     (is ∙ ap (λ zs. n ∷ zs) more.0, rw is (plain, more.1))
 plain_items (Named n v ∷ items) words h e = absurd (cc e)
+
+-- the values of an option
+
+split : (b : Bool) (v : List ℕ) (all before behind : List (List ℕ)) → all ≡ before ++ behind
+    → (if b then v ∷ all else all) ≡ (if b then v ∷ before else before) ++ behind
+split true v all before behind is = ap (λ zs. v ∷ zs) is
+split false v all before behind is = is
+
+pub values_in-append : (x : List ℕ) (xs ys : List Item) → values_in x (xs ++ ys) ≡ values_in x xs ++ values_in x ys
+values_in-append x [] ys = refl
+values_in-append x (Name n ∷ xs) ys = values_in-append x xs ys
+values_in-append x (Named n v ∷ xs) ys = split (bytes_eq n x) v (values_in x (xs ++ ys)) (values_in x xs) (values_in x ys) (values_in-append x xs ys)
+
+-- with an item that isn't of the option, and with one that is
+pub same_values_in : (x : List ℕ) (item : Item) (xs : List Item) → values_in x (item ∷ []) ≡ [] → values_in x (xs ++ item ∷ []) ≡ values_in x xs
+same_values_in x item xs none = values_in-append x xs (item ∷ []) ∙ ap (λ zs. values_in x xs ++ zs) none ∙ append-nil (values_in x xs)
+
+pub next_value : (x value : List ℕ) (xs ys : List Item) → values_in x (xs ++ Named x value ∷ ys) ≡ values_in x xs ++ value ∷ values_in x ys
+next_value x value xs ys =
+    values_in-append x xs (Named x value ∷ ys)
+    ∙ ap (λ b. values_in x xs ++ (if b then value ∷ values_in x ys else values_in x ys)) (true_same x x refl)

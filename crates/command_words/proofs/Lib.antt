@@ -6,4 +6,5 @@ pub mod OptionValues
 pub mod Reading
 pub mod CreateReading
 pub mod StopWords
+pub mod PlanWords
 pub mod RunReading

@@ -53,7 +53,7 @@ lacks : (bs : List ℕ) → AllDigits 10 bs → AllByRecursion (λ byte. byte �
 lacks [] d = tt
 lacks (x ∷ bs) d = ((λ e. let r = digit_from_value x d.0 in omega (arith, r, e)), lacks bs d.1)
 
-decimal_lacks : (n : ℕ) → n < 2 ^ 32 → AllByRecursion (λ byte. byte ≢ 58) (decimal n)
+pub decimal_lacks : (n : ℕ) → n < 2 ^ 32 → AllByRecursion (λ byte. byte ≢ 58) (decimal n)
 decimal_lacks n small = lacks (decimal n) (digits_decimal digits n (omega arith))
 
 pub three_numbers : (f : Fuse) (word : List ℕ) → IsFuse f word → IsInThree (decimal f.unit) (decimal f.nth) (decimal f.cut) word
@@ -68,7 +68,7 @@ pub fuse_of_parts : (f : Fuse) (a b c word : List ℕ) → IsInThree a b c word 
     → f.unit < 2 ^ 32 → 0 < f.nth → f.nth < 2 ^ 32 → f.cut < 2 ^ 32 → IsFuse f word
 fuse_of_parts f a b c word h first second third unit some nth cut = (h.is ∙ rw (first, second, third) refl, unit, some, nth, cut)
 
-same_number : (m n : ℕ) → m < 2 ^ 32 → n < 2 ^ 32 → decimal m ≡ decimal n → m ≡ n
+pub same_number : (m n : ℕ) → m < 2 ^ 32 → n < 2 ^ 32 → decimal m ≡ decimal n → m ≡ n
 same_number m n a b e = decimal_injective m n (omega arith) (omega arith) e
 
 -- a word says one stop
@@ -80,28 +80,33 @@ one_fuse f g word h k =
     let cut : f.cut ≡ g.cut = same_number f.cut g.cut h.4 k.4 parts.2 in
     λ i. record { unit = unit i; nth = nth i; cut = cut i }
 
-pub one_stop : (o p : Option Fuse) (word : Option (List ℕ)) → IsStop o word → IsStop p word → o ≡ p
-one_stop None None None h k = refl
-one_stop None None (Some word) h k = absurd h
-one_stop None (Some g) None h k = absurd k
-one_stop None (Some g) (Some word) h k = absurd h
-one_stop (Some f) None None h k = absurd h
-one_stop (Some f) None (Some word) h k = absurd k
-one_stop (Some f) (Some g) None h k = absurd h
-one_stop (Some f) (Some g) (Some word) h k = ap Some (one_fuse f g word h k)
+pub one_stop : (o p : Option Fuse) (words : List (List ℕ)) → IsStop o words → IsStop p words → o ≡ p
+one_stop None None [] h k = refl
+one_stop None None (word ∷ words) h k = absurd h
+one_stop None (Some g) [] h k = absurd k
+one_stop None (Some g) (word ∷ words) h k = absurd h
+one_stop (Some f) None [] h k = absurd h
+one_stop (Some f) None (word ∷ words) h k = absurd k
+one_stop (Some f) (Some g) [] h k = absurd h
+one_stop (Some f) (Some g) (word ∷ []) h k = ap Some (one_fuse f g word h k)
+one_stop (Some f) (Some g) (word ∷ (other ∷ words)) h k = absurd h
 
-pub no_word : (o : Option Fuse) (word : Option (List ℕ)) → o ≡ None → IsStop o word → word ≡ None
-no_word None None e h = refl
-no_word None (Some word) e h = absurd h
-no_word (Some f) word e h = absurd (cc e)
+pub no_word : (o : Option Fuse) (words : List (List ℕ)) → o ≡ None → IsStop o words → words ≡ []
+no_word None [] e h = refl
+no_word None (word ∷ words) e h = absurd h
+no_word (Some f) words e h = absurd (cc e)
 
-pub some_word : (o : Option Fuse) (f : Fuse) (word : Option (List ℕ)) → o ≡ Some f → IsStop o word → (w : List ℕ) × (word ≡ Some w)
-some_word None f word e h = absurd (cc e)
-some_word (Some g) f None e h = absurd h
-some_word (Some g) f (Some word) e h = (word, refl)
+-- a word and another one behind it say no stop
+pub no_two : (o p : Option Fuse) (f : Fuse) (words more : List (List ℕ)) (word : List ℕ) → o ≡ Some f → IsStop o words
+    → IsStop p (words ++ word ∷ more) → ⊥
+no_two None p f words more word e h k = cc e
+no_two (Some g) p f [] more word e h k = h
+no_two (Some g) None f (first ∷ words) more word e h k = k
+no_two (Some g) (Some q) f (first ∷ []) more word e h k = k
+no_two (Some g) (Some q) f (first ∷ (second ∷ words)) more word e h k = h
 
--- what a word says
-pub said : (o : Option Fuse) (word : Option (List ℕ)) (w : List ℕ) → word ≡ Some w → IsStop o word → (f : Fuse) × IsFuse f w
-said o None w e h = absurd (cc e)
-said None (Some word) w e h = absurd h
-said (Some f) (Some word) w e h = let same : word ≡ w = cc e in (f, subst (IsFuse f) same h)
+-- what the first word says
+pub said : (o : Option Fuse) (word : List ℕ) (words : List (List ℕ)) → IsStop o (word ∷ words) → (f : Fuse) × IsFuse f word
+said None word words h = absurd h
+said (Some f) word [] h = (f, h)
+said (Some f) word (other ∷ words) h = absurd h

@@ -1,9 +1,12 @@
 -- The words of the command line: which words are which command.
-use Rattle.std.specs.Prelude.{ℕ, ◌≡◌, ◌≢◌, ◌<◌, ◌⊎◌, ◌^◌, ⊤, if◌then◌else◌, List, [], ◌∷◌, ◌++◌, Option, Some, None, codes}
+use Rattle.std.specs.Prelude.{ℕ, ◌≡◌, ◌≢◌, ◌<◌, ◌≤◌, ◌⊎◌, ◌^◌, ⊤, if◌then◌else◌, List, [], ◌∷◌, ◌++◌, length, Option, Some, None, codes}
 use Rattle.std.specs.List.{AllByRecursion}
 use Rattle.std.specs.Str.{bytes_eq}
 use Rattle.std.specs.Fmt.{decimal}
 use Rattle.pblk_model.specs.CommandText.{CreateNumbers}
+use Rattle.unit_port.specs.declared.armed.CommandKind.{CommandKind}
+use Rattle.unit_port.specs.declared.armed.CommandKind.TheVariants as kinds
+use Rattle.unit_port.specs.declared.armed.FaultPlan.{FaultPlan}
 use Rattle.unit_port.specs.declared.armed.Fuse.{Fuse}
 
 -- neither empty nor begun with `-`: a file's name, or the value of an option
@@ -89,14 +92,22 @@ create_options = record { name = codes "groups"; default = 1; below = 2 ^ 16 }
 abbrev pub numbers_of : CreateNumbers → List ℕ
 numbers_of n = n.groups ∷ n.units ∷ n.chunks ∷ n.blocks ∷ n.ws_min ∷ n.ws_opt ∷ n.mw ∷ n.sector ∷ n.capacity ∷ n.ring ∷ []
 
+-- the values of an option, in the order in which they are named
+abbrev pub values_in : List ℕ → List Item → List (List ℕ)
+values_in option [] = []
+values_in option (Name name ∷ items) = values_in option items
+values_in option (Named name value ∷ items) = if bytes_eq name option then value ∷ values_in option items else values_in option items
+
 -- what a run is told besides its files
 pub record RunOptions : Type 0 where
   -- where the drive stops, if it does
   pub stop : Option Fuse
+  -- which commands of which units fail
+  pub plans : List FaultPlan
 
 -- the options of `run`, by their names
 abbrev pub IsRunOption : List ℕ → Type 0
-IsRunOption name = name ≡ codes "stop"
+IsRunOption name = (name ≡ codes "stop") ⊎ (name ≡ codes "fail")
 
 -- where a drive stops, as a word says it: the unit, the number of its program or reset, from 1,
 -- and how much of that lands
@@ -104,12 +115,30 @@ abbrev pub IsFuse : Fuse → List ℕ → Type 0
 IsFuse f word = (word ≡ decimal f.unit ++ codes ":" ++ decimal f.nth ++ codes ":" ++ decimal f.cut)
     × (f.unit < 2 ^ 32) × (0 < f.nth) × (f.nth < 2 ^ 32) × (f.cut < 2 ^ 32)
 
--- the drive stops exactly where the option is named, and as its word says
-abbrev pub IsStop : Option Fuse → Option (List ℕ) → Type 0
-IsStop None None = ⊤
-IsStop None (Some word) = ⊥
-IsStop (Some f) None = ⊥
-IsStop (Some f) (Some word) = IsFuse f word
+-- the drive stops exactly where the option is named, once, and as its word says
+abbrev pub IsStop : Option Fuse → List (List ℕ) → Type 0
+IsStop None [] = ⊤
+IsStop None (word ∷ words) = ⊥
+IsStop (Some f) [] = ⊥
+IsStop (Some f) (word ∷ []) = IsFuse f word
+IsStop (Some f) (word ∷ (other ∷ words)) = ⊥
+
+-- Which command of a unit fails, as a word says it: a program, of which so much lands, a fetch or a
+-- reset, with its unit and its number from 1 among those of its kind. Number 0 is no command's.
+abbrev pub IsPlanWord : CommandKind → FaultPlan → List ℕ → Type 0
+IsPlanWord kinds.Program p word = word ≡ codes "p:" ++ decimal p.unit ++ codes ":" ++ decimal p.nth ++ codes ":" ++ decimal p.cut
+IsPlanWord kinds.Fetch p word = (word ≡ codes "f:" ++ decimal p.unit ++ codes ":" ++ decimal p.nth) × (p.cut ≡ 0)
+IsPlanWord kinds.Reset p word = (word ≡ codes "r:" ++ decimal p.unit ++ codes ":" ++ decimal p.nth) × (p.cut ≡ 0)
+
+abbrev pub IsPlan : FaultPlan → List ℕ → Type 0
+IsPlan p word = IsPlanWord p.kind p word × (p.unit < 2 ^ 32) × (p.nth < 2 ^ 32) × (p.cut < 2 ^ 32)
+
+-- a plan for each word, in their order
+abbrev pub ArePlans : List FaultPlan → List (List ℕ) → Type 0
+ArePlans [] [] = ⊤
+ArePlans [] (word ∷ words) = ⊥
+ArePlans (p ∷ plans) [] = ⊥
+ArePlans (p ∷ plans) (word ∷ words) = IsPlan p word × ArePlans plans words
 
 -- A command, with its file names and numbers.
 pub data CommandLine : Type 0 where
@@ -132,7 +161,7 @@ AreItemsOf items (Geometry image) = (names_in items ≡ image ∷ []) × (option
 AreItemsOf items (Show image) = (names_in items ≡ image ∷ []) × (options_in items ≡ [])
 AreItemsOf items (Report image) = (names_in items ≡ image ∷ []) × (options_in items ≡ [])
 AreItemsOf items (Run image script options) = (names_in items ≡ image ∷ script ∷ []) × AllByRecursion IsRunOption (options_in items)
-    × AreDistinct (options_in items) × IsStop options.stop (value_in (codes "stop") items)
+    × IsStop options.stop (values_in (codes "stop") items) × ArePlans options.plans (values_in (codes "fail") items) × (length options.plans ≤ 16)
 
 abbrev pub first_word : CommandLine → List ℕ
 first_word (Create image numbers) = codes "create"

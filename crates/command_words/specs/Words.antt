@@ -1,11 +1,13 @@
 -- What is seen of the words that are read, and what has been read of them.
-use Rattle.std.specs.Prelude.{ℕ, ◌≡◌, ◌≢◌, ◌<◌, ◌==◌, ◌||◌, ⊤, Bool, false, List, [], ◌∷◌, ◌++◌, codes, Option, Some, None}
+use Rattle.std.specs.Prelude.{ℕ, ◌≡◌, ◌≢◌, ◌<◌, ◌≤◌, ◌==◌, ◌||◌, ⊤, Bool, false, List, [], ◌∷◌, ◌++◌, length, codes, Option, Some, None}
 use Rattle.std.specs.List.{AllByRecursion}
 use Rattle.std.specs.Borrow.{Bor}
 use Rattle.std.specs.Fmt.{decimal}
 use Rattle.pblk_model.specs.CommandText as text
+use Rattle.unit_port.specs.declared.armed.CommandKind.{CommandKind}
+use Rattle.unit_port.specs.declared.armed.CommandKind.TheVariants as kinds
 use Rattle.command_words.specs.Grammar as model
-use Rattle.command_words.specs.Grammar.{NumberOption, IsPlainWord, IsOptionBefore, IsOneOf, IsRunOption, IsStop, AreItems, AreItemsOf, AreDistinct, names_in, options_in, value_in, create_options}
+use Rattle.command_words.specs.Grammar.{NumberOption, IsPlainWord, IsOptionBefore, IsOneOf, IsRunOption, IsStop, ArePlans, AreItems, AreItemsOf, AreDistinct, names_in, options_in, value_in, values_in, create_options}
 use Rattle.command_words.specs.declared.command.CommandLine.{CommandLine}
 use Rattle.command_words.specs.declared.command.CommandLine.TheVariants as lines
 use Rattle.command_words.specs.declared.command.CreateNumbers.{CreateNumbers}
@@ -36,7 +38,7 @@ numbers_seen n = record {
 
 -- the options, as the model has them
 abbrev pub options_seen : RunOptions → model.RunOptions
-options_seen o = record { stop = o.stop }
+options_seen o = record { stop = o.stop; plans = o.plans }
 
 -- a command that was read, as the model has it
 abbrev pub seen : CommandLine → model.CommandLine
@@ -134,11 +136,18 @@ names_read (run_names.Both image script) = image.now ∷ script.now ∷ []
 pub record HasReadRun (items : List model.Item) (w : RunWords) : Type 0 where
   pub names : names_in items ≡ names_read w.names
   pub known : AllByRecursion IsRunOption (options_in items)
-  pub distinct : AreDistinct (options_in items)
-  pub stop : IsStop w.options.stop (value_in (codes "stop") items)
+  pub stop : IsStop w.options.stop (values_in (codes "stop") items)
+  pub plans : ArePlans w.options.plans (values_in (codes "fail") items)
+  pub few : length w.options.plans ≤ 16
 
 -- a word in three parts, with a `:` between any two, of which the first two have none in them
 pub record IsInThree (first second third word : List ℕ) : Type 0 where
   pub is : word ≡ first ++ codes ":" ++ second ++ codes ":" ++ third
   pub first_plain : AllByRecursion (λ byte. byte ≢ 58) first
   pub second_plain : AllByRecursion (λ byte. byte ≢ 58) second
+
+-- what the word of a plan of this kind begins with
+abbrev pub kind_word : CommandKind → List ℕ
+kind_word kinds.Program = codes "p:"
+kind_word kinds.Fetch = codes "f:"
+kind_word kinds.Reset = codes "r:"

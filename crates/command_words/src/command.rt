@@ -1,5 +1,6 @@
 //! What the words of a command line say.
 
+use crate::plans::FaultPlans;
 use unit_port::Fuse;
 
 /// The numbers of a drive to be made, each as the option of its name gives it.
@@ -27,15 +28,17 @@ pub struct CreateNumbers {
     pub ring: u32,
 }
 
-/// What a run is told besides its files, each as the option of its name gives it.
-#[derive(Clone, Copy, Debug, PartialEq, Eq)]
+/// What a run is told besides its files, as its options give it.
+#[derive(Debug, Drop)]
 pub struct RunOptions {
-    /// Where the drive stops. None is nowhere.
+    /// Where the drive stops, by `--stop`. None is nowhere.
     pub stop: Option<Fuse>,
+    /// Which commands of which units fail, by `--fail`.
+    pub plans: FaultPlans,
 }
 
 /// A command with its file names and numbers. The names are neither empty nor begin with `-`.
-#[derive(Clone, Copy, Debug, PartialEq, Eq)]
+#[derive(Debug, Drop)]
 pub enum CommandLine<'a> {
     /// Makes a blank image of these numbers.
     Create {

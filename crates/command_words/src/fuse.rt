@@ -24,9 +24,9 @@ pub(crate) fn read_fuse(word: &str) -> Option<Fuse>
     Some(Fuse { unit, nth, cut })
 }
 
-// The parts of a word before its first `:`, between its first two, and after these. None where it
-// has fewer.
-fn in_three(word: &str) -> Option<(&str, &str, &str)>
+/// The parts of a word before its first `:`, between its first two, and after these. None where it
+/// has fewer.
+pub(crate) fn in_three(word: &str) -> Option<(&str, &str, &str)>
     ensures found { IfSome result (λ r. IsInThree r.0.now r.1.now r.2.now word.now) }
     ensures none { IfNone result ((first second third : List ℕ)
         → ¬ IsInThree first second third word.now) }

@@ -5,13 +5,16 @@
 
 mod command;
 mod create;
+mod fault;
 mod fuse;
 mod item;
 mod number;
 mod options;
+mod plans;
 mod run;
 mod words;
 
 pub use command::{CommandLine, CreateNumbers, RunOptions};
-pub use unit_port::Fuse;
+pub use plans::FaultPlans;
+pub use unit_port::{CommandKind, FaultPlan, Fuse};
 pub use words::read_words;

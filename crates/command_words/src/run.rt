@@ -6,8 +6,10 @@ ghost use Rattle.command_words.specs.Grammar.{AreItemsOf};
 ghost use Rattle.command_words.specs.Words.{AreWordsOf, HasReadRun, item_of, names_read, options_seen};
 
 use crate::command::RunOptions;
+use crate::fault::read_plan;
 use crate::fuse::read_fuse;
 use crate::item::{Item, read_item};
+use crate::plans::FaultPlans;
 
 /// The names of files that have been read: that of an image comes before that of a script.
 #[derive(Clone, Copy, Debug)]
@@ -18,7 +20,7 @@ pub(crate) enum RunNames<'a> {
 }
 
 /// What has been read of the words of `run`: names, and options that are named.
-#[derive(Clone, Copy, Debug)]
+#[derive(Debug, Drop)]
 pub(crate) struct RunWords<'a> {
     pub(crate) names: RunNames<'a>,
     pub(crate) options: RunOptions,
@@ -77,7 +79,10 @@ impl<'a> RunWords<'a> {
     {
         RunWords {
             names: RunNames::Nothing,
-            options: RunOptions { stop: None },
+            options: RunOptions {
+                stop: None,
+                plans: FaultPlans::none(),
+            },
         }
     }
 
@@ -109,8 +114,8 @@ impl<'a> RunWords<'a> {
         Some(RunWords { names, ..self })
     }
 
-    // With an option. None where there is no option of this name, it was named before, or it can't
-    // have this value.
+    // With an option. None where there is no option of this name, it was named too often before, or
+    // it can't have this value.
     fn with_option(self, name: &'a str, value: &'a str) -> Option<RunWords<'a>>
         ensures taken { IfSome result (λ next. (items : List model.Item)
             → HasReadRun items self.entry
@@ -122,6 +127,7 @@ impl<'a> RunWords<'a> {
     {
         match name {
             "stop" => self.with_stop(value),
+            "fail" => self.with_plan(value),
             _ => None,
         }
     }
@@ -136,13 +142,34 @@ impl<'a> RunWords<'a> {
             → ¬ AreItemsOf (items ++ model.Named (codes "stop") value.now ∷ more)
             (model.Run image script options)) }
     {
-        if self.options.stop.is_some() {
+        let RunWords { names, options } = self;
+        let RunOptions { stop, plans } = options;
+        if stop.is_some() {
             return None;
         }
         let stop = Some(read_fuse(value)?);
         Some(RunWords {
-            options: RunOptions { stop },
-            ..self
+            names,
+            options: RunOptions { stop, plans },
+        })
+    }
+
+    // With the option `--fail`. None where it was named 16 times before, or this is no plan.
+    fn with_plan(self, value: &'a str) -> Option<RunWords<'a>>
+        ensures taken { IfSome result (λ next. (items : List model.Item)
+            → HasReadRun items self.entry
+            → HasReadRun (items ++ model.Named (codes "fail") value.now ∷ []) next) }
+        ensures refused { IfNone result ((items more : List model.Item) (image script : List ℕ)
+            (options : model.RunOptions) → HasReadRun items self.entry
+            → ¬ AreItemsOf (items ++ model.Named (codes "fail") value.now ∷ more)
+            (model.Run image script options)) }
+    {
+        let RunWords { names, options } = self;
+        let RunOptions { stop, plans } = options;
+        let plans = plans.with(read_plan(value)?)?;
+        Some(RunWords {
+            names,
+            options: RunOptions { stop, plans },
         })
     }
 }

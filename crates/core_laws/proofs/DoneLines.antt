@@ -229,6 +229,24 @@ module _ (i : Image) (w : World) (mount : IsLegalMount i w) (o : Opening) (is_op
       any_member (λ x. stripe_is line_now is_lost x && in_one_chunk line_now x j) (numbers line_now) other other there
       (ap₂ (λ a b. a && b) is.1 one_chunk)
 
+  -- ---- where each stripe is answered, none of them waits
+
+  pub none_unanswered : ((p : Placed) → Contains (stripes_of (log_of w 0) o) p → is_some (answer_of (log_of w 0) p) ≡ true)
+      → list_any is_unanswered (open_line i (log_of w) o).stripes ≡ false
+  none_unanswered all = any_fail is_unanswered line_now.stripes (all_mapped (λ (x : lines.Stripe). is_unanswered x ≡ false) (outcome i.shape log o bare)
+      (numbers bare) (all_of (λ j. is_unanswered (outcome i.shape log o bare j) ≡ false) (λ j. go j (placed_as i.shape log o bare j) refl) (numbers bare)))
+    where
+      answered : (a : Option Answer) → is_some a ≡ true → is_unanswered (by_answer a) ≡ false
+      answered None e = absurd cc
+      answered (Some (DidLand x)) e = refl
+      answered (Some (WasLost x)) e = refl
+
+      go : (j : ℕ) (x : Option Placed) → placed_as i.shape (log_of w 0) o (as_opened i (log_of w) o) j ≡ x → is_unanswered (became (log_of w 0) x) ≡ false
+      go j None e = refl
+      go j (Some p) e =
+          let passes = found_passes (λ (q : Placed). is_stripe_at i.shape bare q.stripe.unit q.stripe.at j) (stripes_of log o) p e in
+          answered (answer_of log p) (all p (contained_among (stripes_of log o) p passes.1))
+
   -- ---- nothing more is written
 
   module _ (over : are_over i (log_of w) o.line ≡ true) where
@@ -328,27 +346,11 @@ module _ (i : Image) (w : World) (mount : IsLegalMount i w) (o : Opening) (is_op
             by (inr loss) =
                 and_false (stripe_is line_now is_unplaced j) (not (is_closed line_now j)) (ap not (closed_by_loss c unit.0 j unit.1 refl loss))
 
-    -- ---- and each is answered
-
-    none_waits : list_any is_unanswered (open_line i (log_of w) o).stripes ≡ false
-    none_waits = any_fail is_unanswered line_now.stripes (all_mapped (λ (x : lines.Stripe). is_unanswered x ≡ false) (outcome i.shape log o bare)
-        (numbers bare) (all_of (λ j. is_unanswered (outcome i.shape log o bare j) ≡ false) (λ j. go j (placed_as i.shape log o bare j) refl) (numbers bare)))
-      where
-        answered : (a : Option Answer) → is_some a ≡ true → is_unanswered (by_answer a) ≡ false
-        answered None e = absurd cc
-        answered (Some (DidLand x)) e = refl
-        answered (Some (WasLost x)) e = refl
-
-        go : (j : ℕ) (x : Option Placed) → placed_as i.shape (log_of w 0) o (as_opened i (log_of w) o) j ≡ x → is_unanswered (became (log_of w 0) x) ≡ false
-        go j None e = refl
-        go j (Some p) e =
-            let passes = found_passes (λ (q : Placed). is_stripe_at i.shape bare q.stripe.unit q.stripe.at j) (stripes_of log o) p e in
-            answered (answer_of log p) (over_answered i w mount o is_open over p (contained_among (stripes_of log o) p passes.1))
-
     pub none_left : has_left (open_line i (log_of w) o) ≡ false
     none_left =
         ap₂ (λ a b. a || b)
-        (any_fail (is_to_place line_now) (numbers line_now) (all_of (λ j. is_to_place line_now j ≡ false) none_placed (numbers line_now))) none_waits
+        (any_fail (is_to_place line_now) (numbers line_now) (all_of (λ j. is_to_place line_now j ≡ false) none_placed (numbers line_now)))
+        (none_unanswered (over_answered i w mount o is_open over))
 
     -- ---- where none was lost, all were placed
 

@@ -147,13 +147,14 @@ given_lost s log new p o q is its =
     (all_imply (IsOfChunk log p o) (λ (r : Placed). gives_back s new q r ≡ (has_landed log r && holds_position s q r))
     (λ r of. gives_own s log new p o q r is its of.among of.of) (stripes_on log o p.stripe.unit) (chunk_members log p o)))
 
--- what the window holds
-pub window_lost : (s : Shape) (log : List Logged) (unit event : ℕ) (knows : List ℕ) (p : Placed) (o : Opening) (from : ℕ)
-    → unanswered_on log unit ≡ Some p → p.life ≡ Opened o
-    → window_from s (with_event log (Lost unit event) knows) from ≡ advanced_window (λ q. false) (has_landed_in s log o p.stripe.unit) (window_from s log from)
-window_lost s log unit event knows p o from waits its = same_window from (users_below new from) (users_below log from)
+-- what the window holds, by the positions that can be read then
+pub window_by_given : (s : Shape) (log : List Logged) (unit event : ℕ) (knows : List ℕ) (p : Placed) (reads : ℕ → Bool) (from : ℕ)
+    → unanswered_on log unit ≡ Some p
+    → ((q : ℕ) → is_given_back s (with_event log (Lost unit event) knows) q ≡ (is_given_back s log q || reads q))
+    → window_from s (with_event log (Lost unit event) knows) from ≡ advanced_window (λ q. false) reads (window_from s log from)
+window_by_given s log unit event knows p reads from waits given = same_window from (users_below new from) (users_below log from)
     (map (held_of s new) (drop (from - first_position new) (takes new)))
-    (map (advanced_sector (λ q. false) (has_landed_in s log o p.stripe.unit)) (map (held_of s log) (drop (from - first_position log) (takes log))))
+    (map (advanced_sector (λ q. false) reads) (map (held_of s log) (drop (from - first_position log) (takes log))))
     (ap (λ (ts : List Taken). length (filter (λ (t : Taken). nat_lt t.entry.position from) (filter (λ (t : Taken). is_users t.entry.source) ts))) same)
     (ap₂ (λ n (ts : List Taken). map (held_of s new) (drop (from - n) ts)) (first_kept log (Lost unit event) knows refl) same
     ∙ each (drop (from - first_position log) (takes log)))
@@ -167,8 +168,7 @@ window_lost s log unit event knows p o from waits its = same_window from (users_
     same : takes (with_event log (Lost unit event) knows) ≡ takes log
     same = takes_more log (record { event = Decides (Lost unit event); knows = knows }) ∙ append-nil (takes log)
 
-    held : (t : Taken) → held_of s (with_event log (Lost unit event) knows) t ≡ advanced_sector (λ q. false) (has_landed_in s log o p.stripe.unit)
-        (held_of s log t)
+    held : (t : Taken) → held_of s (with_event log (Lost unit event) knows) t ≡ advanced_sector (λ q. false) reads (held_of s log t)
     held t = ap (λ (progress : Progress). record {
       position = t.entry.position;
       class = class_of t.entry.source;
@@ -177,12 +177,12 @@ window_lost s log unit event knows p o from waits its = same_window from (users_
       sector = t.entry.sector;
       progress = progress;
     }) (ap₂ progress_by (landed_at_same s log new p t.entry.position is ∙ sym (or_no (has_landed_at s log t.entry.position)))
-        (given_lost s log new p o t.entry.position is its)
+        (given t.entry.position)
         ∙ progress_now (has_landed_at s log t.entry.position) (is_given_back s log t.entry.position) false
-        (has_landed_in s log o p.stripe.unit t.entry.position) (given_landed s log t.entry.position))
+        (reads t.entry.position) (given_landed s log t.entry.position))
 
     each : (ts : List Taken) → map (held_of s (with_event log (Lost unit event) knows)) ts
-        ≡ map (advanced_sector (λ q. false) (has_landed_in s log o p.stripe.unit)) (map (held_of s log) ts)
+        ≡ map (advanced_sector (λ q. false) reads) (map (held_of s log) ts)
     each [] = refl
     each (t ∷ ts) = ap₂ (λ (h : HeldSector) hs. h ∷ hs) (held t) (each ts)
 

@@ -1,5 +1,5 @@
 -- The positions that can be read now are in the window, and have landed.
-use Rattle.std.proofs.Common.{◌≡◌, ℕ, ◌<◌, ◌≤◌, true, false, Some, List, [], length, sym, subst}
+use Rattle.std.proofs.Common.{◌≡◌, ℕ, ◌<◌, ◌≤◌, true, false, Some, List, [], drop, length, take, sym, subst}
 use Rattle.std.specs.List.{list_any}
 use Rattle.pblk_model.specs.Image.{Image}
 use Rattle.pblk_world.specs.World.{World, log_of}
@@ -52,20 +52,27 @@ newly_not_given i w unit p o q mount waits life rows e =
     (subst (λ u. list_any (bears_position i.shape q) (newly_readable i.shape (log_of w 0) o u) ≡ true)
     (sym (first_unanswered (log_of w 0) unit p waits).of_unit) e)
 
+-- what a block of the stripe's chunk bears
+pub borne_in_window : (i : Image) (w : World) (p : Placed) (o : Opening) (q low high : ℕ) → IsLegalMount i w
+    → list_any (bears_position i.shape q) (drop low (take high (chunk_blocks (log_of w 0) o p.stripe.unit))) ≡ true
+    → is_given_back i.shape (log_of w 0) q ≡ false → (freed i.shape (log_of w 0) ≤ q) × (q < taken (log_of w 0))
+borne_in_window i w p o q low high mount e kept =
+    let r : (x : Placed) × (holds_position i.shape q x ≡ true) × IsAmong (stripes_on (log_of w 0) o p.stripe.unit) x =
+    member_of (holds_position i.shape q) (stripes_on (log_of w 0) o p.stripe.unit)
+    (any_stripe (bears_position i.shape q) (stripes_on (log_of w 0) o p.stripe.unit)
+    (any_part (bears_position i.shape q) low high (chunk_blocks (log_of w 0) o p.stripe.unit) e)) in
+    let of : IsOfChunk (log_of w 0) p o r.0 =
+    all_at (IsOfChunk (log_of w 0) p o) (stripes_on (log_of w 0) o p.stripe.unit) r.2.0 r.0 r.2.1 (chunk_members (log_of w 0) p o) in
+    held_by_window i w q r.0 mount of.among r.1 kept
+
 pub newly_in_window : (i : Image) (w : World) (unit : ℕ) (p : Placed) (o : Opening) (q : ℕ) → IsLegalMount i w → unanswered_on (log_of w 0) unit ≡ Some p
     → p.life ≡ Opened o → AreInRows i.shape (log_of w 0) o unit
     → list_any (bears_position i.shape q) (newly_readable i.shape (log_of w 0) o unit) ≡ true → (freed i.shape (log_of w 0) ≤ q) × (q < taken (log_of w 0))
 newly_in_window i w unit p o q mount waits life rows e =
-    let its : p.stripe.unit ≡ unit = (first_unanswered (log_of w 0) unit p waits).of_unit in
-    let here : list_any (bears_position i.shape q) (newly_readable i.shape (log_of w 0) o p.stripe.unit) ≡ true =
-    subst (λ u. list_any (bears_position i.shape q) (newly_readable i.shape (log_of w 0) o u) ≡ true) (sym its) e in
-    let r : (x : Placed) × (holds_position i.shape q x ≡ true) × IsAmong (stripes_on (log_of w 0) o p.stripe.unit) x =
-    member_of (holds_position i.shape q) (stripes_on (log_of w 0) o p.stripe.unit)
-    (any_stripe (bears_position i.shape q) (stripes_on (log_of w 0) o p.stripe.unit)
-    (any_part (bears_position i.shape q) _ _ (chunk_blocks (log_of w 0) o p.stripe.unit) here)) in
-    let of : IsOfChunk (log_of w 0) p o r.0 =
-    all_at (IsOfChunk (log_of w 0) p o) (stripes_on (log_of w 0) o p.stripe.unit) r.2.0 r.0 r.2.1 (chunk_members (log_of w 0) p o) in
-    held_by_window i w q r.0 mount of.among r.1 (newly_not_given i w unit p o q mount waits life rows e)
+    borne_in_window i w p o q _ _ mount
+    (subst (λ u. list_any (bears_position i.shape q) (newly_readable i.shape (log_of w 0) o u) ≡ true)
+    (sym (first_unanswered (log_of w 0) unit p waits).of_unit) e)
+    (newly_not_given i w unit p o q mount waits life rows e)
 
 pub newly_has_landed : (i : Image) (w : World) (unit event : ℕ) (knows : List ℕ) (p : Placed) (o : Opening) (q : ℕ) → IsLegalMount i w
     → unanswered_on (log_of w 0) unit ≡ Some p → p.life ≡ Opened o → AreInRows i.shape (log_of w 0) o unit

@@ -123,7 +123,7 @@ chunk_untold i logs k u line l b there begins none =
     same None = refl
     same (Some cs) = refl
 
-after_chunk : (s : Shape) (cs : List Chunk) (e : UnitEvent) (line : ℕ) → e.chunk ≡ line
+pub after_chunk : (s : Shape) (cs : List Chunk) (e : UnitEvent) (line : ℕ) → e.chunk ≡ line
     → slice_get (after_event s cs e) line ≡ option_map (λ (c : Chunk). after_outcome s c e.command e.outcome) (slice_get cs line)
 after_chunk s cs e line same = go (slice_get cs e.chunk) refl
   where

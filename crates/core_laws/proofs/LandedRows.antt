@@ -114,7 +114,7 @@ log_beside s chunks log None m other = ap (λ xs. slice_get (after_log s chunks 
 log_beside s chunks log (Some e) m other =
     ap (λ cs. slice_get cs m) (fold-append (after_event s) chunks log (e ∷ [])) ∙ event_beside s (after_log s chunks log) e m (other e refl)
 
-told_more : (logs : Logs) (e : EngineEvent) (knows : List ℕ) (unit : ℕ)
+pub told_more : (logs : Logs) (e : EngineEvent) (knows : List ℕ) (unit : ℕ)
     → told_events (after logs e knows) unit ≡ told_events logs unit ++ option_to_list (told_by logs unit (Decides e))
 told_more logs e knows unit =
     filter_map-append (λ (l : Logged). told_by logs unit l.event) (logs 0) (record { event = Decides e; knows = knows } ∷ [])

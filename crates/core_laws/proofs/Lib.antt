@@ -80,13 +80,16 @@ pub mod LoweredTables
 pub mod LostRows
 pub mod LostAddresses
 pub mod GivenLost
+pub mod FirstLanded
 pub mod LostSlots
 pub mod PaddedLines
 pub mod PadsPlaced
 pub mod LostProgram
 pub mod LineNumbers
 pub mod ChunksInRows
+pub mod WholePlaces
 pub mod OpenWhileLeft
+pub mod DuePads
 pub mod EventByEvent
 pub mod Placed
 pub mod PlacedInOrder
@@ -135,6 +138,8 @@ pub mod BorneOnce
 pub mod NewlyHeld
 pub mod FirstPositions
 pub mod HeldInWorlds
+pub mod WaitingChunks
+pub mod LostBlocks
 pub mod PlacedBlocks
 pub mod MadeLists
 pub mod BegunImages
@@ -185,3 +190,6 @@ pub mod ChosenVictims
 pub mod VictimsAtWork
 pub mod LiveSlots
 pub mod LatestSources
+pub mod AnsweredTops
+pub mod WrittenPositions
+pub mod FailedThen

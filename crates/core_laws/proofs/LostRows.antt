@@ -1,6 +1,7 @@
--- What a stripe that was lost changes in the table: its line is Failed, and its entries are in no line.
-use Rattle.std.proofs.Common.{◌≡◌, ◌≢◌, ◌⊎◌, inl, inr, ℕ, ◌/◌, ◌==◌, ◌&&◌, ◌||◌, not, nat_eq, Bool, true, false, cond, Some, None, Option, List, [], ◌∷◌, refl, sym, subst, ap, ap₂, ◌∙◌}
-use Rattle.std.specs.Prelude.{if◌then◌else◌}
+-- What a stripe that was lost changes in the table: its line is Failed, and its entries are in no
+-- line.
+use Rattle.std.proofs.Common.{◌≡◌, ◌≤◌, ◌≢◌, ◌⊎◌, inl, inr, ℕ, ◌/◌, ◌==◌, ◌&&◌, ◌||◌, not, nat_eq, Bool, true, false, cond, Some, None, Option, List, [], ◌∷◌, refl, sym, subst, ap, ap₂, ◌∙◌}
+use Rattle.std.specs.Prelude.{slice_get, if◌then◌else◌}
 use Rattle.std.specs.List.{AllByRecursion, filter, find, list_any}
 use Rattle.std.specs.Option.{option_map}
 use Rattle.std.proofs.lemmas.Bool.{eqb-true}
@@ -17,6 +18,8 @@ use Rattle.pblk_world.specs.Starts.{have_landed}
 use Rattle.pblk_world.specs.Victims.{is_in_force, line_of, line_of_position, landed_line_of}
 use Rattle.pblk_world.proofs.Appending.{life_more}
 use Rattle.line_table.specs.declared.row.LineState.TheVariants as states
+use Rattle.line_table.specs.declared.row.Row.{Row}
+use Rattle.line_table.specs.Rows.{IsRow, Table}
 use Rattle.core_laws.specs.Stepping.{after}
 use Rattle.core_laws.specs.PlacerOf.{unanswered_on, positions_of}
 use Rattle.core_laws.specs.RowsOf.{state_in, state_of, width_in, taker_in, row_of_line, rows_of}
@@ -30,7 +33,7 @@ use Rattle.core_laws.proofs.FirstAnswers.{have_landed_beside}
 use Rattle.core_laws.proofs.HeldOnce.{HeldOnce}
 use Rattle.core_laws.proofs.KeptRows.{KeepsChunks, KeepsThen, then_kept, state_same, width_same, same_row}
 use Rattle.core_laws.proofs.LandedRows.{force_kept, winner_kept, none_taken, keeps_chunks}
-use Rattle.core_laws.proofs.LoweredTables.{placed_back}
+use Rattle.core_laws.proofs.LoweredTables.{counted, placed_back, placed_live}
 use Rattle.core_laws.proofs.LostStripe.{IsOneLost, one_lost, its_loss, landed_line_same, position_lost}
 use Rattle.core_laws.proofs.NextTakes.{IsRising, is_at}
 use Rattle.core_laws.proofs.OpeningNumbers.{opens_at, life_at}
@@ -106,140 +109,148 @@ fails_beside log new p o is other =
 
 -- ---- the rows
 
-pub rows_lost : (i : Image) (logs : Logs) (unit event : ℕ) (knows : List ℕ) (p : Placed) (o : Opening) → FreedBefore (logs 0)
-    → HeldOnce i.shape (logs 0) → unanswered_on (logs 0) unit ≡ Some p → p.life ≡ Opened o → life_of (logs 0) p.stripe.line ≡ Opened o
-    → ((e : UnitEvent) → unit_event_at logs unit event ≡ Some e → e.chunk ≡ p.stripe.line)
-    → IsRising (takes (logs 0)) → (its : HasEntries i.shape (logs 0) p.stripe)
-    → rows_of i (after logs (Lost unit event) knows) ≡ with_row p.stripe.line failed (lower_entries (logs 0) p.stripe.line (rows_of i logs) its.entries)
-rows_lost i logs unit event knows p o before once waits its opened chunk rise has =
-    table_changes i.shape (row_with i logs (line_of i new) (landed_line_of i logs)) (row_of_line i new) p.stripe.line failed here there
-    ∙ ap (with_row p.stripe.line failed)
-    (sym (placed_back (logs 0) p.stripe.line (table_of i.shape (row_with i logs (line_of i new) (landed_line_of i logs))) has.entries)
-    ∙ ap (λ table. lower_entries (logs 0) p.stripe.line table has.entries) (sym was))
-  where
-    new : Logs
-    new = after logs (Lost unit event) knows
+module _ (i : Image) (logs : Logs) (unit event : ℕ) (knows : List ℕ) (p : Placed) (o : Opening) (before : FreedBefore (logs 0))
+    (once : HeldOnce i.shape (logs 0)) (waits : unanswered_on (logs 0) unit ≡ Some p) (its : p.life ≡ Opened o)
+    (opened : life_of (logs 0) p.stripe.line ≡ Opened o)
+    (chunk : (e : UnitEvent) → unit_event_at logs unit event ≡ Some e → e.chunk ≡ p.stripe.line)
+    (rise : IsRising (takes (logs 0))) (has : HasEntries i.shape (logs 0) p.stripe) where
+  abbrev new : Logs
+  new = after logs (Lost unit event) knows
 
-    is : IsOneLost (logs 0) (after logs (Lost unit event) knows 0) p
-    is = one_lost (logs 0) unit event knows p waits
+  is : IsOneLost (logs 0) (after logs (Lost unit event) knows 0) p
+  is = one_lost (logs 0) unit event knows p waits
 
-    lives : (line : ℕ) → life_of (after logs (Lost unit event) knows 0) line ≡ life_of (logs 0) line
-    lives line = life_more (logs 0) (record { event = Decides (Lost unit event); knows = knows }) line
+  lives : (line : ℕ) → life_of (after logs (Lost unit event) knows 0) line ≡ life_of (logs 0) line
+  lives line = life_more (logs 0) (record { event = Decides (Lost unit event); knows = knows }) line
 
-    stand : (r : Placed) → is_in_force (after logs (Lost unit event) knows 0) r.life r.stripe.line ≡ is_in_force (logs 0) r.life r.stripe.line
-    stand r = force_kept (logs 0) (after logs (Lost unit event) knows 0) lives r.life r.stripe.line
+  stand : (r : Placed) → is_in_force (after logs (Lost unit event) knows 0) r.life r.stripe.line ≡ is_in_force (logs 0) r.life r.stripe.line
+  stand r = force_kept (logs 0) (after logs (Lost unit event) knows 0) lives r.life r.stripe.line
 
-    force : is_in_force (logs 0) p.life p.stripe.line ≡ true
-    force = ap (λ l. is_in_force (logs 0) l p.stripe.line) its ∙ ap (is_life o.number) opened ∙ same_number o.number
+  force : is_in_force (logs 0) p.life p.stripe.line ≡ true
+  force = ap (λ l. is_in_force (logs 0) l p.stripe.line) its ∙ ap (is_life o.number) opened ∙ same_number o.number
 
-    holds : (q : ℕ) → holds_position i.shape q p ≡ list_any (λ (t : Taken). t.entry.position == q) has.entries
-    holds q = stripe_holds i.shape q p ∙ ap (λ qs. is_in_list qs q) has.positions ∙ mapped has.entries
-      where
-        mapped : (ts : List Taken) → is_in_list (positions_of ts) q ≡ list_any (λ (t : Taken). t.entry.position == q) ts
-        mapped [] = refl
-        mapped (t ∷ ts) = ap (λ b. (t.entry.position == q) || b) (mapped ts)
+  holds : (q : ℕ) → holds_position i.shape q p ≡ list_any (λ (t : Taken). t.entry.position == q) has.entries
+  holds q = stripe_holds i.shape q p ∙ ap (λ qs. is_in_list qs q) has.positions ∙ mapped has.entries
+    where
+      mapped : (ts : List Taken) → is_in_list (positions_of ts) q ≡ list_any (λ (t : Taken). t.entry.position == q) ts
+      mapped [] = refl
+      mapped (t ∷ ts) = ap (λ b. (t.entry.position == q) || b) (mapped ts)
 
-    -- the entries were in its line, and are in none
-    places : (lba : ℕ) (u : Option Taken) → line_of i logs lba u ≡ with_entries p.stripe.line has.entries (line_of i new) lba u
-    places lba None =
-        sym (entries_are p.stripe.line has.entries (line_of i new) lba None
-        ∙ ap (λ b. if b then Some p.stripe.line else line_of i new lba None) (none_at has.entries)
-        ∙ winner_kept i logs new (found_kept i logs (Lost unit event) knows refl) lives lba)
-    places lba (Some u) =
-        go (holds_position i.shape u.entry.position p) refl
-        ∙ sym (entries_are p.stripe.line has.entries (line_of i new) lba (Some u)
-        ∙ ap (λ b. if b then Some p.stripe.line else line_of_position i.shape (new 0) u.entry.position) (turned has.entries ∙ sym (holds u.entry.position)))
-      where
-        turned : (ts : List Taken) → list_any (λ (t : Taken). is_at t.entry.position (Some u)) ts ≡ list_any
-            (λ (t : Taken). t.entry.position == u.entry.position) ts
-        turned [] = refl
-        turned (t ∷ ts) = ap₂ (λ a b. a || b) (turned_round u.entry.position t.entry.position) (turned ts)
+  -- the entries were in its line, and are in none
+  places : (lba : ℕ) (u : Option Taken) → line_of i logs lba u ≡ with_entries p.stripe.line has.entries (line_of i new) lba u
+  places lba None =
+      sym (entries_are p.stripe.line has.entries (line_of i new) lba None
+      ∙ ap (λ b. if b then Some p.stripe.line else line_of i new lba None) (none_at has.entries)
+      ∙ winner_kept i logs new (found_kept i logs (Lost unit event) knows refl) lives lba)
+  places lba (Some u) =
+      go (holds_position i.shape u.entry.position p) refl
+      ∙ sym (entries_are p.stripe.line has.entries (line_of i new) lba (Some u)
+      ∙ ap (λ b. if b then Some p.stripe.line else line_of_position i.shape (new 0) u.entry.position) (turned has.entries ∙ sym (holds u.entry.position)))
+    where
+      turned : (ts : List Taken) → list_any (λ (t : Taken). is_at t.entry.position (Some u)) ts ≡ list_any
+          (λ (t : Taken). t.entry.position == u.entry.position) ts
+      turned [] = refl
+      turned (t ∷ ts) = ap₂ (λ a b. a || b) (turned_round u.entry.position t.entry.position) (turned ts)
 
-        go : (b : Bool) → holds_position i.shape u.entry.position p ≡ b
-            → line_of_position i.shape (logs 0) u.entry.position ≡ (if b then Some p.stripe.line else line_of_position i.shape (new 0) u.entry.position)
-        go true e = position_held i.shape (logs 0) p u.entry.position once is.among (ap is_loss is.before) force e
-        go false e = sym (position_lost i.shape (logs 0) (after logs (Lost unit event) knows 0) p u.entry.position once is stand
-            ∙ ap (λ b. if b then None else line_of_position i.shape (logs 0) u.entry.position) e)
+      go : (b : Bool) → holds_position i.shape u.entry.position p ≡ b
+          → line_of_position i.shape (logs 0) u.entry.position ≡ (if b then Some p.stripe.line else line_of_position i.shape (new 0) u.entry.position)
+      go true e = position_held i.shape (logs 0) p u.entry.position once is.among (ap is_loss is.before) force e
+      go false e = sym (position_lost i.shape (logs 0) (after logs (Lost unit event) knows 0) p u.entry.position once is stand
+          ∙ ap (λ b. if b then None else line_of_position i.shape (logs 0) u.entry.position) e)
 
-    nowhere : (ts : List Taken) → ((q : ℕ) → list_any (λ (t : Taken). t.entry.position == q) ts ≡ true → holds_position i.shape q p ≡ true)
-        → AllByRecursion (λ (t : Taken). IsNowhere t.entry.position (line_of i (after logs (Lost unit event) knows))) ts
-    nowhere [] all = tt
-    nowhere (t ∷ ts) all = (
-      λ lba u e. position_lost i.shape (logs 0) (after logs (Lost unit event) knows 0) p u.entry.position once is stand
-          ∙ ap (λ b. if b then None else line_of_position i.shape (logs 0) u.entry.position)
-          (ap (λ q. holds_position i.shape q p) e
-          ∙ all t.entry.position (ap (λ b. b || list_any (λ (x : Taken). x.entry.position == t.entry.position) ts) (same_number t.entry.position))),
-      nowhere ts (λ q e. all q (ap (λ b. (t.entry.position == q) || b) e ∙ or_true (t.entry.position == q))),
-    )
+  nowhere : (ts : List Taken) → ((q : ℕ) → list_any (λ (t : Taken). t.entry.position == q) ts ≡ true → holds_position i.shape q p ≡ true)
+      → AllByRecursion (λ (t : Taken). IsNowhere t.entry.position (line_of i (after logs (Lost unit event) knows))) ts
+  nowhere [] all = tt
+  nowhere (t ∷ ts) all = (
+    λ lba u e. position_lost i.shape (logs 0) (after logs (Lost unit event) knows 0) p u.entry.position once is stand
+        ∙ ap (λ b. if b then None else line_of_position i.shape (logs 0) u.entry.position)
+        (ap (λ q. holds_position i.shape q p) e
+        ∙ all t.entry.position (ap (λ b. b || list_any (λ (x : Taken). x.entry.position == t.entry.position) ts) (same_number t.entry.position))),
+    nowhere ts (λ q e. all q (ap (λ b. (t.entry.position == q) || b) e ∙ or_true (t.entry.position == q))),
+  )
 
-    was : rows_of i logs ≡ place_entries (logs 0) p.stripe.line (table_of i.shape (row_with i logs (line_of i new) (landed_line_of i logs))) has.entries
-    was =
-        table_was i logs
-        ∙ ap (λ (ps : Places). table_of i.shape (row_with i logs ps (landed_line_of i logs))) (λ k lba u. places lba u k)
-        ∙ entries_placed i logs p.stripe.line has.entries (line_of i new) (landed_line_of i logs) rise has.rising
-        (all_imply (IsAmong (takes (logs 0))) (IsEntry (takes (logs 0))) (λ t there. entry_at (takes (logs 0)) there.0 t there.1) has.entries has.among)
-        (nowhere has.entries (λ q e. holds q ∙ e))
+  pub was : rows_of i logs ≡ place_entries (logs 0) p.stripe.line (table_of i.shape (row_with i logs (line_of i new) (landed_line_of i logs))) has.entries
+  was =
+      table_was i logs
+      ∙ ap (λ (ps : Places). table_of i.shape (row_with i logs ps (landed_line_of i logs))) (λ k lba u. places lba u k)
+      ∙ entries_placed i logs p.stripe.line has.entries (line_of i new) (landed_line_of i logs) rise has.rising
+      (all_imply (IsAmong (takes (logs 0))) (IsEntry (takes (logs 0))) (λ t there. entry_at (takes (logs 0)) there.0 t there.1) has.entries has.among)
+      (nowhere has.entries (λ q e. holds q ∙ e))
 
-    takes_same : takes (new 0) ≡ takes (logs 0)
-    takes_same = none_taken (logs 0) (Lost unit event) knows refl
+  takes_same : takes (new 0) ≡ takes (logs 0)
+  takes_same = none_taken (logs 0) (Lost unit event) knows refl
 
-    live_is : (m : ℕ) → (row_of_line i new m).live ≡ live_with i.shape.capacity (takes (logs 0)) (line_of i new) m
-    live_is m = ap (λ (ts : List Taken). live_with i.shape.capacity ts (line_of i new) m) takes_same
+  live_is : (m : ℕ) → (row_of_line i new m).live ≡ live_with i.shape.capacity (takes (logs 0)) (line_of i new) m
+  live_is m = ap (λ (ts : List Taken). live_with i.shape.capacity ts (line_of i new) m) takes_same
 
-    landed_is : landed_line_of i new ≡ landed_line_of i logs
-    landed_is = λ k lba u. same lba u k
-      where
-        same : (lba : ℕ) (u : Option Taken) → landed_line_of i new lba u ≡ landed_line_of i logs lba u
-        same lba None = winner_kept i logs new (found_kept i logs (Lost unit event) knows refl) lives lba
-        same lba (Some u) = landed_line_same i.shape (logs 0) (after logs (Lost unit event) knows 0) p u.entry.position is stand
+  landed_is : landed_line_of i new ≡ landed_line_of i logs
+  landed_is = λ k lba u. same lba u k
+    where
+      same : (lba : ℕ) (u : Option Taken) → landed_line_of i new lba u ≡ landed_line_of i logs lba u
+      same lba None = winner_kept i logs new (found_kept i logs (Lost unit event) knows refl) lives lba
+      same lba (Some u) = landed_line_same i.shape (logs 0) (after logs (Lost unit event) knows 0) p u.entry.position is stand
 
-    then_ : (m : ℕ) → KeepsThen i logs new m (life_of (logs 0) m)
-    then_ m = then_kept i logs (Lost unit event) knows m before
+  then_ : (m : ℕ) → KeepsThen i logs new m (life_of (logs 0) m)
+  then_ m = then_kept i logs (Lost unit event) knows m before
 
-    taker_for_life : (m : ℕ) (l : LineLife) → KeepsThen i logs new m l → taker_in i new m l ≡ taker_for i logs (landed_line_of i logs) m l
-    taker_for_life m AsFound same = ap₂ (λ ts ps. taker_with i.shape.capacity ts ps m) takes_same landed_is
-    taker_for_life m (Opened q) same = ap₂ (λ ts ps. taker_with i.shape.capacity ts ps m) takes_same landed_is
-    taker_for_life m (Freed past ks) same = same.1
+  taker_for_life : (m : ℕ) (l : LineLife) → KeepsThen i logs new m l → taker_in i new m l ≡ taker_for i logs (landed_line_of i logs) m l
+  taker_for_life m AsFound same = ap₂ (λ ts ps. taker_with i.shape.capacity ts ps m) takes_same landed_is
+  taker_for_life m (Opened q) same = ap₂ (λ ts ps. taker_with i.shape.capacity ts ps m) takes_same landed_is
+  taker_for_life m (Freed past ks) same = same.1
 
-    taker_now : (m : ℕ) → taker_in i new m (life_of (new 0) m) ≡ taker_for i logs (landed_line_of i logs) m (life_of (logs 0) m)
-    taker_now m = ap (taker_in i new m) (lives m) ∙ taker_for_life m (life_of (logs 0) m) (then_ m)
+  taker_now : (m : ℕ) → taker_in i new m (life_of (new 0) m) ≡ taker_for i logs (landed_line_of i logs) m (life_of (logs 0) m)
+  taker_now m = ap (taker_in i new m) (lives m) ∙ taker_for_life m (life_of (logs 0) m) (then_ m)
 
-    here : row_of_line i new p.stripe.line ≡ failed (row_with i logs (line_of i new) (landed_line_of i logs) p.stripe.line)
-    here =
-        same_row (state_in i new p.stripe.line (life_of (new 0) p.stripe.line)) states.Failed
-        (width_in i new p.stripe.line (life_of (new 0) p.stripe.line)) (width_in i logs p.stripe.line (life_of (logs 0) p.stripe.line))
-        (row_of_line i new p.stripe.line).live (live_with i.shape.capacity (takes (logs 0)) (line_of i new) p.stripe.line)
-        (taker_in i new p.stripe.line (life_of (new 0) p.stripe.line))
-        (taker_for i logs (landed_line_of i logs) p.stripe.line (life_of (logs 0) p.stripe.line))
-        (ap (state_in i new p.stripe.line) (lives p.stripe.line ∙ opened)
-        ∙ ap (λ b. if b then states.Failed else if have_landed (new 0) o (line_end i.shape o / i.shape.ws_opt) then states.Full else states.Open)
-        (fails_now (logs 0) (after logs (Lost unit event) knows 0) p o is its))
-        (ap (width_in i new p.stripe.line) (lives p.stripe.line ∙ opened) ∙ sym (ap (width_in i logs p.stripe.line) opened))
-        (live_is p.stripe.line) (taker_now p.stripe.line)
+  here : row_of_line i new p.stripe.line ≡ failed (row_with i logs (line_of i new) (landed_line_of i logs) p.stripe.line)
+  here =
+      same_row (state_in i new p.stripe.line (life_of (new 0) p.stripe.line)) states.Failed
+      (width_in i new p.stripe.line (life_of (new 0) p.stripe.line)) (width_in i logs p.stripe.line (life_of (logs 0) p.stripe.line))
+      (row_of_line i new p.stripe.line).live (live_with i.shape.capacity (takes (logs 0)) (line_of i new) p.stripe.line)
+      (taker_in i new p.stripe.line (life_of (new 0) p.stripe.line))
+      (taker_for i logs (landed_line_of i logs) p.stripe.line (life_of (logs 0) p.stripe.line))
+      (ap (state_in i new p.stripe.line) (lives p.stripe.line ∙ opened)
+      ∙ ap (λ b. if b then states.Failed else if have_landed (new 0) o (line_end i.shape o / i.shape.ws_opt) then states.Full else states.Open)
+      (fails_now (logs 0) (after logs (Lost unit event) knows 0) p o is its))
+      (ap (width_in i new p.stripe.line) (lives p.stripe.line ∙ opened) ∙ sym (ap (width_in i logs p.stripe.line) opened))
+      (live_is p.stripe.line) (taker_now p.stripe.line)
 
-    beside : (m : ℕ) → m ≢ p.stripe.line → (v : ℕ) (u : UnitEvent) → told_by logs v (Decides (Lost unit event)) ≡ Some u → (b : Bool) → nat_eq unit v ≡ b
-        → m ≢ u.chunk
-    beside m other v u told true e =
-        λ same. other (same ∙ chunk u (ap (λ w. unit_event_at logs w event) (eqb-true unit v e)
-        ∙ ap (λ b. if b then unit_event_at logs v event else None) (sym e) ∙ told))
-    beside m other v u told false e = absurd (none-some u (ap (λ b. if b then unit_event_at logs v event else None) (sym e) ∙ told))
+  beside : (m : ℕ) → m ≢ p.stripe.line → (v : ℕ) (u : UnitEvent) → told_by logs v (Decides (Lost unit event)) ≡ Some u → (b : Bool) → nat_eq unit v ≡ b
+      → m ≢ u.chunk
+  beside m other v u told true e =
+      λ same. other (same ∙ chunk u (ap (λ w. unit_event_at logs w event) (eqb-true unit v e)
+      ∙ ap (λ b. if b then unit_event_at logs v event else None) (sym e) ∙ told))
+  beside m other v u told false e = absurd (none-some u (ap (λ b. if b then unit_event_at logs v event else None) (sym e) ∙ told))
 
-    there : (m : ℕ) → m ≢ p.stripe.line → row_of_line i new m ≡ row_with i logs (line_of i new) (landed_line_of i logs) m
-    there m other =
-        let chunks : KeepsChunks i logs new m =
-        keeps_chunks i logs (Lost unit event) knows m refl (λ v u told. beside m other v u told (nat_eq unit v) refl) in
-        same_row (state_in i new m (life_of (new 0) m)) (state_of i logs m) (width_in i new m (life_of (new 0) m)) (width_in i logs m (life_of (logs 0) m))
-        (row_of_line i new m).live (live_with i.shape.capacity (takes (logs 0)) (line_of i new) m)
-        (taker_in i new m (life_of (new 0) m)) (taker_for i logs (landed_line_of i logs) m (life_of (logs 0) m))
-        (ap (state_in i new m) (lives m) ∙ state_same i logs new m (life_of (logs 0) m) chunks
-        (λ q at.
-        let apart : is_life q.number p.life ≡ false =
-        ap (is_life q.number) its ∙ other_number o.number q.number (λ same.
-        other (same_Some m p.stripe.line
-        (sym (life_at (logs 0) m q at).0 ∙ ap (opens_at (logs 0)) (sym same) ∙ (life_at (logs 0) p.stripe.line o opened).0))) in
-        ap₂ (λ a b. if a then states.Failed else if b then states.Full else states.Open)
-        (fails_beside (logs 0) (after logs (Lost unit event) knows 0) p q is apart)
-        (have_landed_beside (logs 0) (new 0) unit (WasLost event) p q (line_end i.shape q / i.shape.ws_opt) (its_loss (logs 0) unit event knows)
-        (first_unanswered (logs 0) unit p waits) apart)))
-        (ap (width_in i new m) (lives m) ∙ width_same i logs new m (life_of (logs 0) m) chunks (then_ m))
-        (live_is m) (taker_now m)
+  there : (m : ℕ) → m ≢ p.stripe.line → row_of_line i new m ≡ row_with i logs (line_of i new) (landed_line_of i logs) m
+  there m other =
+      let chunks : KeepsChunks i logs new m =
+      keeps_chunks i logs (Lost unit event) knows m refl (λ v u told. beside m other v u told (nat_eq unit v) refl) in
+      same_row (state_in i new m (life_of (new 0) m)) (state_of i logs m) (width_in i new m (life_of (new 0) m)) (width_in i logs m (life_of (logs 0) m))
+      (row_of_line i new m).live (live_with i.shape.capacity (takes (logs 0)) (line_of i new) m)
+      (taker_in i new m (life_of (new 0) m)) (taker_for i logs (landed_line_of i logs) m (life_of (logs 0) m))
+      (ap (state_in i new m) (lives m) ∙ state_same i logs new m (life_of (logs 0) m) chunks
+      (λ q at.
+      let apart : is_life q.number p.life ≡ false =
+      ap (is_life q.number) its ∙ other_number o.number q.number (λ same.
+      other (same_Some m p.stripe.line
+      (sym (life_at (logs 0) m q at).0 ∙ ap (opens_at (logs 0)) (sym same) ∙ (life_at (logs 0) p.stripe.line o opened).0))) in
+      ap₂ (λ a b. if a then states.Failed else if b then states.Full else states.Open)
+      (fails_beside (logs 0) (after logs (Lost unit event) knows 0) p q is apart)
+      (have_landed_beside (logs 0) (new 0) unit (WasLost event) p q (line_end i.shape q / i.shape.ws_opt) (its_loss (logs 0) unit event knows)
+      (first_unanswered (logs 0) unit p waits) apart)))
+      (ap (width_in i new m) (lives m) ∙ width_same i logs new m (life_of (logs 0) m) chunks (then_ m))
+      (live_is m) (taker_now m)
+
+  pub rows_lost : rows_of i (after logs (Lost unit event) knows)
+      ≡ with_row p.stripe.line failed (lower_entries (logs 0) p.stripe.line (rows_of i logs) has.entries)
+  rows_lost =
+      table_changes i.shape (row_with i logs (line_of i new) (landed_line_of i logs)) (row_of_line i new) p.stripe.line failed here there
+      ∙ ap (with_row p.stripe.line failed)
+      (sym (placed_back (logs 0) p.stripe.line (table_of i.shape (row_with i logs (line_of i new) (landed_line_of i logs))) has.entries)
+      ∙ ap (λ table. lower_entries (logs 0) p.stripe.line table has.entries) (sym was))
+
+  -- its line has so many live sectors as came with its entries, at least
+  pub live_lost : (row : Row) → IsRow (rows_of i logs) p.stripe.line row → counted (logs 0) i.shape.capacity has.entries ≤ row.live
+  live_lost row at =
+      placed_live (logs 0) p.stripe.line (table_of i.shape (row_with i logs (line_of i new) (landed_line_of i logs))) has.entries row
+      (ap (λ (t : Table). slice_get t.rows p.stripe.line) (sym was) ∙ at)

@@ -1,4 +1,4 @@
--- A stripe was lost: what the map holds.
+-- A stripe was lost: what the map holds, by the stripes of its chunk that have landed.
 use Rattle.std.proofs.Common.{◌≡◌, ℕ, ◌+◌, ◌≤◌, ◌<◌, ◌==◌, ◌&&◌, ◌||◌, Bool, true, false, Some, None, Option, List, [], ◌∷◌, length, refl, sym, subst, ap, ap₂, ◌∙◌, arith, append-nil}
 use Rattle.std.specs.Prelude.{slice_get}
 use Rattle.std.specs.List.{filter, find, list_any, enumerate_from, last_or}
@@ -19,7 +19,7 @@ use Rattle.core_laws.specs.Stepping.{after}
 use Rattle.core_laws.specs.SlotOf.{readable_block, media_of, slot_of_entry, slot_of_winner, slot_by, slot_of}
 use Rattle.core_laws.specs.PlacerOf.{unanswered_on}
 use Rattle.core_laws.specs.ChunkBlocks.{AreInRows, IsInRow}
-use Rattle.core_laws.specs.ReadSlots.{block_landed, address_of_block, read_slot}
+use Rattle.core_laws.specs.ReadSlots.{address_of_block, read_slot}
 use Rattle.core_laws.specs.WindowOf.{is_given_back}
 use Rattle.core_laws.proofs.OpeningNumbers.{opens_at}
 use Rattle.core_laws.proofs.GivenBack.{readable_life}
@@ -32,6 +32,7 @@ use Rattle.core_laws.proofs.LandedSlots.{readable_down, address_by, moves}
 use Rattle.core_laws.proofs.LostStripe.{IsOneLost, one_lost, landed_same}
 use Rattle.core_laws.proofs.PlacedAnew.{landed_not_lost}
 use Rattle.core_laws.proofs.StripeLines.{placed_lines, own_opening, IsOpenedFor}
+use Rattle.core_laws.proofs.FirstLanded.{block_of_first}
 use Rattle.core_laws.proofs.FindingInLists.{any_none, find_unique, first_stays, found_within}
 use Rattle.core_laws.proofs.SteppingLemmas.{found_kept}
 use Rattle.core_laws.proofs.TakenSlots.{find_same}
@@ -182,25 +183,27 @@ module _ (i : Image) (logs : Logs) (unit event : ℕ) (knows : List ℕ) (p : Pl
 
   entry_lost : (q : ℕ) (x : Option Placed) → find (gives_back i.shape (logs 0) q) (placements (logs 0)) ≡ x
       → slot_of_entry i (after logs (Lost unit event) knows) q
-      ≡ read_slot i logs o p.stripe.unit (block_landed i.shape (logs 0) o p.stripe.unit) (option_map_or (media_of i logs q) x (Cached q))
+      ≡ read_slot i logs o p.stripe.unit (block_of_first i.shape (has_landed (logs 0)) (stripes_on (logs 0) o p.stripe.unit))
+      (option_map_or (media_of i logs q) x (Cached q))
   entry_lost q (Some r) f = media_stays q r f
   entry_lost q None f =
       leaves q (found_none (gives_back s log q) (placements log) f) (find (in_chunk q) (stripes_on log o p.stripe.unit)) refl
 
   by_take : (lba : ℕ) (t : Option Taken)
       → slot_by i (after logs (Lost unit event) knows) lba t
-      ≡ read_slot i logs o p.stripe.unit (block_landed i.shape (logs 0) o p.stripe.unit) (slot_by i logs lba t)
+      ≡ read_slot i logs o p.stripe.unit (block_of_first i.shape (has_landed (logs 0)) (stripes_on (logs 0) o p.stripe.unit)) (slot_by i logs lba t)
   by_take lba None = ap (λ f. slot_of_winner (winner (counted f) lba)) (found_kept i logs (Lost unit event) knows refl)
       ∙ go (winner (counted (found_image i logs)) lba)
     where
-      go : (r : Option Record) → slot_of_winner r ≡ read_slot i logs o p.stripe.unit (block_landed i.shape (logs 0) o p.stripe.unit) (slot_of_winner r)
+      go : (r : Option Record) → slot_of_winner r ≡ read_slot i logs o p.stripe.unit
+          (block_of_first i.shape (has_landed (logs 0)) (stripes_on (logs 0) o p.stripe.unit)) (slot_of_winner r)
       go None = refl
       go (Some r) = refl
   by_take lba (Some t) = entry_lost t.entry.position (find (gives_back s log t.entry.position) (placements log)) refl
 
-  pub slot_lost : (lba : ℕ) → slot_of i (after logs (Lost unit event) knows) lba
-      ≡ read_slot i logs o p.stripe.unit (block_landed i.shape (logs 0) o p.stripe.unit) (slot_of i logs lba)
-  slot_lost lba =
+  pub slot_by_stripes : (lba : ℕ) → slot_of i (after logs (Lost unit event) knows) lba
+      ≡ read_slot i logs o p.stripe.unit (block_of_first i.shape (has_landed (logs 0)) (stripes_on (logs 0) o p.stripe.unit)) (slot_of i logs lba)
+  slot_by_stripes lba =
       ap (λ (ts : List Taken). slot_by i (after logs (Lost unit event) knows) lba (last_or None (filter (λ (t : Taken). t.mark.lba == lba) ts)))
       (takes_more log (record { event = Decides (Lost unit event); knows = knows }) ∙ append-nil (takes log))
       ∙ by_take lba (last_take log lba)

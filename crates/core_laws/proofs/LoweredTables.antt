@@ -1,12 +1,12 @@
 -- The table that the entries of a lost stripe leave is the one to which they came.
-use Rattle.std.proofs.Common.{◌≡◌, ℕ, ◌+◌, ◌-◌, Bool, true, false, Some, None, Option, List, [], ◌∷◌, refl, sym, ap, ◌∙◌, arith}
+use Rattle.std.proofs.Common.{◌≡◌, ℕ, ◌+◌, ◌-◌, ◌≤◌, Bool, true, false, Some, None, Option, List, [], ◌∷◌, refl, sym, ap, ◌∙◌, arith}
 use Rattle.std.specs.Prelude.{nat_lt, slice_get, slice_set, if◌then◌else◌}
 use Rattle.std.specs.Option.{option_map_or}
-use Rattle.std.proofs.lemmas.Option.{slice_get_within}
+use Rattle.std.proofs.lemmas.Option.{none-some, same_Some, slice_get_within}
 use Rattle.pblk_world.specs.Events.{Logged}
 use Rattle.pblk_world.specs.EngineLog.{Taken}
 use Rattle.line_table.specs.declared.row.Row.{Row}
-use Rattle.line_table.specs.Rows.{Table}
+use Rattle.line_table.specs.Rows.{IsRow, Table}
 use Rattle.line_table.proofs.Places.{set_twice}
 use Rattle.core_laws.specs.ChangedTables.{with_row}
 use Rattle.core_laws.specs.PlacedEntries.{taker_of, place_by, place_entry, place_entries, lower_by, lower_entry, lower_entries}
@@ -55,14 +55,14 @@ live_is : (row : Row) (n m : ℕ) → n ≡ m → ◌≡◌ {A = Row} (record ro
 live_is row n m e = ap (λ (k : ℕ). record row { live = k }) e
 
 -- whether a live one came with the entry
-abbrev counted_by : Option ℕ → ℕ
+abbrev pub counted_by : Option ℕ → ℕ
 counted_by None = 1
 counted_by (Some later) = 0
 
-abbrev counted_one : List Logged → ℕ → Taken → ℕ
+abbrev pub counted_one : List Logged → ℕ → Taken → ℕ
 counted_one log capacity t = if nat_lt t.mark.lba capacity then counted_by (taker_of log t) else 0
 
-counted : List Logged → ℕ → List Taken → ℕ
+unfoldable pub counted : List Logged → ℕ → List Taken → ℕ
 counted log capacity [] = 0
 counted log capacity (t ∷ ts) = counted_one log capacity t + counted log capacity ts
 
@@ -125,3 +125,25 @@ placed_back log line table ts =
     ∙ with_row_same line (λ row. less_live n (more_live n row)) (λ row. row) table
     (λ row. live_is row (row.live + n - n) row.live (omega arith))
     ∙ with_row_stays line table
+
+-- a line has so many live sectors as came with the entries that were placed in it, at least
+pub placed_live : (log : List Logged) (line : ℕ) (table : Table) (ts : List Taken) (row : Row) → IsRow (place_entries log line table ts) line row
+    → counted log table.shape.capacity ts ≤ row.live
+placed_live log line table ts row there =
+    go (slice_get table.rows line) refl (ap (λ (t : Table). slice_get t.rows line) (sym (placed_are log line table ts)) ∙ there)
+  where
+    n : ℕ
+    n = counted log table.shape.capacity ts
+
+    go : (o : Option Row) → slice_get table.rows line ≡ o
+        → slice_get (option_map_or (λ r. slice_set table.rows line (more_live (counted log table.shape.capacity ts) r)) (slice_get table.rows line) table.rows)
+        line
+        ≡ Some row → counted log table.shape.capacity ts ≤ row.live
+    go None e f = absurd (none-some row
+        (sym (ap (λ x. slice_get (option_map_or (λ r. slice_set table.rows line (more_live n r)) x table.rows) line) e ∙ e) ∙ f))
+    go (Some r) e f =
+        let same : more_live n r ≡ row = same_Some (more_live n r) row
+        (sym (get_set_same table.rows line (more_live n r) (slice_get_within table.rows line r e))
+        ∙ ap (λ x. slice_get (option_map_or (λ y. slice_set table.rows line (more_live n y)) x table.rows) line) (sym e) ∙ f) in
+        let live : r.live + n ≡ row.live = ap (λ (x : Row). x.live) same in
+        omega arith

@@ -133,7 +133,7 @@ read_found s log o unit q cs none within =
 
 -- ---- what could be read is given back
 
-before_lands : (log new : List Logged) (p r : Placed) → (r ≡ p) ⊎ (answer_of new r ≡ answer_of log r) → (r ≡ p → ⊥) → has_landed new r ≡ true
+pub before_lands : (log new : List Logged) (p r : Placed) → (r ≡ p) ⊎ (answer_of new r ≡ answer_of log r) → (r ≡ p → ⊥) → has_landed new r ≡ true
     → has_landed log r ≡ true
 before_lands log new p r (inl same) apart e = absurd (apart same)
 before_lands log new p r (inr kept) apart e = ap is_land (sym kept) ∙ e

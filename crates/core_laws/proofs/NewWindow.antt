@@ -55,7 +55,7 @@ low_high s landed below some = go (nat_eq landed s.clba) refl (nat_eq (landed + 
     go false e false = omega arith
 
 -- no earlier block of an entry that isn't given back
-none_earlier : (s : Shape) (log new : List Logged) (p : Placed) (o : Opening) (q : ℕ) → IsLandedNow s log new p o → IsNewest log p
+pub none_earlier : (s : Shape) (log new : List Logged) (p : Placed) (o : Opening) (q : ℕ) → IsLandedNow s log new p o → IsNewest log p
     → is_given_back s log q ≡ false
     → list_any (bears_position s q) (take (readable_blocks s (landed_blocks s log o p.stripe.unit)) (chunk_blocks log o p.stripe.unit)) ≡ false
 none_earlier s log new p o q is newest kept =

@@ -38,7 +38,7 @@ any_counts {X} f (x ∷ xs) e = go (f x) e (any_counts f xs)
     go true g rest = omega arith
     go false g rest = rest g
 
-none_counted : {X : Type 0} (f : X → Bool) (xs : List X) → length (filter f xs) ≡ 0 → list_any f xs ≡ false
+pub none_counted : {X : Type 0} (f : X → Bool) (xs : List X) → length (filter f xs) ≡ 0 → list_any f xs ≡ false
 none_counted {X} f xs e = go (list_any f xs) refl
   where
     go : (b : Bool) → list_any f xs ≡ b → b ≡ false
@@ -169,20 +169,21 @@ earlier_block s log new p o q is held given borne =
     ∙ ap is_some (sym (read_found s log o p.stripe.unit q (chunk_blocks log o p.stripe.unit) is.unlost (chunk_within s log o p.stripe.unit is.rows)))
     ∙ sym (any_found test (enumerate_from 0 (chunk_blocks log o p.stripe.unit))) ∙ whole
 
-pub newly_kept : (s : Shape) (log new : List Logged) (p : Placed) (o : Opening) (q : ℕ) → IsLandedNow s log new p o → HeldOnce s log
+-- so those of blocks behind the ones that could be read before
+pub part_kept : (s : Shape) (log new : List Logged) (p : Placed) (o : Opening) (q high : ℕ) → IsLandedNow s log new p o → HeldOnce s log
     → AllByRecursion (λ (p : Placed). BearsOnce s p.stripe.blocks) (placements log)
-    → list_any (bears_position s q) (newly_readable s log o p.stripe.unit) ≡ true → is_given_back s log q ≡ false
+    → readable_blocks s (landed_blocks s log o p.stripe.unit) ≤ high
+    → list_any (bears_position s q) (drop (readable_blocks s (landed_blocks s log o p.stripe.unit)) (take high (chunk_blocks log o p.stripe.unit))) ≡ true
+    → is_given_back s log q ≡ false
 unfolding times
-newly_kept s log new p o q is held once e =
+part_kept s log new p o q high is held once above e =
     let low : ℕ = readable_blocks s (landed_blocks s log o p.stripe.unit) in
-    let high : ℕ = readable_blocks s (landed_blocks s log o p.stripe.unit + s.ws_opt) in
     let cs : List Block = chunk_blocks log o p.stripe.unit in
     let one : times s q cs ≤ 1 = chunk_times s log o p.stripe.unit q held is.unlost once in
     let few : times s q (take high cs) ≤ times s q cs = fewer_taken (bears_position s q) high cs in
     let sum : times s q (take high cs) ≡ times s q (take low (take high cs)) + times s q (drop low (take high cs)) =
     ap (times s q) (parts_of low (take high cs)) ∙ times_append s q (take low (take high cs)) (drop low (take high cs)) in
-    let first : take low (take high cs) ≡ take low cs =
-    take_within low high cs (low_high s (landed_blocks s log o p.stripe.unit) (blocks_below s log new p o is) is.some) in
+    let first : take low (take high cs) ≡ take low cs = take_within low high cs above in
     let same : times s q (take low (take high cs)) ≡ times s q (take low cs) = ap (times s q) first in
     let some : 0 < times s q (drop low (take high cs)) = any_counts (bears_position s q) (drop low (take high cs)) e in
     let none : times s q (take low cs) ≡ 0 = omega arith in
@@ -204,6 +205,12 @@ newly_kept s log new p o q is held once e =
         (take (readable_blocks s (landed_blocks s log o p.stripe.unit)) (chunk_blocks log o p.stripe.unit)) ≡ true =
         earlier_block s log new p o q is held f borne in absurd cc
     go false f clear borne = refl
+
+pub newly_kept : (s : Shape) (log new : List Logged) (p : Placed) (o : Opening) (q : ℕ) → IsLandedNow s log new p o → HeldOnce s log
+    → AllByRecursion (λ (p : Placed). BearsOnce s p.stripe.blocks) (placements log)
+    → list_any (bears_position s q) (newly_readable s log o p.stripe.unit) ≡ true → is_given_back s log q ≡ false
+newly_kept s log new p o q is held once e = part_kept s log new p o q (readable_blocks s (landed_blocks s log o p.stripe.unit + s.ws_opt)) is held once
+    (low_high s (landed_blocks s log o p.stripe.unit) (blocks_below s log new p o is) is.some) e
 
 pub newly_landed : (s : Shape) (log new : List Logged) (p : Placed) (o : Opening) (q : ℕ) → IsLandedNow s log new p o → IsNewest log p
     → list_any (bears_position s q) (newly_readable s log o p.stripe.unit) ≡ true → has_landed_at s new q ≡ true

@@ -17,7 +17,7 @@ use Rattle.stripe_placer.proofs.OpenLinesLemmas.{length_new, no_chunk_closed}
 
 -- ---- what became of one stripe
 
-lost_is : (a : Option Answer) → is_lost (by_answer a) ≡ is_loss a
+pub lost_is : (a : Option Answer) → is_lost (by_answer a) ≡ is_loss a
 lost_is None = refl
 lost_is (Some (DidLand n)) = refl
 lost_is (Some (WasLost n)) = refl

@@ -1,4 +1,4 @@
--- Where the placer of a simple mount offers nothing, no stripe is to be placed.
+-- Where the placer offers nothing and each placed stripe is answered, no stripe is to be placed.
 use Rattle.std.proofs.Common.{◌≡◌, ◌⊎◌, inl, inr, ℕ, ◌+◌, ◌-◌, ◌/◌, ◌%◌, ◌<◌, ◌≤◌, ◌==◌, ◌&&◌, zero, suc, not, nat_lt, Bool, true, false, cond, Some, None, Option, List, [], ◌∷◌, ◌++◌, map, length, take, drop, refl, sym, subst, ap, ap₂, ◌∙◌, arith, if◌then◌else◌, mod-lt}
 use Rattle.std.specs.Prelude.{slice_get, nat_le, nat_eq}
 use Rattle.std.specs.List.{Contains, filter_map, find, list_all, list_any, range_with_len, slice_index_or}
@@ -10,8 +10,8 @@ use Rattle.pblk_model.specs.Shape.{units}
 use Rattle.pblk_model.specs.LineOrder.{start_len}
 use Rattle.pblk_model.specs.Image.{Image}
 use Rattle.pblk_world.specs.Events.{Stripe, Logged}
-use Rattle.pblk_world.specs.World.{World, log_of}
-use Rattle.pblk_world.specs.EngineLog.{is_opened, Taken, Opening, Opened, life_of, Placed, placements, placed_on, answers, is_answered, turn, stripes_of, has_landed, has_failed}
+use Rattle.pblk_world.specs.World.{World, Logs, log_of}
+use Rattle.pblk_world.specs.EngineLog.{is_life, is_opened, Taken, Opening, Opened, life_of, Placed, placements, placed_on, answers, is_answered, turn, stripes_of, has_landed, has_failed}
 use Rattle.pblk_world.specs.Fronts as fronts
 use Rattle.pblk_world.specs.Placing.{end_address, line_end, IsStart, IsData, IsEnd, IsPad}
 use Rattle.pblk_world.specs.AtRest.{IsUrgent, IsDue}
@@ -29,7 +29,7 @@ use Rattle.core_laws.proofs.WaitingEntries.{waiting_alike}
 use Rattle.core_laws.proofs.StillWaiting.{length_positions as positions_length}
 use Rattle.core_laws.proofs.PlacedLines.{found_any, row_before}
 use Rattle.pblk_world.proofs.Answered.{answers_fit}
-use Rattle.core_laws.specs.PlainLogs.{NoLineFailed}
+use Rattle.core_laws.proofs.DuePads.{offered_pad}
 use Rattle.core_laws.proofs.Followed.{IsFollowed}
 use Rattle.core_laws.proofs.PartLengths.{is_before, is_after}
 use Rattle.core_laws.proofs.PlainOpenings.{opened_lines, IsOpenedLine, life_stands}
@@ -41,10 +41,10 @@ use Rattle.stripe_placer.proofs.Rows.{find_first, find_second}
 use Rattle.core_laws.proofs.KeptLines.{on_drive}
 use Rattle.core_laws.proofs.OfferedStripes.{unit_within}
 use Rattle.core_laws.proofs.Placeable.{kind_in, kind_by, IsPart, HasParts, parts_of}
-use Rattle.lemmas.proofs.Lists.{IsAmong}
+use Rattle.lemmas.proofs.Lists.{IsAmong, among_contained}
 use Rattle.lemmas.proofs.Maps.{from_filter, given_at, in_filter, in_map}
 use Rattle.lemmas.proofs.Parts.{contained_among, none_past, some_within}
-use Rattle.lemmas.proofs.Tests.{and_both, both, le_true, lt_true, or_left, or_right, same_number, within_is as is_within}
+use Rattle.lemmas.proofs.Tests.{and_both, both, le_true, lt_true, not_both, or_left, or_right, same_number, within_is as is_within}
 
 -- ---- units of which each stripe is answered
 
@@ -118,11 +118,13 @@ urgent s log target pad within (inr below) =
     or_right (nat_le s.ws_opt (length (waiting (entries_of s log pad)))) (list_any (λ q. nat_lt q pad) (waiting (entries_of s log pad)))
     (ap (list_any (λ q. nat_lt q pad)) (waiting_alike s log pad) ∙ any_at (fronts.waiting s log) at.0 t pad at.1 (omega arith))
 
+abbrev Kinds : Image → Logs → Opening → Stripe → ℕ → Type 0
+Kinds i logs o stripe target = IsStart i logs o stripe
+    ⊎ (IsEnd i logs o stripe ⊎ (IsPad i logs o stripe ⊎ (IsData i logs o stripe × IsUrgent i.shape (logs 0) target)))
+
 due_next : (i : Image) (us : ℕ → List ℕ) (w : World) (pad target : ℕ) (o : Opening) (stripe : Stripe) → IsFollowed i us w
     → has_failed (log_of w 0) o ≡ false → IsLineOf i us w o → HasParts i us w o → target ≤ pad
-    → IsStart i (log_of w) o stripe
-    ⊎ (IsEnd i (log_of w) o stripe ⊎ (IsPad i (log_of w) o stripe ⊎ (IsData i (log_of w) o stripe × IsUrgent i.shape (log_of w 0) target)))
-    → (kind : StripeKind) × IsAllowedNext i us w pad o kind
+    → Kinds i (log_of w) o stripe target → (kind : StripeKind) × IsAllowedNext i us w pad o kind
 unfolding IsPart
 due_next i us w pad target o stripe is whole line parts within (inl start) =
     let k : ℕ = length (stripes_of (log_of w 0) o) in
@@ -243,28 +245,65 @@ none_behind test stopped given none = go (find test stopped) refl
     go None e = sym (find_second test stopped given e) ∙ none
     go (Some x) e = absurd (none-some x (sym none ∙ find_first test stopped given x e))
 
-pub none_due : (i : Image) (us : ℕ → List ℕ) (w : World) (pad : ℕ) (again : List ℕ) (target : ℕ) (stripe : Stripe) → IsFollowed i us w
-    → NoLineFailed (log_of w 0)
-    → next_stripe (placing_of i (log_of w) pad again) 0 ≡ None → ((p : Placed) → Contains (placements (log_of w 0)) p → is_answered (log_of w 0) p ≡ true)
-    → target ≤ pad → ¬ IsDue i (log_of w) target stripe
-unfolding AreAnswered
-none_due i us w pad again target stripe is whole none all within due =
-    let log : List Logged = log_of w 0 in
-    let o : Opening = due.opening in
-    let well : IsOpenedLine i us stripe.line o = opened_lines i us w is stripe.line o due.is_open in
-    let life : life_of log o.line ≡ Opened o = ap (life_of log) well.its_line ∙ due.is_open in
-    let line : IsLineOf i us w o = line_of i us w o is life (whole o) in
-    let next = due_next i us w pad target o stripe is (whole o) line (parts_of i us w o line) within due.kind in
-    let rows : List UnitRow = map (row_of i (log_of w) again) (range_with_len 0 (units i.shape)) in
-    let given : List Program = filter_map (next_in i.shape (entries_of i.shape log pad)) (open_lines i (log_of w)) in
-    let of : Program = program_of i.shape (open_line i (log_of w) o) (length (stripes_of log o)) next.0
-    (next_positions i.shape (entries_of i.shape log pad) next.0) in
-    let among : IsAmong given of = offered_next i us w pad o next.0 is (whole o) life line next.1 in
-    let nothing : find (λ (x : Program). is_ready rows 0 x.unit) given ≡ None =
-    none_behind (λ (x : Program). is_ready rows 0 x.unit) (filter_map stopped_in rows) given none in
-    let no_ : is_ready rows 0 of.unit ≡ false = none_at (λ (x : Program). is_ready rows 0 x.unit) given among.0 of nothing among.1 in
-    let yes_ : is_ready rows 0 of.unit ≡ true = ready_unit i us w again of.unit is all (its_unit i us w o is life line) in
-    absurd cc
+module _ (i : Image) (us : ℕ → List ℕ) (w : World) (pad : ℕ) (again : List ℕ) (target : ℕ) (stripe : Stripe) (is : IsFollowed i us w)
+    (none : next_stripe (placing_of i (log_of w) pad again) 0 ≡ None)
+    (all : (p : Placed) → Contains (placements (log_of w 0)) p → is_answered (log_of w 0) p ≡ true) (within : target ≤ pad)
+    (due : IsDue i (log_of w) target stripe) where
+  abbrev log : List Logged
+  log = log_of w 0
+
+  abbrev o : Opening
+  o = due.opening
+
+  abbrev rows : List UnitRow
+  rows = map (row_of i (log_of w) again) (range_with_len 0 (units i.shape))
+
+  abbrev given : List Program
+  given = filter_map (next_in i.shape (entries_of i.shape (log_of w 0) pad)) (open_lines i (log_of w))
+
+  well : IsOpenedLine i us stripe.line due.opening
+  well = opened_lines i us w is stripe.line o due.is_open
+
+  life : life_of (log_of w 0) due.opening.line ≡ Opened due.opening
+  life = ap (life_of log) well.its_line ∙ due.is_open
+
+  -- nothing is offered, for each unit is ready
+  none_offered : (of : Program) → IsAmong (filter_map (next_in i.shape (entries_of i.shape (log_of w 0) pad)) (open_lines i (log_of w))) of
+      → of.unit < units i.shape → ⊥
+  unfolding AreAnswered
+  none_offered of among unit =
+      let nothing : find (λ (x : Program). is_ready rows 0 x.unit) given ≡ None =
+      none_behind (λ (x : Program). is_ready rows 0 x.unit) (filter_map stopped_in rows) given none in
+      let no_ : is_ready rows 0 of.unit ≡ false = none_at (λ (x : Program). is_ready rows 0 x.unit) given among.0 of nothing among.1 in
+      let yes_ : is_ready rows 0 of.unit ≡ true = ready_unit i us w again of.unit is all unit in
+      absurd cc
+
+  of_whole : has_failed (log_of w 0) due.opening ≡ false → ⊥
+  of_whole whole =
+      let line : IsLineOf i us w o = line_of i us w o is life whole in
+      let next = due_next i us w pad target o stripe is whole line (parts_of i us w o line) within due.kind in
+      let of : Program = program_of i.shape (open_line i (log_of w) o) (length (stripes_of log o)) next.0
+      (next_positions i.shape (entries_of i.shape log pad) next.0) in
+      none_offered of (offered_next i us w pad o next.0 is whole life line next.1) (its_unit i us w o is life line)
+
+  -- in a Failed line it is a pad
+  of_failed : has_failed (log_of w 0) due.opening ≡ true → Kinds i (log_of w) due.opening stripe target → ⊥
+  of_failed fails (inl start) = not_both (has_failed log o) fails start.next.not_failed
+  of_failed fails (inr (inl ends)) = not_both (has_failed log o) fails ends.next.not_failed
+  of_failed fails (inr (inr (inr its))) = not_both (has_failed log o) fails its.0.next.not_failed
+  of_failed fails (inr (inr (inl pads))) =
+      let pad_now = offered_pad i w is.mount o life stripe (sym well.its_line) pads
+      (λ p there. all p (contained_among (placements log) p (from_filter (λ (q : Placed). is_life o.number q.life) (placements log) p
+      (among_contained (stripes_of log o) p there))))
+      (entries_of i.shape log pad) in
+      none_offered pad_now.0 pad_now.1 pad_now.2
+
+  pub none_due : ⊥
+  none_due = go (has_failed log o) refl
+    where
+      go : (b : Bool) → has_failed (log_of w 0) due.opening ≡ b → ⊥
+      go true e = of_failed e due.kind
+      go false e = of_whole e
 
 -- ---- where each unit is idle
 

@@ -20,7 +20,6 @@ use Rattle.stripe_placer.proofs.Named.{IsProgramIn, its_program}
 use Rattle.stripe_placer.proofs.Chunks.{lt_of as is_below}
 use Rattle.core_laws.specs.OpenedLines.{open_line, standing, open_lines}
 use Rattle.core_laws.specs.PlacerOf.{entries_of, row_of, placing_of}
-use Rattle.core_laws.specs.PlainLogs.{NoLineFailed}
 use Rattle.core_laws.proofs.Followed.{IsFollowed}
 use Rattle.core_laws.proofs.StandingOpenings.{standing_opened}
 use Rattle.core_laws.proofs.KeptLines.{few_units, live_inside, unit_live}
@@ -193,11 +192,3 @@ offered_line i us w pad again busy of is next none =
     let found = found_passes (λ (x : Program). is_ready rows busy x.unit) given of only in
     let by = offered_by i us w pad of is found.1 in
     (by.0, by.1, found.0)
-
-pub what_is_offered : (i : Image) (us : ℕ → List ℕ) (w : World) (pad : ℕ) (again : List ℕ) (busy : ℕ) (of : Program) → IsFollowed i us w
-    → NoLineFailed (log_of w 0)
-    → next_stripe (placing_of i (log_of w) pad again) busy ≡ Some of
-    → stopped_in (row_of i (log_of w) again of.unit) ≡ None → (o : Opening) × IsOffered i us w pad of o
-what_is_offered i us w pad again busy of is whole next none =
-    let by = offered_line i us w pad again busy of is next none in
-    (by.0, offered i us w pad again busy of by.0 is (whole by.0) by.1 by.2 none)

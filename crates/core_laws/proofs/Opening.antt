@@ -77,7 +77,7 @@ placed_before log n within = all_made (λ (e : ℕ × Logged). placed_by log e.0
 
 -- ---- a line without stripes
 
-replicated_gets : {X : Type 0} (n i : ℕ) (x : X) (test : X → Bool) → test x ≡ false → option_map_or test (slice_get (replicate n x) i) false ≡ false
+pub replicated_gets : {X : Type 0} (n i : ℕ) (x : X) (test : X → Bool) → test x ≡ false → option_map_or test (slice_get (replicate n x) i) false ≡ false
 replicated_gets zero i x test e = refl
 replicated_gets (suc n) zero x test e = e
 replicated_gets (suc n) (suc i) x test e = replicated_gets n i x test e
@@ -171,7 +171,7 @@ standing_more log line start knows closed =
 abbrev live_now : Image → Logs → ℕ → ℕ
 live_now i logs line = bits_of (line_units (known_image i logs) line)
 
-new_line : (i : Image) (logs : Logs) (line : ℕ) (start : StartRecord) (knows : List ℕ)
+pub new_line : (i : Image) (logs : Logs) (line : ℕ) (start : StartRecord) (knows : List ℕ)
     → open_line i (after logs (Open line start) knows) (new_opening (logs 0) line start knows) ≡ opened i.shape line (live_now i logs line)
 new_line i logs line start knows =
     let new : Logs = after logs (Open line start) knows in

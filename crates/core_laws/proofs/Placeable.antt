@@ -28,21 +28,21 @@ use Rattle.stripe_placer.specs.OpenLines.{OpenLine, kind_of, start_has_landed}
 use Rattle.stripe_placer.specs.Placing.{Program, allows, next_positions, next_stripe, stopped_in}
 use Rattle.stripe_placer.proofs.Chunks.{lt_of as is_below}
 use Rattle.stripe_placer.proofs.Named.{its_program}
-use Rattle.core_laws.specs.OpenedLines.{open_line}
+use Rattle.core_laws.specs.OpenedLines.{as_opened, open_line}
 use Rattle.core_laws.specs.PlacerOf.{entries_of, placing_of, IsStripeOf, row_of}
 use Rattle.core_laws.proofs.UnitTurns.{filtered_is}
 use Rattle.core_laws.proofs.WaitingEntries.{waiting_alike}
 use Rattle.core_laws.proofs.StillWaiting.{length_positions as positions_length}
-use Rattle.core_laws.specs.PlainLogs.{NoLineFailed}
 use Rattle.core_laws.proofs.Followed.{IsFollowed, units_width}
 use Rattle.core_laws.specs.StripeFor.{blocks_for, IsStripeFor, positions_for, IsProgramFor}
 use Rattle.core_laws.proofs.PartLengths.{IsStriped, begins_before, ends_before, begins_after}
+use Rattle.core_laws.proofs.PlainOpenings.{IsOpenedLine}
 use Rattle.core_laws.proofs.StripesInOrder.{wide, stripe_count, IsAtPlace}
 use Rattle.core_laws.proofs.LineForms.{IsLineOf, formed}
 use Rattle.core_laws.proofs.NextStripes.{unfailed, start_landed, data_landed, all_parts}
 use Rattle.core_laws.proofs.BlockPositions.{record_positions, data_positions, no_pad_positions}
 use Rattle.core_laws.proofs.IdleRows.{all_answered}
-use Rattle.core_laws.proofs.OfferedStripes.{IsOffered, what_is_offered, IsOfferedBy, offered, offered_line}
+use Rattle.core_laws.proofs.OfferedStripes.{IsOffered, IsOfferedBy, offered, offered_line}
 use Rattle.lemmas.proofs.Lists.{IsAmong, among_contained}
 use Rattle.lemmas.proofs.Tests.{and_both, both, le_of_lt_false, le_true}
 use Rattle.pblk_world.proofs.EngineLogLemmas.{opened_same}
@@ -132,29 +132,32 @@ pub record HasParts (i : Image) (us : ℕ → List ℕ) (w : World) (o : Opening
   pub has_data : 0 < (open_line i (log_of w) o).data_count
   pub fits : start_len i.shape / i.shape.ws_opt + (open_line i (log_of w) o).data_count ≤ stripe_count i us o.line
 
-pub parts_of : (i : Image) (us : ℕ → List ℕ) (w : World) (o : Opening) → IsLineOf i us w o → HasParts i us w o
-parts_of i us w o is =
+pub parts_by : (i : Image) (us : ℕ → List ℕ) (w : World) (o : Opening) → line.width (as_opened i (log_of w) o) ≡ wide us o.line → IsOpenedLine i us o.line o
+    → IsStriped i.shape (wide us o.line) → HasParts i us w o
+parts_by i us w o wide_is well striped =
     let s : Shape = i.shape in
     let ws : ℕ = s.ws_opt in
     let g : ℕ = wide us o.line in
     let d : ℕ = (open_line i (log_of w) o).data_count in
-    let count : d ≡ data_len s g / ws = ap (λ n. data_len s n / ws) is.wide_is in
-    let striped : IsStriped s g = is.striped in
+    let count : d ≡ data_len s g / ws = ap (λ n. data_len s n / ws) wide_is in
     let data_is : d * ws ≡ data_len s g = ap (λ n. n * ws) count ∙ striped.data_is in
-    let address : end_address s o ≡ start_len s + data_len s g = ap (λ n. start_len s + data_len s n) is.well.width in
+    let address : end_address s o ≡ start_len s + data_len s g = ap (λ n. start_len s + data_len s n) well.width in
     let sum : (start_len s / ws + d) * ws ≡ start_len s / ws * ws + d * ws = omega arith in
     record {
       start_is = striped.start_is;
       ends_is = omega (arith, sum, data_is, address, striped.start_is);
-      line_is = striped.line_is ∙ ap (λ n. n * s.clba) (sym is.well.width);
+      line_is = striped.line_is ∙ ap (λ n. n * s.clba) (sym well.width);
       count_is = ap (λ n. n / ws) address ∙ striped.end_is ∙ ap (λ n. start_len s / ws + n) (sym count);
-      has_data = some_product d ws (data_len s g) data_is is.well.has_data;
+      has_data = some_product d ws (data_len s g) data_is well.has_data;
       fits = subst (λ n. start_len s / ws + n ≤ stripe_count i us o.line) (sym count) striped.fits;
     }
   where
     some_product : (d ws n : ℕ) → d * ws ≡ n → 0 < n → 0 < d
     some_product zero ws n e h = absurd (omega arith)
     some_product (suc d) ws n e h = omega arith
+
+pub parts_of : (i : Image) (us : ℕ → List ℕ) (w : World) (o : Opening) → IsLineOf i us w o → HasParts i us w o
+parts_of i us w o is = parts_by i us w o is.wide_is is.well is.striped
 
 may_by_kind : (i : Image) (us : ℕ → List ℕ) (w : World) (pad : ℕ) (of : Program) (o : Opening) (stripe : Stripe) (kind : StripeKind) → IsFollowed i us w
     → IsOffered i us w pad of o → HasParts i us w o → IsNext i (log_of w) o stripe
@@ -300,28 +303,22 @@ its_positions s log pad kinds.Data = ap (take s.ws_opt) (waiting_alike s log pad
 its_positions s log pad kinds.Pad = refl
 its_positions s log pad kinds.End = refl
 
-pub offered_is_for : (i : Image) (us : ℕ → List ℕ) (w : World) (pad : ℕ) (again : List ℕ) (busy : ℕ) (of : Program) → IsFollowed i us w
-    → NoLineFailed (log_of w 0)
-    → next_stripe (placing_of i (log_of w) pad again) busy ≡ Some of
-    → stopped_in (row_of i (log_of w) again of.unit) ≡ None → (o : Opening) × IsProgramFor i (log_of w) o of
-offered_is_for i us w pad again busy of is whole next none =
-    let its = what_is_offered i us w pad again busy of is whole next none in
-    let o : Opening = its.0 in
-    let off : IsOffered i us w pad of o = its.1 in
+-- a program of a line that hasn't failed is that of a stripe in it
+pub offered_for : (i : Image) (us : ℕ → List ℕ) (w : World) (pad : ℕ) (of : Program) (o : Opening) → has_failed (log_of w 0) o ≡ false
+    → IsOffered i us w pad of o → IsProgramFor i (log_of w) o of
+offered_for i us w pad of o whole off =
     let log : List Logged = log_of w 0 in
     let l : OpenLine = open_line i (log_of w) o in
     let k : ℕ = length (stripes_of log o) in
     let parts : HasParts i us w o = parts_of i us w o off.line_is in
     let kind : kind_in k (start_len i.shape / i.shape.ws_opt) l.data_count ≡ of.kind =
-    sym (kind_by l k (unfailed l log (stripes_of log o) (stripe_count i us o.line - k) (whole o) (formed i us w o off.line_is))) ∙ off.kind in (
-      o,
-      record {
-        opened = ap (life_of log) off.its_line ∙ off.life;
-        kind = not_pad k (start_len i.shape / i.shape.ws_opt) l.data_count of.kind kind;
-        positions = sym off.positions ∙ its_positions i.shape log pad of.kind;
-        line = subst (λ n. n < i.shape.chunks) (sym off.its_line) off.line_is.well.in_range;
-        unit = off.unit;
-        at = subst (λ a. a + i.shape.ws_opt ≤ line_end i.shape o) (sym off.at)
-            (ends_before i.shape.ws_opt k (stripe_count i us o.line) (line_end i.shape o) parts.line_is off.inside);
-      },
-    )
+    sym (kind_by l k (unfailed l log (stripes_of log o) (stripe_count i us o.line - k) whole (formed i us w o off.line_is))) ∙ off.kind in
+    record {
+      opened = ap (life_of log) off.its_line ∙ off.life;
+      kind = not_pad k (start_len i.shape / i.shape.ws_opt) l.data_count of.kind kind;
+      positions = sym off.positions ∙ its_positions i.shape log pad of.kind;
+      line = subst (λ n. n < i.shape.chunks) (sym off.its_line) off.line_is.well.in_range;
+      unit = off.unit;
+      at = subst (λ a. a + i.shape.ws_opt ≤ line_end i.shape o) (sym off.at)
+          (ends_before i.shape.ws_opt k (stripe_count i us o.line) (line_end i.shape o) parts.line_is off.inside);
+    }

@@ -172,7 +172,8 @@ its_number log o other line life is same = eqb-true o.number other.number (ap (i
 abbrev like : Opening → ℕ → ℕ → Opening
 like o n line = record { number = n; line = line; start = o.start; knows = o.knows }
 
-line_now : (i : Image) (logs : Logs) (knows : List ℕ) (o : Opening) (stripe : Stripe) (of : Program) (j : ℕ) → 0 < i.shape.ws_opt → IsPlacing (logs 0) stripe o
+pub line_now : (i : Image) (logs : Logs) (knows : List ℕ) (o : Opening) (stripe : Stripe) (of : Program) (j : ℕ) → 0 < i.shape.ws_opt
+    → IsPlacing (logs 0) stripe o
     → IsPlacedAt i logs o stripe of j
     → (other : Opening) → IsStanding (logs 0) other
     → open_line i (after logs (Place stripe) knows) other ≡ in_line of.line (of.at / i.shape.ws_opt) Unanswered (open_line i logs other)

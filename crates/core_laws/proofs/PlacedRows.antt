@@ -47,7 +47,7 @@ use Rattle.pblk_world.proofs.EngineLogLemmas.{takes_more}
 
 -- ---- states stay
 
-failed_now : (log : List Logged) (stripe : Stripe) (knows : List ℕ) (o other : Opening) → IsPlacing log stripe o
+pub failed_now : (log : List Logged) (stripe : Stripe) (knows : List ℕ) (o other : Opening) → IsPlacing log stripe o
     → has_failed (with_place log stripe knows) other ≡ has_failed log other
 failed_now log stripe knows o other is = go (is_life other.number (Opened o)) refl
   where

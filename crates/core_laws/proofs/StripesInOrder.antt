@@ -1,5 +1,5 @@
--- The stripes of an opened line that isn't Failed are placed in line order, and data and the end record behind a
--- start record that has landed.
+-- The stripes of an opened line that isn't Failed are placed in line order, and data and the end
+-- record behind a start record that has landed.
 use Rattle.std.proofs.Common.{◌≡◌, inl, inr, ℕ, ◌+◌, ◌*◌, ◌/◌, ◌%◌, ◌<◌, ◌≤◌, ◌&&◌, zero, suc, Bool, true, false, Some, List, [], ◌∷◌, length, take, drop, refl, sym, subst, ap, ap₂, ◌∙◌, arith, mul-div_cancel, le_refl}
 use Rattle.std.specs.Prelude.{slice_get, nat_le}
 use Rattle.std.specs.List.{Contains, list_all}
@@ -144,17 +144,17 @@ pub record IsInOrder (i : Image) (us : ℕ → List ℕ) (log : List Logged) (li
   pub started : start_len i.shape / i.shape.ws_opt < length (stripes_of log o)
       → list_all (has_landed log) (take (start_len i.shape / i.shape.ws_opt) (stripes_of log o)) ≡ true
 
-module _ (i : Image) (us : ℕ → List ℕ) (w : World) (is : IsFollowed i us w) (line : ℕ) (o : Opening) (is_open : life_of (log_of w 0) line ≡ Opened o)
-    (whole : has_failed (log_of w 0) o ≡ false) where
+module _ (i : Image) (us : ℕ → List ℕ) (w : World) (is : IsFollowed i us w) (line : ℕ) (o : Opening) (is_open : life_of (log_of w 0) line ≡ Opened o) where
   abbrev log : List Logged
   log = log_of w 0
 
   well : IsOpenedLine i us line o
   well = opened_lines i us w is line o is_open
 
-  -- when it was placed it was the next one
-  was_next : (k : ℕ) (p : Placed) → slice_get (stripes_of (log_of w 0) o) k ≡ Some p → IsPlacedNext i us (take p.number (log_of w 0)) line o k p.stripe
-  was_next k p at =
+  -- when it was placed it was the next one, where the line hadn't failed
+  was_next : (k : ℕ) (p : Placed) → slice_get (stripes_of (log_of w 0) o) k ≡ Some p → has_failed (take p.number (log_of w 0)) o ≡ false
+      → IsPlacedNext i us (take p.number (log_of w 0)) line o k p.stripe
+  was_next k p at whole =
       let legal = is.mount.legal in
       let some : 0 < i.shape.ws_opt = is.mount.accepted.drive.ws_opt in
       let opened = opened_now i w is.mount line o is_open in
@@ -168,17 +168,25 @@ module _ (i : Image) (us : ℕ → List ℕ) (w : World) (is : IsFollowed i us w
       subst (λ n. IsPlacedNext i us (take p.number log) line o n p.stripe) (turn_of_stripe log o k p at)
       (next_by_kind i us (engine_prefix p.number (log_of w)) p.stripe line o its_line units some
       (its_stripes i us line o some is.mount.accepted.drive.whole_stripes well) well
-      (whole_then log o p.number whole)
+      whole
       (stripe_kind i w o p legal opened.0 there))
 
-  pub in_order : IsInOrder i us (log_of w 0) line o
-  in_order = record {
+  pub placed_in_order : (k : ℕ) (p : Placed) → slice_get (stripes_of (log_of w 0) o) k ≡ Some p → has_failed (take p.number (log_of w 0)) o ≡ false
+      → IsAtPlace i us line k p.stripe.unit p.stripe.at
+  placed_in_order k p at whole = (was_next k p at whole).place
+
+  pub placed_inside : (k : ℕ) (p : Placed) → slice_get (stripes_of (log_of w 0) o) k ≡ Some p → has_failed (take p.number (log_of w 0)) o ≡ false
+      → k < stripe_count i us line
+  placed_inside k p at whole = (was_next k p at whole).inside
+
+  pub in_order : has_failed (log_of w 0) o ≡ false → IsInOrder i us (log_of w 0) line o
+  in_order whole = record {
     inside = all_inside (length (stripes_of log o)) refl;
-    places = λ k p at. (was_next k p at).place;
+    places = λ k p at. placed_in_order k p at (whole_then log o p.number whole);
     started = λ above.
         let at = got_within (stripes_of log o) (start_len i.shape / i.shape.ws_opt) above in
         let then_ : have_landed (take at.0.number log) o (start_len i.shape / i.shape.ws_opt) ≡ true =
-        (was_next (start_len i.shape / i.shape.ws_opt) at.0 at.1).started (le_refl (start_len i.shape / i.shape.ws_opt)) in
+        (was_next (start_len i.shape / i.shape.ws_opt) at.0 at.1 (whole_then log o at.0.number whole)).started (le_refl (start_len i.shape / i.shape.ws_opt)) in
         second_of (nat_le (start_len i.shape / i.shape.ws_opt) (length (stripes_of log o)))
         (list_all (has_landed log) (take (start_len i.shape / i.shape.ws_opt) (stripes_of log o)))
         (subst (λ (xs : List Logged). have_landed xs o (start_len i.shape / i.shape.ws_opt) ≡ true) (take_and_drop at.0.number log)
@@ -189,5 +197,5 @@ module _ (i : Image) (us : ℕ → List ℕ) (w : World) (is : IsFollowed i us w
       all_inside zero e = omega arith
       all_inside (suc m) e =
           let at = got_within (stripes_of log o) m (omega arith) in
-          let last : m < stripe_count i us line = (was_next m at.0 at.1).inside in
+          let last : m < stripe_count i us line = (was_next m at.0 at.1 (whole_then log o at.0.number whole)).inside in
           omega arith

@@ -35,10 +35,26 @@ abbrev pub newly_readable : Shape → List Logged → Opening → ℕ → List B
 newly_readable s log o unit = drop (readable_blocks s (landed_blocks s log o unit))
     (take (readable_blocks s (landed_blocks s log o unit + s.ws_opt)) (chunk_blocks log o unit))
 
--- the first of these that bears the position, by its number in the chunk
+-- the blocks of a chunk that have landed and can't be read yet: they can once its next stripe is
+-- lost
+abbrev pub unreadable_blocks : Shape → List Logged → Opening → ℕ → List Block
+unreadable_blocks s log o unit = drop (readable_blocks s (landed_blocks s log o unit))
+    (take (landed_blocks s log o unit) (chunk_blocks log o unit))
+
+-- of blocks of a chunk that stand from a number on, the first that bears the position, by its
+-- number
+abbrev pub first_bearing : Shape → ℕ → List Block → ℕ → Option ℕ
+first_bearing s from blocks position =
+    option_map (λ b. b.0) (find (λ b. bears_position s position b.1) (enumerate_from from blocks))
+
+-- the first of either that bears the position
 abbrev pub block_among : Shape → List Logged → Opening → ℕ → ℕ → Option ℕ
-block_among s log o unit position = option_map (λ b. b.0) (find (λ b. bears_position s position b.1)
-    (enumerate_from (readable_blocks s (landed_blocks s log o unit)) (newly_readable s log o unit)))
+block_among s log o unit position =
+    first_bearing s (readable_blocks s (landed_blocks s log o unit)) (newly_readable s log o unit) position
+
+abbrev pub unreadable_block : Shape → List Logged → Opening → ℕ → ℕ → Option ℕ
+unreadable_block s log o unit position =
+    first_bearing s (readable_blocks s (landed_blocks s log o unit)) (unreadable_blocks s log o unit) position
 
 -- the stripe is the one of this number in its chunk, and lies within the chunk
 pub record IsInRow (s : Shape) (number : ℕ) (p : Placed) : Type 0 where

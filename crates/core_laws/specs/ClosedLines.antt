@@ -1,9 +1,9 @@
--- What a target keeps to tell when a line may be freed or collected: of each line that is closed its
--- sequence number and where its positions end, and of the newest start record that has landed its
--- numbers. A line is closed where it has a sequence number, and nothing more is written to it before
--- its chunks are reset.
-use Rattle.std.specs.Prelude.{ℕ, ◌+◌, ◌-◌, ◌<◌, ◌≤◌, ◌≡◌, if◌then◌else◌, max, nat_lt, List, take, length, slice_get, Option, Some, None}
-use Rattle.std.specs.List.{filter, filter_map, flat_map, fold}
+-- What a target keeps to tell when a line may be freed or collected: of each line that is closed
+-- its sequence number and where its positions end, and of the newest start record that has landed
+-- its numbers. A line is closed where it has a sequence number, and nothing more is written to it
+-- before its chunks are reset.
+use Rattle.std.specs.Prelude.{ℕ, ◌+◌, ◌-◌, ◌<◌, ◌≤◌, ◌≡◌, ◌&&◌, not, if◌then◌else◌, max, nat_lt, Bool, List, take, length, slice_get, Option, Some, None}
+use Rattle.std.specs.List.{filter, fold}
 use Rattle.std.specs.Option.{option_map, option_and_then}
 use Rattle.pblk_model.specs.declared.found.Found.{Found}
 use Rattle.pblk_model.specs.declared.found.LineRow.{LineRow}
@@ -11,11 +11,11 @@ use Rattle.pblk_model.specs.declared.shape.Shape.{Shape}
 use Rattle.pblk_model.specs.Image.{Image}
 use Rattle.pblk_world.specs.Events.{Logged}
 use Rattle.pblk_world.specs.World.{Logs}
-use Rattle.pblk_world.specs.EngineLog.{Opening, life_of, stripes_of, has_landed}
+use Rattle.pblk_world.specs.EngineLog.{Opened, Opening, Placed, life_of, stripes_of, has_landed, has_failed}
 use Rattle.pblk_world.specs.Lines.{are_over}
 use Rattle.pblk_world.specs.Starts.{newest_start, seq_of, start_stripes}
 use Rattle.pblk_world.specs.Fronts.{synced}
-use Rattle.pblk_world.specs.Victims.{live, position_in, positions_in, taken_up_to}
+use Rattle.pblk_world.specs.Victims.{live, positions_in, taken_up_to}
 
 -- one past the greatest of these positions, and 0 where there is none
 abbrev pub top_of : List ℕ → ℕ
@@ -69,10 +69,16 @@ pub record IsSpentBy (i : Image) (logs : Logs) (line : ℕ) : Type 0 where
 
 -- Opened lines.
 
--- one past the greatest position that was placed in it
-abbrev pub placed_top : Shape → List Logged → Opening → ℕ
-placed_top s log o = top_of (flat_map (λ p. filter_map (position_in s) p.stripe.blocks) (stripes_of log o))
+-- one past the greatest position that is written in it, by what the engine was told: a stripe that
+-- has landed has all its positions there, and a lost one those of its blocks that were written
+abbrev pub answered_top : Image → Logs → Opening → ℕ
+answered_top i logs o = top_of (positions_in i logs (Opened o) o.line)
+
+-- The stripe has landed, and none of its line was lost when it was placed. What is placed in a
+-- Failed line is a pad, and none of a record.
+abbrev pub is_landed_whole : List Logged → Opening → Placed → Bool
+is_landed_whole log o p = has_landed log p && not (has_failed (take p.number log) o)
 
 -- how many stripes of its start record haven't landed
 abbrev pub starts_left : Shape → List Logged → Opening → ℕ
-starts_left s log o = start_stripes s - length (filter (has_landed log) (take (start_stripes s) (stripes_of log o)))
+starts_left s log o = start_stripes s - length (filter (is_landed_whole log o) (take (start_stripes s) (stripes_of log o)))

@@ -1,12 +1,12 @@
 -- Where a sector stands once a block of its entry can be read.
 use Rattle.std.specs.Prelude.{ℕ, ◌+◌, ◌*◌, ◌/◌, ◌%◌, ◌&&◌, List, Option}
 use Rattle.std.specs.List.{find, enumerate_from}
-use Rattle.std.specs.Option.{option_and_then, option_map, option_map_or, unwrap_or}
+use Rattle.std.specs.Option.{option_map, option_map_or, unwrap_or}
 use Rattle.pblk_model.specs.declared.shape.Shape.{Shape}
 use Rattle.pblk_model.specs.Image.{Image}
 use Rattle.pblk_world.specs.Events.{Logged}
 use Rattle.pblk_world.specs.World.{Logs}
-use Rattle.pblk_world.specs.EngineLog.{Opened, Opening, stripes_on, has_landed, bears_position, holds_position}
+use Rattle.pblk_world.specs.EngineLog.{Opened, Opening, bears_position}
 use Rattle.pblk_world.specs.Space.{is_readable_in}
 use Rattle.l2p_map.specs.declared.slot.Slot.{Slot}
 use Rattle.l2p_map.specs.declared.slot.Slot.TheVariants.{Unwritten, Cached, Media}
@@ -19,12 +19,6 @@ abbrev pub block_read : Shape → List Logged → Opening → ℕ → ℕ → Op
 block_read s log o unit position = option_map (λ b. b.0)
     (find (λ b. bears_position s position b.1 && is_readable_in s log unit b.0 (Opened o))
     (enumerate_from 0 (chunk_blocks log o unit)))
-
--- of the chunk's first stripe that has landed and holds the position, the first block that bears it
-abbrev pub block_landed : Shape → List Logged → Opening → ℕ → ℕ → Option ℕ
-block_landed s log o unit position = option_and_then (λ p. option_map (λ b. b.0)
-    (find (λ b. bears_position s position b.1) (enumerate_from p.stripe.at p.stripe.blocks)))
-    (find (λ p. has_landed log p && holds_position s position p) (stripes_on log o unit))
 
 -- the line address of a block of a unit's chunk: that of its stripe, and one more for each block
 -- before it

@@ -8,9 +8,9 @@
 //!   much of the table.
 //! - In the placer: what it offers may be placed. Where it offers nothing and each placed stripe is
 //!   answered, no stripe is to be placed. An opened line keeps its units.
-//! - A mount without failures places positions in order, each once. A unit has at most one stripe
-//!   under way. A line has a stripe left until all its stripes have landed, and a mark for each of
-//!   its data blocks.
+//! - Positions are placed in their order, and one is placed again only where its stripe was lost. A
+//!   unit has at most one stripe under way. A line has a stripe left until all its stripes are
+//!   answered, and a mark for each block of a data stripe.
 //! - In the window and the map: a landed stripe lands its positions, gives back those whose blocks
 //!   can now be read, and moves their sectors to these blocks. No front ever falls, and after the
 //!   history a sector holds what its last entry has.

@@ -1,5 +1,5 @@
 -- A run whose text has no `e` line and no `worn` line: its status, its close, and what it writes.
-use Rattle.std.proofs.Common.{◌≡◌, ℕ, ◌+◌, ◌≤◌, ◌==◌, ◌||◌, zero, suc, cond, Bool, true, false, Some, None, Option, List, [], ◌∷◌, ◌++◌, length, map, take, refl, sym, subst, ap, ap₂, ◌∙◌, arith, append-nil}
+use Rattle.std.proofs.Common.{◌≡◌, ℕ, ◌+◌, ◌≤◌, ◌==◌, ◌||◌, zero, suc, cond, true, false, Some, None, Option, List, [], ◌∷◌, ◌++◌, length, map, take, refl, sym, subst, ap, ap₂, ◌∙◌, arith, append-nil}
 use Rattle.std.specs.Prelude.{slice_get, ⊤}
 use Rattle.std.specs.List.{AllByRecursion, cons_option, filter, filter_map, flat_map, list_any, range_with_len, zip}
 use Rattle.std.specs.Option.{unwrap_or}
@@ -20,6 +20,7 @@ use Rattle.lemmas.proofs.Lists.{all_append}
 use Rattle.lemmas.proofs.Maps.{in_filter}
 use Rattle.lemmas.proofs.Parts.{all_at, all_by_get}
 use Rattle.lemmas.proofs.Tests.{same_number}
+use Rattle.world_laws.proofs.HeldSectors.{all_pass}
 
 -- ---- lists
 
@@ -174,13 +175,9 @@ none_in (w ∷ order) none =
     let among = in_filter (λ (x : PlacedWrite). x.thread == w.thread) (w ∷ order) w (0, refl) (same_number w.thread) in
     absurd (none-some w (ap (λ (xs : List PlacedWrite). slice_get xs among.0) (sym (none w.thread)) ∙ among.1))
 
-all_kept : {X : Type 0} (test : X → Bool) (xs : List X) → AllByRecursion (λ x. test x ≡ true) xs → filter test xs ≡ xs
-all_kept test [] all = refl
-all_kept test (x ∷ xs) all = ap (λ b. cond b (x ∷ filter test xs) (filter test xs)) all.0 ∙ ap (λ ys. x ∷ ys) (all_kept test xs all.1)
-
 -- of one thread alone
 of_first : (order : List PlacedWrite) → ((i : ℕ) → filter (λ w. w.thread == suc i) order ≡ []) → filter (λ w. w.thread == 0) order ≡ order
-of_first order none = all_kept (λ w. w.thread == 0) order (all_by_get (λ (w : PlacedWrite). (w.thread == 0) ≡ true) order (λ k w at. by k w at w.thread refl))
+of_first order none = all_pass (λ w. w.thread == 0) order (all_by_get (λ (w : PlacedWrite). (w.thread == 0) ≡ true) order (λ k w at. by k w at w.thread refl))
   where
     by : (k : ℕ) (w : PlacedWrite) → slice_get order k ≡ Some w → (n : ℕ) → w.thread ≡ n → (w.thread == 0) ≡ true
     by k w at zero e = ap (λ m. m == 0) e

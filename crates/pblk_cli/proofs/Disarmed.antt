@@ -89,6 +89,7 @@ serving_disarmed i handed units script records w h = record {
   urgent = h.urgent;
   after_resets = h.after_resets;
   opened_full = h.opened_full;
+  none_was_left = h.none_was_left;
   over = h.over;
   kept = h.kept;
   told = h.told;

@@ -28,15 +28,16 @@ use Rattle.prefix_law.proofs.Prefix.{prefix_contents}
 use Rattle.ocssd_drive.specs.Drive.{DriveView, HasWord, IsWhole, armed_units, fitting_fuse, shape_of, stored, with_units}
 use Rattle.ocssd_drive.specs.Units.{IsUnitOf, WornUnit}
 use Rattle.drive_image.specs.Quiet.{IsQuiet}
-use Rattle.scan_recovery.specs.MayStop.{AllMayStop}
 use Rattle.run_report.specs.Report.{transcript_of}
 use Rattle.run_threads.specs.declared.records.Records.{Records}
+use Rattle.step_laws.specs.Opened.{AreArmed}
+use Rattle.command_words.specs.Grammar.{RunOptions}
 use Rattle.pblk_cli.specs.Commands.{IsWorldBetween}
 use Rattle.pblk_cli.specs.Running.{IsRunTo, IsStored}
 use Rattle.pblk_cli.specs.Serving.{IsLeftBy, IsRan, IsServing, transcript_by, units_of}
 use Rattle.pblk_cli.specs.Status.{status_of_run}
-use Rattle.pblk_cli.specs.Stops.{AreStopsBy}
-use Rattle.pblk_cli.proofs.ArmedDrives.{are_names, may_stop, stops_by, stored_armed, wear_armed, whole_before}
+use Rattle.pblk_cli.specs.Stops.{AreOutcomesBy}
+use Rattle.pblk_cli.proofs.ArmedDrives.{are_armed, are_names, outcomes_by, stored_armed, wear_armed, whole_before}
 use Rattle.pblk_cli.proofs.HandedDrives.{media_mapped}
 use Rattle.pblk_cli.proofs.StoredUnits.{image_units, same_numbers}
 use Rattle.pblk_cli.proofs.TidyRuns.{complete}
@@ -80,14 +81,14 @@ kept_contents i w mount sealed t size kept history_is =
 
 -- The run.
 
--- A drive that was loaded, and armed with this fuse, and what a run left of it.
-module _ (found : DriveView) (stop : Option Fuse) (word : Option TableId) (script : List (List Command)) (left : DriveView) (records : Records)
+-- A drive that was loaded, and armed by these options, and what a run left of it.
+module _ (found : DriveView) (options : RunOptions) (word : Option TableId) (script : List (List Command)) (left : DriveView) (records : Records)
     (status : ℕ) (text bytes : List ℕ) (whole : IsWhole found) (quiet : IsQuiet found) where
   abbrev fuse : Option Fuse
-  fuse = fitting_fuse (length found.units) stop
+  fuse = fitting_fuse (length found.units) options.stop
 
   abbrev armed : DriveView
-  armed = with_units (armed_units [] (fitting_fuse (length found.units) stop) word found.units) found
+  armed = with_units (armed_units options.plans (fitting_fuse (length found.units) options.stop) word found.units) found
 
   abbrev i : Image
   i = image_of (stored found)
@@ -99,7 +100,7 @@ module _ (found : DriveView) (stop : Option Fuse) (word : Option TableId) (scrip
     capacity = found.capacity;
     ring = found.ring;
     units = units;
-  }) (stored_armed fuse word found.units)
+  }) (stored_armed options.plans fuse word found.units)
 
   unit_count : length i.units ≡ length found.units
   unit_count = ap (λ us. length us) (image_units found whole) ∙ length-map found.units (λ (u : WornUnit). u.unit.media)
@@ -137,16 +138,16 @@ module _ (found : DriveView) (stop : Option Fuse) (word : Option TableId) (scrip
     told_is : transcript_of script records (end (image_of (stored left))) ≡ t
     told_is = ap (λ (x : Image). transcript_of script records (end x)) left_is
 
-    world_is : IsWorldBetween (stored found) (stored left) stop script (transcript_by script records i (log_of w))
+    world_is : IsWorldBetween (stored found) (stored left) options script (transcript_by script records i (log_of w))
     world_is = record {
       world = w;
       legal = serving.legal;
       has_begun = serving.has_begun;
       media_are = left_is;
       history_is = serving.history_is;
-      stops = subst (λ n. AreStopsBy i (fitting_fuse n stop) (log_of w)) (sym unit_count)
-          (stops_by i fuse word found.units left.units (log_of w) quiet armed_count armed_shapes left_count serving.each is.by_arms);
-      named = are_names i fuse word found.units left.units (log_of w) quiet armed_count armed_shapes left_count serving.each _
+      outcomes = subst (λ n. AreOutcomesBy i options.plans (fitting_fuse n options.stop) (log_of w)) (sym unit_count)
+          (outcomes_by i options.plans fuse word found.units left.units (log_of w) quiet armed_count armed_shapes left_count serving.each is.by_arms);
+      named = are_names i options.plans fuse word found.units left.units (log_of w) quiet armed_count armed_shapes left_count serving.each _
           serving.named;
       worn = serving.worn;
       granted = serving.granted;
@@ -154,6 +155,7 @@ module _ (found : DriveView) (stop : Option Fuse) (word : Option TableId) (scrip
       urgent = serving.urgent;
       after_resets = serving.after_resets;
       opened_full = serving.opened_full;
+      none_was_left = serving.none_was_left;
       over = serving.over;
     }
 
@@ -161,53 +163,50 @@ module _ (found : DriveView) (stop : Option Fuse) (word : Option TableId) (scrip
         → IsRun found.sector script (contents i) (transcript_by script records i (log_of w)) (contents (image_of (stored left)))
     relation_is sealed =
         subst (IsRun found.sector script (contents i) t)
-        (sym (ap contents left_is ∙ kept_contents i w serving.legal.mount sealed t found.sector serving.kept serving.history_is))
+        (sym (ap contents left_is ∙ kept_contents i w serving.legal sealed t found.sector serving.kept serving.history_is))
         (serving.run sealed)
 
-    pub run_to : length script ≤ 1 → IsRunTo (stored found) stop script status text bytes
+    pub run_to : length script ≤ 1 → IsRunTo (stored found) options script status text bytes
     unfolding world_is
     run_to one = record {
       left = stored left;
       run = record {
         transcript = t;
         printed = made.text_is ∙ ap text_of told_is;
-        numbers = same_numbers found left whole is.drive.whole numbers_left (is.drive.wear ∙ wear_armed fuse word found.units);
+        numbers = same_numbers found left whole is.drive.whole numbers_left (is.drive.wear ∙ wear_armed options.plans fuse word found.units);
         world = world_is;
         kept_is = serving.kept ∙ ap (λ (x : Image). users (user_positions (log_of w 0)) (end x)) (sym left_is);
         told = serving.told;
         relation = relation_is;
-        sealed = λ sealed. subst IsSealed (sym left_is) (media_sealed i w serving.legal.mount sealed);
-        complete = λ none. complete (stored found) (stored left) script t
-            (subst (λ s. IsWorldBetween (stored found) (stored left) s script t) none world_is)
-            relation_is one serving.recorded.capacity serving.recorded.fits;
+        sealed = λ sealed. subst IsSealed (sym left_is) (media_sealed i w serving.legal sealed);
+        complete = complete (stored found) (stored left) options script t world_is relation_is one serving.recorded.capacity
+            serving.recorded.fits;
         spelled = made.spelled;
       };
       status_is = made.status_is ∙ ap status_of_run told_is;
       bytes_are = made.bytes_are;
     }
 
--- The same of a drive that was armed with no plan.
+-- The same of a drive by what arming tells of it.
 
--- as arming tells it
-abbrev IsArmedBy : DriveView → Option Fuse → List FaultPlan → DriveView → Type 0
-IsArmedBy found stop plans set = (word : Option TableId) × HasWord (fitting_fuse (length found.units) stop) word
+abbrev IsArmedBy : DriveView → List FaultPlan → Option Fuse → DriveView → Type 0
+IsArmedBy found plans stop set = (word : Option TableId) × HasWord (fitting_fuse (length found.units) stop) word
     × (set ≡ with_units (armed_units plans (fitting_fuse (length found.units) stop) word found.units) found)
 
-pub armed_may_stop : (found set : DriveView) (stop : Option Fuse) (plans : List FaultPlan) → plans ≡ [] → IsQuiet found → IsArmedBy found stop plans set
-    → AllMayStop (units_of set.units)
-armed_may_stop found set stop plans none quiet is =
-    let fuse : Option Fuse = fitting_fuse (length found.units) stop in
-    subst (λ (us : List WornUnit). AllMayStop (units_of us))
-    (ap (λ ps. armed_units ps fuse is.0 found.units) (sym none) ∙ sym (ap (λ (d : DriveView). d.units) is.2))
-    (may_stop fuse is.0 found.units quiet)
+pub armed_by : (found set : DriveView) (plans : List FaultPlan) (stop : Option Fuse) → IsQuiet found → IsArmedBy found plans stop set
+    → AreArmed (units_of set.units)
+armed_by found set plans stop quiet is =
+    subst (λ (us : List WornUnit). AreArmed (units_of us)) (sym (ap (λ (d : DriveView). d.units) is.2))
+    (are_armed plans (fitting_fuse (length found.units) stop) is.0 found.units quiet)
 
-pub armed_run_to : (found set : DriveView) (stop : Option Fuse) (plans : List FaultPlan) (script : List (List Command)) (left : DriveView) (records : Records)
-    (status : ℕ) (text bytes : List ℕ) → plans ≡ [] → IsQuiet found → IsArmedBy found stop plans set → length script ≤ 1 → IsRan set script left records
-    → IsStored left script records status text bytes → IsRunTo (stored found) stop script status text bytes
-armed_run_to found set stop plans script left records status text bytes none quiet is one ran made =
-    let fuse : Option Fuse = fitting_fuse (length found.units) stop in
-    let armed_is : set ≡ with_units (armed_units [] fuse is.0 found.units) found = is.2
-    ∙ ap (λ ps. with_units (armed_units ps fuse is.0 found.units) found) none in
-    let on_armed : IsRan (with_units (armed_units [] fuse is.0 found.units) found) script left records =
+pub armed_run_to : (found set : DriveView) (options : RunOptions) (plans : List FaultPlan) (script : List (List Command)) (left : DriveView)
+    (records : Records) (status : ℕ) (text bytes : List ℕ) → plans ≡ options.plans → IsQuiet found → IsArmedBy found plans options.stop set
+    → length script ≤ 1 → IsRan set script left records → IsStored left script records status text bytes
+    → IsRunTo (stored found) options script status text bytes
+armed_run_to found set options plans script left records status text bytes named quiet is one ran made =
+    let fuse : Option Fuse = fitting_fuse (length found.units) options.stop in
+    let armed_is : set ≡ with_units (armed_units options.plans fuse is.0 found.units) found =
+    is.2 ∙ ap (λ ps. with_units (armed_units ps fuse is.0 found.units) found) named in
+    let on_armed : IsRan (with_units (armed_units options.plans fuse is.0 found.units) found) script left records =
     subst (λ (d : DriveView). IsRan d script left records) armed_is ran in
-    run_to found stop is.0 script left records status text bytes (whole_before found fuse is.0 on_armed.drive.was) quiet on_armed made one
+    run_to found options is.0 script left records status text bytes (whole_before found options.plans fuse is.0 on_armed.drive.was) quiet on_armed made one

@@ -15,6 +15,7 @@ pub mod Disarmed
 pub mod ArmedDrives
 pub mod RanDrives
 pub mod LeftDrives
+pub mod PlannedFaults
 pub mod Faultless
 pub mod CalmRuns
 pub mod TidyRuns

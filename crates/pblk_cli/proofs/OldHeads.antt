@@ -2,7 +2,6 @@
 use Rattle.std.proofs.Common.{◌≡◌, ℕ, ◌+◌, ◌≤◌, Some, List, [], ◌∷◌, cond, length, refl, sym, ap, ◌∙◌, arith}
 use Rattle.std.specs.Prelude.{nat_lt}
 use Rattle.std.specs.List.{AllByRecursion, filter}
-use Rattle.std.proofs.Math.Seq.{take-length}
 use borrow.Author.Tests.{le-ltb}
 use Rattle.pblk_model.specs.Image.{Image}
 use Rattle.pblk_model.specs.Contents.{end, head}
@@ -14,7 +13,6 @@ use Rattle.pblk_world.specs.EngineLog.{Begun, Taken, begun, takes}
 use Rattle.pblk_world.specs.Fronts.{first_position, is_users, user_positions, user_takes}
 use Rattle.pblk_world.specs.Lines.{found_image, next_seq}
 use Rattle.world_laws.specs.LegalMounts.{IsLegalMount}
-use Rattle.world_laws.specs.EarlyLogs.{ArePrefixes}
 use Rattle.world_laws.specs.SameImages.{HoldsTheSame}
 use Rattle.world_laws.proofs.Beginnings.{has_begun}
 use Rattle.world_laws.proofs.FoundImages.{found_holds}

@@ -1,11 +1,10 @@
 -- What a run of files comes to.
-use Rattle.std.proofs.Common.{◌≡◌, ◌++◌, ◌∷◌, [], ℕ, List, Option, Some, sym, ap, ◌∙◌}
+use Rattle.std.proofs.Common.{◌≡◌, ◌++◌, ◌∷◌, [], ℕ, List, Some, sym, ap, ◌∙◌}
 use Rattle.std.specs.Bool.{IsTrue}
 use Rattle.pblk_outside.specs.declared.file_fault.FileCall.TheVariants as calls
 use Rattle.pblk_outside.specs.Files.{FilesView, AddsFault, IsCalm, SameOthers}
 use Rattle.pblk_model.specs.ImageFile.{Drive, IsImage}
 use Rattle.command_words.specs.Grammar.{RunOptions}
-use Rattle.unit_port.specs.declared.armed.Fuse.{Fuse}
 use Rattle.pblk_cli.specs.declared.refusal.Refusal.{Refusal}
 use Rattle.pblk_cli.specs.declared.refusal.Refusal.TheVariants as refusals
 use Rattle.pblk_cli.specs.Commands.{RunComesTo, RunInput, RunMade}
@@ -60,10 +59,10 @@ script_refused_comes image script found commands options d old new a b is (refus
 script_refused_comes image script found commands options d old new a b is (refusals.Missing name) h = absurd h
 script_refused_comes image script found commands options d old new a b is refusals.Memory h = (is_there image found old a.0, a.1)
 
-abbrev pub input_of : (image script found commands : List ℕ) (stop : Option Fuse) (d : Drive) (status : ℕ) (text bytes : List ℕ) (old new : FilesView)
+abbrev pub input_of : (image script found commands : List ℕ) (options : RunOptions) (d : Drive) (status : ℕ) (text bytes : List ℕ) (old new : FilesView)
     → ReadsFile image found old new → ReadsFile script commands old new → IsImage found d
-    → IsRunOfScript d stop commands status text bytes → RunInput image script old
-input_of image script found commands stop d status text bytes old new a b is h = record {
+    → IsRunOfScript d options commands status text bytes → RunInput image script old
+input_of image script found commands options d status text bytes old new a b is h = record {
   drive = d;
   drive_is = record { bytes = found; read = a.0; is = is };
   script_bytes = commands;
@@ -81,11 +80,11 @@ others image old mid new same h = λ other ne. h other ne ∙ same other
 pub made : (image script found commands : List ℕ) (options : RunOptions) (d : Drive) (status : ℕ) (text bytes : List ℕ) (old mid new : FilesView)
     → ReadsFile image found old mid
     → ReadsFile script commands old mid → IsImage found d
-    → IsRunOfScript d options.stop commands status text bytes
+    → IsRunOfScript d options commands status text bytes
     → (IsTrue mid.told → new.file image ≡ Some bytes) → IsCalm mid new → SameOthers image mid.file new.file → new.told ≡ mid.told
     → RunMade image script options status text old new
 made image script found commands options d status text bytes old mid new a b is h stored calm same told = record {
-  input = input_of image script found commands options.stop d status text bytes old mid a b is h;
+  input = input_of image script found commands options d status text bytes old mid a b is h;
   left = h.run.left;
   run = h.run.run;
   status_is = h.run.status_is;

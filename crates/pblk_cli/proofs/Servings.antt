@@ -25,7 +25,6 @@ use Rattle.pblk_world.specs.Fronts.{history, user_positions}
 use Rattle.pblk_world.specs.Lines.{found_image}
 use Rattle.pblk_world.specs.Space.{is_due}
 use Rattle.pblk_world.specs.World.{World, log_of, media}
-use Rattle.core_laws.specs.SimpleMounts.{IsSimpleMount}
 use Rattle.unit_port.specs.Unit.{ModelUnit}
 use Rattle.ocssd_drive.specs.Units.{WornUnit}
 use Rattle.prefix_law.proofs.Prefix.{prefix_above}
@@ -37,8 +36,8 @@ use Rattle.block_port.specs.declared.rows.WornAnswer.{WornAnswer}
 use Rattle.block_port.specs.Own.{PlacedSector, lines_of}
 use Rattle.block_port.specs.Port.{Footing, IsSameTarget, ModelPort, positions}
 use Rattle.block_target.specs.Arm.{IsArm}
-use Rattle.world_laws.specs.LegalMounts.{IsLegalMount, NoneLost}
-use Rattle.world_laws.specs.Orders.{AreAfterResets, AreOpenedFull}
+use Rattle.world_laws.specs.LegalMounts.{IsLegalMount}
+use Rattle.world_laws.specs.Orders.{AreAfterResets, AreOpenedFull, NoneWasLeft}
 use Rattle.world_laws.specs.Reasons.{AreBegun, AreGranted, AreUrgent}
 use Rattle.block_target.specs.Mount.{IsCollectionOver, MountView, synced_in, taken_in, world_in}
 use Rattle.block_target.specs.Refusals.{AreRefusals}
@@ -159,11 +158,8 @@ module _ (s : Shape) (us : List ModelUnit) (first last : SerialView) (units : Li
       (ap length closed.units_are ∙ closed.closed.sound.count ∙ ap (λ (j : Image). shapes.units j.shape) mount_image ∙ sym fit.count ∙ ap length handed)
       (closed.wear ∙ closed.closed.same.wear ∙ same_wear first last target ∙ wear) unit_at
 
-  legal_is : IsSimpleMount (image_of s us) w
-  legal_is = record {
-    mount = subst (λ (j : Image). IsLegalMount j w) mount_image closed.closed.sound.legal;
-    engine = record { lost = closed.closed.sound.none_lost };
-  }
+  legal_is : IsLegalMount (image_of s us) w
+  legal_is = subst (λ (j : Image). IsLegalMount j w) mount_image closed.closed.sound.legal
 
   -- where the close answered nothing, collection is over
   over_is : closing_of (trouble_of closed.settled) ≡ Closed → (is_due (image_of s us) (log_of w) ≡ false)
@@ -307,6 +303,7 @@ module _ (s : Shape) (us : List ModelUnit) (first last : SerialView) (units : Li
         urgent = subst (λ (j : Image). AreUrgent j (log_of w)) mount_image closed.closed.urgent;
         after_resets = subst (λ (j : Image). AreAfterResets j (log_of w)) mount_image closed.closed.after_resets;
         opened_full = subst (λ (j : Image). AreOpenedFull j (log_of w)) mount_image closed.closed.opened_full;
+        none_was_left = subst (λ (j : Image). NoneWasLeft j (log_of w)) mount_image closed.closed.none_was_left;
         over = λ none. over_is;
         kept = one_kept commands records (device first) (device last) front one ∙ ap (λ ps. users ps front) positions_are;
         told = told_by first.mount.image.shape.sector s.sector (commands ∷ []) (contents first.mount.found)
@@ -356,6 +353,7 @@ module _ (s : Shape) (us : List ModelUnit) (first last : SerialView) (units : Li
         urgent = subst (λ (j : Image). AreUrgent j (log_of w)) mount_image closed.closed.urgent;
         after_resets = subst (λ (j : Image). AreAfterResets j (log_of w)) mount_image closed.closed.after_resets;
         opened_full = subst (λ (j : Image). AreOpenedFull j (log_of w)) mount_image closed.closed.opened_full;
+        none_was_left = subst (λ (j : Image). NoneWasLeft j (log_of w)) mount_image closed.closed.none_was_left;
         over = λ none. over_is;
         kept = sym (ap (λ ps. users ps front) no_positions);
         told = (no_port s.sector records (contents (found_image (image_of s us) (log_of w))) front threads unopened_is closed.trouble).told;
@@ -442,10 +440,7 @@ module _ (s : Shape) (old new : List WornUnit) (refused : AreHandedBack s (units
     unopened_served = record {
       world = still;
       serving = record {
-        legal = record {
-          mount = readied.legal;
-          engine = record { lost = subst NoneLost (sym readied.none) tt };
-        };
+        legal = readied.legal;
         has_begun = rw (opening, readied.none) tt;
         each = λ k u there. left_by as_it_was as_it_was (log_of still) (units_of old) (units_of old) k u refl refl (readied.each k u there);
         recorded = record {
@@ -465,6 +460,7 @@ module _ (s : Shape) (old new : List WornUnit) (refused : AreHandedBack s (units
           lines = λ k knows line start there. absurd (no_event k _ there);
         };
         opened_full = record { each = λ k knows line start there. absurd (no_event k _ there) };
+        none_was_left = record { each = λ k knows e past there others. absurd (no_event k _ there) };
         over = λ none. absurd (none-some (unit, event) (sym none ∙ ap opening_of opening));
         kept = nothing_kept left_end ∙ sym (ap (λ ps. users ps left_end) nothing_taken);
         told = (ran_nothing s.sector (contents (found_image as_it_was (log_of still)))).told;

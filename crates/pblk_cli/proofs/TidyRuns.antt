@@ -1,8 +1,10 @@
--- A run on a tidy drive that is told of no stop does all that it was told to.
+-- A run on a tidy drive in which no command failed, and no line names an event, did all that it was
+-- told to.
 use Rattle.std.proofs.Common.{◌≡◌, ◌⊎◌, inl, inr, ℕ, ◌+◌, ◌<◌, ◌≤◌, zero, suc, false, Some, None, Option, List, [], ◌∷◌, length, refl, sym, subst, ap, ◌∙◌, arith}
 use Rattle.std.specs.List.{AllByRecursion}
 use Rattle.std.proofs.Math.Seq.{take-length}
 use Rattle.block_port.specs.declared.rows.WornAnswer.{WornAnswer}
+use Rattle.command_words.specs.Grammar.{RunOptions}
 use Rattle.pblk_model.specs.declared.script.Command.{Command}
 use Rattle.pblk_model.specs.Contents.{contents}
 use Rattle.pblk_model.specs.Image.{Image}
@@ -18,12 +20,14 @@ use Rattle.pblk_world.specs.Space.{is_due, position_limit}
 use Rattle.pblk_world.specs.World.{World, log_of, media}
 use Rattle.pblk_world.proofs.EngineLogLemmas.{begun_knows}
 use Rattle.pblk_world.proofs.VictimsLemmas.{whole_prefix}
+use Rattle.world_laws.specs.LegalMounts.{NoneLost}
 use Rattle.world_laws.specs.Reasons.{HasReasons}
 use Rattle.block_target.specs.Refusals.{AreRefusals, IsRefusal}
 use Rattle.rest_laws.specs.Tidy.{IsTidy}
 use Rattle.rest_laws.specs.TidyMounts.{HasNoFailures, HasNumbersLeft, HasRoom, IsTidyMount}
 use Rattle.rest_laws.proofs.ClaimedCopies.{begun_in_turn}
-use Rattle.rest_laws.proofs.LeftTidy.{answered_faultless, found_faultless, heard_faultless, left_tidy}
+use Rattle.rest_laws.proofs.LeftTidy.{found_faultless, heard_faultless, left_tidy}
+use Rattle.rest_laws.proofs.NothingFailed.{faultless_kept}
 use Rattle.rest_laws.proofs.NearNumbers.{numbers_left, positions_left}
 use Rattle.rest_laws.proofs.RestingThen.{due_over, left_before, no_worn_flush, no_worn_write, positions_before}
 use Rattle.rest_laws.proofs.TakenNear.{taken_near_synced}
@@ -33,7 +37,6 @@ use Rattle.pblk_cli.specs.Complete.{HasSmallNumbers, IsComplete}
 use Rattle.pblk_cli.specs.Stops.{HasBegun}
 use Rattle.pblk_cli.specs.Worn.{worns_of}
 use Rattle.pblk_cli.proofs.CalmRuns.{closed, contents_of, opened, status_zero, worns_few}
-use Rattle.pblk_cli.proofs.Faultless.{faultless, unnamed}
 
 -- ---- no cause of a refusal
 
@@ -52,26 +55,24 @@ none_refused i w from (a ∷ worns) is room left far few are = absurd (one are.0
 
 -- ---- a run
 
--- a run's world, told of no stop, and the transcript relation over a sealed image
-module _ (found left : Drive) (commands : List (List Command)) (t : Transcript) (world : IsWorldBetween found left None commands t)
+-- a run's world, and the transcript relation over a sealed image
+module _ (found left : Drive) (options : RunOptions) (commands : List (List Command)) (t : Transcript)
+    (world : IsWorldBetween found left options commands t)
     (relation : IsSealed (image_of found) → IsRun found.sector commands (contents (image_of found)) t (contents (image_of left)))
-    (few : length commands ≤ 1) (capacity : ℕ) (fits : ScriptFits capacity commands) (tidy : IsTidy (image_of found))
-    (small : HasSmallNumbers (image_of left)) where
+    (few : length commands ≤ 1) (capacity : ℕ) (fits : ScriptFits capacity commands) (fine : HasNoFailures (log_of world.world)) (named : events t ≡ [])
+    (tidy : IsTidy (image_of found)) (small : HasSmallNumbers (image_of left)) where
   abbrev i : Image
   i = image_of found
 
   abbrev w : World
   w = world.world
 
-  named : events t ≡ []
-  named = unnamed i w world.stops (events t) world.named
-
-  fine : HasNoFailures (log_of world.world)
-  fine = answered_faultless i w (faultless i w world.stops world.legal)
+  unlost : NoneLost (log_of world.world 0)
+  unlost = faultless_kept i w world.legal.legal (heard_faultless (log_of w) fine)
 
   mount : IsTidyMount (image_of found) world.world
   mount = record {
-    mount = world.legal.mount;
+    mount = world.legal;
     tidy = tidy;
     found_faultless = found_faultless (log_of w) fine;
     faultless = heard_faultless (log_of w) fine;
@@ -91,11 +92,11 @@ module _ (found left : Drive) (commands : List (List Command)) (t : Transcript) 
   small_media = subst HasSmallNumbers world.media_are small
 
   numbers : HasNumbersLeft (image_of found).shape (log_of world.world 0)
-  numbers = numbers_left i w world.legal.mount world.legal.engine.lost tidy.sealed some small_media.low_end small_media.low_seq
+  numbers = numbers_left i w world.legal unlost tidy.sealed some small_media.low_end small_media.low_seq
 
   positions : taken (log_of world.world 0) + 16 ≤ position_limit (log_of world.world 0)
-  positions = positions_left i w world.legal.mount tidy.sealed small_media.low_end
-      (taken_near_synced i w world.legal.mount world.legal.engine.lost world.granted (begun_in_turn i w world.legal.mount world.begun))
+  positions = positions_left i w world.legal tidy.sealed small_media.low_end
+      (taken_near_synced i w world.legal unlost world.granted (begun_in_turn i w world.legal world.begun))
 
   below : taken (log_of world.world 0) < position_limit (log_of world.world 0)
   below = by (taken (log_of w 0)) (position_limit (log_of w 0)) positions
@@ -130,5 +131,5 @@ module _ (found left : Drive) (commands : List (List Command)) (t : Transcript) 
     closed = closed commands t named refused;
     kept = (relation tidy.sealed).closed (closed commands t named refused);
     written = contents_of found.sector commands (contents i) (contents (image_of left)) t few (relation tidy.sealed) named refused;
-    tidy = subst IsTidy (sym world.media_are) (left_tidy i w world.legal.mount some fine tidy not_due);
+    tidy = subst IsTidy (sym world.media_are) (left_tidy i w world.legal some fine tidy not_due);
   }

@@ -1,6 +1,6 @@
 -- What each command comes to, by the files before and after: a text, or a refusal with its cause.
 -- No other ending is left.
-use Rattle.std.specs.Prelude.{ℕ, ◌≤◌, ◌≡◌, ◌⊎◌, false, List, map, length, Option, Some, None, Err}
+use Rattle.std.specs.Prelude.{ℕ, ◌≤◌, ◌≡◌, ◌⊎◌, false, List, [], map, length, Some, None, Err}
 use Rattle.pblk_outside.specs.Files.{FilesView}
 use Rattle.pblk_model.specs.declared.script.Command.{Command}
 use Rattle.command_words.specs.Grammar.{CommandLine, Create, Geometry, Show, Report, Run, IsCommandLine, RunOptions}
@@ -18,17 +18,17 @@ use Rattle.pblk_world.specs.EngineLog.{begun}
 use Rattle.pblk_world.specs.Space.{is_due}
 use Rattle.pblk_world.specs.Fronts.{history, user_positions}
 use Rattle.pblk_world.specs.Lines.{found_image}
-use Rattle.core_laws.specs.SimpleMounts.{IsSimpleMount}
-use Rattle.unit_port.specs.declared.armed.Fuse.{Fuse}
-use Rattle.world_laws.specs.Orders.{AreAfterResets, AreOpenedFull}
+use Rattle.world_laws.specs.LegalMounts.{IsLegalMount}
+use Rattle.world_laws.specs.Orders.{AreAfterResets, AreOpenedFull, NoneWasLeft}
 use Rattle.world_laws.specs.Reasons.{AreBegun, AreGranted, AreUrgent}
 use Rattle.rest_laws.specs.Tidy.{IsTidy}
+use Rattle.rest_laws.specs.TidyMounts.{HasNoFailures}
 use Rattle.block_target.specs.Refusals.{AreRefusals}
 use Rattle.command_text.specs.Says.{Says}
 use Rattle.pblk_cli.specs.Complete.{HasSmallNumbers, IsComplete}
 use Rattle.pblk_cli.specs.Contents.{numbers_text, show_text}
 use Rattle.pblk_cli.specs.Status.{status_of_run}
-use Rattle.pblk_cli.specs.Stops.{AreNames, AreStopsBy, HasBegun, fuse_on}
+use Rattle.pblk_cli.specs.Stops.{AreNames, AreOutcomesBy, HasBegun, fuse_on}
 use Rattle.pblk_cli.specs.Worn.{worns_of}
 use Rattle.pblk_cli.specs.Telling.{Call, Image, Script, ScriptUnbuilt, Failed, Missing, Memory, Ending, Gives, Refuses, Tells, Holds, IsThere, AreUntouched, Stores, FailsReading, IsMissing, FailsWriting}
 
@@ -93,25 +93,27 @@ pub record SameNumbers (old new : Drive) : Type 0 where
   pub ring : new.ring ≡ old.ring
   pub wear : map (map (λ k. k.wear)) new.units ≡ map (map (λ k. k.wear)) old.units
 
--- What was done on a drive: a legal world over the image found, in which no stripe was lost.
--- Sectors may have been copied in it, and lines freed. Where opening answered an event no mount has
--- begun in it. The media are the image left, and the history is the printed one. The outcomes of
--- the units' commands are those that the named stop gives, and no others. Each `e` line names an
--- event of its own in it: a command that was stopped, or a fetch that failed. Each answer for want
--- of room was given at a length of the engine's log at which the target was at rest. These lengths
--- never fall from one answer to the next, and the users' sectors that were taken by then are those
--- that the thread had written. And no user's sector was taken but where there had been room for it,
--- nor a copy but one that had been begun. And no stripe with an entry was placed but where it was
--- urgent. Resets came first, and each line was opened where an entry waited and no open line had an
--- address left. Where neither opening nor the close answered anything, collection isn't due at the
--- end, or the target is at rest.
-pub record IsWorldBetween (found left : Drive) (stop : Option Fuse) (commands : List (List Command)) (t : Transcript) : Type 0 where
+-- What was done on a drive: a legal world over the image found. Programs and resets may have failed
+-- in it, sectors may have been copied, and lines freed. Where opening answered an event no mount
+-- has begun in it. The media are the image left, and the history is the printed one. The outcomes
+-- of the units' commands are those that the named plans and the named stop give, and no others.
+-- Each `e` line names an event of its own in it: a command that was stopped, or a fetch that
+-- failed. Each answer for want of room was given at a length of the engine's log at which the
+-- target was at rest. These lengths never fall from one answer to the next, and the users' sectors
+-- that were taken by then are those that the thread had written. And no user's sector was taken but
+-- where there had been room for it, nor a copy but one that had been begun. And no stripe with an
+-- entry was placed but where it was urgent. Resets came first, and each line was opened where an
+-- entry waited and no open line had an address left. Lines were freed at once: once the mount had
+-- begun, none might be freed before an event, unless that event frees one. Where neither opening
+-- nor the close answered anything, collection isn't due at the end, or the target is at rest.
+pub record IsWorldBetween (found left : Drive) (options : RunOptions) (commands : List (List Command)) (t : Transcript) : Type 0 where
   pub world : World
-  pub legal : IsSimpleMount (image_of found) world
+  pub legal : IsLegalMount (image_of found) world
   pub has_begun : HasBegun t.opening (begun (log_of world 0))
   pub media_are : image_of left ≡ media (image_of found) (log_of world)
   pub history_is : history (log_of world 0) ≡ sector_writes found.sector t.history
-  pub stops : AreStopsBy (image_of found) (fuse_on (image_of found) stop) (log_of world)
+  pub outcomes : AreOutcomesBy (image_of found) options.plans (fuse_on (image_of found) options.stop)
+      (log_of world)
   pub named : AreNames (image_of found) (log_of world) (events t)
   pub worn : AreRefusals (image_of found) (log_of world) 0 (worns_of commands t)
   pub granted : AreGranted (image_of found) (log_of world)
@@ -119,11 +121,12 @@ pub record IsWorldBetween (found left : Drive) (stop : Option Fuse) (commands : 
   pub urgent : AreUrgent (image_of found) (log_of world)
   pub after_resets : AreAfterResets (image_of found) (log_of world)
   pub opened_full : AreOpenedFull (image_of found) (log_of world)
+  pub none_was_left : NoneWasLeft (image_of found) (log_of world)
   pub over : t.opening ≡ None → t.closing ≡ Closed → (is_due (image_of found) (log_of world) ≡ false)
       ⊎ IsAtRest (image_of found) (log_of world) 0 (length (log_of world 0))
 
--- A run of these commands from one drive to another, told of this stop, with this text.
-pub record IsRunBetween (found : Drive) (stop : Option Fuse) (commands : List (List Command)) (text : List ℕ) (left : Drive) : Type 0 where
+-- A run of these commands from one drive to another, with these options and this text.
+pub record IsRunBetween (found : Drive) (options : RunOptions) (commands : List (List Command)) (text : List ℕ) (left : Drive) : Type 0 where
   -- what is printed
   pub transcript : Transcript
   pub printed : text ≡ text_of transcript
@@ -131,7 +134,7 @@ pub record IsRunBetween (found : Drive) (stop : Option Fuse) (commands : List (L
   pub numbers : SameNumbers found left
   -- the printed history is that of a world which leaves this drive, in which each `e` line has its
   -- event and each `worn` line its cause
-  pub world : IsWorldBetween found left stop commands transcript
+  pub world : IsWorldBetween found left options commands transcript
   -- kept are the lines of the history below the end of the image left
   pub kept_is : transcript.kept ≡ users (user_positions (log_of world.world 0)) (end (image_of left))
   -- It is a transcript of the script from the contents that the mount found: each command has its
@@ -144,10 +147,11 @@ pub record IsRunBetween (found : Drive) (stop : Option Fuse) (commands : List (L
   -- is sealed.
   pub relation : IsSealed (image_of found) → IsRun found.sector commands (contents (image_of found)) transcript (contents (image_of left))
   pub sealed : IsSealed (image_of found) → IsSealed (image_of left)
-  -- Over a tidy image, told of no stop, the run did all that it was told to, as long as the numbers
-  -- of the image left are far from their ends. And the image left is tidy again.
-  pub complete : stop ≡ None → IsTidy (image_of found) → HasSmallNumbers (image_of left)
-      → IsComplete found left commands transcript
+  -- Over a tidy image the run did all that it was told to, where no command of its world failed and
+  -- no line names an event, as long as the numbers of the image left are far from their ends. And
+  -- the image left is tidy again. So it is where neither a stop nor a plan was told.
+  pub complete : HasNoFailures (log_of world.world) → events transcript ≡ [] → IsTidy (image_of found)
+      → HasSmallNumbers (image_of left) → IsComplete found left commands transcript
   -- its one spelling is an image of it
   pub spelled : IsImage (image_bytes left) left
 
@@ -156,7 +160,7 @@ pub record IsRunBetween (found : Drive) (stop : Option Fuse) (commands : List (L
 pub record RunMade (image script : List ℕ) (options : RunOptions) (status : ℕ) (text : List ℕ) (old new : FilesView) : Type 0 where
   pub input : RunInput image script old
   pub left : Drive
-  pub run : IsRunBetween input.drive options.stop input.commands text left
+  pub run : IsRunBetween input.drive options input.commands text left
   pub status_is : status ≡ status_of_run run.transcript
   pub stored : Stores image (image_bytes left) old new
 

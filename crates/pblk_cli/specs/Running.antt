@@ -1,5 +1,6 @@
 -- What running the bytes of a script on the drive of an image comes to.
-use Rattle.std.specs.Prelude.{ℕ, ◌≤◌, ◌≡◌, ◌⊎◌, List, length, Option, Err}
+use Rattle.std.specs.Prelude.{ℕ, ◌≤◌, ◌≡◌, ◌⊎◌, List, length, Err}
+use Rattle.command_words.specs.Grammar.{RunOptions}
 use Rattle.pblk_outside.specs.Files.{FilesView}
 use Rattle.pblk_model.specs.declared.script.Command.{Command}
 use Rattle.pblk_model.specs.Contents.{end}
@@ -9,7 +10,6 @@ use Rattle.ocssd_drive.specs.Drive.{DriveView, stored}
 use Rattle.run_report.specs.Report.{transcript_of}
 use Rattle.run_threads.specs.declared.records.Records.{Records}
 use Rattle.pblk_model.specs.ScriptText.{IsScript, read_script}
-use Rattle.unit_port.specs.declared.armed.Fuse.{Fuse}
 use Rattle.run_script.specs.Reading.{BeginsWell}
 use Rattle.pblk_cli.specs.Commands.{IsRunBetween}
 use Rattle.pblk_cli.specs.Status.{status_of_run}
@@ -22,11 +22,11 @@ CannotReadBoth image script (Missing name) old new = ((name ≡ image) × IsMiss
 CannotReadBoth image script Memory old new = IsThere image old × AreUntouched old new
 CannotReadBoth image script reason old new = ⊥
 
--- the bytes are those of a drive that a run of the commands leaves, told of this stop, with this
--- status and this text
-pub record IsRunTo (found : Drive) (stop : Option Fuse) (commands : List (List Command)) (status : ℕ) (text bytes : List ℕ) : Type 0 where
+-- the bytes are those of a drive that a run of the commands leaves, with these options, this status
+-- and this text
+pub record IsRunTo (found : Drive) (options : RunOptions) (commands : List (List Command)) (status : ℕ) (text bytes : List ℕ) : Type 0 where
   pub left : Drive
-  pub run : IsRunBetween found stop commands text left
+  pub run : IsRunBetween found options commands text left
   pub status_is : status ≡ status_of_run run.transcript
   pub bytes_are : bytes ≡ image_bytes left
 
@@ -39,11 +39,11 @@ pub record IsStored (left : DriveView) (commands : List (List Command)) (records
   pub spelled : IsImage (image_bytes (stored left)) (stored left)
 
 -- The bytes of a script were accepted on a drive, and run.
-pub record IsRunOfScript (found : Drive) (stop : Option Fuse) (script : List ℕ) (status : ℕ) (text bytes : List ℕ) : Type 0 where
+pub record IsRunOfScript (found : Drive) (options : RunOptions) (script : List ℕ) (status : ℕ) (text bytes : List ℕ) : Type 0 where
   pub commands : List (List Command)
   pub commands_are : IsScript found.capacity script commands
   pub one : length commands ≤ 1
-  pub run : IsRunTo found stop commands status text bytes
+  pub run : IsRunTo found options commands status text bytes
 
 -- They were refused for a drive of this capacity; or there was no memory to read them or to run
 -- them, and the first line that isn't skipped isn't refused.

@@ -17,7 +17,6 @@ use Rattle.pblk_world.specs.World.{World, Logs, log_of, media, unit_events}
 use Rattle.pblk_world.specs.Fronts.{history, user_positions}
 use Rattle.pblk_world.specs.Lines.{found_image}
 use Rattle.pblk_world.specs.Space.{is_due}
-use Rattle.core_laws.specs.SimpleMounts.{IsSimpleMount}
 use Rattle.unit_port.specs.declared.armed.Fuse.{Fuse}
 use Rattle.unit_port.specs.Armed.{Armed, events_since, has_stopped}
 use Rattle.unit_port.specs.Unit.{ModelUnit, IsFitUnit}
@@ -29,7 +28,8 @@ use Rattle.scan_recovery.specs.Lost.{was_lost}
 use Rattle.scan_recovery.specs.Units.{image_of}
 use Rattle.block_port.specs.Own.{lines_of}
 use Rattle.block_port.specs.Port.{IsSameTarget, ModelPort}
-use Rattle.world_laws.specs.Orders.{AreAfterResets, AreOpenedFull}
+use Rattle.world_laws.specs.LegalMounts.{IsLegalMount}
+use Rattle.world_laws.specs.Orders.{AreAfterResets, AreOpenedFull, NoneWasLeft}
 use Rattle.world_laws.specs.Reasons.{AreBegun, AreGranted, AreUrgent}
 use Rattle.block_target.specs.Mount.{MountView}
 use Rattle.block_target.specs.Refusals.{AreRefusals}
@@ -168,7 +168,7 @@ pub record AreNewLosses (handed units : List ModelUnit) (names : List (ℕ × �
 -- log, of a command that was stopped or a fetch that failed. It is a transcript of the script from
 -- what the mount found. Where the image is sealed it is one of a run from what the image held.
 pub record IsServing (i : Image) (handed units : List ModelUnit) (script : List (List Command)) (records : Records) (w : World) : Type 0 where
-  pub legal : IsSimpleMount i w
+  pub legal : IsLegalMount i w
   pub has_begun : HasBegun (opening_of records.opening) (begun (log_of w 0))
   pub each : (number : ℕ) (u : ModelUnit) → slice_get units number ≡ Some u → IsLeftBy i handed (log_of w) number u
   pub recorded : IsRecorded script records
@@ -180,6 +180,7 @@ pub record IsServing (i : Image) (handed units : List ModelUnit) (script : List 
   pub urgent : AreUrgent i (log_of w)
   pub after_resets : AreAfterResets i (log_of w)
   pub opened_full : AreOpenedFull i (log_of w)
+  pub none_was_left : NoneWasLeft i (log_of w)
   pub over : opening_of records.opening ≡ None → closing_of records.closing ≡ Closed → (is_due i (log_of w) ≡ false)
       ⊎ IsAtRest i (log_of w) 0 (length (log_of w 0))
   pub kept : (transcript_by script records i (log_of w)).kept ≡ users (user_positions (log_of w 0)) (end (media i (log_of w)))

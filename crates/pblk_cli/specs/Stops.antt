@@ -1,11 +1,13 @@
--- What comes of a stop that a run is told, and which events its lines name.
-use Rattle.std.specs.Prelude.{ℕ, ◌+◌, ◌-◌, ◌^◌, ◌<◌, ◌≤◌, ◌≡◌, ⊤, true, List, [], map, min, length, slice_get, Option, Some, None}
-use Rattle.std.specs.List.{AllByRecursion}
+-- What comes of the plans and the stop that a run is told, and which events its lines name.
+use Rattle.std.specs.Prelude.{ℕ, ◌+◌, ◌-◌, ◌^◌, ◌<◌, ◌≤◌, ◌≡◌, ⊤, true, List, map, min, length, slice_get, Option, Some, None}
+use Rattle.std.specs.List.{AllByRecursion, Contains}
 use Rattle.pblk_model.specs.Image.{Image}
 use Rattle.pblk_model.specs.Transcript.{IsDistinct}
 use Rattle.pblk_model.specs.UnitLog.{UnitEvent}
 use Rattle.pblk_world.specs.EngineLog.{Begun}
 use Rattle.pblk_world.specs.World.{Logs, unit_events}
+use Rattle.unit_port.specs.declared.armed.CommandKind.{CommandKind}
+use Rattle.unit_port.specs.declared.armed.FaultPlan.{FaultPlan}
 use Rattle.unit_port.specs.declared.armed.Fuse.{Fuse}
 use Rattle.unit_port.specs.Armed.{Armed}
 use Rattle.ocssd_drive.specs.Drive.{fitting_fuse}
@@ -17,9 +19,16 @@ use Rattle.scan_recovery.specs.Lost.{was_lost}
 abbrev pub fuse_on : Image → Option Fuse → Option Fuse
 fuse_on i stop = fitting_fuse (length i.units) stop
 
--- what the unit of this number is armed with: no plan, and this fuse
-abbrev pub arms_of : Option Fuse → ℕ → Armed
-arms_of fuse unit = record { unit = unit; plans = []; fuse = fuse; word = None; since = 0 }
+-- what the unit of this number is armed with: these plans and this fuse
+abbrev pub arms_of : List FaultPlan → Option Fuse → ℕ → Armed
+arms_of plans fuse unit = record { unit = unit; plans = plans; fuse = fuse; word = None; since = 0 }
+
+-- One of these plans has a command of this kind of that unit fail.
+pub record HasPlan (plans : List FaultPlan) (kind : CommandKind) (unit : ℕ) : Type 0 where
+  pub plan : FaultPlan
+  pub named : Contains plans plan
+  pub of_kind : plan.kind ≡ kind
+  pub of_unit : plan.unit ≡ unit
 
 -- The fuse fell: its unit had as many programs and resets as it names.
 pub record HasFallen (fuse : Option Fuse) (logs : Logs) : Type 0 where
@@ -28,11 +37,13 @@ pub record HasFallen (fuse : Option Fuse) (logs : Logs) : Type 0 where
   pub counted : 0 < of.nth
   pub fell : of.nth ≤ changes_of (unit_events logs of.unit)
 
--- The outcomes in these logs are those that the fuse gives, and no others. A unit was stopped only
--- where the fuse fell.
-pub record AreStopsBy (i : Image) (fuse : Option Fuse) (logs : Logs) : Type 0 where
-  pub outcomes : (unit : ℕ) → unit < length i.units → AreEventsBy i.shape (arms_of fuse unit) (unit_events logs unit)
-  pub fallen : (unit : ℕ) → unit < length i.units → any_stop (unit_events logs unit) ≡ true → HasFallen fuse logs
+-- The outcomes in these logs are those that the plans and the fuse give, and no others. A unit was
+-- stopped only where the fuse fell.
+pub record AreOutcomesBy (i : Image) (plans : List FaultPlan) (fuse : Option Fuse) (logs : Logs) : Type 0 where
+  pub outcomes : (unit : ℕ) → unit < length i.units
+      → AreEventsBy i.shape (arms_of plans fuse unit) (unit_events logs unit)
+  pub fallen : (unit : ℕ) → unit < length i.units → any_stop (unit_events logs unit) ≡ true
+      → HasFallen fuse logs
 
 -- the mount has begun exactly where opening answered no event
 abbrev pub HasBegun : Option (ℕ × ℕ) → Option Begun → Type 0

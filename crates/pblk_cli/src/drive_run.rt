@@ -3,7 +3,7 @@
 ghost use Rattle.std.specs.Prelude.{◌≡◌, ◌≤◌, false, length, IfOk, IfErr};
 ghost use Rattle.pblk_model.specs.Script.{NeverStuck, ScriptFits};
 ghost use Rattle.ocssd_drive.specs.Drive.{AreArmedTogether};
-ghost use Rattle.scan_recovery.specs.MayStop.{AllMayStop};
+ghost use Rattle.step_laws.specs.Opened.{AreArmed};
 ghost use Rattle.pblk_cli.specs.Serving.{IsDriveLeft, IsRan, units_of};
 
 use crate::serve::{Served, serve};
@@ -17,12 +17,12 @@ use std::sync::Wait;
 /// disarmed before the call answers.
 ///
 /// The drive was armed, perhaps with nothing, and the script was accepted for its capacity. So far
-/// no plan has a command fail, the script has at most one thread, and there are neither lanes nor a
-/// collector.
+/// the script has at most one thread, and there are neither lanes nor a collector.
 ///
-/// Where opening answers an event of a unit no command is run, and the records say so. Each event
-/// that the records name was added to that unit's log in this call, and is a fetch that failed or a
-/// command that was stopped; no two name the same. Without memory the drive is handed back.
+/// A program or a reset that fails is no error of the script, and the records don't name it. Each
+/// event that the records name was added to that unit's log in this call, and is a fetch that
+/// failed or a command that was stopped; no two name the same. Where opening answers such an event
+/// no command is run, and the records say so. Without memory the drive is handed back.
 pub fn run_drive<R: Wait>(
     rt: &R,
     alloc: Global,
@@ -31,8 +31,8 @@ pub fn run_drive<R: Wait>(
     lanes: u32,
     collector: bool,
 ) -> Result<(Drive, Records), (AllocError, Drive)>
-    requires armed { AreArmedTogether drive.units }
-    requires stops { AllMayStop (units_of drive.units) }
+    requires together { AreArmedTogether drive.units }
+    requires armed { AreArmed (units_of drive.units) }
     requires one { length script.now ≤ 1 }
     requires fits { ScriptFits drive.capacity script.now }
     requires flows { NeverStuck script.now }

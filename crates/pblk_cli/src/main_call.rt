@@ -38,8 +38,12 @@ use std::sync::Wait;
 /// read, the image before the script; then the image is judged, then the script; the file is
 /// written before the text. A run may wait: nothing says that its call returns.
 ///
-/// Over a tidy image a run that is told of no stop does all that its script says, and its text has
-/// no line of an error, as long as the numbers of the image left are far from their ends. The image
+/// An `e` line comes only where a stop was named, or a plan by which a fetch of that line's unit
+/// fails. A program or a reset that fails is no error, and has no line.
+///
+/// Over a tidy image a run in which no command fails, and whose text names no event of a unit, does
+/// all that its script says, and its text has no line of an error, as long as the numbers of the
+/// image left are far from their ends. So does one that is told of no stop and of no plan. The image
 /// left is tidy again, and the one that `create` makes is tidy.
 pub fn pblk_main<R: Wait, F: Files, O: Sink>(
     rt: &R,

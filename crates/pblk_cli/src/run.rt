@@ -22,7 +22,7 @@ use crate::refusal::Refusal;
 use crate::status::status_of;
 use command_words::RunOptions;
 use drive_image::into_image;
-use ocssd_drive::{Drive, Fuse};
+use ocssd_drive::Drive;
 use pblk_model::{Script, ScriptErr};
 use pblk_outside::Files;
 use run_report::transcript;
@@ -55,7 +55,7 @@ pub(crate) fn run<'a, R: Wait, F: Files>(
         Ok(drive) => drive,
         Err(refusal) => return Err(refusal),
     };
-    let (stored, output) = match run_script(rt, alloc, drive, options.stop, &script_bytes) {
+    let (stored, output) = match run_script(rt, alloc, drive, options, &script_bytes) {
         Ok(made) => made,
         Err(refusal) => return Err(refusal),
     };
@@ -91,18 +91,18 @@ fn read_both<'a, F: Files>(
     }
 }
 
-// Runs the script that these bytes are: the bytes of the image afterwards, and the status and the
-// text of the transcript.
+// Runs the script that these bytes are, with these options: the bytes of the image afterwards, and
+// the status and the text of the transcript.
 fn run_script<'a, R: Wait>(
     rt: &R,
     alloc: Global,
     drive: Drive,
-    stop: Option<Fuse>,
+    options: &RunOptions,
     script: &[u8],
 ) -> Result<(Vec<u8>, Output), Refusal<'a>>
     requires quiet { IsQuiet drive }
-    ensures run { IfOk result (λ made. IsRunOfScript (stored drive) stop script.now
-        made.1.status made.1.text.items made.0.items) }
+    ensures run { IfOk result (λ made. IsRunOfScript (stored drive) (options_seen options.now)
+        script.now made.1.status made.1.text.items made.0.items) }
     ensures refused { IfErr result (λ refusal.
         RefusesScript (stored drive).capacity script.now (reason_of refusal)) }
 {
@@ -114,7 +114,7 @@ fn run_script<'a, R: Wait>(
     if threads > 1 {
         return Err(Refusal::ScriptUnbuilt);
     }
-    match run_and_store(rt, alloc, drive, stop, &script) {
+    match run_and_store(rt, alloc, drive, options, &script) {
         Ok(made) => Ok(made),
         Err(_) => Err(Refusal::Memory),
     }
@@ -131,23 +131,23 @@ fn script_refusal_of<'a>(e: ScriptErr) -> Refusal<'a>
     }
 }
 
-// Runs a script of one thread at most on a drive, which is to stop there, and makes what is stored
-// and what is told.
+// Runs a script of one thread at most on a drive whose commands fail and stop as the options say,
+// and makes what is stored and what is told.
 fn run_and_store<R: Wait>(
     rt: &R,
     alloc: Global,
     mut drive: Drive,
-    stop: Option<Fuse>,
+    options: &RunOptions,
     script: &Script,
 ) -> Result<(Vec<u8>, Output), AllocError>
     requires quiet { IsQuiet drive }
     requires one { length script.now ≤ 1 }
     requires fits { ScriptFits drive.capacity script.now }
     requires flows { NeverStuck script.now }
-    ensures { IfOk result (λ made.
-        IsRunTo (stored drive) stop script.now made.1.status made.1.text.items made.0.items) }
+    ensures { IfOk result (λ made. IsRunTo (stored drive) (options_seen options.now)
+        script.now made.1.status made.1.text.items made.0.items) }
 {
-    drive.arm(alloc, &[], stop)?;
+    drive.arm(alloc, options.plans.as_slice(), options.stop)?;
     match run_drive(rt, alloc, drive, script, 0, false) {
         Ok((drive, records)) => store_run(alloc, drive, script, &records),
         Err((e, _)) => Err(e),

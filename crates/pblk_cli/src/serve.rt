@@ -6,8 +6,8 @@ ghost use Rattle.pblk_model.specs.Script.{NeverStuck, ScriptFits};
 ghost use Rattle.block_target.specs.Serial.{SerialView};
 ghost use Rattle.run_threads.specs.declared.records.Records.{Records};
 ghost use Rattle.run_threads.specs.Run.{IsEvent};
-ghost use Rattle.scan_recovery.specs.MayStop.{AllMayStop};
 ghost use Rattle.scan_recovery.specs.Units.{AreFit};
+ghost use Rattle.step_laws.specs.Opened.{AreArmed};
 ghost use Rattle.pblk_cli.specs.Serving.{AreBack, Closes, IsClosed, IsServed, IsServedOn, trouble_of, units_of, with_closing};
 
 use block_target::{OpenErr, Refused, Serial, SettleErr, a_refused_opening_is_of_a_legal_world};
@@ -25,9 +25,11 @@ pub(crate) struct Served {
     pub(crate) records: Result<Records, AllocError>,
 }
 
-/// Runs a script of one thread at most on a target over the units of a drive, and closes it. No
-/// plan has a command of the units fail, and a fuse may stop them. Where the target answers an
-/// event of a unit as it is opened, no command is run, and that is recorded.
+/// Runs a script of one thread at most on a target over the units of a drive, and closes it. The
+/// units were armed, perhaps with nothing: plans may have commands of them fail, and a fuse may
+/// stop them. A program or a reset that fails is recorded nowhere. A fetch that fails, or a command
+/// that is stopped, is recorded, and the script goes on. Where the target answers such an event as
+/// it is opened, no command is run.
 pub(crate) fn serve<R: Wait>(
     rt: &R,
     alloc: Global,
@@ -37,7 +39,7 @@ pub(crate) fn serve<R: Wait>(
 ) -> Served
     requires accepted { IsAccepted shape.now }
     requires fit { AreFit shape.now (units_of units.items) }
-    requires armed { AllMayStop (units_of units.items) }
+    requires armed { AreArmed (units_of units.items) }
     requires one { length script.now ≤ 1 }
     requires fits { ScriptFits shape.now.capacity script.now }
     requires flows { NeverStuck script.now }

@@ -1,8 +1,8 @@
--- Lines that may be collected, after a step of the inner tables: none that might not be before, where
--- the step changed what is kept of one line alone, and that line isn't closed.
+-- Lines that may be collected, after a step of the inner tables: none that might not be before,
+-- where the step changed what is kept of one line alone, and that line isn't closed.
 use Rattle.std.proofs.Common.{◌≡◌, ◌≢◌, ◌⊎◌, inl, inr, eqb, ℕ, ◌+◌, ◌<◌, ◌&&◌, not, nat_lt, nat_le, Bool, true, false, Some, None, Option, List, [], ◌∷◌, length, refl, sym, subst, ap, ◌∙◌, if◌then◌else◌}
 use Rattle.std.specs.Prelude.{is_some, slice_get, slice_set}
-use Rattle.std.specs.Option.{option_and_then, option_map, option_map_or}
+use Rattle.std.specs.Option.{option_and_then, option_map}
 use Rattle.std.proofs.lemmas.Bool.Decides.{eqb_tells}
 use Rattle.std.proofs.lemmas.Option.{none-some, same_Some}
 use Rattle.pblk_model.specs.declared.shape.Shape.{Shape}
@@ -16,7 +16,7 @@ use Rattle.line_table.specs.declared.row.LineState.TheVariants.{Failed, Full}
 use Rattle.line_table.specs.declared.row.Row.{Row}
 use Rattle.line_table.specs.Rows.{Changes, IsRow, Table, lost, lowered, noted}
 use Rattle.core_laws.specs.CandidateLines.{is_failed_state}
-use Rattle.core_laws.specs.ChangedTables.{lose_in, note_by, with_row}
+use Rattle.core_laws.specs.ChangedTables.{lose_in, note_by}
 use Rattle.core_laws.specs.ClosedLines.{ClosedLine, closed_line}
 use Rattle.core_laws.specs.PlacedEntries.{gained, place_by}
 use Rattle.core_laws.specs.RowsOf.{row_of_line}
@@ -35,6 +35,7 @@ use Rattle.pblk_core.specs.Entries.{note_hold, noted_lines, place_hold, placed_l
 use Rattle.pblk_core.specs.Holds.{row_at}
 use Rattle.pblk_core.specs.LineNotes.{closed_by, outdated_seq}
 use Rattle.pblk_core.specs.Stands.{Stands}
+use Rattle.pblk_core.proofs.NotedEntries.{row_elsewhere}
 use Rattle.pblk_core.proofs.NotesSet.{note_unclosed}
 use Rattle.pblk_core.proofs.SpentTables.{row_stands}
 
@@ -129,7 +130,8 @@ barren_if old mid new may_be was brings is rest = λ barren line.
 
 -- where the line that lost a sector was weighed
 pub barren_but : (old mid new : Core) (at : Option ℕ) (may_be : Bool) → IsBarrenRightly old → BringsNoneBut at old mid
-    → (old.collection.barren ≡ true → may_be ≡ is_some (option_and_then (weighed mid) at)) → new.collection.barren ≡ (old.collection.barren && not may_be) → BringsNone mid new
+    → (old.collection.barren ≡ true → may_be ≡ is_some (option_and_then (weighed mid) at)) → new.collection.barren ≡ (old.collection.barren && not may_be)
+    → BringsNone mid new
     → IsBarrenRightly new
 barren_but old mid new at may_be was brings told is rest = λ barren line.
     let both : (old.collection.barren && not may_be) ≡ true = sym is ∙ barren in
@@ -180,20 +182,14 @@ unclosed_by_state i w c line mount st other = λ note there.
 
 -- ---- rows of other lines
 
-row_elsewhere : (line other : ℕ) (change : Row → Row) (t : Table) → other ≢ line → slice_get (with_row line change t).rows other ≡ slice_get t.rows other
-row_elsewhere line other change t apart = go (slice_get t.rows line)
-  where
-    go : (o : Option Row) → slice_get (option_map_or (λ row. slice_set t.rows line (change row)) o t.rows) other ≡ slice_get t.rows other
-    go None = refl
-    go (Some row) = get_set_other t.rows line other (change row) apart
-
 pub turned_elsewhere : (old new : Table) (line other : ℕ) (change : Row → Row) → line < length old.rows → Changes old new line change → other ≢ line
     → slice_get new.rows other ≡ slice_get old.rows other
 turned_elsewhere old new line other change inside changes apart =
     let row = got_within old.rows line inside in
     ap (λ rows. slice_get rows other) (changes.rows row.0 row.1) ∙ get_set_other old.rows line other (change row.0) apart
 
-pub lost_elsewhere : (at : Option ℕ) (landed : Bool) (by other : ℕ) (t : Table) → at ≢ Some other → slice_get (lose_in at landed by t).rows other ≡ slice_get t.rows other
+pub lost_elsewhere : (at : Option ℕ) (landed : Bool) (by other : ℕ) (t : Table) → at ≢ Some other
+    → slice_get (lose_in at landed by t).rows other ≡ slice_get t.rows other
 lost_elsewhere None landed by other t apart = refl
 lost_elsewhere (Some line) true by other t apart = row_elsewhere line other (lost by) t (λ e. apart (ap (λ n. Some n) (sym e)))
 lost_elsewhere (Some line) false by other t apart = row_elsewhere line other lowered t (λ e. apart (ap (λ n. Some n) (sym e)))

@@ -15,8 +15,6 @@ use Rattle.pblk_world.specs.Space.{is_due}
 use Rattle.pblk_world.specs.Victims.{comes_to_work, is_freed, live, next_victim, stays_at_work, taken_up_to, took_from, victim}
 use Rattle.pblk_world.specs.World.{World, Logs, log_of}
 use Rattle.line_table.specs.declared.row.Row.{Row}
-use Rattle.line_table.specs.declared.row.LineState.TheVariants.{Failed, Full, Open}
-use Rattle.line_table.specs.Rows.{IsRow}
 use Rattle.l2p_map.specs.declared.slot.Slot.TheVariants.{Media}
 use Rattle.world_laws.specs.LegalMounts.{IsLegalMount}
 use Rattle.world_laws.proofs.Lives.{IsFree, IsNeither, IsOpen, Turns, life_freed, life_opened, life_stays, turns}
@@ -30,13 +28,15 @@ use Rattle.core_laws.proofs.ChosenVictims.{next_victim_is}
 use Rattle.core_laws.proofs.LastTakes.{last_passing}
 use Rattle.core_laws.proofs.NextVictims.{victim_next}
 use Rattle.core_laws.proofs.VictimsAtWork.{IsVictim, over_where_closed, victim_is_closed}
-use Rattle.core_laws.proofs.FreedRows.{state_was}
 use Rattle.lemmas.proofs.Lists.{IsAmong}
-use Rattle.lemmas.proofs.Parts.{from_last, get_below}
+use Rattle.lemmas.proofs.Parts.{from_last, get_below, got_within}
 use Rattle.lemmas.proofs.Tests.{positive, same}
 use Rattle.pblk_world.proofs.EngineLogLemmas.{takes_more}
 use Rattle.pblk_core.specs.declared.collecting.Collection.{Collection}
+use Rattle.pblk_core.specs.declared.line_notes.LineNote.{LineNote}
 use Rattle.pblk_core.specs.declared.target_core.Core.{Core}
+use Rattle.core_laws.specs.ClosedLines.{ClosedLine}
+use Rattle.pblk_core.specs.LineNotes.{closed_by}
 use Rattle.pblk_core.specs.Collecting.{BringsNone, Collects, HasPassed, IsBarrenRightly, victim_after}
 use Rattle.pblk_core.specs.Copies.{asked_by_row, is_due_in, victim_asks, victim_row}
 use Rattle.pblk_core.specs.Named.{pad_of}
@@ -46,7 +46,6 @@ use Rattle.pblk_core.proofs.SmallCalls.{numbered_in}
 use Rattle.pblk_core.proofs.SmallGrant.{due_is}
 use Rattle.pblk_core.proofs.SmallPositions.{taken_bounded}
 use Rattle.pblk_core.proofs.SpentTables.{row_stands, taker_numbered}
-use Rattle.pblk_core.proofs.SimpleLogs.{simple_in}
 
 -- ---- positions that were taken are small
 
@@ -55,11 +54,10 @@ AreSmall log = (t : Taken) → IsAmong (takes log) t → t.entry.position < 2 ^ 
 
 small_now : (i : Image) (w : World) (c : Core) → IsLegalMount i w → Stands i (log_of w) c → AreSmall (log_of w 0)
 small_now i w c mount st = λ t among.
-    let simple = simple_in i w mount st in
     let first : first_position (log_of w 0) ≤ 2 ^ 62 = subst (λ n. n ≤ 2 ^ 62) st.first st.fits.first in
-    let most : taken (log_of w 0) ≤ 2 ^ 62 = taken_bounded i w simple first in
+    let most : taken (log_of w 0) ≤ 2 ^ 62 = taken_bounded i w mount first in
     let at : t.entry.position ≡ first_position (log_of w 0) + among.0 =
-    numbered_at (first_position (log_of w 0)) (length (takes (log_of w 0))) (takes (log_of w 0)) among.0 t (numbered_in i w simple) among.1 in
+    numbered_at (first_position (log_of w 0)) (length (takes (log_of w 0))) (takes (log_of w 0)) among.0 t (numbered_in i w mount) among.1 in
     let within : among.0 < length (takes (log_of w 0)) = get_below (takes (log_of w 0)) among.0 t among.1 in
     omega arith
 
@@ -208,23 +206,26 @@ pub passed_same : (old new : Core) → HasPassed old → new.map ≡ old.map →
 passed_same old new was map col = λ lba line at position low at_work there. was lba line at position
     (subst (λ (x : Collection). lba < x.cursor) col low) (sym (ap (λ (x : Collection). x.victim) col) ∙ at_work) (ap (λ m. fin.get m lba) (sym map) ∙ there)
 
--- or where blocks of Open lines alone came to the drive: the victim is closed
+-- a note that has the line's numbers is closed
+note_closed : (note : LineNote) (c : ClosedLine) → closed_by note ≡ Some c → note.closed ≡ true
+note_closed note c some = go note.closed some
+  where
+    go : (b : Bool) → ◌≡◌ {A = Option ClosedLine} (if b then Some (record { seq = note.seq; top = note.top }) else None) (Some c) → b ≡ true
+    go true e = refl
+    go false e = absurd cc
+
+-- or where no block of a line whose note is closed came to the drive: the victim's is
 pub passed_landed : (old new : Core) (i : Image) (w : World) → IsLegalMount i w → Stands i (log_of w) old → Collects i (log_of w) old
     → new.collection ≡ old.collection
-    → ((lba line at position : ℕ) (row : Row) → IsRow old.lines line row → row.state ≢ Open → fin.get new.map lba ≡ Some (Media line at position)
-    → fin.get old.map lba ≡ Some (Media line at position))
+    → ((lba line at position : ℕ) (note : LineNote) → slice_get old.notes.rows.items line ≡ Some note → note.closed ≡ true
+    → fin.get new.map lba ≡ Some (Media line at position) → fin.get old.map lba ≡ Some (Media line at position))
     → HasPassed new
 passed_landed old new i w mount st was col map = λ lba line at position low at_work there.
     let works : old.collection.victim ≡ Some line = sym (ap (λ (x : Collection). x.victim) col) ∙ at_work in
     let its : IsVictim i (log_of w) line = victim_is_closed i w line mount (sym was.victim ∙ works) in
+    let note = got_within old.notes.rows.items line (subst (λ n. line < n) (sym st.notes.count) its.in_range) in
     was.passed lba line at position (subst (λ (x : Collection). lba < x.cursor) col low) works
-    (map lba line at position (row_of_line i (log_of w) line) (row_stands i (log_of w) st line its.in_range)
-    (closed_state line (state_was i w mount line [] its.closed.seq its.has_seq its.over)) there)
-  where
-    closed_state : (line : ℕ) → ((row_of_line i (log_of w) line).state ≡ Full) ⊎ ((row_of_line i (log_of w) line).state ≡ Failed)
-        → (row_of_line i (log_of w) line).state ≢ Open
-    closed_state line (inl full) = λ e. let both : Full ≡ Open = sym full ∙ e in cc
-    closed_state line (inr failed) = λ e. let both : Failed ≡ Open = sym failed ∙ e in cc
+    (map lba line at position note.0 note.1 (note_closed note.0 its.closed (st.notes.closed line note.0 note.1 ∙ its.is_closed)) there)
 
 -- so it collects what it did, where it asks for no fewer pads
 pub collects_same : (old new : Core) (i : Image) (logs : Logs) → Collects i logs old → new.map ≡ old.map → new.collection ≡ old.collection

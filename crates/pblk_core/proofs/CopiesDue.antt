@@ -1,18 +1,17 @@
 -- A copy is due by a core's tables exactly where one is by the logs. A sector that is to be copied
 -- stands in the victim at work, by the map.
-use Rattle.std.proofs.Common.{◌≡◌, ◌≢◌, ◌⊎◌, inl, inr, ℕ, ◌+◌, ◌-◌, ◌<◌, ◌≤◌, ◌^◌, ◌&&◌, nat_lt, max, Bool, true, false, None, Some, Option, List, length, refl, sym, ap, ap₂, ◌∙◌, arith, length-append}
+use Rattle.std.proofs.Common.{◌≡◌, ◌≢◌, ◌⊎◌, inl, inr, ℕ, ◌+◌, ◌-◌, ◌<◌, ◌≤◌, ◌^◌, ◌&&◌, nat_lt, max, Bool, true, false, None, Some, Option, List, length, refl, sym, ap, ap₂, ◌∙◌, arith}
 use Rattle.std.specs.Prelude.{slice_get}
 use Rattle.std.specs.Option.{option_and_then, option_map_or}
 use Rattle.std.specs.FinMap as fin
 use Rattle.std.proofs.lemmas.Bool.{cases_lt}
 use Rattle.std.proofs.lemmas.List.{length-map}
-use Rattle.std.proofs.lemmas.List.FromFn.{length-range_with_len}
 use Rattle.pblk_model.specs.declared.shape.Shape.{Shape}
 use Rattle.pblk_model.specs.Image.{Image}
 use Rattle.pblk_world.specs.AtRest.{IsCopyDue, victim_now}
 use Rattle.pblk_world.specs.EngineLog.{Taken}
 use Rattle.pblk_world.specs.Fronts.{taken, waiting}
-use Rattle.pblk_world.specs.Space.{addresses, is_due, placed_front, position_limit}
+use Rattle.pblk_world.specs.Space.{addresses, is_due, position_limit}
 use Rattle.pblk_world.specs.Victims.{is_live_in, live}
 use Rattle.pblk_world.specs.World.{World, Logs, log_of}
 use Rattle.world_laws.specs.LegalMounts.{IsLegalMount}
@@ -20,13 +19,12 @@ use Rattle.l2p_map.specs.declared.slot.Slot.TheVariants.{Media}
 use Rattle.line_table.specs.declared.row.Row.{Row}
 use Rattle.line_table.specs.Rows.{free_addresses}
 use Rattle.write_window.specs.Window as view
-use Rattle.core_laws.proofs.PlainLogs.{never_lost}
-use Rattle.core_laws.specs.PlacerOf.{lost_entries, fresh_entries}
+use Rattle.core_laws.proofs.WaitingEntries.{waiting_alike}
+use Rattle.stripe_placer.specs.Entries.{waiting as entries_waiting}
+use Rattle.stripe_placer.specs.Placing.{Placing}
 use Rattle.core_laws.specs.RowsOf.{row_of_line}
-use Rattle.core_laws.specs.SimpleMounts.{IsSimpleMount}
 use Rattle.core_laws.specs.SlotOf.{slot_of}
 use Rattle.core_laws.proofs.LiveSlots.{live_is_named}
-use Rattle.core_laws.proofs.PlacedInOrder.{ordered, front_within, fresh_in_order, lost_are_none}
 use Rattle.core_laws.proofs.StandingLines.{live_none}
 use Rattle.core_laws.proofs.VictimsAtWork.{IsVictim, victim_is_closed}
 use Rattle.lemmas.proofs.Tests.{and_both, below_of, both, lt_true}
@@ -34,24 +32,18 @@ use Rattle.pblk_core.specs.declared.target_core.Core.{Core}
 use Rattle.pblk_core.specs.Collecting.{Collects, HasPassed}
 use Rattle.pblk_core.specs.Copies.{copy_due, is_copy_due, is_due_in, victim_row}
 use Rattle.pblk_core.specs.Stands.{Stands}
-use Rattle.pblk_core.proofs.SimpleLogs.{simple_in}
 use Rattle.pblk_core.proofs.SmallGrant.{due_is, free_is}
 use Rattle.pblk_core.proofs.SpentTables.{row_stands}
 use Rattle.pblk_core.proofs.StandsFacts.{window_taken_is}
 
 -- ---- how many entries wait
 
-pub waiting_count : (i : Image) (w : World) → IsSimpleMount i w → length (waiting i.shape (log_of w 0)) ≡ taken (log_of w 0) - placed_front i.shape (log_of w 0)
-waiting_count i w simple =
-    let both : length (waiting i.shape (log_of w 0)) ≡ length (lost_entries i.shape (log_of w 0)) + length (fresh_entries i.shape (log_of w 0)) =
-    length-append (lost_entries i.shape (log_of w 0)) (fresh_entries i.shape (log_of w 0)) in
-    let none : length (lost_entries i.shape (log_of w 0)) ≡ 0 =
-    ap (λ (ts : List Taken). length ts) (lost_are_none i.shape (log_of w 0) (never_lost (log_of w 0) simple.engine.lost)) in
-    let fresh : length (fresh_entries i.shape (log_of w 0)) ≡ taken (log_of w 0) - placed_front i.shape (log_of w 0) =
-    sym (length-map (fresh_entries i.shape (log_of w 0)) (λ (t : Taken). t.entry.position))
-    ∙ ap (λ (qs : List ℕ). length qs) (fresh_in_order i.shape (log_of w 0) (ordered i w simple.mount))
-    ∙ length-range_with_len (placed_front i.shape (log_of w 0)) (taken (log_of w 0) - placed_front i.shape (log_of w 0)) in
-    omega arith
+pub waiting_count : (i : Image) (w : World) (c : Core) → Stands i (log_of w) c
+    → length (entries_waiting c.placer.entries) ≡ length (waiting i.shape (log_of w 0))
+waiting_count i w c st =
+    ap (λ (p : Placing). length (entries_waiting p.entries)) st.placing
+    ∙ ap (λ (qs : List ℕ). length qs) (waiting_alike i.shape (log_of w 0) c.placer.entries.pad)
+    ∙ length-map (waiting i.shape (log_of w 0)) (λ (t : Taken). t.entry.position)
 
 -- ---- by the logs
 
@@ -93,14 +85,14 @@ test_of_copy i logs is =
 -- ---- by the tables
 
 -- whether a copy is due, by what is asked of the tables about the victim's line
-pub due_by : (c : Core) (line : ℕ) (row : Row) (due : Bool) (has_live taken_ limit free : ℕ) → c.collection.victim ≡ Some line
+pub due_by : (c : Core) (line : ℕ) (row : Row) (due : Bool) (has_live taken_ limit waits free : ℕ) → c.collection.victim ≡ Some line
     → slice_get c.lines.rows line ≡ Some row → due ≡ is_due_in c → has_live ≡ row.live → taken_ ≡ view.taken c.window → limit ≡ max (2 ^ 61 - 2) c.first
-    → free ≡ free_addresses c.lines
-    → copy_due c ≡ (due && (nat_lt 0 has_live && (nat_lt taken_ limit && nat_lt (taken_ - (c.first + c.placed)) (c.left + free))))
-due_by c line row due has_live taken_ limit free at_work is_row d l t m f =
+    → waits ≡ length (entries_waiting c.placer.entries) → free ≡ free_addresses c.lines
+    → copy_due c ≡ (due && (nat_lt 0 has_live && (nat_lt taken_ limit && nat_lt waits (c.left + free))))
+due_by c line row due has_live taken_ limit waits free at_work is_row d l t m n f =
     let its_row : victim_row c ≡ Some row = ap (option_and_then (λ n. slice_get c.lines.rows n)) at_work ∙ is_row in
     sym (ap₂ (λ a b. a && b) d (ap₂ (λ a b. a && b) (ap (nat_lt 0) l ∙ ap (λ o. option_map_or (λ (r : Row). nat_lt 0 r.live) o false) (sym its_row))
-    (ap₂ (λ a b. a && b) (ap₂ nat_lt t m) (ap₂ (λ n k. nat_lt (n - (c.first + c.placed)) (c.left + k)) t f))))
+    (ap₂ (λ a b. a && b) (ap₂ nat_lt t m) (ap₂ (λ n k. nat_lt n (c.left + k)) n f))))
 
 module _ (i : Image) (w : World) (c : Core) (mount : IsLegalMount i w) (st : Stands i (log_of w) c) (col : Collects i (log_of w) c) where
   victim_is : (line : ℕ) → c.collection.victim ≡ Some line → IsVictim i (log_of w) line
@@ -122,22 +114,10 @@ module _ (i : Image) (w : World) (c : Core) (mount : IsLegalMount i w) (st : Sta
       go None e = refl
       go (Some line) e = ap (λ o. option_map_or (λ (row : Row). nat_lt 0 row.live) o false) (victim_has_row line e)
 
-  waiting_is : view.taken c.window - (c.first + c.placed) ≡ length (waiting i.shape (log_of w 0))
-  waiting_is = ap₂ (λ a b. a - b) (window_taken_is i w c st) st.placed ∙ sym (waiting_count i w (simple_in i w mount st))
-
   pub copy_due_is : copy_due c ≡ is_copy_due i (log_of w)
   copy_due_is = ap₂ (λ a b. a && b) (due_is i (log_of w) c st) (ap₂ (λ a b. a && b) live_is (ap₂ (λ a b. a && b)
       (ap₂ nat_lt (window_taken_is i w c st) (ap (max (2 ^ 61 - 2)) st.first))
-      (ap₂ nat_lt waiting_is (ap₂ (λ a b. a + b) st.left (free_is i w c st)))))
-
-  -- no more positions are placed than were taken
-  pub placed_within : c.first + c.placed ≤ view.taken c.window
-  placed_within =
-      let is : c.first + c.placed ≡ placed_front i.shape (log_of w 0) = st.placed in
-      let taken_is : view.taken c.window ≡ taken (log_of w 0) = window_taken_is i w c st in
-      let within : placed_front i.shape (log_of w 0) ≤ taken (log_of w 0) =
-      front_within i.shape (log_of w 0) (ordered i w mount) in
-      omega arith
+      (ap₂ nat_lt (waiting_count i w c st) (ap₂ (λ a b. a + b) st.left (free_is i w c st)))))
 
   -- Where no sector from the cursor on stands in the victim, it has no live one.
   pub none_live : (line : ℕ) → HasPassed c → c.collection.victim ≡ Some line

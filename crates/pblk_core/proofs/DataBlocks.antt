@@ -1,4 +1,5 @@
--- The blocks of a stripe: those of entries that were taken, and those of a record, each with the record's mark.
+-- The blocks of a stripe: those of entries that were taken, and those of a record, each with the
+-- record's mark.
 use Rattle.std.proofs.Common.{◌≡◌, ◌⊎◌, inl, inr, ℕ, ◌-◌, ◌&&◌, not, Some, List, length, take, replicate, refl}
 use Rattle.std.specs.Prelude.{slice_get, map}
 use Rattle.std.specs.List.{AllByRecursion, filter}

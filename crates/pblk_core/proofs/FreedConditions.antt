@@ -108,8 +108,8 @@ module _ (c : Core) (line : ℕ) (standing : IsStanding c) (spent : IsSpentIn c 
       ended (inl e) = by spent.row.state (ap is_full_or_failed e)
       ended (inr e) = by spent.row.state (ap is_full_or_failed e)
 
--- So where no line before one is spent, and none from it on is such a one up to another, none before
--- the other is spent.
+-- So where no line before one is spent, and none from it on is such a one up to another, none
+-- before the other is spent.
 pub none_spent_before : (c : Core) (from line : ℕ) → IsStanding c → ((m : ℕ) → m < from → ¬ IsSpentIn c m)
     → ((m : ℕ) → from ≤ m → m < line → ¬ IsOutlivedLine c.lines m) → (m : ℕ) → m < line → ¬ IsSpentIn c m
 none_spent_before c from line standing before between m below spent = go (cases_lt m from)

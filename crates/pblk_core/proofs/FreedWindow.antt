@@ -1,4 +1,5 @@
--- The window's front and the front freed: they are one exactly where no block of the window's first entry can be read.
+-- The window's front and the front freed: they are one exactly where no block of the window's first
+-- entry can be read.
 use Rattle.std.proofs.Common.{◌≡◌, ◌+◌, ◌-◌, ◌≤◌, Bool, true, false, cond, nat_lt, Some, None, List, [], ◌∷◌, length, take, drop, refl, sym, ap, ap₂, ◌∙◌, arith}
 use Rattle.std.specs.Prelude.{map, slice_get}
 use Rattle.std.specs.Option.{option_map_or}
@@ -8,7 +9,7 @@ use Rattle.pblk_world.specs.EngineLog.{Taken, takes}
 use Rattle.pblk_world.specs.Fronts.{first_position, synced, taken, has_landed_at}
 use Rattle.pblk_world.specs.Space.{freed}
 use Rattle.pblk_world.proofs.SyncedFront.{synced_within}
-use Rattle.core_laws.specs.SimpleMounts.{IsSimpleMount}
+use Rattle.world_laws.specs.LegalMounts.{IsLegalMount}
 use Rattle.core_laws.specs.WindowOf.{HeldSector, HeldSectors, without_frame, progress_by, is_given_back, held_of}
 use Rattle.core_laws.proofs.Placing.{not_below}
 use Rattle.core_laws.proofs.CachedEntries.{numbered_at}
@@ -34,10 +35,11 @@ given_no landed false first e = refl
 given_no true true first e = absurd cc
 given_no false true first e = let no : false ≡ true = first refl in absurd cc
 
--- where no block of the first entry can be read, or there is none, the window's front is that of the log
-pub front_is_freed : (i : Image) (w : World) (c : Core) → IsSimpleMount i w → Stands i (log_of w) c → view.is_readable_at c.window c.window.freed ≡ false
+-- where no block of the first entry can be read, or there is none, the window's front is that of
+-- the log
+pub front_is_freed : (i : Image) (w : World) (c : Core) → IsLegalMount i w → Stands i (log_of w) c → view.is_readable_at c.window c.window.freed ≡ false
     → c.window.freed ≡ freed i.shape (log_of w 0)
-front_is_freed i w c simple st unread =
+front_is_freed i w c mount st unread =
     go c.window.entries (drop (c.window.freed - first_position (log_of w 0)) (takes (log_of w 0))) refl refl (ap (λ (x : HeldSectors). x.entries) st.window)
     (sym (at_front c.window (λ h. is_readable h.progress) false) ∙ unread)
   where
@@ -61,7 +63,7 @@ front_is_freed i w c simple st unread =
         drop_first (c.window.freed - first_position (log_of w 0)) (takes (log_of w 0)) ts t from in
         let at : t.entry.position ≡ first_position (log_of w 0) + (c.window.freed - first_position (log_of w 0)) =
         numbered_at (first_position (log_of w 0)) (length (takes (log_of w 0))) (takes (log_of w 0)) (c.window.freed - first_position (log_of w 0)) t
-        (numbered_in i w simple) there in
+        (numbered_in i w mount) there in
         let low : first_position (log_of w 0) ≤ c.window.freed = st.from_first in
         let same_place : t.entry.position ≡ c.window.freed = omega arith in
         let kept : is_given_back i.shape (log_of w 0) t.entry.position ≡ false =
@@ -71,9 +73,9 @@ front_is_freed i w c simple st unread =
         sym (freed_here i.shape (log_of w 0) c.window.freed st.from_first st.to_freed (ap (is_given_back i.shape (log_of w 0)) (sym same_place) ∙ kept))
 
 -- and where the window's front is that of the log, none can be read
-pub unread_at_front : (i : Image) (w : World) (c : Core) → IsSimpleMount i w → Stands i (log_of w) c → c.window.freed ≡ freed i.shape (log_of w 0)
+pub unread_at_front : (i : Image) (w : World) (c : Core) → IsLegalMount i w → Stands i (log_of w) c → c.window.freed ≡ freed i.shape (log_of w 0)
     → view.is_readable_at c.window c.window.freed ≡ false
-unread_at_front i w c simple st same = go (view.is_readable_at c.window c.window.freed) refl
+unread_at_front i w c mount st same = go (view.is_readable_at c.window c.window.freed) refl
   where
     go : (b : Bool) → view.is_readable_at c.window c.window.freed ≡ b → view.is_readable_at c.window c.window.freed ≡ false
     go false e = e
@@ -86,5 +88,5 @@ unread_at_front i w c simple st same = go (view.is_readable_at c.window c.window
               drop 1 c.window.entries;
         } in
         let past : c.window.freed + 1 ≤ freed i.shape (log_of w 0) =
-        (popped_window i w c new simple st (record { readable = e; size = refl; freed = refl; users = refl; entries = refl })).1 in
+        (popped_window i w c new mount st (record { readable = e; size = refl; freed = refl; users = refl; entries = refl })).1 in
         absurd (omega arith)

@@ -40,6 +40,9 @@ pub readable_frames : (w : WindowView) (bs : List ReadBlock) → KeepsFrames w (
 readable_frames w [] = none w
 readable_frames w (b ∷ bs) = and_then (one_turned w b.mark.position progress.Readable) (readable_frames (turned w b.mark.position progress.Readable) bs)
 
+pub read_frames : (w x : WindowView) (bs : List ReadBlock) → x ≡ all_readable w bs → KeepsFrames w x
+read_frames w x bs is = subst (KeepsFrames w) (sym is) (readable_frames w bs)
+
 pub both_frames : (w v x : WindowView) (qs : List ℕ) (bs : List ReadBlock) → v ≡ all_landed w qs → x ≡ all_readable v bs → KeepsFrames w x
 both_frames w v x qs bs is then_is = and_then (subst (KeepsFrames w) (sym is) (landed_frames w qs)) (subst (KeepsFrames v) (sym then_is) (readable_frames v bs))
 

@@ -17,7 +17,7 @@ use Rattle.pblk_world.specs.EngineLog.{Begun, begun_by, begun, LineLife, AsFound
 use Rattle.pblk_world.specs.Lines.{known_image, told_by, is_empty_state, are_empty, has_number, is_free_line, is_given_up_by, strays_of, is_given_up}
 use Rattle.pblk_world.proofs.Appending.{life_more}
 use Rattle.core_laws.specs.PlacerOf.{unanswered_on}
-use Rattle.core_laws.specs.SimpleMounts.{IsSimpleMount}
+use Rattle.world_laws.specs.LegalMounts.{IsLegalMount}
 use Rattle.core_laws.specs.Stepping.{after}
 use Rattle.core_laws.proofs.KeptRows.{begun_kept, known_kept}
 use Rattle.pblk_core.specs.Resets.{is_used_state, is_used_in, used_units, in_line, units_to_reset, resets_of}
@@ -103,10 +103,10 @@ empty_none j line all = filter_none (is_used_in j line) (range_with_len 0 (units
 
 -- ---- a program that has landed
 
-module _ (i : Image) (w : World) (unit event : ℕ) (knows : List ℕ) (p : Placed) (b : Begun) (simple : IsSimpleMount i w) (may : MayLand (log_of w) unit event)
+module _ (i : Image) (w : World) (unit event : ℕ) (knows : List ℕ) (p : Placed) (b : Begun) (mount : IsLegalMount i w) (may : MayLand (log_of w) unit event)
     (waits : unanswered_on (log_of w 0) unit ≡ Some p) (begins : begun (log_of w 0) ≡ Some b) where
   is : IsItsProgram w unit event p
-  is = landed_program i w unit event p simple may waits
+  is = landed_program i w unit event p mount may waits
 
   told : (u : ℕ) (c : Bool) → nat_eq unit u ≡ c
       → told_by (log_of w) u (Decides (Landed unit event)) ≡ (if c then unit_event_at (log_of w) unit event else None)

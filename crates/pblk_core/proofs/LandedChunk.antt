@@ -1,5 +1,5 @@
 -- What an open line's records keep of the blocks of a chunk of it.
-use Rattle.std.proofs.Common.{◌≡◌, ◌≢◌, ◌⊎◌, ℕ, ◌+◌, ◌-◌, ◌*◌, ◌/◌, ◌%◌, ◌<◌, ◌≤◌, ◌==◌, zero, suc, nat_lt, nat_le, if◌then◌else◌, Bool, true, false, Some, None, Option, List, [], ◌∷◌, length, take, drop, refl, sym, subst, ap, ap₂, ◌∙◌, arith, inl, inr, mul-div_cancel, div-add-mod'}
+use Rattle.std.proofs.Common.{◌≡◌, ◌≢◌, ◌⊎◌, ℕ, ◌+◌, ◌-◌, ◌*◌, ◌/◌, ◌%◌, ◌<◌, ◌≤◌, ◌==◌, zero, suc, nat_lt, nat_le, if◌then◌else◌, Bool, true, false, Some, None, Option, List, [], ◌∷◌, length, take, drop, refl, sym, subst, ap, ap₂, ◌∙◌, arith, inl, inr, mul-div_cancel, div-add-mod', length-drop, length-take}
 use Rattle.std.specs.Prelude.{slice_get, slice_range, is_some}
 use Rattle.std.specs.List.{AllByRecursion, flat_map}
 use Rattle.std.specs.Option.{option_and_then, option_map}
@@ -20,7 +20,7 @@ use Rattle.pblk_layout.specs.Live.{units_in}
 use Rattle.pblk_layout.proofs.Orders as orders
 use Rattle.pblk_world.specs.World.{World, log_of}
 use Rattle.pblk_world.specs.EngineLog.{Opening, Taken, takes, Placed, is_life, placements, stripes_of, stripes_on}
-use Rattle.pblk_world.specs.Placing.{data_marks, end_address}
+use Rattle.pblk_world.specs.Placing.{end_address}
 use Rattle.stripe_placer.specs.OpenLines.{width}
 use Rattle.core_laws.specs.OpenedLines.{as_opened, is_stripe_at}
 use Rattle.core_laws.proofs.UnitTurns.{filtered_is}
@@ -36,18 +36,21 @@ use Rattle.core_laws.proofs.ChunksInRows.{rows_of_chunks}
 use Rattle.stripe_placer.specs.Placing.{Program}
 use Rattle.stripe_placer.proofs.Chunks.{lt_of as lt_yes}
 use Rattle.pblk_laws.proofs.LineUnits.{line_units_rise}
-use Rattle.core_laws.proofs.StripesInOrder.{IsAtPlace}
-use Rattle.core_laws.specs.SimpleMounts.{IsSimpleMount}
+use Rattle.core_laws.proofs.LineNumbers.{IsNumbered, numbered}
+use Rattle.core_laws.proofs.StripesInOrder.{stripe_count}
+use Rattle.core_laws.proofs.WholePlaces.{was_whole, whole_at, pad_behind}
+use Rattle.world_laws.specs.LegalMounts.{IsLegalMount}
+use Rattle.pblk_core.specs.LineRecords.{placed_whole, whole_marks}
 use Rattle.pblk_core.specs.Stands.{IsOpenLine}
 use Rattle.pblk_core.specs.Readable.{ReadBlock, block_reads, data_mark, position_of}
 use Rattle.pblk_core.specs.declared.open_lines.OpenLine.{OpenLine}
 use Rattle.pblk_core.proofs.LandedReads.{IsChunkRead}
-use Rattle.pblk_core.proofs.LandedWay.{IsOnWay, at_number}
+use Rattle.pblk_core.proofs.LandedWay.{IsOnWay}
 use Rattle.pblk_core.proofs.ReadBlocks.{place_is, none_told, pads_there, reads_there}
 use Rattle.pblk_core.proofs.LineUnits.{now_units}
 use Rattle.lemmas.proofs.Lists.{IsAmong}
 use Rattle.lemmas.proofs.Maps.{all_filter, from_filter}
-use Rattle.lemmas.proofs.Parts.{got_within, one_column}
+use Rattle.lemmas.proofs.Parts.{get_past, got_within, one_column}
 use Rattle.lemmas.proofs.Tests.{le_of_lt_false, within_is}
 
 -- ---- where a block stands in the order of its line
@@ -68,10 +71,15 @@ place_found s us unit c b rise ws whole there below =
 
 -- ---- a block of the chunk in its line
 
+-- The stripe that has it has a number in its line, in line order. Before a stripe of the line was
+-- lost that is its place among those that were placed then; the pads that came later are behind
+-- these.
 pub record IsInLine (i : Image) (w : World) (unit : ℕ) (o : Opening) (slot : OpenLine) (n : ℕ) (b : Block) : Type 0 where
   pub number : ℕ
   pub stripe : Placed
-  pub there : slice_get (stripes_of (log_of w 0) o) number ≡ Some stripe
+  pub among : IsAmong (stripes_of (log_of w 0) o) stripe
+  pub whole : was_whole (log_of w 0) o stripe ≡ true → slice_get (placed_whole (log_of w 0) o) number ≡ Some stripe
+  pub later : was_whole (log_of w 0) o stripe ≡ false → length (placed_whole (log_of w 0) o) ≤ number
   pub block : slice_get stripe.stripe.blocks (n % i.shape.ws_opt) ≡ Some b
   pub address : address_of_block i (log_of w) o unit n ≡ number * i.shape.ws_opt + n % i.shape.ws_opt
   pub place : position_of (unit, n) (line_order slot.records.shape (units_in slot.live)) ≡ Some (number * i.shape.ws_opt + n % i.shape.ws_opt)
@@ -94,12 +102,12 @@ long_all : (n : ℕ) (ps : List Placed) → ((k : ℕ) (r : Placed) → slice_ge
 long_all n [] each = tt
 long_all n (r ∷ ps) each = (each 0 r refl, long_all n ps (λ k x e. each (suc k) x e))
 
-pub in_line : (i : Image) (w : World) (unit : ℕ) (of : Program) (slot : OpenLine) (n : ℕ) (b : Block) → IsSimpleMount i w → (is : IsOnWay i w unit of)
+pub in_line : (i : Image) (w : World) (unit : ℕ) (of : Program) (slot : OpenLine) (n : ℕ) (b : Block) → IsLegalMount i w → (is : IsOnWay i w unit of)
     → IsOpenLine i (log_of w) is.row.opening slot
     → slice_get (chunk_blocks (log_of w 0) is.row.opening unit) n ≡ Some b → IsInLine i w unit is.row.opening slot n b
-in_line i w unit of slot n b simple is kept there =
+in_line i w unit of slot n b mount is kept there =
     let ws : 0 < i.shape.ws_opt = is.line_is.striped.some in
-    let rows = rows_of_chunks i w is.row.opening unit simple.mount in
+    let rows = rows_of_chunks i w is.row.opening unit mount in
     let long = long_all i.shape.ws_opt (stripes_on (log_of w 0) is.row.opening unit) (λ k r at. (rows k r at).blocks) in
     let count : length (chunk_blocks (log_of w 0) is.row.opening unit) ≡ length (stripes_on (log_of w 0) is.row.opening unit) * i.shape.ws_opt =
     length_joined i.shape.ws_opt (stripes_on (log_of w 0) is.row.opening unit) long in
@@ -116,48 +124,52 @@ in_line i w unit of slot n b simple is kept there =
     (n / i.shape.ws_opt) p.0 p.1) in
     let among : IsAmong (stripes_of (log_of w 0) is.row.opening) p.0 =
     from_filter (λ (x : Placed). x.stripe.unit == unit) (stripes_of (log_of w 0) is.row.opening) p.0 (n / i.shape.ws_opt, p.1) in
-    let place : IsAtPlace i (now_units i w) is.row.opening.line among.0 p.0.stripe.unit p.0.stripe.at = is.line_is.order.places among.0 p.0 among.1 in
-    let column : slice_get (now_units i w is.row.opening.line) (among.0 % length (now_units i w is.row.opening.line)) ≡ Some unit = place.its_unit
+    let place : IsNumbered i w mount is.row.opening is.is_open p.0 = numbered i w mount is.row.opening is.is_open p.0 among in
+    let column : slice_get (now_units i w is.row.opening.line) (place.number % length (now_units i w is.row.opening.line)) ≡ Some unit = place.unit
     ∙ ap (λ u. Some u) own in
-    let same_row : among.0 / length (now_units i w is.row.opening.line) ≡ n / i.shape.ws_opt =
-    sym (mul-div_cancel (among.0 / length (now_units i w is.row.opening.line)) {n = i.shape.ws_opt} ws)
-    ∙ ap (λ m. m / i.shape.ws_opt) (sym place.its_block ∙ its.at) ∙ mul-div_cancel (n / i.shape.ws_opt) {n = i.shape.ws_opt} ws in
-    let number : n / i.shape.ws_opt * length (now_units i w is.row.opening.line) + among.0 % length (now_units i w is.row.opening.line) ≡ among.0 =
-    ap (λ m. m * length (now_units i w is.row.opening.line) + among.0 % length (now_units i w is.row.opening.line)) (sym same_row)
-    ∙ div-add-mod' among.0 (length (now_units i w is.row.opening.line)) in
-    let short : among.0 < length (stripes_of (log_of w 0) is.row.opening) = slice_get_within (stripes_of (log_of w 0) is.row.opening) among.0 p.0 among.1 in
-    let all = is.line_is.order.inside in
-    let total = is.line_is.count in
-    let here = at_number i w is.row.opening among.0 p.0.stripe.unit p.0.stripe.at is.line_is place in
+    let same_row : place.number / length (now_units i w is.row.opening.line) ≡ n / i.shape.ws_opt =
+    sym (mul-div_cancel (place.number / length (now_units i w is.row.opening.line)) {n = i.shape.ws_opt} ws)
+    ∙ ap (λ m. m / i.shape.ws_opt) (sym place.row ∙ its.at) ∙ mul-div_cancel (n / i.shape.ws_opt) {n = i.shape.ws_opt} ws in
+    let number : n / i.shape.ws_opt * length (now_units i w is.row.opening.line) + place.number % length (now_units i w is.row.opening.line) ≡ place.number =
+    ap (λ m. m * length (now_units i w is.row.opening.line) + place.number % length (now_units i w is.row.opening.line)) (sym same_row)
+    ∙ div-add-mod' place.number (length (now_units i w is.row.opening.line)) in
+    let total : length (as_opened i (log_of w) is.row.opening).stripes ≡ stripe_count i (now_units i w) is.row.opening.line = is.line_is.count in
+    let inside : place.number < stripe_count i (now_units i w) is.row.opening.line = place.inside in
     let wide : 0 < width (as_opened i (log_of w) is.row.opening) = (let g = is.line_is.wide_is in let h = is.line_is.striped.wide in omega arith) in
     let below : n < i.shape.clba = (let a : p.0.stripe.at ≡ n / i.shape.ws_opt * i.shape.ws_opt = its.at in let c = its.within in omega arith) in
     record {
-      number = among.0;
+      number = place.number;
       stripe = p.0;
-      there = among.1;
+      among = among;
+      whole = whole_at i w mount is.row.opening is.is_open p.0 among;
+      later = pad_behind i w mount is.row.opening is.is_open p.0 among;
       block = sym (joined_at (λ (q : Placed). q.stripe.blocks) i.shape.ws_opt (stripes_on (log_of w 0) is.row.opening unit) (n / i.shape.ws_opt)
           (n % i.shape.ws_opt) long rest
           ∙ ap (option_and_then (λ (q : Placed). slice_get q.stripe.blocks (n % i.shape.ws_opt))) p.1)
           ∙ ap (slice_get (chunk_blocks (log_of w 0) is.row.opening unit)) parts ∙ there;
-      address = address_at i (log_of w) is.row.opening unit n among.0 ws wide (omega arith)
-          (ap₂ (λ u m. is_stripe_at i.shape (as_opened i (log_of w) is.row.opening) u m among.0) (sym own) (sym its.at) ∙ here);
+      address = address_at i (log_of w) is.row.opening unit n place.number ws wide (omega arith)
+          (ap₂ (λ u m. is_stripe_at i.shape (as_opened i (log_of w) is.row.opening) u m place.number) (sym own) (sym its.at) ∙ place.at);
       place = ap₂ (λ s us. position_of (unit, n) (line_order s us)) kept.records.shape (ap units_in kept.live ∙ is.line_is.units)
-          ∙ place_found i.shape (now_units i w is.row.opening.line) unit (among.0 % length (now_units i w is.row.opening.line)) n
-          (line_units_rise (known_image i (log_of w)) is.row.opening.line) ws simple.mount.accepted.drive.whole_stripes column below
+          ∙ place_found i.shape (now_units i w is.row.opening.line) unit (place.number % length (now_units i w is.row.opening.line)) n
+          (line_units_rise (known_image i (log_of w)) is.row.opening.line) ws mount.accepted.drive.whole_stripes column below
           ∙ ap (λ m. Some (m * i.shape.ws_opt + n % i.shape.ws_opt)) number;
     }
 
 -- ---- its mark
 
--- what the blocks of a stripe of a line are: entries or pads at the data addresses, and elsewhere neither
+-- what the blocks of a stripe of a line that isn't Failed are: entries or pads at the data
+-- addresses, and elsewhere neither
 pub record HasKind (s : Shape) (ts : List Taken) (o : Opening) (j : ℕ) (blocks : List Block) : Type 0 where
   pub outside : (b : Block) → IsAmong blocks b → (j * s.ws_opt < start_len s) ⊎ (end_address s o ≤ j * s.ws_opt) → is_some (named s b.mark) ≡ false
   pub data_of : (b : Block) → IsAmong blocks b → start_len s ≤ j * s.ws_opt → j * s.ws_opt < end_address s o
       → ((b.mark.lba ≡ pad_lba) × (is_some (named s b.mark) ≡ false))
       ⊎ ((b.mark.lba ≢ pad_lba) × (is_some (named s b.mark) ≡ true) × ((t : Taken) × IsAmong ts t × (b.mark ≡ t.mark)))
 
-abbrev pub AreKinds : Image → World → Opening → Type 0
-AreKinds i w o = (j : ℕ) (p : Placed) → slice_get (stripes_of (log_of w 0) o) j ≡ Some p → HasKind i.shape (takes (log_of w 0)) o j p.stripe.blocks
+-- those that were placed before a stripe of the line was lost, and the pads that were placed later
+pub record AreKinds (i : Image) (w : World) (o : Opening) : Type 0 where
+  pub whole : (j : ℕ) (p : Placed) → slice_get (placed_whole (log_of w 0) o) j ≡ Some p → HasKind i.shape (takes (log_of w 0)) o j p.stripe.blocks
+  pub pads : (p : Placed) → IsAmong (stripes_of (log_of w 0) o) p → was_whole (log_of w 0) o p ≡ false
+      → (b : Block) → IsAmong p.stripe.blocks b → is_some (named i.shape b.mark) ≡ false
 
 part_in : {X : Type 0} (xs : List X) (a n k : ℕ) (x : X) → slice_get xs (a + k) ≡ Some x → k < n → slice_get (take n (drop a xs)) k ≡ Some x
 part_in xs zero zero k x at h = absurd (omega arith)
@@ -175,6 +187,9 @@ part_short xs a n k h = slice_get_past (take n (drop a xs)) k (let few : length 
     length-take-at-most zero ys = omega arith
     length-take-at-most (suc n) [] = omega arith
     length-take-at-most (suc n) (y ∷ ys) = let h : length (take n ys) ≤ n = length-take-at-most n ys in omega arith
+
+part_past : {X : Type 0} (xs : List X) (a n k : ℕ) → length xs ≤ a + k → slice_get (take n (drop a xs)) k ≡ None
+part_past xs a n k past = get_past (take n (drop a xs)) k (omega (arith, length-take n (drop a xs), length-drop a xs, past))
 
 multiple_le : (w j r m n : ℕ) → 0 < w → m * w ≡ n → r < w → n ≤ j * w + r → n ≤ j * w
 multiple_le w j r m n some is below h = go (cases_order n (j * w))
@@ -207,10 +222,10 @@ told_none i w unit o slot n b none unnamed = record {
     both : {c : Bool} → c ≡ true → c ≡ false → ⊥
     both p q = cc
 
-told_block : (i : Image) (w : World) (unit : ℕ) (of : Program) (slot : OpenLine) (n : ℕ) (b : Block) → IsSimpleMount i w → (is : IsOnWay i w unit of)
+told_block : (i : Image) (w : World) (unit : ℕ) (of : Program) (slot : OpenLine) (n : ℕ) (b : Block) → IsLegalMount i w → (is : IsOnWay i w unit of)
     → IsOpenLine i (log_of w) is.row.opening slot → IsInLine i w unit is.row.opening slot n b → AreKinds i w is.row.opening
     → IsTold i w unit is.row.opening slot n b
-told_block i w unit of slot n b simple is kept l kinds = by (nat_le (start_len i.shape) at) refl
+told_block i w unit of slot n b mount is kept l kinds = by_stripe (was_whole (log_of w 0) is.row.opening l.stripe) refl
   where
     at : ℕ
     at = l.number * i.shape.ws_opt + n % i.shape.ws_opt
@@ -222,17 +237,13 @@ told_block i w unit of slot n b simple is kept l kinds = by (nat_le (start_len i
     rest = mod-lt n is.line_is.striped.some
 
     flat : List Block
-    flat = flat_map (λ (p : Placed). p.stripe.blocks) (stripes_of (log_of w 0) is.row.opening)
+    flat = flat_map (λ (p : Placed). p.stripe.blocks) (placed_whole (log_of w 0) is.row.opening)
 
-    line_get : slice_get (flat_map (λ (p : Placed). p.stripe.blocks) (stripes_of (log_of w 0) is.row.opening))
-        (l.number * i.shape.ws_opt + n % i.shape.ws_opt) ≡ Some b
-    line_get = joined_at (λ (p : Placed). p.stripe.blocks) i.shape.ws_opt (stripes_of (log_of w 0) is.row.opening) l.number (n % i.shape.ws_opt)
+    long : AllByRecursion (λ (p : Placed). length p.stripe.blocks ≡ i.shape.ws_opt) (placed_whole (log_of w 0) is.row.opening)
+    long = all_filter (λ (p : Placed). length p.stripe.blocks ≡ i.shape.ws_opt) (was_whole (log_of w 0) is.row.opening)
+        (stripes_of (log_of w 0) is.row.opening)
         (all_filter (λ (p : Placed). length p.stripe.blocks ≡ i.shape.ws_opt) (λ (p : Placed). is_life is.row.opening.number p.life)
-        (placements (log_of w 0)) (have_blocks i w simple.mount.accepted simple.mount.legal).blocks) (mod-lt n is.line_is.striped.some)
-        ∙ ap (option_and_then (λ (p : Placed). slice_get p.stripe.blocks (n % i.shape.ws_opt))) l.there ∙ l.block
-
-    kind : HasKind i.shape (takes (log_of w 0)) is.row.opening l.number l.stripe.stripe.blocks
-    kind = kinds l.number l.stripe l.there
+        (placements (log_of w 0)) (have_blocks i w mount.accepted mount.legal).blocks)
 
     among : IsAmong l.stripe.stripe.blocks b
     among = (n % i.shape.ws_opt, l.block)
@@ -248,75 +259,119 @@ told_block i w unit of slot n b simple is kept l kinds = by (nat_le (start_len i
         sum ∙ ap₂ (λ x y. x + y) a d
 
     mark_is : data_mark slot.records (l.number * i.shape.ws_opt + n % i.shape.ws_opt)
-        ≡ (if nat_le (start_len i.shape) (l.number * i.shape.ws_opt + n % i.shape.ws_opt) then slice_get (data_marks i.shape (log_of w 0) is.row.opening)
+        ≡ (if nat_le (start_len i.shape) (l.number * i.shape.ws_opt + n % i.shape.ws_opt) then slice_get (whole_marks i.shape (log_of w 0) is.row.opening)
         (l.number * i.shape.ws_opt + n % i.shape.ws_opt - start_len i.shape) else None)
     mark_is = ap₂ (λ (s : Shape) (ms : List Mark). if nat_le (start_len s) (l.number * i.shape.ws_opt + n % i.shape.ws_opt) then slice_get ms
         (l.number * i.shape.ws_opt + n % i.shape.ws_opt - start_len s) else None) kept.records.shape kept.records.marks
 
-    after_start : nat_le (start_len i.shape) (l.number * i.shape.ws_opt + n % i.shape.ws_opt) ≡ true → (d : Bool)
-        → nat_lt (l.number * i.shape.ws_opt + n % i.shape.ws_opt) (end_address i.shape is.row.opening) ≡ d → IsTold i w unit is.row.opening slot n b
-    after_start e false f =
-        let beyond : end_address i.shape is.row.opening ≤ l.number * i.shape.ws_opt + n % i.shape.ws_opt =
-        le_of_lt_false (l.number * i.shape.ws_opt + n % i.shape.ws_opt) (end_address i.shape is.row.opening) f in
-        let past : end_address i.shape is.row.opening ≤ l.number * i.shape.ws_opt =
-        multiple_le i.shape.ws_opt l.number (n % i.shape.ws_opt) _ (end_address i.shape is.row.opening) some end_is rest beyond in
-        let none : slice_get (data_marks i.shape (log_of w 0) is.row.opening) (l.number * i.shape.ws_opt + n % i.shape.ws_opt - start_len i.shape) ≡ None =
-        slice_get-map (λ (x : Block). x.mark) (slice_range flat (start_len i.shape) (end_address i.shape is.row.opening))
-        (l.number * i.shape.ws_opt + n % i.shape.ws_opt - start_len i.shape)
-        ∙ ap (option_map (λ (x : Block). x.mark))
-        (part_short flat (start_len i.shape) (end_address i.shape is.row.opening - start_len i.shape)
-        (l.number * i.shape.ws_opt + n % i.shape.ws_opt - start_len i.shape) (omega arith)) in
+    -- of a pad no mark is kept
+    of_pad : was_whole (log_of w 0) is.row.opening l.stripe ≡ false → IsTold i w unit is.row.opening slot n b
+    of_pad pad =
+        let behind : length (placed_whole (log_of w 0) is.row.opening) ≤ l.number = l.later pad in
+        let all : length flat ≡ length (placed_whole (log_of w 0) is.row.opening) * i.shape.ws_opt =
+        length_joined i.shape.ws_opt (placed_whole (log_of w 0) is.row.opening) long in
+        let more : length (placed_whole (log_of w 0) is.row.opening) * i.shape.ws_opt ≤ l.number * i.shape.ws_opt = mul-le-mul_right i.shape.ws_opt behind in
         told_none i w unit is.row.opening slot n b
         (none_told slot unit n (l.number * i.shape.ws_opt + n % i.shape.ws_opt) l.place
-        (mark_is ∙ ap (λ c. if c then slice_get (data_marks i.shape (log_of w 0) is.row.opening)
-        (l.number * i.shape.ws_opt + n % i.shape.ws_opt - start_len i.shape) else None) e ∙ none))
-        (kind.outside b among (inr past))
-    after_start e true f =
-        let low : start_len i.shape ≤ l.number * i.shape.ws_opt + n % i.shape.ws_opt =
-        within_is (start_len i.shape) (l.number * i.shape.ws_opt + n % i.shape.ws_opt) e in
-        let high : l.number * i.shape.ws_opt + n % i.shape.ws_opt < end_address i.shape is.row.opening =
-        lt_yes (l.number * i.shape.ws_opt + n % i.shape.ws_opt) (end_address i.shape is.row.opening) f in
-        let begins : start_len i.shape ≤ l.number * i.shape.ws_opt =
-        multiple_le i.shape.ws_opt l.number (n % i.shape.ws_opt) _ (start_len i.shape) some is.line_is.striped.start_is rest low in
-        let back : start_len i.shape + (l.number * i.shape.ws_opt + n % i.shape.ws_opt - start_len i.shape) ≡ l.number * i.shape.ws_opt + n % i.shape.ws_opt =
-        omega arith in
-        let told : slice_get (data_marks i.shape (log_of w 0) is.row.opening)
-        (l.number * i.shape.ws_opt + n % i.shape.ws_opt - start_len i.shape) ≡ Some b.mark =
-        slice_get-map (λ (x : Block). x.mark) (slice_range flat (start_len i.shape) (end_address i.shape is.row.opening))
-        (l.number * i.shape.ws_opt + n % i.shape.ws_opt - start_len i.shape)
-        ∙ ap (option_map (λ (x : Block). x.mark))
-        (part_in flat (start_len i.shape) (end_address i.shape is.row.opening - start_len i.shape)
-        (l.number * i.shape.ws_opt + n % i.shape.ws_opt - start_len i.shape) b (ap (slice_get flat) back ∙ line_get) (omega arith)) in
-        by_kind (mark_is ∙ ap (λ c. if c then slice_get (data_marks i.shape (log_of w 0) is.row.opening)
-        (l.number * i.shape.ws_opt + n % i.shape.ws_opt - start_len i.shape) else None) e ∙ told)
-        (kind.data_of b among begins (omega arith))
+        (mark_is ∙ none_marked (nat_le (start_len i.shape) (l.number * i.shape.ws_opt + n % i.shape.ws_opt)) refl (omega arith)))
+        (kinds.pads l.stripe l.among pad b among)
       where
-        by_kind : data_mark slot.records (l.number * i.shape.ws_opt + n % i.shape.ws_opt) ≡ Some b.mark
-            → ((b.mark.lba ≡ pad_lba) × (is_some (named i.shape b.mark) ≡ false))
-            ⊎ ((b.mark.lba ≢ pad_lba) × (is_some (named i.shape b.mark) ≡ true) × ((t : Taken) × IsAmong (takes (log_of w 0)) t × (b.mark ≡ t.mark)))
-            → IsTold i w unit is.row.opening slot n b
-        by_kind told (inl pad) = told_none i w unit is.row.opening slot n b
-            (pads_there slot unit n (l.number * i.shape.ws_opt + n % i.shape.ws_opt) b.mark l.place told pad.0) pad.1
-        by_kind told (inr data_is) = record {
-          reads = reads_there slot unit n (l.number * i.shape.ws_opt + n % i.shape.ws_opt) b.mark l.place told data_is.0
-              ∙ ap (λ a. read_here a b.mark true) (sym l.address) ∙ sym (ap (read_here (address_of_block i (log_of w) is.row.opening unit n) b.mark) data_is.1);
-          marks = λ e. data_is.2;
-        }
+        none_marked : (c : Bool) → nat_le (start_len i.shape) (l.number * i.shape.ws_opt + n % i.shape.ws_opt) ≡ c
+            → length flat ≤ l.number * i.shape.ws_opt + n % i.shape.ws_opt
+            → (if c then slice_get (whole_marks i.shape (log_of w 0) is.row.opening)
+            (l.number * i.shape.ws_opt + n % i.shape.ws_opt - start_len i.shape) else None) ≡ None
+        none_marked false e past = refl
+        none_marked true e past =
+            let low : start_len i.shape ≤ l.number * i.shape.ws_opt + n % i.shape.ws_opt =
+            within_is (start_len i.shape) (l.number * i.shape.ws_opt + n % i.shape.ws_opt) e in
+            slice_get-map (λ (x : Block). x.mark) (slice_range flat (start_len i.shape) (end_address i.shape is.row.opening))
+            (l.number * i.shape.ws_opt + n % i.shape.ws_opt - start_len i.shape)
+            ∙ ap (option_map (λ (x : Block). x.mark))
+            (part_past flat (start_len i.shape) (end_address i.shape is.row.opening - start_len i.shape)
+            (l.number * i.shape.ws_opt + n % i.shape.ws_opt - start_len i.shape) (omega arith))
 
-    by : (c : Bool) → nat_le (start_len i.shape) (l.number * i.shape.ws_opt + n % i.shape.ws_opt) ≡ c → IsTold i w unit is.row.opening slot n b
-    by false e =
-        let before : l.number * i.shape.ws_opt + n % i.shape.ws_opt < start_len i.shape =
-        le_no (start_len i.shape) (l.number * i.shape.ws_opt + n % i.shape.ws_opt) e in
-        told_none i w unit is.row.opening slot n b
-        (none_told slot unit n (l.number * i.shape.ws_opt + n % i.shape.ws_opt) l.place
-        (mark_is ∙ ap (λ c. if c then slice_get (data_marks i.shape (log_of w 0) is.row.opening)
-        (l.number * i.shape.ws_opt + n % i.shape.ws_opt - start_len i.shape) else None) e))
-        (kind.outside b among (inl (omega arith)))
-    by true e = after_start e (nat_lt (l.number * i.shape.ws_opt + n % i.shape.ws_opt) (end_address i.shape is.row.opening)) refl
+    -- where the line wasn't Failed yet
+    of_whole : was_whole (log_of w 0) is.row.opening l.stripe ≡ true → IsTold i w unit is.row.opening slot n b
+    of_whole whole = by (nat_le (start_len i.shape) at) refl
+      where
+        line_get : slice_get flat (l.number * i.shape.ws_opt + n % i.shape.ws_opt) ≡ Some b
+        line_get = joined_at (λ (p : Placed). p.stripe.blocks) i.shape.ws_opt (placed_whole (log_of w 0) is.row.opening) l.number (n % i.shape.ws_opt)
+            long (mod-lt n is.line_is.striped.some)
+            ∙ ap (option_and_then (λ (p : Placed). slice_get p.stripe.blocks (n % i.shape.ws_opt))) (l.whole whole) ∙ l.block
 
-pub chunk_read : (i : Image) (w : World) (unit : ℕ) (of : Program) (slot : OpenLine) → IsSimpleMount i w → (is : IsOnWay i w unit of)
+        kind : HasKind i.shape (takes (log_of w 0)) is.row.opening l.number l.stripe.stripe.blocks
+        kind = kinds.whole l.number l.stripe (l.whole whole)
+
+        after_start : nat_le (start_len i.shape) (l.number * i.shape.ws_opt + n % i.shape.ws_opt) ≡ true → (d : Bool)
+            → nat_lt (l.number * i.shape.ws_opt + n % i.shape.ws_opt) (end_address i.shape is.row.opening) ≡ d → IsTold i w unit is.row.opening slot n b
+        after_start e false f =
+            let beyond : end_address i.shape is.row.opening ≤ l.number * i.shape.ws_opt + n % i.shape.ws_opt =
+            le_of_lt_false (l.number * i.shape.ws_opt + n % i.shape.ws_opt) (end_address i.shape is.row.opening) f in
+            let past : end_address i.shape is.row.opening ≤ l.number * i.shape.ws_opt =
+            multiple_le i.shape.ws_opt l.number (n % i.shape.ws_opt) _ (end_address i.shape is.row.opening) some end_is rest beyond in
+            let none : slice_get (whole_marks i.shape (log_of w 0) is.row.opening) (l.number * i.shape.ws_opt + n % i.shape.ws_opt - start_len i.shape) ≡ None =
+            slice_get-map (λ (x : Block). x.mark) (slice_range flat (start_len i.shape) (end_address i.shape is.row.opening))
+            (l.number * i.shape.ws_opt + n % i.shape.ws_opt - start_len i.shape)
+            ∙ ap (option_map (λ (x : Block). x.mark))
+            (part_short flat (start_len i.shape) (end_address i.shape is.row.opening - start_len i.shape)
+            (l.number * i.shape.ws_opt + n % i.shape.ws_opt - start_len i.shape) (omega arith)) in
+            told_none i w unit is.row.opening slot n b
+            (none_told slot unit n (l.number * i.shape.ws_opt + n % i.shape.ws_opt) l.place
+            (mark_is ∙ ap (λ c. if c then slice_get (whole_marks i.shape (log_of w 0) is.row.opening)
+            (l.number * i.shape.ws_opt + n % i.shape.ws_opt - start_len i.shape) else None) e ∙ none))
+            (kind.outside b among (inr past))
+        after_start e true f =
+            let low : start_len i.shape ≤ l.number * i.shape.ws_opt + n % i.shape.ws_opt =
+            within_is (start_len i.shape) (l.number * i.shape.ws_opt + n % i.shape.ws_opt) e in
+            let high : l.number * i.shape.ws_opt + n % i.shape.ws_opt < end_address i.shape is.row.opening =
+            lt_yes (l.number * i.shape.ws_opt + n % i.shape.ws_opt) (end_address i.shape is.row.opening) f in
+            let begins : start_len i.shape ≤ l.number * i.shape.ws_opt =
+            multiple_le i.shape.ws_opt l.number (n % i.shape.ws_opt) _ (start_len i.shape) some is.line_is.striped.start_is rest low in
+            let back : start_len i.shape + (l.number * i.shape.ws_opt + n % i.shape.ws_opt - start_len i.shape)
+            ≡ l.number * i.shape.ws_opt + n % i.shape.ws_opt =
+            omega arith in
+            let told : slice_get (whole_marks i.shape (log_of w 0) is.row.opening)
+            (l.number * i.shape.ws_opt + n % i.shape.ws_opt - start_len i.shape) ≡ Some b.mark =
+            slice_get-map (λ (x : Block). x.mark) (slice_range flat (start_len i.shape) (end_address i.shape is.row.opening))
+            (l.number * i.shape.ws_opt + n % i.shape.ws_opt - start_len i.shape)
+            ∙ ap (option_map (λ (x : Block). x.mark))
+            (part_in flat (start_len i.shape) (end_address i.shape is.row.opening - start_len i.shape)
+            (l.number * i.shape.ws_opt + n % i.shape.ws_opt - start_len i.shape) b (ap (slice_get flat) back ∙ line_get) (omega arith)) in
+            by_kind (mark_is ∙ ap (λ c. if c then slice_get (whole_marks i.shape (log_of w 0) is.row.opening)
+            (l.number * i.shape.ws_opt + n % i.shape.ws_opt - start_len i.shape) else None) e ∙ told)
+            (kind.data_of b among begins (omega arith))
+          where
+            by_kind : data_mark slot.records (l.number * i.shape.ws_opt + n % i.shape.ws_opt) ≡ Some b.mark
+                → ((b.mark.lba ≡ pad_lba) × (is_some (named i.shape b.mark) ≡ false))
+                ⊎ ((b.mark.lba ≢ pad_lba) × (is_some (named i.shape b.mark) ≡ true) × ((t : Taken) × IsAmong (takes (log_of w 0)) t × (b.mark ≡ t.mark)))
+                → IsTold i w unit is.row.opening slot n b
+            by_kind told (inl pad) = told_none i w unit is.row.opening slot n b
+                (pads_there slot unit n (l.number * i.shape.ws_opt + n % i.shape.ws_opt) b.mark l.place told pad.0) pad.1
+            by_kind told (inr data_is) = record {
+              reads = reads_there slot unit n (l.number * i.shape.ws_opt + n % i.shape.ws_opt) b.mark l.place told data_is.0
+                  ∙ ap (λ a. read_here a b.mark true) (sym l.address)
+                  ∙ sym (ap (read_here (address_of_block i (log_of w) is.row.opening unit n) b.mark) data_is.1);
+              marks = λ e. data_is.2;
+            }
+
+        by : (c : Bool) → nat_le (start_len i.shape) (l.number * i.shape.ws_opt + n % i.shape.ws_opt) ≡ c → IsTold i w unit is.row.opening slot n b
+        by false e =
+            let before : l.number * i.shape.ws_opt + n % i.shape.ws_opt < start_len i.shape =
+            le_no (start_len i.shape) (l.number * i.shape.ws_opt + n % i.shape.ws_opt) e in
+            told_none i w unit is.row.opening slot n b
+            (none_told slot unit n (l.number * i.shape.ws_opt + n % i.shape.ws_opt) l.place
+            (mark_is ∙ ap (λ c. if c then slice_get (whole_marks i.shape (log_of w 0) is.row.opening)
+            (l.number * i.shape.ws_opt + n % i.shape.ws_opt - start_len i.shape) else None) e))
+            (kind.outside b among (inl (omega arith)))
+        by true e = after_start e (nat_lt (l.number * i.shape.ws_opt + n % i.shape.ws_opt) (end_address i.shape is.row.opening)) refl
+
+    by_stripe : (c : Bool) → was_whole (log_of w 0) is.row.opening l.stripe ≡ c → IsTold i w unit is.row.opening slot n b
+    by_stripe true e = of_whole e
+    by_stripe false e = of_pad e
+
+pub chunk_read : (i : Image) (w : World) (unit : ℕ) (of : Program) (slot : OpenLine) → IsLegalMount i w → (is : IsOnWay i w unit of)
     → IsOpenLine i (log_of w) is.row.opening slot → AreKinds i w is.row.opening → IsChunkRead i w unit is.row.opening slot
-chunk_read i w unit of slot simple is kept kinds = record {
-  reads = λ n b there. (told_block i w unit of slot n b simple is kept (in_line i w unit of slot n b simple is kept there) kinds).reads;
-  marks = λ n b there. (told_block i w unit of slot n b simple is kept (in_line i w unit of slot n b simple is kept there) kinds).marks;
+chunk_read i w unit of slot mount is kept kinds = record {
+  reads = λ n b there. (told_block i w unit of slot n b mount is kept (in_line i w unit of slot n b mount is kept there) kinds).reads;
+  marks = λ n b there. (told_block i w unit of slot n b mount is kept (in_line i w unit of slot n b mount is kept there) kinds).marks;
 }

@@ -1,6 +1,6 @@
 -- What the notes of lines and the chunks to be reset ask of a stripe that has landed.
-use Rattle.std.proofs.Common.{◌≡◌, ℕ, ◌<◌, true, Some, length, sym, subst, ap, ◌∙◌}
-use Rattle.std.specs.Prelude.{◌↔◌, Bool, IsTrue, slice_get}
+use Rattle.std.proofs.Common.{◌≡◌, ℕ, ◌≤◌, ◌^◌, ◌<◌, true, Some, List, length, take, arith, sym, subst, ap, ◌∙◌}
+use Rattle.std.specs.Prelude.{◌↔◌, Bool, IsTrue, slice_get, slice_set}
 use Rattle.std.proofs.lemmas.List.FromFn.{length-map-range_with_len}
 use Rattle.pblk_model.specs.Image.{Image}
 use Rattle.pblk_world.specs.EngineLog.{is_opened, life_of, Opened}
@@ -8,19 +8,25 @@ use Rattle.pblk_world.specs.World.{World, log_of}
 use Rattle.stripe_placer.specs.declared.placement.StripeKind.TheVariants as kinds
 use Rattle.stripe_placer.specs.Placing.{Program}
 use Rattle.core_laws.specs.OpenedLines.{live_now}
-use Rattle.core_laws.specs.SimpleMounts.{IsSimpleMount}
+use Rattle.world_laws.specs.LegalMounts.{IsLegalMount}
+use Rattle.core_laws.proofs.HeldInWorlds.{own_in_window}
+use Rattle.lemmas.proofs.Parts.{get_set_same, get_whole, got_within}
+use Rattle.pblk_world.specs.Fronts.{taken}
+use Rattle.std.proofs.lemmas.Option.{same_Some}
 use Rattle.pblk_core.specs.declared.line_notes.LineNote.{LineNote}
 use Rattle.pblk_core.specs.declared.target_core.Core.{Core}
-use Rattle.pblk_core.specs.LineNotes.{IsNoteOf}
+use Rattle.pblk_core.specs.LineNotes.{IsNoteOf, note_added}
 use Rattle.pblk_core.specs.Resets.{HasNoneOf, resets_left}
 use Rattle.pblk_core.specs.Stands.{Stands}
 use Rattle.pblk_core.proofs.KeptResets.{opened_kept}
 use Rattle.pblk_core.proofs.LandedNotes.{start_left}
+use Rattle.pblk_core.proofs.LandedCore.{holds_it}
 use Rattle.pblk_core.proofs.LandedWay.{IsOnWay, line_of_way}
+use Rattle.pblk_core.proofs.SmallPositions.{taken_bounded}
 use Rattle.pblk_core.proofs.LeftOut.{left_out}
 use Rattle.pblk_core.proofs.StartKinds.{is_start}
 
-module _ (i : Image) (w : World) (c : Core) (unit : ℕ) (of : Program) (simple : IsSimpleMount i w) (st : Stands i (log_of w) c) (is : IsOnWay i w unit of) where
+module _ (i : Image) (w : World) (c : Core) (unit : ℕ) (of : Program) (mount : IsLegalMount i w) (st : Stands i (log_of w) c) (is : IsOnWay i w unit of) where
   inside : of.line < i.shape.chunks
   inside = subst (λ n. n < i.shape.chunks) (line_of_way i w unit of is) is.line_is.well.in_range
 
@@ -44,7 +50,29 @@ module _ (i : Image) (w : World) (c : Core) (unit : ℕ) (of : Program) (simple 
   pub some_starts : (start : Bool) → IsTrue start ↔ (of.kind ≡ kinds.Start) → (row : LineNote) → slice_get c.notes.rows.items of.line ≡ Some row
       → start ≡ true → 0 < row.starts_left
   some_starts start tells row there first =
-      let was : IsNoteOf i.shape (log_of w 0) is.row.opening row = st.notes.opened of.line is.row.opening row is_open there in
+      let was : IsNoteOf i (log_of w) is.row.opening row = st.notes.opened of.line is.row.opening row is_open there in
       subst (λ n. 0 < n) (sym was.starts_left)
-      (start_left i.shape (log_of w) unit is.row.stripe is.row.opening is.number is.row.waits is.there
-      (sym (is_start i w unit of start simple is tells) ∙ first))
+      (start_left i.shape (log_of w) unit is.row.stripe is.row.opening is.among.0 is.row.waits is.among.1
+      (sym (is_start i w unit of mount is start tells) ∙ first))
+
+  -- and still where blocks of it are written
+  pub some_starts_added : (start : Bool) → IsTrue start ↔ (of.kind ≡ kinds.Start) → (top : ℕ) (rows : List LineNote)
+      → ((row : LineNote) → slice_get c.notes.rows.items of.line ≡ Some row → rows ≡ slice_set c.notes.rows.items of.line (note_added top row))
+      → (row : LineNote) → slice_get rows of.line ≡ Some row → start ≡ true → 0 < row.starts_left
+  some_starts_added start tells top rows added row there first =
+      let was = got_within c.notes.rows.items of.line line_noted in
+      let same : note_added top was.0 ≡ row = same_Some (note_added top was.0) row
+      (sym (get_set_same c.notes.rows.items of.line (note_added top was.0) line_noted)
+      ∙ ap (λ (rs : List LineNote). slice_get rs of.line) (sym (added was.0 was.1)) ∙ there) in
+      subst (λ (r : LineNote). 0 < r.starts_left) same (some_starts start tells was.0 was.1 first)
+
+  -- the positions that it holds are small
+  pub positions_small : (k q : ℕ) → slice_get of.positions k ≡ Some q → q < 2 ^ 63
+  positions_small k q at =
+      let own = own_in_window i w unit is.row.stripe q mount is.row.waits (holds_it i w unit of k q is at) in
+      let most : taken (log_of w 0) ≤ 2 ^ 62 = taken_bounded i w mount (subst (λ n. n ≤ 2 ^ 62) st.first st.fits.first) in
+      omega (arith, own.1)
+
+  -- also the first ones of them
+  pub first_small : (n k q : ℕ) → slice_get (take n of.positions) k ≡ Some q → q < 2 ^ 63
+  first_small n k q at = positions_small k q (get_whole n of.positions k q at)

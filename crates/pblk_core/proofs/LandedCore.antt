@@ -1,5 +1,5 @@
 -- What a core keeps of a program that is under way.
-use Rattle.std.proofs.Common.{◌≡◌, ℕ, ◌+◌, ◌*◌, ◌/◌, ◌^◌, ◌<◌, ◌≤◌, ◌==◌, true, false, Some, Option, List, length, refl, sym, subst, ap, ◌∙◌, arith, inl}
+use Rattle.std.proofs.Common.{◌≡◌, ℕ, ◌+◌, ◌^◌, ◌<◌, ◌≤◌, ◌==◌, ◌≢◌, if◌then◌else◌, not, Bool, true, false, Some, Option, List, length, refl, sym, subst, ap, ◌∙◌, arith}
 use Rattle.std.specs.Prelude.{slice_get, slice_set}
 use Rattle.std.specs.List.{range_with_len}
 use Rattle.std.specs.Option.{option_map, option_map_or, option_and_then}
@@ -10,35 +10,35 @@ use Rattle.pblk_model.specs.Shape.{units}
 use Rattle.pblk_model.specs.Image.{Image}
 use Rattle.pblk_layout.specs.Live.{units_in}
 use Rattle.pblk_world.specs.World.{World, log_of}
-use Rattle.pblk_world.specs.EngineLog.{Placed, stripes_of, stripes_on, holds_position}
-use Rattle.pblk_world.specs.Fronts.{taken}
-use Rattle.pblk_world.specs.Space.{freed}
+use Rattle.pblk_world.specs.EngineLog.{Placed, stripes_of, stripes_on, has_failed, holds_position}
 use Rattle.pblk_world.specs.Victims.{engine_prefix}
 use Rattle.line_table.specs.declared.row.Row.{Row}
-use Rattle.line_table.specs.declared.row.LineState.TheVariants.{Open, Full}
-use Rattle.line_table.specs.Rows.{Table, IsRow, IsChange, Changes, turned}
+use Rattle.line_table.specs.declared.row.LineState.{LineState}
+use Rattle.line_table.specs.declared.row.LineState.TheVariants.{Free, Open, Full, Failed, Freed, Dead}
+use Rattle.line_table.specs.Rows.{Table, IsRow}
 use Rattle.stripe_placer.specs.declared.placement.Placement.{Placement}
 use Rattle.stripe_placer.specs.Placing.{Program, Placing, UnitRow, program, positions_in, under_way_in}
 use Rattle.stripe_placer.specs.Placing.UnitRow.{UnderWay}
 use Rattle.write_window.specs.Window as view
-use Rattle.core_laws.proofs.PlainLogs.{none_failed}
 use Rattle.core_laws.specs.PlacerOf.{IsAwaited, placing_of, positions_in_stripe}
-use Rattle.core_laws.specs.SimpleMounts.{IsSimpleMount}
+use Rattle.world_laws.specs.LegalMounts.{IsLegalMount}
+use Rattle.core_laws.specs.OpenedLines.{open_line}
 use Rattle.core_laws.specs.RowsOf.{row_of_line, rows_of, width_in}
 use Rattle.core_laws.specs.ChunkBlocks.{IsInRow}
 use Rattle.core_laws.proofs.HeldInWorlds.{own_in_window}
 use Rattle.core_laws.specs.ChangedTables.{with_row, full_if}
-use Rattle.core_laws.proofs.ChangedTables.{changed_is}
-use Rattle.core_laws.proofs.LineRoom.{has_room, state_open}
+use Rattle.core_laws.proofs.LineRoom.{has_room, state_failed, state_open}
 use Rattle.core_laws.proofs.Placed.{stripe_holds}
+use Rattle.pblk_core.specs.Landing.{is_open}
 use Rattle.pblk_core.specs.Slots.{IsSlot}
-use Rattle.pblk_core.specs.Stands.{Stands, unlanded}
+use Rattle.pblk_core.specs.Stands.{Stands, stripes_left}
 use Rattle.pblk_core.specs.declared.open_lines.OpenLine.{OpenLine}
 use Rattle.pblk_core.specs.declared.target_core.Core.{Core}
-use Rattle.pblk_core.proofs.LandedLines.{HasSlot, has_slot, found_slot, fewer_landed}
+use Rattle.pblk_core.proofs.LandedLines.{HasSlot, has_slot, found_slot}
+use Rattle.pblk_core.proofs.LineCounts.{left_landed}
 use Rattle.core_laws.proofs.ChunksInRows.{rows_of_chunks}
-use Rattle.pblk_core.proofs.LandedWay.{IsOnWay, of_row, on_way, awaited, line_of_way}
-use Rattle.pblk_core.proofs.StandsFacts.{window_taken_is}
+use Rattle.pblk_core.proofs.LandedWay.{IsOnWay, of_row, on_way, awaited, line_of_way, waits_there}
+use Rattle.pblk_core.proofs.StandsFacts.{in_window}
 use Rattle.pblk_core.proofs.LineBits.{known_bits}
 use Rattle.lemmas.proofs.Lists.{IsAmong}
 use Rattle.lemmas.proofs.Maps.{any_member, in_filter, row_at}
@@ -65,15 +65,15 @@ pub record IsOfCore (i : Image) (w : World) (c : Core) (unit : ℕ) (of : Progra
   pub waits : (again : List ℕ) → c.placer ≡ placing_of i (log_of w) c.placer.entries.pad again → IsAwaited i (log_of w) c.placer.entries.pad again of
   pub has : HasSlot i (log_of w) c.open is.row.opening
 
-pub of_core : (i : Image) (w : World) (c : Core) (unit : ℕ) (of : Program) → IsSimpleMount i w → Stands i (log_of w) c
+pub of_core : (i : Image) (w : World) (c : Core) (unit : ℕ) (of : Program) → IsLegalMount i w → Stands i (log_of w) c
     → slice_get c.placer.units unit ≡ Some (UnderWay of) → IsOfCore i w c unit of
-of_core i w c unit of simple st there =
+of_core i w c unit of mount st there =
     let is : IsOnWay i w unit of =
-    on_way i w unit of simple (of_row i (log_of w) c.placer.entries.pad st.again unit of (ap (λ p. slice_get p.units unit) (sym st.placing) ∙ there)) in
+    on_way i w unit of mount (of_row i (log_of w) c.placer.entries.pad st.again unit of (ap (λ p. slice_get p.units unit) (sym st.placing) ∙ there)) in
     record {
       is = is;
-      waits = λ again placing. awaited i w c.placer.entries.pad again unit of simple is (ap (λ p. slice_get p.units unit) (sym placing) ∙ there);
-      has = has_slot i w c unit of simple is st;
+      waits = λ again placing. awaited i w c.placer.entries.pad again unit of mount is (ap (λ p. slice_get p.units unit) (sym placing) ∙ there);
+      has = has_slot i w c unit of mount is st;
     }
 
 -- ---- its entries
@@ -92,47 +92,40 @@ holds_it i w unit of k q is at =
     ∙ any_member (λ m. m == q) (positions_in_stripe i.shape is.row.stripe.stripe) k q (ap (λ qs. slice_get qs k) (sym (positions_are i w unit of is)) ∙ at)
     (same_number q)
 
-pub in_window : (i : Image) (w : World) (c : Core) (q : ℕ) → Stands i (log_of w) c → freed i.shape (log_of w 0) ≤ q → q < taken (log_of w 0)
-    → view.IsHeld c.window q
-in_window i w c q st low high =
-    let from : c.window.freed ≤ freed i.shape (log_of w 0) = st.to_freed in
-    (omega arith, subst (λ n. q < n) (sym (window_taken_is i w c st)) high)
-
-pub entry_held : (i : Image) (w : World) (c : Core) (unit : ℕ) (of : Program) (k q : ℕ) → IsSimpleMount i w → Stands i (log_of w) c → IsOnWay i w unit of
+pub entry_held : (i : Image) (w : World) (c : Core) (unit : ℕ) (of : Program) (k q : ℕ) → IsLegalMount i w → Stands i (log_of w) c → IsOnWay i w unit of
     → slice_get of.positions k ≡ Some q → view.IsHeld c.window q
-entry_held i w c unit of k q simple st is at =
-    let own = own_in_window i w unit is.row.stripe q simple.mount is.row.waits (holds_it i w unit of k q is at) in
+entry_held i w c unit of k q mount st is at =
+    let own = own_in_window i w unit is.row.stripe q mount is.row.waits (holds_it i w unit of k q is at) in
     in_window i w c q st own.1 own.2
 
 -- ---- its place in the chunk
 
-pub in_row : (i : Image) (w : World) (unit : ℕ) (of : Program) → IsSimpleMount i w → (is : IsOnWay i w unit of)
+pub in_row : (i : Image) (w : World) (unit : ℕ) (of : Program) → IsLegalMount i w → (is : IsOnWay i w unit of)
     → (n : ℕ) × (slice_get (stripes_on (log_of w 0) is.row.opening unit) n ≡ Some is.row.stripe) × IsInRow i.shape n is.row.stripe
-in_row i w unit of simple is =
+in_row i w unit of mount is =
     let among : IsAmong (stripes_on (log_of w 0) is.row.opening unit) is.row.stripe =
-    in_filter (λ (p : Placed). p.stripe.unit == unit) (stripes_of (log_of w 0) is.row.opening) is.row.stripe (is.number, is.there)
+    in_filter (λ (p : Placed). p.stripe.unit == unit) (stripes_of (log_of w 0) is.row.opening) is.row.stripe is.among
     (ap (λ u. u == unit) is.its_unit ∙ same_number unit) in
-    (among.0, among.1, rows_of_chunks i w is.row.opening unit simple.mount among.0 is.row.stripe among.1)
+    (among.0, among.1, rows_of_chunks i w is.row.opening unit mount among.0 is.row.stripe among.1)
 
 pub block_is : (i : Image) (w : World) (unit : ℕ) (of : Program) → (is : IsOnWay i w unit of) → of.block ≡ is.row.stripe.stripe.at
 block_is i w unit of is = sym (ap (λ (x : Program). x.block) is.row.is)
 
-pub block_within : (i : Image) (w : World) (unit : ℕ) (of : Program) → IsSimpleMount i w → IsOnWay i w unit of → of.block + i.shape.ws_opt ≤ i.shape.clba
-block_within i w unit of simple is = subst (λ n. n + i.shape.ws_opt ≤ i.shape.clba) (sym (block_is i w unit of is)) (in_row i w unit of simple is).2.within
+pub block_within : (i : Image) (w : World) (unit : ℕ) (of : Program) → IsLegalMount i w → IsOnWay i w unit of → of.block + i.shape.ws_opt ≤ i.shape.clba
+block_within i w unit of mount is = subst (λ n. n + i.shape.ws_opt ≤ i.shape.clba) (sym (block_is i w unit of is)) (in_row i w unit of mount is).2.within
 
 -- ---- the units of its line
 
-pub live_few : (i : Image) (w : World) (c : Core) (unit : ℕ) (of : Program) → IsSimpleMount i w → (is : IsOnWay i w unit of)
+pub live_few : (i : Image) (w : World) (c : Core) (unit : ℕ) (of : Program) → IsLegalMount i w → (is : IsOnWay i w unit of)
     → (has : HasSlot i (log_of w) c.open is.row.opening) → has.slot.live < 2 ^ units i.shape
-live_few i w c unit of simple is has =
-    subst (λ n. n < 2 ^ units i.shape) (sym has.is.live) (known_bits i w (engine_prefix is.row.opening.number (log_of w)) is.row.opening.line simple.mount)
+live_few i w c unit of mount is has =
+    subst (λ n. n < 2 ^ units i.shape) (sym has.is.live) (known_bits i w (engine_prefix is.row.opening.number (log_of w)) is.row.opening.line mount)
 
-pub left_some : (i : Image) (w : World) (c : Core) (unit : ℕ) (of : Program) → (is : IsOnWay i w unit of) → (has : HasSlot i (log_of w) c.open is.row.opening)
-    → 0 < has.slot.stripes_left
-left_some i w c unit of is has =
-    let few = fewer_landed i w unit of is in
-    let left : has.slot.stripes_left ≡ unlanded i.shape (log_of w 0) is.row.opening = has.is.left in
-    let total = ap (λ g. g * (i.shape.clba / i.shape.ws_opt)) is.line_is.well.width in
+pub left_some : (i : Image) (w : World) (c : Core) (unit : ℕ) (of : Program) → IsLegalMount i w → (is : IsOnWay i w unit of)
+    → (has : HasSlot i (log_of w) c.open is.row.opening) → 0 < has.slot.stripes_left
+left_some i w c unit of mount is has =
+    let less = left_landed (open_line i (log_of w) is.row.opening) is.number (waits_there i w unit of mount is) in
+    let left : has.slot.stripes_left ≡ stripes_left (open_line i (log_of w) is.row.opening) = has.is.left in
     omega arith
 
 -- ---- its row
@@ -145,22 +138,32 @@ line_within i w c unit of st is =
     ∙ length-range_with_len 0 i.shape.chunks in
     subst (λ t. is.row.opening.line < length t.rows) (sym st.table) (omega arith)
 
--- its line is Open
-pub row_is_open : (i : Image) (w : World) (c : Core) (unit : ℕ) (of : Program) (row : Row) → IsSimpleMount i w → Stands i (log_of w) c
-    → (is : IsOnWay i w unit of) → IsRow c.lines is.row.opening.line row → row.state ≡ Open
-row_is_open i w c unit of row simple st is there =
+-- its line is Open, unless a stripe of it was lost
+pub row_state : (i : Image) (w : World) (c : Core) (unit : ℕ) (of : Program) (row : Row) → IsLegalMount i w → Stands i (log_of w) c
+    → (is : IsOnWay i w unit of) → IsRow c.lines is.row.opening.line row
+    → row.state ≡ (if has_failed (log_of w 0) is.row.opening then Failed else Open)
+row_state i w c unit of row mount st is there =
     let at = row_at (row_of_line i (log_of w)) i.shape.chunks 0 is.row.opening.line row
     (ap (λ t. slice_get t.rows is.row.opening.line) (sym st.table) ∙ there) in
     let from : 0 + is.row.opening.line ≡ is.row.stripe.stripe.line = (let z : 0 + is.row.opening.line ≡ is.row.opening.line = omega arith in z) ∙ is.its_line in
-    ap (λ (r : Row). r.state) (sym at.1) ∙ ap (λ n. (row_of_line i (log_of w) n).state) from
-    ∙ state_open i (log_of w) unit is.row.stripe is.row.opening is.line_is.striped.some
-    (none_failed (log_of w 0) simple.engine.lost is.row.opening) is.row.waits is.row.life is.stands
-    (has_room i w is.row.stripe.stripe.line is.row.opening simple.mount is.stands)
+    ap (λ (r : Row). r.state) (sym at.1) ∙ ap (λ n. (row_of_line i (log_of w) n).state) from ∙ go (has_failed (log_of w 0) is.row.opening) refl
+  where
+    go : (b : Bool) → has_failed (log_of w 0) is.row.opening ≡ b → (row_of_line i (log_of w) is.row.stripe.stripe.line).state ≡ (if b then Failed else Open)
+    go true e = state_failed i (log_of w) is.row.stripe.stripe.line is.row.opening is.stands e
+    go false e = state_open i (log_of w) unit is.row.stripe is.row.opening is.line_is.striped.some e is.row.waits is.row.life is.stands
+        (has_room i w is.row.stripe.stripe.line is.row.opening mount is.stands)
 
-pub may_fill : (i : Image) (w : World) (c : Core) (unit : ℕ) (of : Program) (row : Row) (addresses : ℕ) → IsSimpleMount i w → Stands i (log_of w) c
-    → (is : IsOnWay i w unit of) → IsRow c.lines is.row.opening.line row → IsChange row.state Full addresses
-may_fill i w c unit of row addresses simple st is there =
-    subst (λ s. IsChange s Full addresses) (sym (row_is_open i w c unit of row simple st is there)) (inl refl)
+pub unopened : (s : LineState) → s ≢ Open → is_open s ≡ false
+unopened Free other = refl
+unopened Open other = absurd (other refl)
+unopened Full other = refl
+unopened Failed other = refl
+unopened Freed other = refl
+unopened Dead other = refl
+
+pub open_unless : (failed : Bool) (s : LineState) → s ≡ (if failed then Failed else Open) → is_open s ≡ not failed
+open_unless true s e = ap is_open e
+open_unless false s e = ap is_open e
 
 -- the slot that is found is its line's
 pub record IsGot (i : Image) (w : World) (c : Core) (unit : ℕ) (of : Program) (result : ℕ) (found : OpenLine) (its : IsOfCore i w c unit of) : Type 0 where
@@ -178,19 +181,6 @@ got i w c unit of result slot st its inside line first at =
     }
 
 -- ---- the table by the two ways
-
-full_rows : (rows : List Row) (line width : ℕ) (row : Row) → slice_get rows line ≡ Some row → width ≡ row.width
-    → option_map_or (λ (r : Row). slice_set rows line (turned Full width r)) (slice_get rows line) rows ≡ option_map_or
-    (λ (r : Row). slice_set rows line (turned Full r.width r)) (slice_get rows line) rows
-full_rows rows line width row there same =
-    ap (λ o. option_map_or (λ (r : Row). slice_set rows line (turned Full width r)) o rows) there
-    ∙ ap (λ n. slice_set rows line (turned Full n row)) same
-    ∙ sym (ap (λ o. option_map_or (λ (r : Row). slice_set rows line (turned Full r.width r)) o rows) there)
-
-pub lines_full : (old new : Table) (line width : ℕ) (row : Row) → slice_get old.rows line ≡ Some row → width ≡ row.width
-    → Changes old new line (turned Full width) → new ≡ with_row line (full_if true) old
-lines_full old new line width row there same changes = changed_is old new line (turned Full width) row there changes
-    ∙ ap (λ rows. record { shape = old.shape; rows = rows }) (full_rows old.rows line width row there same)
 
 pub lines_kept : (old : Table) (line : ℕ) (row : Row) → slice_get old.rows line ≡ Some row → old ≡ with_row line (full_if false) old
 lines_kept old line row there =

@@ -1,7 +1,7 @@
 -- What the logs say once a stripe has landed: what stays, and which program it was.
-use Rattle.std.proofs.Common.{◌≡◌, ◌≢◌, ℕ, ◌+◌, ◌<◌, ◌≤◌, ◌==◌, zero, suc, nat_lt, nat_eq, if◌then◌else◌, Bool, true, false, cond, Some, Option, None, List, [], ◌∷◌, length, refl, sym, ap, ap₂, ◌∙◌, arith, append-nil, length-append}
+use Rattle.std.proofs.Common.{◌≡◌, ℕ, ◌+◌, ◌<◌, ◌≤◌, ◌==◌, nat_lt, nat_eq, if◌then◌else◌, Bool, true, false, Some, Option, None, List, [], ◌∷◌, length, refl, sym, ap, ap₂, ◌∙◌, arith, append-nil, length-append}
 use Rattle.std.specs.Prelude.{slice_get, is_some}
-use Rattle.std.specs.List.{filter, range_with_len}
+use Rattle.std.specs.List.{filter}
 use Rattle.std.specs.Option.{option_map}
 use Rattle.std.proofs.lemmas.Bool.{eqb-true, eqb-false}
 use Rattle.std.proofs.lemmas.Option.{same_Some, slice_get_past}
@@ -24,7 +24,7 @@ use Rattle.pblk_world.proofs.Appending.{openings_more}
 use Rattle.core_laws.specs.Stepping.{after}
 use Rattle.core_laws.specs.OpenedLines.{bits_of, live_now, opened_units}
 use Rattle.core_laws.specs.PlacerOf.{unanswered_on}
-use Rattle.core_laws.specs.SimpleMounts.{IsSimpleMount}
+use Rattle.world_laws.specs.LegalMounts.{IsLegalMount}
 use Rattle.core_laws.proofs.Answered.{IsAnswer}
 use Rattle.core_laws.proofs.Engine.{prefix_same}
 use Rattle.core_laws.proofs.FreedFront.{freed_rises}
@@ -36,6 +36,7 @@ use Rattle.core_laws.proofs.AnsweredUnits.{first_answer}
 use Rattle.core_laws.proofs.KeptLines.{few_units, same_units, still_online}
 use Rattle.core_laws.proofs.ChunksInRows.{rows_of_chunks}
 use Rattle.pblk_core.proofs.KnownAfter.{told_after, untold_after, beside_after}
+use Rattle.pblk_core.proofs.CountedRanges.{fewer_pass}
 use Rattle.pblk_core.proofs.LandedProgram.{IsItsProgram, landed_program}
 use Rattle.pblk_core.specs.Stands.{under_way}
 use Rattle.lemmas.proofs.Lists.{IsAmong}
@@ -69,21 +70,21 @@ written_online s (Some c) x at blocks writes done on =
     ∙ sym on
 
 -- whether a unit has a chunk of a line that isn't Offline
-same_live_unit : (i : Image) (w : World) (unit event : ℕ) (knows : List ℕ) (p : Placed) (b : Begun) (line u : ℕ) → IsSimpleMount i w
+same_live_unit : (i : Image) (w : World) (unit event : ℕ) (knows : List ℕ) (p : Placed) (b : Begun) (line u : ℕ) → IsLegalMount i w
     → MayLand (log_of w) unit event → unanswered_on (log_of w 0) unit ≡ Some p → begun (log_of w 0) ≡ Some b
     → is_live (known_image i (after (log_of w) (Landed unit event) knows)) line u ≡ is_live (known_image i (log_of w)) line u
-same_live_unit i w unit event knows p b line u simple may waits begins =
+same_live_unit i w unit event knows p b line u mount may waits begins =
     live_chunk (known_image i (after (log_of w) (Landed unit event) knows)) line u ∙ by_unit (nat_eq unit u) refl
     ∙ sym (live_chunk (known_image i (log_of w)) line u)
   where
     is : IsItsProgram w unit event p
-    is = landed_program i w unit event p simple may waits
+    is = landed_program i w unit event p mount may waits
 
     online : is_live (known_image i (log_of w)) p.stripe.line p.stripe.unit ≡ true
     online =
         let among : IsAmong (placements (log_of w 0)) p =
         from_filter (λ (q : Placed). q.stripe.unit == unit) (placements (log_of w 0)) p (length (answers (log_of w 0) unit), waits) in
-        still_online i w p simple.mount (contained_among (placements (log_of w 0)) p among) (ap is_some (first_answer (log_of w 0) unit p waits))
+        still_online i w p mount (contained_among (placements (log_of w 0)) p among) (ap is_some (first_answer (log_of w 0) unit p waits))
 
     own : p.stripe.unit ≡ unit
     own = eqb-true p.stripe.unit unit
@@ -114,13 +115,13 @@ same_live_unit i w unit event knows p b line u simple may waits begins =
     by_unit true e = by_chunk e (nat_eq is.done.event.chunk line) refl
     by_unit false e = ap is_on (untold_after i (log_of w) (Landed unit event) knows u line b begins (told false e))
 
-pub live_landed : (i : Image) (w : World) (unit event : ℕ) (knows : List ℕ) (p : Placed) (b : Begun) (line : ℕ) → IsSimpleMount i w
+pub live_landed : (i : Image) (w : World) (unit event : ℕ) (knows : List ℕ) (p : Placed) (b : Begun) (line : ℕ) → IsLegalMount i w
     → MayLand (log_of w) unit event → unanswered_on (log_of w 0) unit ≡ Some p → begun (log_of w 0) ≡ Some b
     → live_now i (after (log_of w) (Landed unit event) knows) line ≡ live_now i (log_of w) line
-live_landed i w unit event knows p b line simple may waits begins =
+live_landed i w unit event knows p b line mount may waits begins =
     ap bits_of (same_units (known_image i (after (log_of w) (Landed unit event) knows)) (known_image i (log_of w)) line
-    (few_units i w (after (log_of w) (Landed unit event) knows) simple.mount) (few_units i w (log_of w) simple.mount)
-    (λ u. same_live_unit i w unit event knows p b line u simple may waits begins))
+    (few_units i w (after (log_of w) (Landed unit event) knows) mount) (few_units i w (log_of w) mount)
+    (λ u. same_live_unit i w unit event knows p b line u mount may waits begins))
 
 pub units_landed : (i : Image) (logs : Logs) (unit event : ℕ) (knows : List ℕ) (o : Opening) → o.number ≤ length (logs 0)
     → opened_units i (after logs (Landed unit event) knows) o ≡ opened_units i logs o
@@ -129,60 +130,29 @@ units_landed i logs unit event knows o before =
 
 -- ---- fronts
 
-pub freed_landed : (i : Image) (w : World) (b : Begun) (unit event : ℕ) (knows : List ℕ) → IsSimpleMount i w → MayLand (log_of w) unit event
+pub freed_landed : (i : Image) (w : World) (b : Begun) (unit event : ℕ) (knows : List ℕ) → IsLegalMount i w → MayLand (log_of w) unit event
     → freed i.shape (log_of w 0) ≤ freed i.shape (after (log_of w) (Landed unit event) knows 0)
-freed_landed i w b unit event knows simple may =
-    freed_rises i (log_of w) w b (Landed unit event) knows simple.mount (λ o u. rows_of_chunks i w o u simple.mount) refl may
+freed_landed i w b unit event knows mount may =
+    freed_rises i (log_of w) w b (Landed unit event) knows mount (λ o u. rows_of_chunks i w o u mount) refl may
 
-pub chunk_landed : (i : Image) (w : World) (unit event : ℕ) (p : Placed) → IsSimpleMount i w → MayLand (log_of w) unit event
+pub chunk_landed : (i : Image) (w : World) (unit event : ℕ) (p : Placed) → IsLegalMount i w → MayLand (log_of w) unit event
     → unanswered_on (log_of w 0) unit ≡ Some p
     → (e : UnitEvent) → unit_event_at (log_of w) unit event ≡ Some e → e.chunk ≡ p.stripe.line
-chunk_landed i w unit event p simple may waits e is =
-    let its : IsItsProgram w unit event p = landed_program i w unit event p simple may waits in
+chunk_landed i w unit event p mount may waits e is =
+    let its : IsItsProgram w unit event p = landed_program i w unit event p mount may waits in
     ap (λ (x : UnitEvent). x.chunk) (same_Some e its.done.event (sym is ∙ its.done.is_event)) ∙ its.chunk
 
 -- ---- one stripe less is under way
 
-pub fewer_pass : (f g : ℕ → Bool) (a n k : ℕ) → k < n → f (a + k) ≡ true → g (a + k) ≡ false → ((m : ℕ) → m ≢ a + k → g m ≡ f m)
-    → length (filter f (range_with_len a n)) ≡ length (filter g (range_with_len a n)) + 1
-fewer_pass f g a zero k inside passes fails others = absurd (omega arith)
-fewer_pass f g a (suc n) zero inside passes fails others =
-    let from : a ≡ a + 0 = omega arith in
-    ap (λ b. length (cond b (a ∷ filter f (range_with_len (a + 1) n)) (filter f (range_with_len (a + 1) n)))) (ap f from ∙ passes)
-    ∙ (let all : length (filter f (range_with_len (a + 1) n)) ≡ length (filter g (range_with_len (a + 1) n)) = same_rest (a + 1) n (omega arith) in omega arith)
-    ∙ ap (λ b. length (cond b (a ∷ filter g (range_with_len (a + 1) n)) (filter g (range_with_len (a + 1) n))) + 1) (sym (ap g from ∙ fails))
-  where
-    same_rest : (c n : ℕ) → a < c → length (filter f (range_with_len c n)) ≡ length (filter g (range_with_len c n))
-    same_rest c zero above = refl
-    same_rest c (suc n) above =
-        ap₂ (λ b xs. length (cond b (c ∷ xs) xs)) (sym (others c (λ e. absurd (omega arith)))) refl
-        ∙ go (g c) (same_rest (c + 1) n (omega arith))
-      where
-        go : (b : Bool) → length (filter f (range_with_len (c + 1) n)) ≡ length (filter g (range_with_len (c + 1) n))
-            → length (cond b (c ∷ filter f (range_with_len (c + 1) n)) (filter f (range_with_len (c + 1) n))) ≡ length
-            (cond b (c ∷ filter g (range_with_len (c + 1) n)) (filter g (range_with_len (c + 1) n)))
-        go true h = ap suc h
-        go false h = h
-fewer_pass f g a (suc n) (suc k) inside passes fails others =
-    let next : a + 1 + k ≡ a + suc k = omega arith in
-    ap (λ b. length (cond b (a ∷ filter f (range_with_len (a + 1) n)) (filter f (range_with_len (a + 1) n)))) (sym (others a (λ e. absurd (omega arith))))
-    ∙ go (g a) (fewer_pass f g (a + 1) n k (omega arith) (ap f next ∙ passes) (ap g next ∙ fails) (λ m apart. others m (λ e. apart (e ∙ sym next))))
-  where
-    go : (b : Bool) → length (filter f (range_with_len (a + 1) n)) ≡ length (filter g (range_with_len (a + 1) n)) + 1
-        → length (cond b (a ∷ filter f (range_with_len (a + 1) n)) (filter f (range_with_len (a + 1) n))) ≡ length
-        (cond b (a ∷ filter g (range_with_len (a + 1) n)) (filter g (range_with_len (a + 1) n))) + 1
-    go true h = omega arith
-    go false h = h
-
-pub one_less_under_way : (i : Image) (w : World) (unit event : ℕ) (knows : List ℕ) (p : Placed) → IsSimpleMount i w → unit < units i.shape
+pub one_less_under_way : (i : Image) (w : World) (unit event : ℕ) (knows : List ℕ) (p : Placed) → IsLegalMount i w → unit < units i.shape
     → unanswered_on (log_of w 0) unit ≡ Some p
     → under_way i.shape (log_of w 0) ≡ under_way i.shape (after (log_of w) (Landed unit event) knows 0) + 1
-one_less_under_way i w unit event knows p simple inside waits =
+one_less_under_way i w unit event knows p mount inside waits =
     let old : List Logged = log_of w 0 in
     let new : List Logged = after (log_of w) (Landed unit event) knows 0 in
     let is : IsAnswer (log_of w 0) (after (log_of w) (Landed unit event) knows 0) unit (DidLand event) = is_answer (log_of w 0) unit event knows in
     let from : 0 + unit ≡ unit = omega arith in
-    let few : length (placed_on (log_of w 0) unit) ≤ length (answers (log_of w 0) unit) + 1 = one_stripe i w unit simple.mount.legal in
+    let few : length (placed_on (log_of w 0) unit) ≤ length (answers (log_of w 0) unit) + 1 = one_stripe i w unit mount.legal in
     let count : length (answers (after (log_of w) (Landed unit event) knows 0) unit) ≡ length (answers (log_of w 0) unit) + 1 = ap length is.here
     ∙ length-append (answers (log_of w 0) unit) (DidLand event ∷ []) in
     let none : unanswered_on (after (log_of w) (Landed unit event) knows 0) unit ≡ None =

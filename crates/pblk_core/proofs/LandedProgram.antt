@@ -1,4 +1,5 @@
--- The program that the engine may note as landed: it is that of the first stripe of its unit that isn't answered.
+-- The program that the engine may note as landed: it is that of the first stripe of its unit that
+-- isn't answered.
 use Rattle.std.proofs.Common.{◌≡◌, ◌⊎◌, ℕ, ◌+◌, ◌<◌, ◌≤◌, ◌==◌, suc, Some, List, [], ◌∷◌, length, take, refl, sym, subst, ap, ◌∙◌, arith, inl, inr, le_refl, take_all}
 use Rattle.std.specs.Prelude.{slice_get, slice_index, map}
 use Rattle.std.specs.List.{Contains, range_with_len}
@@ -13,7 +14,7 @@ use Rattle.pblk_world.specs.EngineLog.{Begun, begun, Placed, placements, placed_
 use Rattle.pblk_world.specs.Commanding.{ended_stripes}
 use Rattle.pblk_world.specs.Answering.{MayLand}
 use Rattle.core_laws.specs.PlacerOf.{unanswered_on}
-use Rattle.core_laws.specs.SimpleMounts.{IsSimpleMount}
+use Rattle.world_laws.specs.LegalMounts.{IsLegalMount}
 use Rattle.core_laws.specs.InOrder.{IsInPlace}
 use Rattle.core_laws.proofs.LogOrders.{in_order}
 use Rattle.core_laws.specs.StripePrograms.{HasHappened, IsProgramDone}
@@ -55,7 +56,8 @@ cut_whole logs n a inside = take_all (slice_index (whole_to logs n) a) (logs a)
 
 -- ---- the program
 
--- what may be noted by the whole logs may be by others with the same log of the engine and of the unit
+-- what may be noted by the whole logs may be by others with the same log of the engine and of the
+-- unit
 by_others : (logs others : Logs) (unit event : ℕ) → others 0 ≡ logs 0 → others (suc unit) ≡ logs (suc unit) → MayLand logs unit event
     → MayLand others unit event
 by_others logs others unit event engine own may = record {
@@ -83,21 +85,21 @@ pub record IsItsProgram (w : World) (unit event : ℕ) (p : Placed) : Type 0 whe
   pub done : IsProgramDone (log_of w) unit event p
   pub chunk : done.event.chunk ≡ p.stripe.line
 
-begun_at : (i : Image) (w : World) (unit event : ℕ) → IsSimpleMount i w → MayLand (log_of w) unit event → (b : Begun) × (begun (log_of w 0) ≡ Some b)
-begun_at i w unit event simple may = go (log_of w 0) refl
+begun_at : (i : Image) (w : World) (unit event : ℕ) → IsLegalMount i w → MayLand (log_of w) unit event → (b : Begun) × (begun (log_of w 0) ≡ Some b)
+begun_at i w unit event mount may = go (log_of w 0) refl
   where
     go : (log : List Logged) → log_of w 0 ≡ log → (b : Begun) × (begun (log_of w 0) ≡ Some b)
     go [] is = let some : length (answers (log_of w 0) unit) < length (placed_on (log_of w 0) unit) = may.stripe.placed in
         let none : length (placed_on (log_of w 0) unit) ≡ 0 = ap (λ (xs : List Logged). length (placed_on xs unit)) is in absurd (omega arith)
-    go (l ∷ log) is = begun_once i w simple.mount.legal
+    go (l ∷ log) is = begun_once i w mount.legal
         (let count : length (log_of w 0) ≡ suc (length log) = ap (λ (xs : List Logged). length xs) is in omega arith)
 
-pub landed_program : (i : Image) (w : World) (unit event : ℕ) (p : Placed) → IsSimpleMount i w → MayLand (log_of w) unit event
+pub landed_program : (i : Image) (w : World) (unit event : ℕ) (p : Placed) → IsLegalMount i w → MayLand (log_of w) unit event
     → unanswered_on (log_of w 0) unit ≡ Some p → IsItsProgram w unit event p
-landed_program i w unit event p simple may waits =
+landed_program i w unit event p mount may waits =
     let n : ℕ = suc (suc unit) in
     let l : Logged = record { event = Decides (Landed unit event); knows = whole_to (log_of w) (suc (suc unit)) } in
-    let begins = begun_at i w unit event simple may in
+    let begins = begun_at i w unit event mount may in
     let engine : prefixes l (log_of w) 0 ≡ log_of w 0 = cut_whole (log_of w) (suc (suc unit)) 0 (omega arith) in
     let own : prefixes l (log_of w) (suc unit) ≡ log_of w (suc unit) = cut_whole (log_of w) (suc (suc unit)) (suc unit) (omega arith) in
     let may_then : MayLand (prefixes l (log_of w)) unit event = by_others (log_of w) (prefixes l (log_of w)) unit event engine own may in
@@ -107,12 +109,12 @@ landed_program i w unit event p simple may waits =
       within = whole_within (log_of w) (suc (suc unit));
       allowed = (begins.0, begun_then, may_then);
     } in
-    let at = landed_at i w simple.mount.legal (length (log_of w 0)) unit event l begins.0 made begun_then may_then in
+    let at = landed_at i w mount.legal (length (log_of w 0)) unit event l begins.0 made begun_then may_then in
     let all : take (length (log_of w 0)) (log_of w 0) ≡ log_of w 0 = take_all (length (log_of w 0)) (log_of w 0) (le_refl (length (log_of w 0))) in
     let same : at.0 ≡ p = same_Some at.0 p
     (sym at.1 ∙ ap (λ (xs : List Logged). slice_get (placed_on (log_of w 0) unit) (length (answers xs unit))) all ∙ waits) in
     let among : IsAmong (placements (log_of w 0)) p =
     from_filter (λ (q : Placed). q.stripe.unit == unit) (placements (log_of w 0)) p (length (answers (log_of w 0) unit), waits) in
-    let place : IsInPlace i (log_of w 0) p = all_at (IsInPlace i (log_of w 0)) (placements (log_of w 0)) among.0 p among.1 (in_order i w simple.mount).placed in
+    let place : IsInPlace i (log_of w 0) p = all_at (IsInPlace i (log_of w 0)) (placements (log_of w 0)) among.0 p among.1 (in_order i w mount).placed in
     let is : IsProgramDone (log_of w) unit event p = subst (IsProgramDone (log_of w) unit event) same at.2 in
     record { done = is; chunk = is.chunk ∙ place.chunk }

@@ -1,4 +1,5 @@
--- The units of the lines that a mount opened, as they are known: those of each opened line stay as they were when it was opened.
+-- The units of the lines that a mount opened, as they are known: those of each opened line stay as
+-- they were when it was opened.
 use Rattle.std.proofs.Common.{◌≡◌, ℕ, ◌<◌, ◌≤◌, Some, List, length, length-take, take, sym, ap, ◌∙◌, arith}
 use Rattle.std.specs.Prelude.{slice_get}
 use Rattle.std.specs.List.{AllByRecursion, enumerate_from}

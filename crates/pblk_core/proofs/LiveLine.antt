@@ -17,7 +17,7 @@ use Rattle.pblk_world.specs.Lines.{found_image}
 use Rattle.pblk_world.specs.Space.{gives_back, freed}
 use Rattle.pblk_world.specs.Victims.{is_in_force, line_of_position, line_of, landed_line, landed_line_of}
 use Rattle.l2p_map.specs.declared.slot.Slot.TheVariants.{Cached}
-use Rattle.core_laws.specs.SimpleMounts.{IsSimpleMount}
+use Rattle.world_laws.specs.LegalMounts.{IsLegalMount}
 use Rattle.core_laws.specs.SlotOf.{slot_of, slot_by, slot_of_entry, slot_of_winner, media_of}
 use Rattle.core_laws.specs.WindowOf.{HeldSector, HeldSectors, held_of, is_given_back, progress_by, without_frame}
 use Rattle.core_laws.proofs.Placing.{not_below}
@@ -26,7 +26,6 @@ use Rattle.write_window.specs.Window as view
 use Rattle.write_window.specs.declared.held.Held.{Held}
 use Rattle.core_laws.proofs.LatestLines.{latest_stands, winner_as_found}
 use Rattle.core_laws.proofs.StandingLines.{in_force}
-use Rattle.core_laws.proofs.PlainLogs.{never_lost}
 use Rattle.core_laws.proofs.Growing.{given_holds, given_landed}
 use Rattle.core_laws.proofs.UsersEntries.{in_order}
 use Rattle.core_laws.proofs.LeastPositions.{least_below}
@@ -65,39 +64,41 @@ position_line s log q force = ap (option_map (λ (p : Placed). p.stripe.line))
     by true false f stands = stands refl refl
 
 -- those of the latest entry of a sector do
-latest_line : (i : Image) (w : World) (lba : ℕ) (t : Taken) → IsSimpleMount i w → lba < i.shape.capacity → last_take (log_of w 0) lba ≡ Some t
+latest_line : (i : Image) (w : World) (lba : ℕ) (t : Taken) → IsLegalMount i w → lba < i.shape.capacity → last_take (log_of w 0) lba ≡ Some t
     → line_of_position i.shape (log_of w 0) t.entry.position ≡ placed_line i.shape (log_of w 0) t.entry.position
-latest_line i w lba t simple inside last = position_line i.shape (log_of w 0) t.entry.position
-    (λ p among holds kept. in_force i w simple.mount p (contained_among (placements (log_of w 0)) p among)
-    (latest_stands i w simple.mount lba t p inside last (contained_among (placements (log_of w 0)) p among) holds kept))
+latest_line i w lba t mount inside last = position_line i.shape (log_of w 0) t.entry.position
+    (λ p among holds kept. in_force i w mount p (contained_among (placements (log_of w 0)) p among)
+    (latest_stands i w mount lba t p inside last (contained_among (placements (log_of w 0)) p among) holds kept))
 
 -- ---- where a position has landed
 
 -- one that has landed is where it is live
-pub landed_line_is : (i : Image) (w : World) (q : ℕ) → IsSimpleMount i w → has_landed_at i.shape (log_of w 0) q ≡ true
+pub landed_line_is : (i : Image) (w : World) (q : ℕ) → IsLegalMount i w → has_landed_at i.shape (log_of w 0) q ≡ true
     → landed_line i.shape (log_of w 0) q ≡ line_of_position i.shape (log_of w 0) q
-landed_line_is i w q simple lands = ap (option_map (λ (p : Placed). p.stripe.line))
+landed_line_is i w q mount lands = ap (option_map (λ (p : Placed). p.stripe.line))
     (find_agree (IsAmong (placements (log_of w 0)))
     (λ p. holds_position i.shape q p && has_landed (log_of w 0) p && is_in_force (log_of w 0) p.life p.stripe.line)
     (λ p. holds_position i.shape q p && not (was_lost (log_of w 0) p) && is_in_force (log_of w 0) p.life p.stripe.line)
     (λ p among. by (holds_position i.shape q p) (has_landed (log_of w 0) p) (was_lost (log_of w 0) p) (is_in_force (log_of w 0) p.life p.stripe.line)
-    (never_lost (log_of w 0) simple.engine.lost p) (each p among)) (placements (log_of w 0)) (among_all (placements (log_of w 0))))
+    (landed_not_lost (log_of w 0) p) (each p among)) (placements (log_of w 0)) (among_all (placements (log_of w 0))))
   where
-    by : (a b l f : Bool) → l ≡ false → (a ≡ true → b ≡ true) → (a && b && f) ≡ (a && not l && f)
+    by : (a b l f : Bool) → (b ≡ true → l ≡ false) → (a ≡ true → l ≡ false → b ≡ true) → (a && b && f) ≡ (a && not l && f)
     by false b l f none lands = refl
     by true true false f none lands = refl
-    by true false false f none lands = absurd (cc (lands refl))
-    by true b true f none lands = absurd cc
+    by true true true f none lands = absurd (cc (none refl))
+    by true false true f none lands = refl
+    by true false false f none lands = absurd (cc (lands refl refl))
 
     one : (r : Placed) × ((has_landed (log_of w 0) r && holds_position i.shape q r) ≡ true) × IsAmong (placements (log_of w 0)) r
     one = member_of (λ p. has_landed (log_of w 0) p && holds_position i.shape q p) (placements (log_of w 0)) lands
 
-    each : (p : Placed) → IsAmong (placements (log_of w 0)) p → holds_position i.shape q p ≡ true → has_landed (log_of w 0) p ≡ true
-    each p among held =
-        let same : p ≡ one.0 = held_once i w simple.mount q p one.0 among one.2 held
-        (second_of (has_landed (log_of w 0) one.0) (holds_position i.shape q one.0) one.1)
-        (never_lost (log_of w 0) simple.engine.lost p) (never_lost (log_of w 0) simple.engine.lost one.0) in
-        ap (has_landed (log_of w 0)) same ∙ first_of (has_landed (log_of w 0) one.0) (holds_position i.shape q one.0) one.1
+    each : (p : Placed) → IsAmong (placements (log_of w 0)) p → holds_position i.shape q p ≡ true → was_lost (log_of w 0) p ≡ false
+        → has_landed (log_of w 0) p ≡ true
+    each p among held kept =
+        let its : has_landed (log_of w 0) one.0 ≡ true = first_of (has_landed (log_of w 0) one.0) (holds_position i.shape q one.0) one.1 in
+        let same : p ≡ one.0 = held_once i w mount q p one.0 among one.2 held
+        (second_of (has_landed (log_of w 0) one.0) (holds_position i.shape q one.0) one.1) kept (landed_not_lost (log_of w 0) one.0 its) in
+        ap (has_landed (log_of w 0)) same ∙ its
 
 -- ---- an entry in the window
 
@@ -107,10 +108,10 @@ landed_by true false = refl
 landed_by true true = refl
 
 -- the window says of an entry that isn't given back whether it has landed
-window_landed : (i : Image) (w : World) (c : Core) (t : Taken) → IsSimpleMount i w → Stands i (log_of w) c → IsAmong (takes (log_of w 0)) t
+window_landed : (i : Image) (w : World) (c : Core) (t : Taken) → IsLegalMount i w → Stands i (log_of w) c → IsAmong (takes (log_of w 0)) t
     → is_given_back i.shape (log_of w 0) t.entry.position ≡ false
     → view.has_landed_at c.window t.entry.position ≡ has_landed_at i.shape (log_of w 0) t.entry.position
-window_landed i w c t simple st among kept =
+window_landed i w c t mount st among kept =
     ap (λ b. option_map_or (λ (h : Held). progress_landed h.progress)
     (if b then None else slice_get c.window.entries (t.entry.position - c.window.freed)) false) (not_below c.window.freed t.entry.position above)
     ∙ by (slice_get c.window.entries (t.entry.position - c.window.freed))
@@ -119,7 +120,7 @@ window_landed i w c t simple st among kept =
   where
     place : t.entry.position ≡ first_position (log_of w 0) + among.0
     place = numbered_at (first_position (log_of w 0)) (length (takes (log_of w 0))) (takes (log_of w 0)) among.0 t
-        (in_order i w (accepted_small i.shape simple.mount.accepted) simple.mount.legal).numbered among.1
+        (in_order i w (accepted_small i.shape mount.accepted) mount.legal).numbered among.1
 
     inside : among.0 < length (takes (log_of w 0))
     inside = slice_get_within (takes (log_of w 0)) among.0 t among.1
@@ -152,9 +153,9 @@ window_landed i w c t simple st among kept =
 
 -- ---- the line of a slot
 
-entry_line : (i : Image) (w : World) (holds : Holds) (t : Taken) → IsSimpleMount i w → AreHolds i.shape (log_of w 0) holds → IsAmong (takes (log_of w 0)) t
+entry_line : (i : Image) (w : World) (holds : Holds) (t : Taken) → IsLegalMount i w → AreHolds i.shape (log_of w 0) holds → IsAmong (takes (log_of w 0)) t
     → line_of_slot holds.rows.items (slot_of_entry i (log_of w) t.entry.position) ≡ placed_line i.shape (log_of w 0) t.entry.position
-entry_line i w holds t simple are among = go (find (gives_back i.shape (log_of w 0) t.entry.position) (placements (log_of w 0))) refl
+entry_line i w holds t mount are among = go (find (gives_back i.shape (log_of w 0) t.entry.position) (placements (log_of w 0))) refl
   where
     go : (o : Option Placed) → find (gives_back i.shape (log_of w 0) t.entry.position) (placements (log_of w 0)) ≡ o
         → line_of_slot holds.rows.items (option_map_or (media_of i (log_of w) t.entry.position) o (Cached t.entry.position)) ≡ placed_line i.shape
@@ -169,29 +170,29 @@ entry_line i w holds t simple are among = go (find (gives_back i.shape (log_of w
         found_passes (gives_back i.shape (log_of w 0) t.entry.position) (placements (log_of w 0)) p e in
         let held : holds_position i.shape t.entry.position p ≡ true =
         second_of (has_landed (log_of w 0) p) (holds_position i.shape t.entry.position p) (given_holds i.shape (log_of w 0) t.entry.position p found.0) in
-        sym (line_of_holder i.shape (log_of w 0) t.entry.position p (held_once i w simple.mount) found.1 held
+        sym (line_of_holder i.shape (log_of w 0) t.entry.position p (held_once i w mount) found.1 held
         (landed_not_lost (log_of w 0) p (first_of (has_landed (log_of w 0) p) (holds_position i.shape t.entry.position p)
         (given_holds i.shape (log_of w 0) t.entry.position p found.0))))
 
-pub line_is : (i : Image) (w : World) (holds : Holds) (lba : ℕ) → IsSimpleMount i w → lba < i.shape.capacity → AreHolds i.shape (log_of w 0) holds
+pub line_is : (i : Image) (w : World) (holds : Holds) (lba : ℕ) → IsLegalMount i w → lba < i.shape.capacity → AreHolds i.shape (log_of w 0) holds
     → line_of_slot holds.rows.items (slot_of i (log_of w) lba) ≡ line_of i (log_of w) lba (last_take (log_of w 0) lba)
-line_is i w holds lba simple inside are = go (last_take (log_of w 0) lba) refl
+line_is i w holds lba mount inside are = go (last_take (log_of w 0) lba) refl
   where
     found_line : (o : Option Record) → last_take (log_of w 0) lba ≡ None → winner (counted (found_image i (log_of w))) lba ≡ o
         → line_of_slot holds.rows.items (slot_of_winner o) ≡ option_and_then
         (λ (r : Record). if is_as_found (life_of (log_of w 0) r.line) then Some r.line else None) o
     found_line None none e = refl
-    found_line (Some r) none e = sym (ap (λ (life : LineLife). if is_as_found life then Some r.line else None) (winner_as_found i w simple.mount lba r none e))
+    found_line (Some r) none e = sym (ap (λ (life : LineLife). if is_as_found life then Some r.line else None) (winner_as_found i w mount lba r none e))
 
     go : (o : Option Taken) → last_take (log_of w 0) lba ≡ o → line_of_slot holds.rows.items (slot_by i (log_of w) lba o) ≡ line_of i (log_of w) lba o
     go None e = found_line (winner (counted (found_image i (log_of w))) lba) e refl
-    go (Some t) e = entry_line i w holds t simple are (last_is_among (log_of w 0) lba t e).0 ∙ sym (latest_line i w lba t simple inside e)
+    go (Some t) e = entry_line i w holds t mount are (last_is_among (log_of w 0) lba t e).0 ∙ sym (latest_line i w lba t mount inside e)
 
 -- whether it has landed there
-pub landed_is : (i : Image) (w : World) (c : Core) (lba : ℕ) → IsSimpleMount i w → Stands i (log_of w) c
+pub landed_is : (i : Image) (w : World) (c : Core) (lba : ℕ) → IsLegalMount i w → Stands i (log_of w) c
     → landed_line_of i (log_of w) lba (last_take (log_of w 0) lba) ≡
     (if has_landed_in c.window (slot_of i (log_of w) lba) then line_of i (log_of w) lba (last_take (log_of w 0) lba) else None)
-landed_is i w c lba simple st = go (last_take (log_of w 0) lba) refl
+landed_is i w c lba mount st = go (last_take (log_of w 0) lba) refl
   where
     found_line : (o : Option Record) → option_and_then (λ (r : Record). if is_as_found (life_of (log_of w 0) r.line) then Some r.line else None) o
         ≡ (if has_landed_in c.window (slot_of_winner o) then option_and_then
@@ -201,7 +202,7 @@ landed_is i w c lba simple st = go (last_take (log_of w 0) lba) refl
 
     by_landed : (q : ℕ) (b : Bool) → has_landed_at i.shape (log_of w 0) q ≡ b
         → landed_line i.shape (log_of w 0) q ≡ (if b then line_of_position i.shape (log_of w 0) q else None)
-    by_landed q true e = landed_line_is i w q simple e
+    by_landed q true e = landed_line_is i w q mount e
     by_landed q false e = not_landed_line i.shape (log_of w 0) q e
 
     entry : (t : Taken) → last_take (log_of w 0) lba ≡ Some t → (o : Option Placed)
@@ -211,7 +212,7 @@ landed_is i w c lba simple st = go (last_take (log_of w 0) lba) refl
         (log_of w 0) t.entry.position else None)
     entry t e (Some p) f =
         let found = found_passes (gives_back i.shape (log_of w 0) t.entry.position) (placements (log_of w 0)) p f in
-        landed_line_is i w t.entry.position simple
+        landed_line_is i w t.entry.position mount
         (given_landed i.shape (log_of w 0) t.entry.position
         (any_member (gives_back i.shape (log_of w 0) t.entry.position) (placements (log_of w 0)) found.1.0 p found.1.1 found.0))
     entry t e None f =
@@ -219,7 +220,7 @@ landed_is i w c lba simple st = go (last_take (log_of w 0) lba) refl
         found_none (gives_back i.shape (log_of w 0) t.entry.position) (placements (log_of w 0)) f in
         by_landed t.entry.position (has_landed_at i.shape (log_of w 0) t.entry.position) refl
         ∙ ap (λ b. if b then line_of_position i.shape (log_of w 0) t.entry.position else None)
-        (sym (window_landed i w c t simple st (last_is_among (log_of w 0) lba t e).0 kept))
+        (sym (window_landed i w c t mount st (last_is_among (log_of w 0) lba t e).0 kept))
 
     go : (o : Option Taken) → last_take (log_of w 0) lba ≡ o
         → landed_line_of i (log_of w) lba o ≡ (if has_landed_in c.window (slot_by i (log_of w) lba o) then line_of i (log_of w) lba o else None)

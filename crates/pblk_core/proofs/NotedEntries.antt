@@ -1,6 +1,6 @@
 -- The entries of a program under way, as they were taken, and what the table notes of them once
 -- they have landed.
-use Rattle.std.proofs.Common.{◌≡◌, ℕ, ◌==◌, ◌&&◌, ◌||◌, Bool, true, false, Some, None, Option, List, [], ◌∷◌, length, refl, sym, ap, ap₂, ◌∙◌, length-set}
+use Rattle.std.proofs.Common.{◌≡◌, ◌≢◌, ℕ, ◌==◌, ◌&&◌, ◌||◌, Bool, true, false, Some, None, Option, List, [], ◌∷◌, length, refl, sym, ap, ap₂, ◌∙◌, length-set}
 use Rattle.std.specs.Prelude.{slice_get, slice_set}
 use Rattle.std.specs.List.{AllByRecursion, list_any}
 use Rattle.std.specs.Option.{is_some, option_map, option_map_or}
@@ -17,14 +17,14 @@ use Rattle.line_table.specs.Rows.{Table, IsRow, noted}
 use Rattle.line_table.proofs.Places.{get_set_same}
 use Rattle.stripe_placer.specs.Placing.{Program}
 use Rattle.core_laws.specs.PlacerOf.{positions_of}
-use Rattle.core_laws.specs.SimpleMounts.{IsSimpleMount}
+use Rattle.world_laws.specs.LegalMounts.{IsLegalMount}
 use Rattle.core_laws.specs.WindowOf.{is_given_back}
 use Rattle.core_laws.proofs.StillWaiting.{holds_is as bears_is}
 use Rattle.core_laws.proofs.Growing.{given_landed}
 use Rattle.core_laws.proofs.HeldOnce.{held_once}
 use Rattle.core_laws.proofs.LandedStripe.{one_more}
 use Rattle.core_laws.proofs.NewlyHeld.{member_of}
-use Rattle.core_laws.specs.ChangedTables.{note_by}
+use Rattle.core_laws.specs.ChangedTables.{note_by, with_row}
 use Rattle.core_laws.proofs.LandedEntries.{AreItsEntries}
 use Rattle.core_laws.proofs.UsersEntries.{in_order}
 use Rattle.core_laws.proofs.LogOrders.{small_capacity}
@@ -43,7 +43,7 @@ use Rattle.pblk_core.proofs.LandedWay.{IsOnWay}
 use Rattle.pblk_world.proofs.Takers.{not_landed_line}
 use Rattle.pblk_core.proofs.WaitingEntries.{row_of_entry}
 use Rattle.lemmas.proofs.Lists.{IsAmong, all_imply}
-use Rattle.lemmas.proofs.Parts.{all_at, all_by_get}
+use Rattle.lemmas.proofs.Parts.{all_at, all_by_get, get_set_other}
 use Rattle.lemmas.proofs.Tests.{first_of, second_of}
 
 -- ---- the entries
@@ -53,16 +53,16 @@ any_of q [] = refl
 any_of q (t ∷ ts) = ap₂ (λ a b. a || b) (turned_round t.entry.position q) (any_of q ts)
 
 -- what its stripe holds hasn't landed
-own_not_landed : (i : Image) (w : World) (unit : ℕ) (of : Program) (q : ℕ) → IsSimpleMount i w → (is : IsOnWay i w unit of)
+own_not_landed : (i : Image) (w : World) (unit : ℕ) (of : Program) (q : ℕ) → IsLegalMount i w → (is : IsOnWay i w unit of)
     → holds_position i.shape q is.row.stripe ≡ true → has_landed_at i.shape (log_of w 0) q ≡ false
-own_not_landed i w unit of q simple is held = go (has_landed_at i.shape (log_of w 0) q) refl
+own_not_landed i w unit of q mount is held = go (has_landed_at i.shape (log_of w 0) q) refl
   where
     go : (b : Bool) → has_landed_at i.shape (log_of w 0) q ≡ b → b ≡ false
     go false e = refl
     go true e =
         let m = member_of (λ p. has_landed (log_of w 0) p && holds_position i.shape q p) (placements (log_of w 0)) e in
         let same : m.0 ≡ is.row.stripe =
-        held_once i w simple.mount q m.0 is.row.stripe m.2 (first_unanswered (log_of w 0) unit is.row.stripe is.row.waits).among
+        held_once i w mount q m.0 is.row.stripe m.2 (first_unanswered (log_of w 0) unit is.row.stripe is.row.waits).among
         (second_of (has_landed (log_of w 0) m.0) (holds_position i.shape q m.0) m.1) held
         (landed_not_lost (log_of w 0) m.0 (first_of (has_landed (log_of w 0) m.0) (holds_position i.shape q m.0) m.1))
         (ap is_loss (one_more (log_of w 0) unit 0 [] is.row.stripe is.row.waits).before) in
@@ -72,17 +72,21 @@ own_not_landed i w unit of q simple is held = go (has_landed_at i.shape (log_of 
         absurd (cc (sym yes ∙ no))
 
 pub record AreEntriesOf (i : Image) (w : World) (c : Core) (unit : ℕ) (of : Program) (is : IsOnWay i w unit of) : Type 0 where
+  pub its : HasEntries i.shape (log_of w 0) is.row.stripe.stripe
   pub entries : List Taken
+  pub are : its.entries ≡ entries
   pub positions : positions_of entries ≡ of.positions
   pub own : AreItsEntries i (log_of w) is.row.stripe entries
   pub names : AllByRecursion (λ (t : Taken). is_some (named i.shape t.mark) ≡ true) entries
   pub rows : AllByRecursion (λ (t : Taken). row_at c.holds.rows.items t.entry.position ≡ Some (hold_of i.shape (log_of w 0) t)) entries
 
-pub entries_of_way : (i : Image) (w : World) (c : Core) (unit : ℕ) (of : Program) → IsSimpleMount i w → Stands i (log_of w) c → (is : IsOnWay i w unit of)
+pub entries_of_way : (i : Image) (w : World) (c : Core) (unit : ℕ) (of : Program) → IsLegalMount i w → Stands i (log_of w) c → (is : IsOnWay i w unit of)
     → AreEntriesOf i w c unit of is
 unfolding BearsThese
-entries_of_way i w c unit of simple st is = record {
+entries_of_way i w c unit of mount st is = record {
+  its = its;
   entries = its.entries;
+  are = refl;
   positions = sym its.positions ∙ sym (positions_are i w unit of is);
   own = record {
     bears = λ q. bears_is i.shape q is.row.stripe.stripe.blocks ∙ ap (list_any (λ m. m == q)) its.positions ∙ any_of q its.entries;
@@ -93,7 +97,7 @@ entries_of_way i w c unit of simple st is = record {
   };
   names = all_imply (IsAmong (takes log)) (λ (t : Taken). is_some (named i.shape t.mark) ≡ true)
       (λ t there. all_at (λ (t : Taken). is_some (named i.shape t.mark) ≡ true) (takes log) there.0 t there.1
-      (in_order i w (small_capacity i simple.mount.accepted) simple.mount.legal).named) its.entries its.among;
+      (in_order i w (small_capacity i mount.accepted) mount.legal).named) its.entries its.among;
   rows = all_by_get (λ (t : Taken). row_at c.holds.rows.items t.entry.position ≡ Some (hold_of i.shape log t)) its.entries (λ n t at.
       let there : IsAmong (takes log) t = all_at (IsAmong (takes log)) its.entries n t at its.among in
       row_of_entry i w c t there.0 st there.1 (not_given t (away n t at) (is_given_back i.shape log t.entry.position) refl));
@@ -107,10 +111,10 @@ entries_of_way i w c unit of simple st is = record {
 
     its : HasEntries i.shape (log_of w 0) is.row.stripe.stripe
     its = all_at (λ (p : Placed). HasEntries i.shape (log_of w 0) p.stripe) (placements log) among.0 is.row.stripe among.1
-        (ordered i w simple.mount).entries
+        (ordered i w mount).entries
 
     away : (n : ℕ) (t : Taken) → slice_get its.entries n ≡ Some t → has_landed_at i.shape (log_of w 0) t.entry.position ≡ false
-    away n t at = own_not_landed i w unit of t.entry.position simple is (holds_it i w unit of n t.entry.position is
+    away n t at = own_not_landed i w unit of t.entry.position mount is (holds_it i w unit of n t.entry.position is
         (ap (λ qs. slice_get qs n) (positions_are i w unit of is ∙ its.positions) ∙ slice_get-map (λ (t : Taken). t.entry.position) its.entries n
         ∙ ap (option_map (λ (t : Taken). t.entry.position)) at))
 
@@ -158,6 +162,20 @@ note_shape rows line (q ∷ qs) t = note_shape rows line qs (note_hold line t (r
     one : (o : Option Hold) → (note_hold line t o).shape ≡ t.shape
     one None = refl
     one (Some h) = by_taker h.taker
+
+pub row_count : (line : ℕ) (change : Row → Row) (t : Table) → length (with_row line change t).rows ≡ length t.rows
+row_count line change t = go (slice_get t.rows line)
+  where
+    go : (o : Option Row) → length (option_map_or (λ r. slice_set t.rows line (change r)) o t.rows) ≡ length t.rows
+    go None = refl
+    go (Some r) = length-set t.rows line (change r)
+
+pub row_elsewhere : (line other : ℕ) (change : Row → Row) (t : Table) → other ≢ line → slice_get (with_row line change t).rows other ≡ slice_get t.rows other
+row_elsewhere line other change t apart = go (slice_get t.rows line)
+  where
+    go : (o : Option Row) → slice_get (option_map_or (λ row. slice_set t.rows line (change row)) o t.rows) other ≡ slice_get t.rows other
+    go None = refl
+    go (Some row) = get_set_other t.rows line other (change row) apart
 
 pub note_length : (rows : List Hold) (line : ℕ) (qs : List ℕ) (t : Table) → length (noted_lines rows line t qs).rows ≡ length t.rows
 note_length rows line [] t = refl

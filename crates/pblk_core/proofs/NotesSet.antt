@@ -1,36 +1,34 @@
 -- What a core notes of its lines, after an event that changes what it notes of one: a line was
--- opened, or a stripe of it was placed.
-use Rattle.std.proofs.Common.{◌≡◌, ◌≢◌, ◌⊎◌, inl, inr, eqb, ℕ, ◌<◌, not, max, Bool, true, false, None, Some, Option, List, length, length-set, refl, sym, subst, ap, ◌∙◌, if◌then◌else◌}
+-- opened; and once a stripe was placed, which changes none of it.
+use Rattle.std.proofs.Common.{◌≡◌, ◌≢◌, ◌⊎◌, inl, inr, eqb, ℕ, ◌<◌, not, Bool, true, false, None, Some, Option, List, length, length-set, refl, sym, subst, ap, ◌∙◌, if◌then◌else◌}
 use Rattle.std.specs.Prelude.{slice_get, slice_set}
-use Rattle.std.specs.List.{filter_map}
 use Rattle.std.specs.Option.{is_some, option_map}
 use Rattle.std.proofs.lemmas.Bool.Decides.{eqb_tells}
 use Rattle.std.proofs.lemmas.Option.{same_Some}
 use Rattle.pblk_model.specs.Image.{Image}
 use Rattle.pblk_model.specs.StartRecord.{StartRecord, start_of}
-use Rattle.pblk_world.specs.EngineLog.{AsFound, Begun, begun, Freed, is_life, LineLife, life_of, Opened, Opening}
+use Rattle.pblk_world.specs.EngineLog.{AsFound, Begun, begun, Freed, LineLife, life_of, Opened, Opening}
 use Rattle.pblk_world.specs.Events.{Decides, Open, Place, Stripe}
 use Rattle.pblk_world.specs.Lines.{are_empty, found_image, has_number, is_free_line, known_image}
 use Rattle.pblk_world.specs.Opening.{MayOpen}
 use Rattle.pblk_world.specs.Starts.{seq_in, start_stripes}
-use Rattle.pblk_world.specs.Victims.{position_in}
 use Rattle.pblk_world.specs.World.{World, Logs, log_of}
 use Rattle.pblk_world.proofs.Appending.{life_more}
 use Rattle.pblk_world.proofs.EngineLogLemmas.{opened_same}
 use Rattle.lemmas.proofs.Options.{none_there}
 use Rattle.lemmas.proofs.Parts.{get_set_other, get_set_same}
 use Rattle.lemmas.proofs.Tests.{first_of, not_true}
-use Rattle.line_table.proofs.Places.{get_within}
 use Rattle.world_laws.specs.LegalMounts.{IsLegalMount}
-use Rattle.core_laws.specs.ClosedLines.{ClosedLine, closed_line, newest_numbers, placed_top, starts_left, top_of}
+use Rattle.core_laws.specs.ClosedLines.{ClosedLine, answered_top, closed_line, newest_numbers, starts_left}
 use Rattle.core_laws.specs.Stepping.{after}
+use Rattle.core_laws.proofs.AnsweredTops.{top_kept, top_opened}
 use Rattle.core_laws.proofs.ClosedKept.{closed_opened, closed_placed, closed_unnumbered}
-use Rattle.core_laws.proofs.NewestStarts.{left_kept, left_opened, left_placed, newest_kept, newest_placed, top_beside, top_kept, top_opened, top_placed}
+use Rattle.core_laws.proofs.NewestStarts.{left_kept, left_opened, left_placed, newest_kept, newest_placed}
 use Rattle.core_laws.proofs.OpenedRows.{life_elsewhere, life_now, new_opening}
-use Rattle.core_laws.proofs.OpeningNumbers.{life_at, of_its_line}
-use Rattle.pblk_core.specs.LineNotes.{AreNotes, IsNoteOf, closed_by, note_opened, note_placed, numbers_in}
+use Rattle.pblk_core.specs.LineNotes.{AreNotes, IsNoteOf, closed_by, note_opened, numbers_in}
 use Rattle.pblk_core.specs.declared.line_notes.LineNote.{LineNote}
 use Rattle.pblk_core.specs.declared.line_notes.LineNotes.{LineNotes}
+use Rattle.pblk_core.proofs.NotesKept.{notes_kept}
 
 -- the row of a place is the one that was set there, or stands there as it did
 pub set_at : {X : Type 0} (xs : List X) (n k : ℕ) (x y : X) → n < length xs → slice_get (slice_set xs n x) k ≡ Some y
@@ -44,11 +42,11 @@ set_at xs n k x y inside there = go (eqb_tells k n)
 -- the notes with another row of one line
 pub notes_set : (i : Image) (logs new : Logs) (line : ℕ) (row : LineNote) (old notes : LineNotes) → line < i.shape.chunks
     → notes.rows.items ≡ slice_set old.rows.items line row → option_map numbers_in notes.newest ≡ newest_numbers i new
-    → ((o : Opening) → life_of (new 0) line ≡ Opened o → IsNoteOf i.shape (new 0) o row) → closed_by row ≡ closed_line i new line
+    → ((o : Opening) → life_of (new 0) line ≡ Opened o → IsNoteOf i new o row) → closed_by row ≡ closed_line i new line
     → ((other : ℕ) → other ≢ line → life_of (new 0) other ≡ life_of (logs 0) other)
     → ((other : ℕ) → other ≢ line → closed_line i new other ≡ closed_line i logs other)
     → ((other : ℕ) (o : Opening) → other ≢ line → life_of (logs 0) other ≡ Opened o
-    → (starts_left i.shape (new 0) o ≡ starts_left i.shape (logs 0) o) × (placed_top i.shape (new 0) o ≡ placed_top i.shape (logs 0) o))
+    → (starts_left i.shape (new 0) o ≡ starts_left i.shape (logs 0) o) × (answered_top i new o ≡ answered_top i logs o))
     → AreNotes i logs old → AreNotes i new notes
 notes_set i logs new line row old notes inside rows newest opened closed lives closes stripes are = record {
   count = ap length rows ∙ length-set old.rows.items line row ∙ are.count;
@@ -63,11 +61,11 @@ notes_set i logs new line row old notes inside rows newest opened closed lives c
         (ap (λ (rs : List LineNote). slice_get rs other) (sym rows) ∙ there)
 
     of_opened : (other : ℕ) (o : Opening) (its : LineNote) → life_of (new 0) other ≡ Opened o
-        → ((other ≡ line) × (row ≡ its)) ⊎ ((other ≢ line) × (slice_get old.rows.items other ≡ Some its)) → IsNoteOf i.shape (new 0) o its
-    of_opened other o its is (inl h) = subst (IsNoteOf i.shape (new 0) o) h.1 (opened o (ap (life_of (new 0)) (sym h.0) ∙ is))
+        → ((other ≡ line) × (row ≡ its)) ⊎ ((other ≢ line) × (slice_get old.rows.items other ≡ Some its)) → IsNoteOf i new o its
+    of_opened other o its is (inl h) = subst (IsNoteOf i new o) h.1 (opened o (ap (life_of (new 0)) (sym h.0) ∙ is))
     of_opened other o its is (inr h) =
         let before : life_of (logs 0) other ≡ Opened o = sym (lives other h.0) ∙ is in
-        let was : IsNoteOf i.shape (logs 0) o its = are.opened other o its before h.1 in
+        let was : IsNoteOf i logs o its = are.opened other o its before h.1 in
         let same = stripes other o h.0 before in
         record { seq = was.seq; front = was.front; starts_left = was.starts_left ∙ sym same.0; top = was.top ∙ sym same.1 }
 
@@ -102,65 +100,30 @@ notes_opened i w b line start knows old notes mount begins may rows newest are =
       seq = ap (λ (p : Opening). p.start.seq) its;
       front = ap (λ (p : Opening). p.start.front) its;
       starts_left = sym (left_opened i.shape (log_of w) line start knows o is);
-      top = sym (top_opened i.shape (log_of w) line start knows o is);
+      top = sym (top_opened i w b line start knows o mount begins may is);
     })
     (sym (closed_opened i w b line start knows line mount begins may ∙ free_unclosed i (log_of w) line may.is_free))
     (λ other apart. life_elsewhere (log_of w 0) line start knows other apart)
     (λ other apart. closed_opened i w b line start knows other mount begins may)
-    (λ other o apart life. (left_kept i.shape (log_of w) (Open line start) knows o refl, top_kept i.shape (log_of w) (Open line start) knows o refl))
+    (λ other o apart life. (
+      left_kept i.shape (log_of w) (Open line start) knows o refl,
+      top_kept i (log_of w) (Open line start) knows o refl (λ unit. refl),
+    ))
     are
 
 -- ---- a stripe was placed
 
--- with positions that its line bears now, a row that isn't closed isn't either
-open_more : (top : ℕ) (row : LineNote) → closed_by row ≡ None → closed_by (note_placed top row) ≡ None
-open_more top row none = go row.closed none
-  where
-    go : (b : Bool) → ◌≡◌ {A = Option ClosedLine} (if b then Some (record { seq = row.seq; top = row.top }) else None) None
-        → ◌≡◌ {A = Option ClosedLine} (if b then Some (record { seq = row.seq; top = max row.top top }) else None) None
-    go true e = absurd cc
-    go false e = refl
+-- nothing is noted of that
+pub notes_placed : (i : Image) (w : World) (b : Begun) (stripe : Stripe) (knows : List ℕ) (notes : LineNotes) → IsLegalMount i w
+    → begun (log_of w 0) ≡ Some b → AreNotes i (log_of w) notes → AreNotes i (after (log_of w) (Place stripe) knows) notes
+notes_placed i w b stripe knows notes mount begins are =
+    notes_kept i (log_of w) (after (log_of w) (Place stripe) knows) notes
+    (λ line. life_more (log_of w 0) (record { event = Decides (Place stripe); knows = knows }) line)
+    (λ line. closed_placed i (log_of w) stripe knows line) (newest_placed i w b stripe knows mount begins)
+    (λ o. left_placed i w stripe knows o mount)
+    (λ line o life. top_kept i (log_of w) (Place stripe) knows o refl (λ unit. refl)) are
 
-pub notes_placed : (i : Image) (w : World) (b : Begun) (stripe : Stripe) (knows : List ℕ) (o : Opening) (old notes : LineNotes) → IsLegalMount i w
-    → begun (log_of w 0) ≡ Some b → life_of (log_of w 0) stripe.line ≡ Opened o → stripe.line < i.shape.chunks
-    → closed_line i (log_of w) stripe.line ≡ None
-    → ((row : LineNote) → slice_get old.rows.items stripe.line ≡ Some row
-    → notes.rows.items ≡ slice_set old.rows.items stripe.line (note_placed (top_of (filter_map (position_in i.shape) stripe.blocks)) row))
-    → notes.newest ≡ old.newest → AreNotes i (log_of w) old → AreNotes i (after (log_of w) (Place stripe) knows) notes
-notes_placed i w b stripe knows o old notes mount begins life inside unclosed rows newest are =
-    notes_set i (log_of w) (after (log_of w) (Place stripe) knows) stripe.line (note_placed top row.0) old notes inside (rows row.0 row.1)
-    (ap (option_map numbers_in) newest ∙ are.newest ∙ sym (newest_placed i w b stripe knows mount begins))
-    (λ p is. subst (λ (q : Opening). IsNoteOf i.shape (after (log_of w) (Place stripe) knows 0) q (note_placed top row.0))
-    (opened_same o p (sym life ∙ sym (lives stripe.line) ∙ is)) (record {
-      seq = was.seq;
-      front = was.front;
-      starts_left = was.starts_left ∙ sym (left_placed i w stripe knows o mount);
-      top = ap (λ n. max n top) was.top ∙ sym (top_placed i.shape (log_of w) stripe knows o life);
-    }))
-    (open_more top row.0 (are.closed stripe.line row.0 row.1 ∙ unclosed) ∙ sym (closed_placed i (log_of w) stripe knows stripe.line ∙ unclosed))
-    (λ other apart. lives other)
-    (λ other apart. closed_placed i (log_of w) stripe knows other)
-    (λ other p apart is. (left_placed i w stripe knows p mount, top_beside i.shape (log_of w) stripe knows p (elsewhere other p apart is)))
-    are
-  where
-    top : ℕ
-    top = top_of (filter_map (position_in i.shape) stripe.blocks)
-
-    lives : (line : ℕ) → life_of (after (log_of w) (Place stripe) knows 0) line ≡ life_of (log_of w 0) line
-    lives line = life_more (log_of w 0) (record { event = Decides (Place stripe); knows = knows }) line
-
-    row : (row : LineNote) × (slice_get old.rows.items stripe.line ≡ Some row)
-    row = get_within old.rows.items stripe.line (subst (λ n. stripe.line < n) (sym are.count) inside)
-
-    was : IsNoteOf i.shape (log_of w 0) o row.0
-    was = are.opened stripe.line o row.0 life row.1
-
-    elsewhere : (other : ℕ) (p : Opening) → other ≢ stripe.line → life_of (log_of w 0) other ≡ Opened p
-        → is_life p.number (life_of (log_of w 0) stripe.line) ≡ false
-    elsewhere other p apart is =
-        let at = life_at (log_of w 0) other p is in
-        ap (is_life p.number) life
-        ∙ of_its_line (log_of w 0) stripe.line o p life (at.0 ∙ ap (λ n. Some n) (sym at.1)) (λ same. apart (sym at.1 ∙ same))
+-- ---- rows that tell of no closed line
 
 -- a note that tells of no closed line
 pub note_unclosed : (row : LineNote) → closed_by row ≡ None → row.closed ≡ false

@@ -21,7 +21,7 @@ use Rattle.write_window.specs.Window as view
 use Rattle.stripe_placer.specs.OpenLines.{OpenLine as PlacedLine, opened}
 use Rattle.stripe_placer.specs.OpenLines.Stripe.{Unplaced}
 use Rattle.core_laws.specs.OpenedLines.{live_now, open_line, open_lines}
-use Rattle.core_laws.specs.SimpleMounts.{IsSimpleMount}
+use Rattle.world_laws.specs.LegalMounts.{IsLegalMount}
 use Rattle.core_laws.proofs.PlacedLines.{get_row as row_there}
 use Rattle.core_laws.proofs.LeftLines.{lines_of_left, left_opened}
 use Rattle.core_laws.specs.LeastFree.{IsLeastFree}
@@ -149,19 +149,19 @@ pub record IsNextLine (i : Image) (w : World) (c : Core) : Type 0 where
   pub data_some : 0 < data_len i.shape (width (known_image i (log_of w)) (next_line c))
   pub stripes : 0 < length (opened i.shape (next_line c) (live_now i (log_of w) (next_line c))).stripes
 
-pub next_line_is : (i : Image) (w : World) (c : Core) → IsSimpleMount i w → Stands i (log_of w) c → MayOpenNext c → IsNextLine i w c
-next_line_is i w c simple st may = record {
+pub next_line_is : (i : Image) (w : World) (c : Core) → IsLegalMount i w → Stands i (log_of w) c → MayOpenNext c → IsNextLine i w c
+next_line_is i w c mount st may = record {
   least = least;
   closed = free_unopened i (log_of w) line least.is_free;
   live = there;
   units_are = is;
-  small = subst (λ m. m < 2 ^ units i.shape) (sym is) (known_bits i w (log_of w) (next_line c) simple.mount);
+  small = subst (λ m. m < 2 ^ units i.shape) (sym is) (known_bits i w (log_of w) (next_line c) mount);
   wide = ap (λ m. length (units_in m)) is ∙ count;
-  few = known_width i w (log_of w) (next_line c) simple.mount;
+  few = known_width i w (log_of w) (next_line c) mount;
   data_some = data_is;
   stripes = subst (λ k. 0 < k) (sym (length_replicate (length (units_in (live_now i (log_of w) line)) * (i.shape.clba / i.shape.ws_opt)) Unplaced))
       (subst (λ g. 0 < g * (i.shape.clba / i.shape.ws_opt)) (sym count)
-      (has_stripes i.shape (width (known_image i (log_of w)) (next_line c)) simple.mount.accepted data_is));
+      (has_stripes i.shape (width (known_image i (log_of w)) (next_line c)) mount.accepted data_is));
 }
   where
     line : ℕ
@@ -176,7 +176,7 @@ next_line_is i w c simple st may = record {
         (nat_lt 0 (line_data (known_image i (log_of w)) (next_line c))) least.is_free)
 
     count : length (units_in (live_now i (log_of w) (next_line c))) ≡ width (known_image i (log_of w)) (next_line c)
-    count = bits_width i w (log_of w) (next_line c) simple.mount
+    count = bits_width i w (log_of w) (next_line c) mount
 
     there : slice_get c.live.items (next_line c) ≡ Some (live_now i (log_of w) (next_line c))
     there =
@@ -188,11 +188,11 @@ next_line_is i w c simple st may = record {
     is = get_or_from_slice_get c.live.items (next_line c) (live_now i (log_of w) (next_line c)) 0 there
 
 -- what is found of it
-pub chosen : (i : Image) (w : World) (c : Core) (line live d : ℕ) → IsSimpleMount i w → Stands i (log_of w) c → MayOpenNext c
+pub chosen : (i : Image) (w : World) (c : Core) (line live d : ℕ) → IsLegalMount i w → Stands i (log_of w) c → MayOpenNext c
     → position is_free c.lines.rows ≡ Some line → live ≡ slice_index_or c.live.items line d
     → (next_line c ≡ line) × (live ≡ next_units c)
-chosen i w c line live d simple st may found is =
-    let next : IsNextLine i w c = next_line_is i w c simple st may in
+chosen i w c line live d mount st may found is =
+    let next : IsNextLine i w c = next_line_is i w c mount st may in
     let at : next_line c ≡ line = same_Some (next_line c) line (sym may.line ∙ found) in (
       at,
       is ∙ ap (λ n. slice_index_or c.live.items n d) (sym at)
@@ -200,12 +200,12 @@ chosen i w c line live d simple st may found is =
     )
 
 -- its width is at most the number of units
-pub chosen_few : (i : Image) (w : World) (c : Core) (line live d width : ℕ) → IsSimpleMount i w → Stands i (log_of w) c → MayOpenNext c
+pub chosen_few : (i : Image) (w : World) (c : Core) (line live d width : ℕ) → IsLegalMount i w → Stands i (log_of w) c → MayOpenNext c
     → position is_free c.lines.rows ≡ Some line
     → live ≡ slice_index_or c.live.items line d → ((n : ℕ) → live < 2 ^ n → width ≤ n) → width ≤ units c.layout
-chosen_few i w c line live d width simple st may found is few =
+chosen_few i w c line live d width mount st may found is few =
     let small : live < 2 ^ units i.shape =
-    subst (λ m. m < 2 ^ units i.shape) (sym (chosen i w c line live d simple st may found is).1) (next_line_is i w c simple st may).small in
+    subst (λ m. m < 2 ^ units i.shape) (sym (chosen i w c line live d mount st may found is).1) (next_line_is i w c mount st may).small in
     few (units c.layout) (subst (λ (s : Shape). live < 2 ^ units s) (sym st.layout) small)
 
 abbrev Holds : Bool → Type 0
@@ -227,26 +227,26 @@ none_open i logs line k d closed inside same =
     subst Holds clash tt
 
 -- it may be opened
-pub next_may_open : (i : Image) (w : World) (c : Core) (b : Begun) → IsSimpleMount i w → Stands i (log_of w) c → MayOpenNext c → begun (log_of w 0) ≡ Some b
+pub next_may_open : (i : Image) (w : World) (c : Core) (b : Begun) → IsLegalMount i w → Stands i (log_of w) c → MayOpenNext c → begun (log_of w 0) ≡ Some b
     → MayOpen i (log_of w) b (next_line c) (next_start c)
-next_may_open i w c b simple st may has = record {
+next_may_open i w c b mount st may has = record {
   in_range = is.least.in_range;
   is_free = is.least.is_free;
   is_first = is.least.is_first;
-  one_other = λ m n inside within. one_is_open i w m n simple.mount few;
+  one_other = λ m n inside within. one_is_open i w m n mount few;
   own_line = refl;
   own_width = is.wide;
   own_capacity = st.own_capacity;
   seq = st.next_seq ∙ ap (λ (x : Begun). x.beginning.seq + _) same;
   first_seq = st.first_seq ∙ ap (λ (x : Begun). x.beginning.seq) same;
-  front = synced_at i w c simple st;
+  front = synced_at i w c mount st;
   rows = st.older;
   seq_number = may.seq;
   front_number = may.front;
 }
   where
     is : IsNextLine i w c
-    is = next_line_is i w c simple st may
+    is = next_line_is i w c mount st may
 
     same : st.beginning ≡ b
     same = same_Some st.beginning b (sym st.has_begun ∙ has)

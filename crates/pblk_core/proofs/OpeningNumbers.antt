@@ -16,7 +16,7 @@ use Rattle.pblk_world.specs.Lines.{found_image}
 use Rattle.pblk_world.specs.Space.{freed}
 use Rattle.pblk_world.specs.Starts.{found_row, older_row, older_rows}
 use Rattle.write_window.specs.Window as view
-use Rattle.core_laws.specs.SimpleMounts.{IsSimpleMount}
+use Rattle.world_laws.specs.LegalMounts.{IsLegalMount}
 use Rattle.line_table.proofs.Places.{eqb-same}
 use Rattle.core_laws.proofs.Growing.{freed_within}
 use Rattle.core_laws.proofs.Happened.{happened}
@@ -109,13 +109,13 @@ record_fits s r capacity some rises seq front few rows =
     (le_true r.first_seq r.seq rises))
     (lt_true r.seq (2 ^ 61) seq)) (lt_true r.front (2 ^ 61) front)) (le_true (length r.rows) (s.chunks - 1) few)) rows
 
-pub next_fits : (i : Image) (w : World) (c : Core) → IsSimpleMount i w → Stands i (log_of w) c → MayOpenNext c
+pub next_fits : (i : Image) (w : World) (c : Core) → IsLegalMount i w → Stands i (log_of w) c → MayOpenNext c
     → IsTrue (start_fits i.shape (next_start c).line (next_start c).width (next_start c))
-next_fits i w c simple st may =
-    let is : IsNextLine i w c = next_line_is i w c simple st may in
+next_fits i w c mount st may =
+    let is : IsNextLine i w c = next_line_is i w c mount st may in
     let first : c.start.first_seq ≡ st.beginning.beginning.seq = st.first_seq in
     let next : c.start.seq ≡ st.beginning.beginning.seq + length (openings (log_of w 0)) = st.next_seq in
-    let some : 1 ≤ st.beginning.beginning.seq = begin_seq i w st.beginning simple.mount.legal st.has_begun in
+    let some : 1 ≤ st.beginning.beginning.seq = begin_seq i w st.beginning mount.legal st.has_begun in
     let none : older_row i (log_of w) (next_line c) ≡ None = free_has_no_row i (log_of w) (next_line c) is.least.is_free in
     let from : 0 + next_line c ≡ next_line c = omega arith in
     let fewer : length (older_rows i (log_of w)) + 1 ≤ i.shape.chunks =
@@ -123,14 +123,14 @@ next_fits i w c simple st may =
     let count : length (start_numbers c.start).rows ≡ length (older_rows i (log_of w)) = ap (λ (rs : List Row). length rs) st.older in
     record_fits i.shape (next_start c) st.own_capacity (omega arith) (omega arith) may.seq may.front (omega arith)
     (subst (λ (rs : List Row). rows_fit i.shape (next_start c) 0 rs ≡ true) (sym st.older)
-    (rows_are_fit i (log_of w) (next_start c) c.first 0 0 i.shape.chunks none (front_above i w c simple st) (omega arith) (omega arith)
+    (rows_are_fit i (log_of w) (next_start c) c.first 0 0 i.shape.chunks none (front_above i w c mount st) (omega arith) (omega arith)
     (subst (AllByRecursion (IsOlder c.start.first_seq c.first)) st.older st.fits.rows)))
   where
-    front_above : (i : Image) (w : World) (c : Core) → IsSimpleMount i w → Stands i (log_of w) c → c.first ≤ (view.synced c.window).position
-    front_above i w c simple st =
+    front_above : (i : Image) (w : World) (c : Core) → IsLegalMount i w → Stands i (log_of w) c → c.first ≤ (view.synced c.window).position
+    front_above i w c mount st =
         let a : first_position (log_of w 0) ≤ c.window.freed = st.from_first in
         let b : c.window.freed ≤ freed i.shape (log_of w 0) = st.to_freed in
         let d : freed i.shape (log_of w 0) ≤ synced i.shape (log_of w 0) = freed_within i.shape (log_of w 0) in
-        let e : (view.synced c.window).position ≡ synced i.shape (log_of w 0) = synced_at i w c simple st in
+        let e : (view.synced c.window).position ≡ synced i.shape (log_of w 0) = synced_at i w c mount st in
         let f : c.first ≡ first_position (log_of w 0) = st.first in
         omega arith

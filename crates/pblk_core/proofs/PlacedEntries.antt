@@ -1,7 +1,7 @@
 -- The rows beside the entries and the table of lines, once the entries of a stripe are placed, and
 -- once they have landed.
 use Rattle.std.proofs.Common.{◌≡◌, ◌≢◌, ℕ, ◌<◌, ◌≤◌, ◌%◌, ◌==◌, ◌&&◌, ◌||◌, nat_eq, nat_lt, Bool, true, false, Some, None, Option, List, [], ◌∷◌, length, take, refl, sym, subst, ap, ap₂, ◌∙◌, arith, length-set}
-use Rattle.std.specs.Prelude.{if◌then◌else◌, is_some, map, slice_get, slice_set}
+use Rattle.std.specs.Prelude.{if◌then◌else◌, is_some, slice_get, slice_set}
 use Rattle.std.specs.List.{AllByRecursion, Contains, list_any}
 use Rattle.std.specs.Option.{option_map, option_map_or}
 use Rattle.std.proofs.lemmas.Bool.{eqb-true}
@@ -19,7 +19,7 @@ use Rattle.core_laws.specs.ChangedTables.{note_by}
 use Rattle.core_laws.specs.PlacedEntries.{next_take, taker_of, place_by, place_entry, place_entries, note_entry, note_entries}
 use Rattle.core_laws.specs.PlacerOf.{positions_of, positions_in_stripe}
 use Rattle.pblk_world.specs.Fronts.{waiting}
-use Rattle.core_laws.specs.SimpleMounts.{IsSimpleMount}
+use Rattle.world_laws.specs.LegalMounts.{IsLegalMount}
 use Rattle.core_laws.specs.WindowOf.{is_given_back}
 use Rattle.core_laws.proofs.Placing.{with_place, IsPlacing}
 use Rattle.core_laws.proofs.PlacedInOrder.{ordered}
@@ -36,6 +36,7 @@ use Rattle.pblk_core.specs.Holds.{hold_of, row_at, taker_in}
 use Rattle.pblk_core.specs.declared.hold.Hold.{Hold}
 use Rattle.lemmas.proofs.Parts.{all_at, all_by_get, get_whole}
 use Rattle.lemmas.proofs.Tests.{same_number}
+use Rattle.lemmas.proofs.Maps.{all_mapped}
 
 -- ---- rows
 
@@ -97,7 +98,7 @@ row_after line n p (q ∷ qs) rows h some count apart there =
 
 -- ---- the table
 
-later_is_next : (log : List Logged) (t : Taken) → later_take log t ≡ next_take log t
+pub later_is_next : (log : List Logged) (t : Taken) → later_take log t ≡ next_take log t
 later_is_next log t =
     find_same (λ (u : Taken). nat_lt t.entry.position u.entry.position && (u.mark.lba == t.mark.lba))
     (λ (u : Taken). (u.mark.lba == t.mark.lba) && nat_lt t.entry.position u.entry.position)
@@ -109,11 +110,11 @@ later_is_next log t =
     swapped false true = refl
     swapped false false = refl
 
-abbrev taker_by : Option Taken → Option ℕ
+abbrev pub taker_by : Option Taken → Option ℕ
 taker_by o = option_map (λ (u : Taken). u.entry.position) o
 
 -- an entry that is of a sector or Void is of a sector where it isn't Void
-by_name : {X : Type 0} (s : Shape) (t : Taken) (x y : X) → s.capacity ≤ meta_lba → is_some (named s t.mark) ≡ true
+pub by_name : {X : Type 0} (s : Shape) (t : Taken) (x y : X) → s.capacity ≤ meta_lba → is_some (named s t.mark) ≡ true
     → (if nat_lt t.mark.lba s.capacity then x else y) ≡ (if t.mark.lba == void_lba then y else x)
 by_name s t x y small names = go (nat_lt t.mark.lba s.capacity) refl (t.mark.lba == void_lba) refl names
   where
@@ -186,33 +187,29 @@ unplaced_among s log p (t ∷ ts) all e = go (t.entry.position == p) refl e (unp
     go false f g rest = rest g
 
 -- two entries whose rows stand at one place are one
-one_row : (i : Image) (w : World) (c : Core) (t u : Taken) (j k : ℕ) → IsSimpleMount i w → slice_get (takes (log_of w 0)) j ≡ Some t
+pub one_row : (i : Image) (w : World) (c : Core) (t u : Taken) (j k : ℕ) → IsLegalMount i w → slice_get (takes (log_of w 0)) j ≡ Some t
     → slice_get (takes (log_of w 0)) k ≡ Some u
     → row_at c.holds.rows.items t.entry.position ≡ Some (hold_of i.shape (log_of w 0) t)
     → row_at c.holds.rows.items u.entry.position ≡ Some (hold_of i.shape (log_of w 0) u)
     → t.entry.position % length c.holds.rows.items ≡ u.entry.position % length c.holds.rows.items → t.entry.position ≡ u.entry.position
-one_row i w c t u j k simple at bt a b same =
-    let marked = (ordered i w simple.mount).marked in
+one_row i w c t u j k mount at bt a b same =
+    let marked = (ordered i w mount).marked in
     let hold : hold_of i.shape (log_of w 0) t ≡ hold_of i.shape (log_of w 0) u =
     same_Some (hold_of i.shape (log_of w 0) t) (hold_of i.shape (log_of w 0) u) (sym a ∙ ap (slice_get c.holds.rows.items) same ∙ b) in
     sym (all_at (λ (t : Taken). t.mark.position ≡ t.entry.position) (takes (log_of w 0)) j t at marked)
     ∙ ap (λ (h : Hold). h.mark.position) hold
     ∙ all_at (λ (t : Taken). t.mark.position ≡ t.entry.position) (takes (log_of w 0)) k u bt marked
 
-all_mapped : {X : Type 0} (f : X → ℕ) (P : ℕ → Type 0) (xs : List X) → AllByRecursion (λ x. P (f x)) xs → AllByRecursion P (map f xs)
-all_mapped f P [] all = tt
-all_mapped f P (x ∷ xs) all = (all.0, all_mapped f P xs all.1)
-
 -- the row of each entry that isn't given back, once the first that wait are placed
-pub row_placed_is : (i : Image) (w : World) (c : Core) (stripe : Stripe) (knows : List ℕ) (o : Opening) (n : ℕ) (t : Taken) → IsSimpleMount i w
+pub row_placed_is : (i : Image) (w : World) (c : Core) (stripe : Stripe) (knows : List ℕ) (o : Opening) (n : ℕ) (t : Taken) → IsLegalMount i w
     → Stands i (log_of w) c → IsPlacing (log_of w 0) stripe o
     → positions_in_stripe i.shape stripe ≡ positions_of (take n (waiting i.shape (log_of w 0))) → Contains (takes (log_of w 0)) t
     → is_given_back i.shape (log_of w 0) t.entry.position ≡ false
     → slice_get (placed_rows stripe.line c.holds.rows.items (positions_of (take n (waiting i.shape (log_of w 0))))) (t.entry.position % i.shape.ring) ≡ Some
     (hold_of i.shape (with_place (log_of w 0) stripe knows) t)
-row_placed_is i w c stripe knows o n t simple st placing positions among kept =
+row_placed_is i w c stripe knows o n t mount st placing positions among kept =
     row_after stripe.line i.shape.ring t.entry.position (positions_of ts) c.holds.rows.items (hold_of s log t)
-    (ring_some s simple.mount.accepted) st.holds.room apart row
+    (ring_some s mount.accepted) st.holds.room apart row
     ∙ ap Some (go (list_any (λ q. q == t.entry.position) (positions_of ts)) refl)
   where
     s : Shape
@@ -230,17 +227,17 @@ row_placed_is i w c stripe knows o n t simple st placing positions among kept =
     row : slice_get c.holds.rows.items (t.entry.position % i.shape.ring) ≡ Some (hold_of i.shape (log_of w 0) t)
     row = st.holds.each t among kept
 
-    wait : (k : ℕ) (u : Taken) → slice_get (take n (waiting i.shape (log_of w 0))) k ≡ Some u → IsWaiting i w c u k
-    wait k u e = waiting_at i w c k u simple st (get_whole n (waiting i.shape (log_of w 0)) k u e)
+    wait : (k : ℕ) (u : Taken) → slice_get (take n (waiting i.shape (log_of w 0))) k ≡ Some u → IsWaiting i w c u
+    wait k u e = waiting_at i w c k u mount st (get_whole n (waiting i.shape (log_of w 0)) k u e)
 
     apart : AreApart i.shape.ring t.entry.position (positions_of (take n (waiting i.shape (log_of w 0))))
-    apart = all_mapped (λ (u : Taken). u.entry.position) (λ q. q ≢ t.entry.position → q % i.shape.ring ≢ t.entry.position % i.shape.ring)
+    apart = all_mapped (λ q. q ≢ t.entry.position → q % i.shape.ring ≢ t.entry.position % i.shape.ring) (λ (u : Taken). u.entry.position)
         (take n (waiting i.shape (log_of w 0)))
         (all_by_get (λ (u : Taken). u.entry.position ≢ t.entry.position → u.entry.position % i.shape.ring ≢ t.entry.position % i.shape.ring)
         (take n (waiting i.shape (log_of w 0)))
         (λ k u e other same.
-        let is : IsWaiting i w c u k = wait k u e in
-        other (one_row i w c u t is.number among.0 simple is.there there is.row (row_of_entry i w c t among.0 st there kept)
+        let is : IsWaiting i w c u = wait k u e in
+        other (one_row i w c u t is.number among.0 mount is.there there is.row (row_of_entry i w c t among.0 st there kept)
         (ap (λ m. u.entry.position % m) st.holds.room ∙ same ∙ sym (ap (λ m. t.entry.position % m) st.holds.room)))))
 
     bears : list_any (bears_position i.shape t.entry.position) stripe.blocks ≡ list_any (λ q. q == t.entry.position)

@@ -1,7 +1,7 @@
 -- The stripes of an opening, and the marks of its data, once a stripe is placed.
-use Rattle.std.proofs.Common.{◌≡◌, ◌≢◌, ℕ, ◌+◌, ◌-◌, ◌*◌, ◌/◌, ◌<◌, ◌≤◌, ◌==◌, zero, suc, Bool, true, false, cond, List, [], ◌∷◌, ◌++◌, length, take, drop, refl, sym, ap, ap₂, ◌∙◌, arith, append-nil, length-append, length-drop, take_all, le_of_lt}
+use Rattle.std.proofs.Common.{◌≡◌, ◌≢◌, ℕ, ◌+◌, ◌-◌, ◌<◌, ◌≤◌, ◌==◌, zero, suc, Bool, true, false, cond, List, [], ◌∷◌, ◌++◌, length, take, drop, refl, sym, ap, ap₂, ◌∙◌, arith, append-nil, length-append, length-drop, take_all}
 use Rattle.std.specs.Prelude.{map, slice_get, slice_range}
-use Rattle.std.specs.List.{AllByRecursion, filter, flat_map, range_with_len}
+use Rattle.std.specs.List.{filter, flat_map, range_with_len}
 use Rattle.std.specs.Option.{is_some}
 use Rattle.std.proofs.lemmas.List.{drop-append-le, nil_from_length, map-append}
 use Rattle.std.proofs.lemmas.Grind.{flat_map-append}
@@ -14,42 +14,15 @@ use Rattle.pblk_model.specs.Blocks.{blocks_of}
 use Rattle.pblk_model.specs.LineOrder.{start_len}
 use Rattle.pblk_model.specs.Shape.{units}
 use Rattle.pblk_world.specs.Events.{Stripe, Logged}
-use Rattle.pblk_world.specs.EngineLog.{Opened, Opening, is_life, life_of, Placed, placements, placed_on, answers, stripes_of, has_landed, is_land}
+use Rattle.pblk_world.specs.EngineLog.{Opened, Opening, is_life, life_of, Placed, placed_on, answers, stripes_of}
 use Rattle.pblk_world.specs.Placing.{data_marks, end_address}
 use Rattle.core_laws.specs.PlacerOf.{unanswered_on}
-use Rattle.core_laws.proofs.Engine.{placements_before}
-use Rattle.core_laws.proofs.Taking.{filter_last}
-use Rattle.core_laws.proofs.Placing.{IsPlacing, with_place, new_placed, answers_now, placed_on_now, answer_now, new_unanswered}
+use Rattle.core_laws.proofs.Placing.{IsPlacing, with_place, new_placed, answers_now, placed_on_now}
 use Rattle.core_laws.proofs.PlacedLines.{get_last as got_end}
 use Rattle.core_laws.proofs.Placing.{stripes_now}
 use Rattle.world_laws.proofs.EndRecords.{part_of_front as beyond_end}
-use Rattle.pblk_core.specs.Stands.{unlanded, under_way}
-use Rattle.lemmas.proofs.Maps.{all_filter, filter_agree}
+use Rattle.pblk_core.specs.Stands.{under_way}
 use Rattle.lemmas.proofs.Tests.{other_number, same_number}
-
--- ---- how many haven't landed
-
-none_landed : (log : List Logged) (stripe : Stripe) (knows : List ℕ) (o : Opening) (b : Bool) (xs : List Placed) → IsPlacing log stripe o
-    → AllByRecursion (λ (p : Placed). p.number < length log) xs
-    → filter (has_landed (with_place log stripe knows)) (xs ++ cond b (new_placed log stripe o ∷ []) []) ≡ filter (has_landed log) xs
-none_landed log stripe knows o b xs is before = go b
-  where
-    rest : filter (has_landed (with_place log stripe knows)) xs ≡ filter (has_landed log) xs
-    rest = filter_agree (λ (p : Placed). p.number < length log) (has_landed (with_place log stripe knows)) (has_landed log)
-        (λ p h. ap is_land (answer_now log stripe knows o p is.opened (le_of_lt h))) xs before
-
-    go : (b : Bool) → filter (has_landed (with_place log stripe knows)) (xs ++ cond b (new_placed log stripe o ∷ []) []) ≡ filter (has_landed log) xs
-    go true = filter_last (has_landed (with_place log stripe knows)) xs (new_placed log stripe o) false (ap is_land (new_unanswered log stripe knows o is))
-        ∙ append-nil (filter (has_landed (with_place log stripe knows)) xs) ∙ rest
-    go false = ap (filter (has_landed (with_place log stripe knows))) (append-nil xs) ∙ rest
-
-pub unlanded_placed : (s : Shape) (log : List Logged) (stripe : Stripe) (knows : List ℕ) (o other : Opening) → IsPlacing log stripe o
-    → unlanded s (with_place log stripe knows) other ≡ unlanded s log other
-unlanded_placed s log stripe knows o other is =
-    ap (λ (ps : List Placed). other.start.width * (s.clba / s.ws_opt) - length ps)
-    (ap (filter (has_landed (with_place log stripe knows))) (stripes_now log stripe knows o other (is_life other.number (Opened o)) is.opened refl)
-    ∙ none_landed log stripe knows o (is_life other.number (Opened o)) (stripes_of log other) is
-    (all_filter (λ (p : Placed). p.number < length log) (λ (p : Placed). is_life other.number p.life) (placements log) (placements_before log)))
 
 -- ---- marks
 
@@ -82,14 +55,6 @@ blocks_now log stripe knows o other b opened is =
     last : (b : Bool) → flat_map (λ (p : Placed). p.stripe.blocks) (cond b (new_placed log stripe o ∷ []) []) ≡ cond b stripe.blocks []
     last true = append-nil stripe.blocks
     last false = refl
-
--- of another opening
-pub marks_elsewhere : (s : Shape) (log : List Logged) (stripe : Stripe) (knows : List ℕ) (o other : Opening) → life_of log stripe.line ≡ Opened o
-    → is_life other.number (Opened o) ≡ false
-    → data_marks s (with_place log stripe knows) other ≡ data_marks s log other
-marks_elsewhere s log stripe knows o other opened apart =
-    ap (λ (bs : List Block). map (λ (b : Block). b.mark) (slice_range bs (start_len s) (end_address s other)))
-    (blocks_now log stripe knows o other false opened apart ∙ append-nil (line_blocks log other))
 
 marks_of_it : (s : Shape) (log : List Logged) (stripe : Stripe) (knows : List ℕ) (o : Opening) → life_of log stripe.line ≡ Opened o
     → data_marks s (with_place log stripe knows) o ≡ map (λ (b : Block). b.mark)

@@ -17,7 +17,7 @@ use Rattle.write_window.specs.Entries.{is_readable, user_count, users_in}
 use Rattle.write_window.specs.Window.{WindowView}
 use Rattle.write_window.specs.Window as view
 use Rattle.stripe_placer.specs.Placing.{Placing, padded_to}
-use Rattle.core_laws.specs.SimpleMounts.{IsSimpleMount}
+use Rattle.world_laws.specs.LegalMounts.{IsLegalMount}
 use Rattle.core_laws.specs.PlacerOf.{positions_of, placing_of}
 use Rattle.core_laws.specs.Positions.{AreNumbered}
 use Rattle.core_laws.specs.WindowOf.{HeldSector, HeldSectors, without_frame, sectors_in, class_of, progress_by, is_given_back, held_of, users_below, window_from}
@@ -36,8 +36,8 @@ use Rattle.lemmas.proofs.Parts.{get_below}
 use Rattle.lemmas.proofs.Tests.{lt_true}
 use Rattle.pblk_model.proofs.MarksLemmas.{accepted_small}
 
-pub numbered_in : (i : Image) (w : World) → IsSimpleMount i w → AreNumbered (log_of w 0)
-numbered_in i w simple = (in_order i w (accepted_small i.shape simple.mount.accepted) simple.mount.legal).numbered
+pub numbered_in : (i : Image) (w : World) → IsLegalMount i w → AreNumbered (log_of w 0)
+numbered_in i w mount = (in_order i w (accepted_small i.shape mount.accepted) mount.legal).numbered
 
 -- ---- users' writes below one more position
 
@@ -159,11 +159,11 @@ map_drop (h ∷ held) = refl
 same_window : (a b : HeldSectors) → a.freed ≡ b.freed → a.users ≡ b.users → a.entries ≡ b.entries → a ≡ b
 same_window a b e f g = λ k. record { freed = e k; users = f k; entries = g k }
 
-by_first : (i : Image) (w : World) (c : Core) (new : WindowView) (t : Taken) → IsSimpleMount i w → Stands i (log_of w) c → IsPopped c.window new
+by_first : (i : Image) (w : World) (c : Core) (new : WindowView) (t : Taken) → IsLegalMount i w → Stands i (log_of w) c → IsPopped c.window new
     → IsFirstOf i.shape (log_of w 0) c.window.entries (c.window.freed - first_position (log_of w 0)) t
     → (sectors_in new ≡ window_from i.shape (log_of w 0) new.freed) × (new.freed ≤ freed i.shape (log_of w 0))
-by_first i w c new t simple st is first =
-    let numbered : AreNumbered (log_of w 0) = numbered_in i w simple in
+by_first i w c new t mount st is first =
+    let numbered : AreNumbered (log_of w 0) = numbered_in i w mount in
     let low : first_position (log_of w 0) ≤ c.window.freed = st.from_first in
     let at : t.entry.position ≡ first_position (log_of w 0) + (c.window.freed - first_position (log_of w 0)) =
     numbered_at (first_position (log_of w 0)) (length (takes (log_of w 0))) (takes (log_of w 0))
@@ -184,21 +184,20 @@ by_first i w c new t simple st is first =
       subst (λ n. n ≤ freed i.shape (log_of w 0)) (sym is.freed) past,
     )
 
-pub popped_window : (i : Image) (w : World) (c : Core) (new : WindowView) → IsSimpleMount i w → Stands i (log_of w) c → IsPopped c.window new
+pub popped_window : (i : Image) (w : World) (c : Core) (new : WindowView) → IsLegalMount i w → Stands i (log_of w) c → IsPopped c.window new
     → (sectors_in new ≡ window_from i.shape (log_of w 0) new.freed) × (new.freed ≤ freed i.shape (log_of w 0))
-popped_window i w c new simple st is =
+popped_window i w c new mount st is =
     let first : (t : Taken) × IsFirstOf i.shape (log_of w 0) c.window.entries (c.window.freed - first_position (log_of w 0)) t =
     first_of_log i.shape (log_of w 0) c.window.entries (c.window.freed - first_position (log_of w 0)) (ap (λ (x : HeldSectors). x.entries) st.window)
     (first_held c.window is.readable) in
-    by_first i w c new first.0 simple st is first.1
+    by_first i w c new first.0 mount st is first.1
 
 -- the core with another window stands as it did
-pub popped_stands : (i : Image) (w : World) (c : Core) (new : WindowView) → IsSimpleMount i w → Stands i (log_of w) c → IsPopped c.window new
+pub popped_stands : (i : Image) (w : World) (c : Core) (new : WindowView) → IsLegalMount i w → Stands i (log_of w) c → IsPopped c.window new
     → Stands i (log_of w) (record c { window = new })
-popped_stands i w c new simple st is =
-    let has = popped_window i w c new simple st is in
+popped_stands i w c new mount st is =
+    let has = popped_window i w c new mount st is in
     record {
-      simple = st.simple;
       layout = st.layout;
       beginning = st.beginning;
       has_begun = st.has_begun;
@@ -234,21 +233,20 @@ popped_stands i w c new simple st is =
     }
 
 -- by what the window's call says of its result
-pub popped_else : {F : Type 0} (i : Image) (w : World) (c : Core) (new : WindowView) (o : Option F) → IsSimpleMount i w → Stands i (log_of w) c
+pub popped_else : {F : Type 0} (i : Image) (w : World) (c : Core) (new : WindowView) (o : Option F) → IsLegalMount i w → Stands i (log_of w) c
     → (IsSome o ↔ (view.is_readable_at c.window c.window.freed ≡ true)) → IfNone o (new ≡ c.window) → OnSome o (new.freed ≡ c.window.freed + 1)
     → OnSome o (new.entries ≡ drop 1 c.window.entries) → OnSome o (new.users ≡ c.window.users + users_in (take 1 c.window.entries)) → new.size ≡ c.window.size
     → Stands i (log_of w) (record c { window = new })
-popped_else i w c new None simple st some same passed entries users size =
+popped_else i w c new None mount st some same passed entries users size =
     subst (λ (v : WindowView). Stands i (log_of w) (record c { window = v })) (sym same) st
-popped_else i w c new (Some f) simple st some same passed entries users size =
-    popped_stands i w c new simple st (record { readable = some.0 refl; size = size; freed = passed; users = users; entries = entries })
+popped_else i w c new (Some f) mount st some same passed entries users size =
+    popped_stands i w c new mount st (record { readable = some.0 refl; size = size; freed = passed; users = users; entries = entries })
 
 -- ---- the pad target
 
 pub padded_stands : (i : Image) (logs : Logs) (c : Core) (new : Placing) (to : ℕ) → Stands i logs c → new ≡ padded_to c.placer to
     → Stands i logs (record c { placer = new })
 padded_stands i logs c new to st is = record {
-  simple = st.simple;
   layout = st.layout;
   beginning = st.beginning;
   has_begun = st.has_begun;
@@ -287,7 +285,6 @@ padded_stands i logs c new to st is = record {
 -- what is collected is no part of the tables
 pub collecting_stands : (i : Image) (logs : Logs) (c : Core) (new : Collection) → Stands i logs c → Stands i logs (record c { collection = new })
 collecting_stands i logs c new st = record {
-  simple = st.simple;
   layout = st.layout;
   beginning = st.beginning;
   has_begun = st.has_begun;

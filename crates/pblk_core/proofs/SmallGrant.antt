@@ -11,7 +11,7 @@ use Rattle.pblk_world.specs.Fronts.{first_position, taken}
 use Rattle.pblk_world.specs.Space.{freed, is_due, placed_front, room}
 use Rattle.pblk_world.specs.Space as space
 use Rattle.line_table.specs.Rows.{free_addresses}
-use Rattle.core_laws.specs.SimpleMounts.{IsSimpleMount}
+use Rattle.world_laws.specs.LegalMounts.{IsLegalMount}
 use Rattle.core_laws.proofs.FreeRows.{addresses_free}
 use Rattle.core_laws.proofs.PlacedInOrder.{ordered, front_within}
 use Rattle.pblk_core.specs.declared.target_core.Core.{Core}
@@ -43,22 +43,22 @@ pub due_is : (i : Image) (logs : Logs) (c : Core) → Stands i logs c → is_due
 due_is i logs c st =
     ap₂ nat_le (ap free_addresses st.table ∙ addresses_free i logs) (ap (λ (s : Shape). 3 * data_len s (units s)) st.layout)
 
-pub small : (i : Image) (w : World) (c : Core) → IsSimpleMount i w → Stands i (log_of w) c → IsSmall c
-small i w c simple st =
+pub small : (i : Image) (w : World) (c : Core) → IsLegalMount i w → Stands i (log_of w) c → IsSmall c
+small i w c mount st =
     let begins : first_position (log_of w 0) ≤ 2 ^ 62 = subst (λ n. n ≤ 2 ^ 62) st.first st.fits.first in
-    let most : taken (log_of w 0) ≤ 2 ^ 62 = taken_bounded i w simple begins in
+    let most : taken (log_of w 0) ≤ 2 ^ 62 = taken_bounded i w mount begins in
     let within : c.window.freed ≤ taken (log_of w 0) = freed_taken_within i w c st in
-    let front : placed_front i.shape (log_of w 0) ≤ taken (log_of w 0) = front_within i.shape (log_of w 0) (ordered i w simple.mount) in
-    let lines : i.shape.chunks ≤ 1024 = simple.mount.accepted.drive.lines_high in
+    let front : placed_front i.shape (log_of w 0) ≤ taken (log_of w 0) = front_within i.shape (log_of w 0) (ordered i w mount) in
+    let lines : i.shape.chunks ≤ 1024 = mount.accepted.drive.lines_high in
     record {
       freed = omega arith;
       placed = let is : c.first + c.placed ≡ placed_front i.shape (log_of w 0) = st.placed in omega arith;
       left = let is : c.left ≡ space.open_addresses i (log_of w) = st.left in let few : space.open_addresses i (log_of w) ≤ i.shape.chunks * 65536 =
-          open_few i w simple in omega arith;
+          open_few i w mount in omega arith;
       free = let is : free_addresses c.lines ≡ space.free_addresses i (log_of w) =
-          free_is i w c st in let few : space.free_addresses i (log_of w) ≤ i.shape.chunks * 65536 = free_few i w simple in omega arith;
-      ring = subst (λ (s : Shape). s.ring ≤ 16384) (sym st.layout) simple.mount.accepted.target.ring_high;
-      kept = subst (λ (s : Shape). units s * s.ws_opt ≤ s.ring) (sym st.layout) (ring_kept i.shape simple.mount.accepted);
+          free_is i w c st in let few : space.free_addresses i (log_of w) ≤ i.shape.chunks * 65536 = free_few i w mount in omega arith;
+      ring = subst (λ (s : Shape). s.ring ≤ 16384) (sym st.layout) mount.accepted.target.ring_high;
+      kept = subst (λ (s : Shape). units s * s.ws_opt ≤ s.ring) (sym st.layout) (ring_kept i.shape mount.accepted);
     }
 
 -- the least of the three limits is that of the logs

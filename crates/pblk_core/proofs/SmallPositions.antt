@@ -16,7 +16,7 @@ use Rattle.pblk_world.specs.Space.{unplaced_in, open_addresses}
 use Rattle.pblk_world.specs.Space as space
 use Rattle.pblk_world.specs.Placing.{next_address}
 use Rattle.pblk_world.specs.Legal.{IsDecision}
-use Rattle.core_laws.specs.SimpleMounts.{IsSimpleMount}
+use Rattle.world_laws.specs.LegalMounts.{IsLegalMount}
 use Rattle.core_laws.proofs.TakenNumbers.{first_stays}
 use Rattle.core_laws.proofs.KeptByEvents.{IsKept, kept}
 use Rattle.core_laws.proofs.Followed.{follow}
@@ -59,9 +59,9 @@ taken_kept i = record {
   next = λ known log b e knows begins own passes may was. taken_next i known log b e knows begins own may was;
 }
 
-pub taken_bounded : (i : Image) (w : World) → IsSimpleMount i w → first_position (log_of w 0) ≤ 2 ^ 62 → taken (log_of w 0) ≤ 2 ^ 62
+pub taken_bounded : (i : Image) (w : World) → IsLegalMount i w → first_position (log_of w 0) ≤ 2 ^ 62 → taken (log_of w 0) ≤ 2 ^ 62
 unfolding AreBounded
-taken_bounded i w simple low = kept i (λ e. true) AreBounded (taken_kept i) w simple.mount.legal (all_true (log_of w 0)) low
+taken_bounded i w mount low = kept i (λ e. true) AreBounded (taken_kept i) w mount.legal (all_true (log_of w 0)) low
 
 -- ---- addresses
 
@@ -83,15 +83,15 @@ sum_few f (suc n) a each =
     let all : sum_by f (range_with_len a (suc n)) ≡ f a + sum_by f (range_with_len (a + 1) n) = sum_by-cons f a (range_with_len (a + 1) n) in
     omega arith
 
-unplaced_short : (i : Image) (w : World) (line : ℕ) (life : LineLife) → IsSimpleMount i w → life_of (log_of w 0) line ≡ life
+unplaced_short : (i : Image) (w : World) (line : ℕ) (life : LineLife) → IsLegalMount i w → life_of (log_of w 0) line ≡ life
     → unplaced_in i.shape (log_of w 0) life ≤ 65536
-unplaced_short i w line AsFound simple is = omega arith
-unplaced_short i w line (Freed was knows) simple is = omega arith
-unplaced_short i w line (Opened o) simple is =
+unplaced_short i w line AsFound mount is = omega arith
+unplaced_short i w line (Freed was knows) mount is = omega arith
+unplaced_short i w line (Opened o) mount is =
     let wide : o.start.width ≡ length (line_units (known_image i (log_of w)) line) =
-    (opened_lines i (line_units (known_image i (log_of w))) w (follow i w simple.mount) line o is).width in
-    let few : length (line_units (known_image i (log_of w)) line) ≤ units i.shape = known_units i w (log_of w) line simple.mount in
-    let short : data_len i.shape o.start.width ≤ 65536 = data_short i.shape o.start.width simple.mount.accepted (omega arith) in
+    (opened_lines i (line_units (known_image i (log_of w))) w (follow i w mount) line o is).width in
+    let few : length (line_units (known_image i (log_of w)) line) ≤ units i.shape = known_units i w (log_of w) line mount in
+    let short : data_len i.shape o.start.width ≤ 65536 = data_short i.shape o.start.width mount.accepted (omega arith) in
     go (has_failed (log_of w 0) o) (max (start_len i.shape) (next_address i.shape (log_of w 0) o)) (omega arith) short
   where
     go : (b : Bool) (m : ℕ) → start_len i.shape ≤ m → data_len i.shape o.start.width ≤ 65536
@@ -99,15 +99,15 @@ unplaced_short i w line (Opened o) simple is =
     go true m from short = omega arith
     go false m from short = omega arith
 
-pub open_few : (i : Image) (w : World) → IsSimpleMount i w → open_addresses i (log_of w) ≤ i.shape.chunks * 65536
-open_few i w simple = sum_few (λ line. unplaced_in i.shape (log_of w 0) (life_of (log_of w 0) line)) i.shape.chunks 0
-    (λ k low high. unplaced_short i w k (life_of (log_of w 0) k) simple refl)
+pub open_few : (i : Image) (w : World) → IsLegalMount i w → open_addresses i (log_of w) ≤ i.shape.chunks * 65536
+open_few i w mount = sum_few (λ line. unplaced_in i.shape (log_of w 0) (life_of (log_of w 0) line)) i.shape.chunks 0
+    (λ k low high. unplaced_short i w k (life_of (log_of w 0) k) mount refl)
 
-pub free_few : (i : Image) (w : World) → IsSimpleMount i w → space.free_addresses i (log_of w) ≤ i.shape.chunks * 65536
-free_few i w simple = sum_few (λ line. if is_free_line i (log_of w) line then line_data (known_image i (log_of w)) line else 0) i.shape.chunks 0
+pub free_few : (i : Image) (w : World) → IsLegalMount i w → space.free_addresses i (log_of w) ≤ i.shape.chunks * 65536
+free_few i w mount = sum_few (λ line. if is_free_line i (log_of w) line then line_data (known_image i (log_of w)) line else 0) i.shape.chunks 0
     (λ k low high. each k (omega arith) (is_free_line i (log_of w) k))
   where
     each : (k : ℕ) → k < i.shape.chunks → (b : Bool) → (if b then line_data (known_image i (log_of w)) k else 0) ≤ 65536
     each k high false = omega arith
     each k high true =
-        data_short i.shape (width (known_image i (log_of w)) k) simple.mount.accepted (known_width i w (log_of w) k simple.mount)
+        data_short i.shape (width (known_image i (log_of w)) k) mount.accepted (known_width i w (log_of w) k mount)

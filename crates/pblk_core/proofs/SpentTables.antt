@@ -30,7 +30,6 @@ use Rattle.pblk_core.specs.declared.target_core.Core.{Core}
 use Rattle.pblk_core.specs.Freeing.{IsSpentIn}
 use Rattle.pblk_core.specs.LineNotes.{IsSpentNote, IsTakenBelow, closed_by, numbers_in}
 use Rattle.pblk_core.specs.Stands.{IsStanding, Stands}
-use Rattle.pblk_core.proofs.SimpleLogs.{simple_in}
 use Rattle.core_laws.proofs.SpentBy.{is_spent, spent_by}
 use Rattle.core_laws.proofs.VictimsAtWork.{over_where_closed}
 use Rattle.pblk_core.proofs.StandsLemmas.{synced_stands}
@@ -140,7 +139,7 @@ taker_numbered i logs line seq has = go (life_of (logs 0) line) has
 
 module _ {c : Core} (i : Image) (w : World) (mount : IsLegalMount i w) (st : Stands i (log_of w) c) (line : ℕ) where
   front_is : (view.synced c.window).position ≡ synced i.shape (log_of w 0)
-  front_is = ap (λ f. f.position) (synced_stands i w c (simple_in i w mount st) st)
+  front_is = ap (λ f. f.position) (synced_stands i w c mount st)
 
   pub its_row : line < i.shape.chunks → IsRow c.lines line (row_of_line i (log_of w) line)
   its_row inside = row_stands i (log_of w) st line inside

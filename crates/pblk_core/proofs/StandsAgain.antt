@@ -21,9 +21,10 @@ use Rattle.core_laws.specs.Stepping.{after}
 use Rattle.core_laws.specs.OpenedLines.{bits_of, live_now, standing}
 use Rattle.core_laws.specs.PlacerOf.{placing_of, without_unit}
 use Rattle.core_laws.specs.RowsOf.{row_of_line, rows_of}
-use Rattle.core_laws.specs.SimpleMounts.{IsSimpleMount}
+use Rattle.world_laws.specs.LegalMounts.{IsLegalMount}
 use Rattle.core_laws.specs.WindowOf.{sectors_in, window_from}
 use Rattle.core_laws.specs.ClosedLines.{closed_line}
+use Rattle.core_laws.proofs.AnsweredTops.{top_kept}
 use Rattle.core_laws.proofs.ClosedKept.{closed_stopped}
 use Rattle.core_laws.proofs.KeptRows.{begun_kept, known_kept, row_kept, then_kept}
 use Rattle.core_laws.proofs.KeptStripes.{KeepsStripes, alike_kept, have_landed_alike, lives_kept, stripes_kept}
@@ -32,7 +33,6 @@ use Rattle.core_laws.proofs.OpenAddresses.{addresses_kept, failed_kept}
 use Rattle.core_laws.proofs.PlacedFront.{front_kept}
 use Rattle.core_laws.proofs.FreedMoments.{freed_before}
 use Rattle.core_laws.proofs.QuietEvents.{IsQuiet, quiet_alike, quiet_window, quiet_slot, stop_is_quiet, quiet_takes}
-use Rattle.core_laws.proofs.SimpleMounts.{simple_after}
 use Rattle.core_laws.proofs.Steady.{AreAlike, standing_same}
 use Rattle.core_laws.proofs.Stopping.{placing_again, placing_stopped}
 use Rattle.core_laws.proofs.TakenNumbers.{first_stays}
@@ -112,7 +112,6 @@ same_lines i logs old new count slots are = record {
 pub again_stands : (i : Image) (logs : Logs) (old new : Core) (of : Program) → Stands i logs old → slice_get old.placer.units of.unit ≡ Some (Stopped of)
     → IsPlacedAgain old new of → Stands i logs new
 again_stands i logs old new of st there is = record {
-  simple = st.simple;
   layout = is.layout ∙ st.layout;
   beginning = st.beginning;
   has_begun = st.has_begun;
@@ -158,9 +157,9 @@ again_stands i logs old new of st there is = record {
 -- ---- a stop
 
 -- a stop changes no row of the table
-rows_stopped : (i : Image) (w : World) (unit event : ℕ) (knows : List ℕ) → IsSimpleMount i w
+rows_stopped : (i : Image) (w : World) (unit event : ℕ) (knows : List ℕ) → IsLegalMount i w
     → rows_of i (after (log_of w) (Again unit event) knows) ≡ rows_of i (log_of w)
-rows_stopped i w unit event knows simple =
+rows_stopped i w unit event knows mount =
     ap (λ rows. record { shape = i.shape; rows = rows }) (map_same (row_of_line i new) (row_of_line i (log_of w)) same (range_with_len 0 i.shape.chunks))
   where
     new : Logs
@@ -172,7 +171,7 @@ rows_stopped i w unit event knows simple =
     same : (m : ℕ) → row_of_line i new m ≡ row_of_line i (log_of w) m
     same m =
         row_kept i (log_of w) new m (lives_kept (log_of w 0) (Again unit event) knows m refl)
-        (then_kept i (log_of w) (Again unit event) knows m (freed_before i w simple.mount.legal))
+        (then_kept i (log_of w) (Again unit event) knows m (freed_before i w mount.legal))
         (keeps_chunks i (log_of w) (Again unit event) knows m refl (λ u x told. absurd cc))
         (lines_kept i (log_of w) (Again unit event) knows refl refl refl (λ u. refl))
         (λ o e. ap₂ (λ a b. if a then states.Failed else if b then states.Full else states.Open) (failed_kept (log_of w 0) (new 0) kept o)
@@ -198,16 +197,15 @@ pub record IsStoppedInto (old new : Core) (of : Program) : Type 0 where
   pub answers : new.answers.items ≡ old.answers.items
   pub users : new.users ≡ old.users
 
-its_stop_stands : (i : Image) (w : World) (event : ℕ) (knows : List ℕ) (old new : Core) (of : Program) → IsSimpleMount i w → Stands i (log_of w) old
+its_stop_stands : (i : Image) (w : World) (event : ℕ) (knows : List ℕ) (old new : Core) (of : Program) → IsLegalMount i w → Stands i (log_of w) old
     → slice_get old.placer.units of.unit ≡ Some (UnderWay of) → IsStoppedInto old new of → Stands i (after (log_of w) (Again of.unit event) knows) new
-its_stop_stands i w event knows old new of simple st there is = record {
-  simple = simple_after (log_of w 0) l st.simple refl;
+its_stop_stands i w event knows old new of mount st there is = record {
   layout = is.layout ∙ st.layout;
   beginning = st.beginning;
   has_begun = begun_kept (log_of w 0) e knows refl ∙ st.has_begun;
   capacity = ap fin.len is.map ∙ st.capacity;
   slots = λ x within. ap (λ m. fin.get m x) is.map ∙ st.slots x within ∙ ap Some (sym (quiet_slot i (log_of w) e knows x quiet));
-  table = is.lines ∙ st.table ∙ sym (rows_stopped i w of.unit event knows simple);
+  table = is.lines ∙ st.table ∙ sym (rows_stopped i w of.unit event knows mount);
   units = ap (λ us. us.items) is.live ∙ st.units
       ∙ map_same (live_now i (log_of w)) (live_now i new_logs)
       (λ line. ap (λ (j : Image). bits_of (line_units j line)) (sym (known_kept i (log_of w) e knows refl (λ unit. refl)))) (range_with_len 0 i.shape.chunks);
@@ -215,7 +213,8 @@ its_stop_stands i w event knows old new of simple st there is = record {
   used_lines = ap (λ r. length r.used) is.resets ∙ st.used_lines;
   used = subst (AreUsed i new_logs) (sym is.resets) (quiet_used i (log_of w) e knows old.resets refl (λ unit. refl) same_closed st.used);
   notes = subst (AreNotes i new_logs) (sym is.notes)
-      (quiet_notes i w st.beginning e knows old.notes simple.mount st.has_begun refl refl (λ line. life_more (log_of w 0) l line) same_closed st.notes);
+      (quiet_notes i w st.beginning e knows old.notes mount st.has_begun refl (λ line. life_more (log_of w 0) l line) same_closed
+      (λ line o life. top_kept i (log_of w) e knows o refl (λ unit. refl)) st.notes);
   size = ap (λ v. v.size) is.window ∙ st.size;
   window = ap sectors_in is.window ∙ st.window ∙ sym (quiet_window i.shape (log_of w) e knows old.window.freed quiet)
       ∙ ap (λ (v : view.WindowView). window_from i.shape (new_logs 0) v.freed) (sym is.window);
@@ -283,8 +282,8 @@ its_stop_stands i w event knows old new of simple st there is = record {
         ∙ ap (λ n. placing_of i new_logs n (without_unit of.unit st.again)) (sym pad_is)
 
 -- by the unit of the stripe
-pub stopped_stands : (i : Image) (w : World) (unit event : ℕ) (knows : List ℕ) (old new : Core) (of : Program) → IsSimpleMount i w → Stands i (log_of w) old
+pub stopped_stands : (i : Image) (w : World) (unit event : ℕ) (knows : List ℕ) (old new : Core) (of : Program) → IsLegalMount i w → Stands i (log_of w) old
     → of.unit ≡ unit → slice_get old.placer.units of.unit ≡ Some (UnderWay of) → IsStoppedInto old new of
     → Stands i (after (log_of w) (Again unit event) knows) new
-stopped_stands i w unit event knows old new of simple st same there is =
-    subst (λ u. Stands i (after (log_of w) (Again u event) knows) new) same (its_stop_stands i w event knows old new of simple st there is)
+stopped_stands i w unit event knows old new of mount st same there is =
+    subst (λ u. Stands i (after (log_of w) (Again u event) knows) new) same (its_stop_stands i w event knows old new of mount st there is)

@@ -12,7 +12,7 @@ use Rattle.pblk_model.specs.Shape.{units}
 use Rattle.pblk_model.specs.Image.{Image, IsFit}
 use Rattle.pblk_model.specs.StartRecord.{Row}
 use Rattle.pblk_meta.specs.Records.{start_numbers}
-use Rattle.pblk_world.specs.Events.{Begin, Decides, Logged}
+use Rattle.pblk_world.specs.Events.{Begin, Logged}
 use Rattle.pblk_world.specs.World.{World, Logs, log_of}
 use Rattle.pblk_world.specs.EngineLog.{Opening, Taken, answers}
 use Rattle.pblk_world.specs.Lines.{found_image, known_image, is_stray, is_given_up}
@@ -21,7 +21,7 @@ use Rattle.stripe_placer.specs.Placing.{Placing}
 use Rattle.core_laws.specs.Stepping.{after}
 use Rattle.core_laws.specs.OpenedLines.{open_line}
 use Rattle.core_laws.specs.PlacerOf.{placing_of, unanswered_on}
-use Rattle.core_laws.specs.SimpleMounts.{IsSimpleMount}
+use Rattle.world_laws.specs.LegalMounts.{IsLegalMount}
 use Rattle.core_laws.specs.WindowOf.{sectors_in, window_from, HeldSectors, HeldSector, without_frame}
 use Rattle.world_laws.specs.Finding.{IsFoundOf, NoneOpen}
 use Rattle.world_laws.specs.MountBeginnings.{seq_after, beginning_of}
@@ -41,7 +41,6 @@ use Rattle.pblk_core.specs.Stands.{Stands, IsOlder, left_openings}
 use Rattle.pblk_core.proofs.AnswerCounts.{counts_none}
 use Rattle.pblk_core.proofs.FoundNotes.{found_shape, notes_begun, used_begun, used_same}
 use Rattle.pblk_core.specs.declared.target_core.Core.{Core}
-use Rattle.core_laws.proofs.SimpleMounts.{simple_after, simple_none}
 use Rattle.pblk_core.proofs.KeptResets.{flat_same}
 use Rattle.lemmas.proofs.Lists.{all_of}
 use Rattle.lemmas.proofs.Maps.{filter_none}
@@ -131,12 +130,11 @@ resets_begun j f fit found =
 
 -- ---- the core
 
-pub made_stands : (i : Image) (w : World) (knows : List ℕ) (f : Found) (c : Core) → IsSimpleMount i w → log_of w 0 ≡ [] → IsFitFound i.shape f
+pub made_stands : (i : Image) (w : World) (knows : List ℕ) (f : Found) (c : Core) → IsLegalMount i w → log_of w 0 ≡ [] → IsFitFound i.shape f
     → IsFoundOf (found_image i (after (log_of w) (Begin (beginning_of f)) knows)) f
     → NoneOpen (found_image i (after (log_of w) (Begin (beginning_of f)) knows)) → IsMadeOn i.shape f c
     → Stands i (after (log_of w) (Begin (beginning_of f)) knows) c
-made_stands i w knows f c simple none fit found closed is = record {
-  simple = simple_after (log_of w 0) (record { event = Decides (Begin (beginning_of f)); knows = knows }) (simple_none (log_of w 0) none) refl;
+made_stands i w knows f c mount none fit found closed is = record {
   layout = is.layout;
   beginning = record { beginning = beginning_of f; knows = begins.knows };
   has_begun = begun_is i f new begins;
@@ -147,7 +145,7 @@ made_stands i w knows f c simple none fit found closed is = record {
   resets = is.resets ∙ resets_are;
   used_lines = is.used_lines;
   used = used_begun i f new begins c.resets is.used;
-  notes = notes_begun i w f knows c.notes simple.mount none found closed is.notes is.newest;
+  notes = notes_begun i w f knows c.notes mount none found closed is.notes is.newest;
   size = is.size;
   window = window_empty;
   from_first = subst (λ n. n ≤ c.window.freed) (sym (first_is i f new begins)) (subst (λ n. f.end ≤ n) (sym is.freed) (le_refl f.end));
@@ -187,7 +185,7 @@ made_stands i w knows f c simple none fit found closed is = record {
     new = after (log_of w) (Begin (beginning_of f)) knows
 
     begins : HasJustBegun i f new
-    begins = just_begun i w f knows simple.mount.accepted simple.mount.fit simple.mount.legal none found
+    begins = just_begun i w f knows mount.accepted mount.fit mount.legal none found
 
     shape_is : (found_image i new).shape ≡ i.shape
     shape_is = found_shape i f new begins
@@ -214,10 +212,10 @@ made_stands i w knows f c simple none fit found closed is = record {
         ∙ sym (window_is i f new c.window.freed begins)
 
 -- for a drive of this shape
-pub made_on : (i : Image) (w : World) (knows : List ℕ) (s : Shape) (f : Found) (c : Core) → i.shape ≡ s → IsSimpleMount i w → log_of w 0 ≡ [] → IsFitFound s f
+pub made_on : (i : Image) (w : World) (knows : List ℕ) (s : Shape) (f : Found) (c : Core) → i.shape ≡ s → IsLegalMount i w → log_of w 0 ≡ [] → IsFitFound s f
     → IsFoundOf (found_image i (after (log_of w) (Begin (beginning_of f)) knows)) f
     → NoneOpen (found_image i (after (log_of w) (Begin (beginning_of f)) knows)) → IsMadeOn s f c
     → Stands i (after (log_of w) (Begin (beginning_of f)) knows) c
-made_on i w knows s f c same simple none fit found closed is =
-    made_stands i w knows f c simple none (subst (λ (x : Shape). IsFitFound x f) (sym same) fit) found closed
+made_on i w knows s f c same mount none fit found closed is =
+    made_stands i w knows f c mount none (subst (λ (x : Shape). IsFitFound x f) (sym same) fit) found closed
     (subst (λ (x : Shape). IsMadeOn x f c) (sym same) is)

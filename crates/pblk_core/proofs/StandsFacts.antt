@@ -1,5 +1,5 @@
 -- What a core that stands for a legal world keeps.
-use Rattle.std.proofs.Common.{◌≡◌, ◌+◌, ◌-◌, ◌*◌, ◌<◌, ◌≤◌, List, [], ◌∷◌, length, Bool, true, false, cond, sym, ap, ◌∙◌, arith, length-drop}
+use Rattle.std.proofs.Common.{◌≡◌, ℕ, ◌+◌, ◌-◌, ◌*◌, ◌<◌, ◌≤◌, List, [], ◌∷◌, length, Bool, true, false, cond, sym, subst, ap, ◌∙◌, arith, length-drop}
 use Rattle.std.proofs.lemmas.List.{length-map}
 use Rattle.std.specs.Prelude.{drop}
 use Rattle.pblk_model.specs.declared.shape.Shape.{Shape}
@@ -13,7 +13,7 @@ use Rattle.pblk_world.specs.Fronts.{first_position, taken, synced, is_users, use
 use Rattle.pblk_world.specs.Space.{freed}
 use Rattle.pblk_world.proofs.SyncedFront.{synced_within}
 use Rattle.write_window.specs.Window as view
-use Rattle.core_laws.specs.SimpleMounts.{IsSimpleMount}
+use Rattle.world_laws.specs.LegalMounts.{IsLegalMount}
 use Rattle.core_laws.specs.Positions.{IsUnplaced}
 use Rattle.core_laws.specs.WindowOf.{without_frame, held_of, HeldSectors}
 use Rattle.core_laws.proofs.PlacedPositions.{taken_is_unplaced}
@@ -46,8 +46,15 @@ window_taken_is i w c st =
     let high : c.window.freed ≤ first_position (log_of w 0) + length (takes (log_of w 0)) = freed_taken_within i w c st in
     omega arith
 
-pub next_is_unplaced : (i : Image) (w : World) → IsSimpleMount i w → IsUnplaced i.shape (log_of w 0) (taken (log_of w 0))
-next_is_unplaced i w simple = taken_is_unplaced i.shape (log_of w 0) (in_order i w (accepted_small i.shape simple.mount.accepted) simple.mount.legal).taken
+-- what isn't below the front freed is there
+pub in_window : (i : Image) (w : World) (c : Core) (q : ℕ) → Stands i (log_of w) c → freed i.shape (log_of w 0) ≤ q → q < taken (log_of w 0)
+    → view.IsHeld c.window q
+in_window i w c q st low high =
+    let from : c.window.freed ≤ freed i.shape (log_of w 0) = st.to_freed in
+    (omega arith, subst (λ n. q < n) (sym (window_taken_is i w c st)) high)
+
+pub next_is_unplaced : (i : Image) (w : World) → IsLegalMount i w → IsUnplaced i.shape (log_of w 0) (taken (log_of w 0))
+next_is_unplaced i w mount = taken_is_unplaced i.shape (log_of w 0) (in_order i w (accepted_small i.shape mount.accepted) mount.legal).taken
 
 -- how many users' writes were taken
 pub users_few : (i : Image) (w : World) (c : Core) → Stands i (log_of w) c → c.users ≤ taken (log_of w 0)

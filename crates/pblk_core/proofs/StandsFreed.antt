@@ -40,7 +40,6 @@ use Rattle.core_laws.proofs.KeptRows.{begun_kept}
 use Rattle.core_laws.proofs.PlacedFront.{front_kept}
 use Rattle.core_laws.proofs.PlacedLines.{get_row as row_there}
 use Rattle.core_laws.proofs.QuietEvents.{IsQuiet, quiet_alike, quiet_takes}
-use Rattle.core_laws.proofs.SimpleMounts.{simple_after}
 use Rattle.core_laws.proofs.Steady.{AreAlike}
 use Rattle.core_laws.proofs.TakenNumbers.{first_stays}
 use Rattle.pblk_core.specs.declared.line_notes.LineNote.{LineNote}
@@ -54,7 +53,8 @@ use Rattle.pblk_core.proofs.AnswerCounts.{counts_same}
 use Rattle.pblk_core.proofs.FreedResets.{resets_freed}
 use Rattle.pblk_core.proofs.FullOpenings.{full_kept}
 use Rattle.pblk_core.proofs.LineBits.{bits_width}
-use Rattle.core_laws.proofs.NewestStarts.{left_kept, newest_kept, top_kept}
+use Rattle.core_laws.proofs.NewestStarts.{left_kept, newest_kept}
+use Rattle.core_laws.proofs.AnsweredTops.{top_kept}
 use Rattle.pblk_core.proofs.NotesSet.{notes_set}
 use Rattle.pblk_core.proofs.SpentTables.{closed_where_spent, freed_where_spent, its_row}
 use Rattle.pblk_core.proofs.StandsOpened.{quiet_freed, quiet_holds}
@@ -125,7 +125,6 @@ gets_same old a b line us x y =
 pub freed_stands : (i : Image) (w : World) (line : ℕ) (knows : List ℕ) (old new : Core) → IsLegalMount i w → Stands i (log_of w) old
     → IsSpentIn old line → slice_index knows 0 ≡ length (log_of w 0) → IsFreedInto old new line → Stands i (after (log_of w) (Free line) knows) new
 freed_stands i w line knows old new mount st spent own is = record {
-  simple = simple_after (log_of w 0) l st.simple refl;
   layout = is.layout ∙ st.layout;
   beginning = st.beginning;
   has_begun = begun_kept (log_of w 0) (Free line) knows refl ∙ st.has_begun;
@@ -249,5 +248,8 @@ freed_stands i w line knows old new mount st spent own is = record {
         (sym (closed_freed i (log_of w) line knows))
         (λ other apart. life_beside (log_of w 0) line knows other apart)
         (λ other apart. closed_beside i (log_of w) line knows other apart)
-        (λ other o apart life. (left_kept i.shape (log_of w) (Free line) knows o refl, top_kept i.shape (log_of w) (Free line) knows o refl))
+        (λ other o apart life. (
+          left_kept i.shape (log_of w) (Free line) knows o refl,
+          top_kept i (log_of w) (Free line) knows o refl (λ unit. refl),
+        ))
         st.notes

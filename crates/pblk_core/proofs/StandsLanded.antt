@@ -1,9 +1,8 @@
 -- A core whose program has landed stands for the log with that.
 use Rattle.std.specs.Prelude.{◌↔◌, IsTrue, min, slice_get, slice_set}
-use Rattle.std.proofs.Common.{◌≡◌, ◌≢◌, nat_eq, ℕ, ◌^◌, ◌+◌, ◌-◌, ◌*◌, ◌/◌, ◌<◌, ◌≤◌, ◌==◌, ◌||◌, if◌then◌else◌, Bool, true, false, Some, Option, List, [], ◌∷◌, length, refl, sym, subst, ap, ap₂, ◌∙◌, arith, le_trans, inl}
+use Rattle.std.proofs.Common.{◌≡◌, ◌≢◌, nat_eq, ℕ, ◌^◌, ◌+◌, ◌-◌, ◌/◌, ◌<◌, ◌≤◌, ◌&&◌, zero, suc, not, if◌then◌else◌, Bool, true, false, Some, Option, List, [], ◌∷◌, length, refl, sym, subst, ap, ap₂, ◌∙◌, arith, le_trans, inl}
 use Rattle.std.specs.List.{Contains, list_all}
 use Rattle.std.specs.FinMap as fin
-use Rattle.std.proofs.Math.Nat.{mul-div_cancel}
 use Rattle.std.proofs.lemmas.Bool.{eqb-false, eqb-true}
 use Rattle.std.proofs.lemmas.Option.{none-some}
 use Rattle.pblk_model.specs.Chunk.{Chunk}
@@ -14,7 +13,7 @@ use Rattle.pblk_world.specs.Answering.{MayLand}
 use Rattle.pblk_world.specs.Events.{Landed, Decides, Logged}
 use Rattle.pblk_world.specs.World.{World, Logs, log_of}
 use Rattle.pblk_layout.specs.Live.{units_in}
-use Rattle.pblk_world.specs.EngineLog.{Taken, takes, is_life, life_of, Opened, Placed, is_as_found, is_opened}
+use Rattle.pblk_world.specs.EngineLog.{Taken, takes, has_failed, life_of, Opened, Placed, is_as_found, is_opened}
 use Rattle.pblk_world.specs.Lines.{chunks_of, is_over_state, known_image}
 use Rattle.pblk_world.specs.Fronts.{first_position}
 use Rattle.pblk_world.specs.Placing.{line_end}
@@ -22,19 +21,20 @@ use Rattle.pblk_world.specs.Space.{freed}
 use Rattle.pblk_world.specs.Starts.{have_landed}
 use Rattle.write_window.specs.Window.{WindowView, has_landed_at, turned}
 use Rattle.write_window.specs.declared.held.Progress.TheVariants as progress
+use Rattle.stripe_placer.specs.OpenLines.{has_left, with_stripe}
+use Rattle.stripe_placer.specs.OpenLines.Stripe.{Landed as HasLanded}
 use Rattle.stripe_placer.specs.Placing.{Program, landed}
 use Rattle.stripe_placer.specs.declared.placement.StripeKind.TheVariants as kinds
-use Rattle.core_laws.proofs.PlainLogs.{none_failed}
-use Rattle.core_laws.specs.ClosedLines.{ClosedLine, closed_line, placed_top}
+use Rattle.core_laws.specs.ClosedLines.{ClosedLine, closed_line, top_of}
 use Rattle.core_laws.proofs.ClosedKept.{closed_others}
-use Rattle.core_laws.proofs.ClosedLanded.{closed_if, closed_landed}
+use Rattle.core_laws.proofs.ClosedLanded.{closed_as, closed_if, closed_left_landed}
 use Rattle.core_laws.proofs.KeptLines.{few_units}
 use Rattle.core_laws.proofs.PlacedLines.{get_row as row_there}
 use Rattle.core_laws.proofs.UnitBits.{bits_back}
 use Rattle.core_laws.specs.Stepping.{after}
-use Rattle.core_laws.specs.OpenedLines.{live_now}
+use Rattle.core_laws.specs.OpenedLines.{live_now, open_line}
 use Rattle.core_laws.specs.PlacerOf.{IsAwaited, placing_of}
-use Rattle.core_laws.specs.SimpleMounts.{IsSimpleMount}
+use Rattle.world_laws.specs.LegalMounts.{IsLegalMount}
 use Rattle.core_laws.specs.RowsOf.{rows_of}
 use Rattle.core_laws.specs.SlotOf.{slot_of}
 use Rattle.core_laws.specs.WindowOf.{is_given_back, sectors_in, window_from}
@@ -43,27 +43,24 @@ use Rattle.core_laws.specs.ChunkBlocks.{can_be_read}
 use Rattle.core_laws.proofs.LandedWindow.{given_back_landed}
 use Rattle.core_laws.proofs.KeptSlots.{first_kept}
 use Rattle.line_table.specs.Rows.{Table}
+use Rattle.line_table.specs.declared.row.Row.{Row}
 use Rattle.core_laws.specs.ChangedTables.{with_row, full_if}
-use Rattle.core_laws.specs.InOrder.{HasRoom}
-use Rattle.core_laws.specs.LandedStripes.{landed_count}
 use Rattle.core_laws.specs.PlacedEntries.{note_entries}
 use Rattle.core_laws.proofs.KeptStripes.{KeepsStripes, stripes_kept}
 use Rattle.core_laws.proofs.NextTakes.{rising_by}
 use Rattle.core_laws.proofs.KeptRows.{begun_kept}
-use Rattle.core_laws.proofs.LandedCounts.{landed_whole, one_landed}
 use Rattle.core_laws.proofs.LandedEntries.{AreItsEntries, rows_landed}
 use Rattle.core_laws.proofs.LineRoom.{has_room}
 use Rattle.core_laws.proofs.OpenAddresses.{addresses_kept}
 use Rattle.core_laws.proofs.LogOrders.{in_order, small_capacity}
 use Rattle.core_laws.proofs.PlacedFront.{front_kept}
 use Rattle.core_laws.proofs.EntryHolds.{later_same, line_same}
-use Rattle.core_laws.proofs.StripesInOrder.{stripe_count}
 use Rattle.core_laws.proofs.MadeLists.{mapped_agree as same_in_range}
 use Rattle.pblk_core.specs.Entries.{noted_lines}
 use Rattle.pblk_core.specs.Holds.{taker_in}
-use Rattle.pblk_core.specs.Landing.{all_landed, one_landed as entry_landed}
+use Rattle.pblk_core.specs.Landing.{all_landed, is_open, one_landed as entry_landed}
 use Rattle.pblk_core.specs.Readable.{ReadBlock, all_moved, all_readable, reads_of}
-use Rattle.pblk_core.specs.Stands.{Stands, AreHolds, AreOpenLines, answer_count, answer_counts, under_way, unlanded}
+use Rattle.pblk_core.specs.Stands.{Stands, AreHolds, AreOpenLines, answer_count, answer_counts, stripes_left, under_way}
 use Rattle.pblk_core.proofs.AnswerCounts.{count_at, counts_landed}
 use Rattle.pblk_core.proofs.FullOpenings.{full_kept}
 use Rattle.pblk_core.specs.declared.target_core.Core.{Core}
@@ -73,24 +70,27 @@ use Rattle.pblk_core.specs.declared.open_lines.OpenLine.{OpenLine}
 use Rattle.pblk_core.specs.declared.open_lines.OpenLines.{OpenLines}
 use Rattle.pblk_core.proofs.NotedEntries.{AreEntriesOf, entries_of_way}
 use Rattle.pblk_core.proofs.PlacedEntries.{lines_noted_are}
-use Rattle.core_laws.proofs.SimpleMounts.{simple_after}
-use Rattle.pblk_core.proofs.LandedLines.{HasSlot, fewer_landed}
+use Rattle.pblk_core.proofs.LandedLines.{HasSlot}
+use Rattle.pblk_core.proofs.LineCounts.{none_left, some_left}
+use Rattle.pblk_core.proofs.LandedWhole.{whole_now}
+use Rattle.pblk_core.proofs.LandedCore.{line_within, open_unless, row_state}
+use Rattle.pblk_core.proofs.AnsweredLines.{has_landed_open}
 use Rattle.core_laws.proofs.ChunksInRows.{rows_of_chunks}
-use Rattle.pblk_core.proofs.LandedLogs.{takes_landed, openings_landed, users_landed, stripes_landed, live_landed, freed_landed, chunk_landed, one_less_under_way}
-use Rattle.pblk_core.proofs.LandedOpen.{IsLandedIn, IsRemoved, lines_stay, line_leaves}
+use Rattle.pblk_core.proofs.LandedLogs.{takes_landed, openings_landed, users_landed, live_landed, freed_landed, chunk_landed, one_less_under_way}
+use Rattle.pblk_core.proofs.AnsweredOpen.{IsAnswered, IsLessIn, IsRemoved, lines_stay, line_leaves, own_now}
 use Rattle.pblk_core.proofs.LandedWay.{IsOnWay, line_of_way, unit_is}
-use Rattle.pblk_core.proofs.LineUnits.{now_units}
 use Rattle.pblk_core.proofs.FoundLines.{older_kept}
 use Rattle.pblk_core.proofs.KeptResets.{resets_landed, used_beside, fits_same}
 use Rattle.pblk_core.proofs.FreedResets.{used_over}
-use Rattle.pblk_core.proofs.LandedNotes.{closed_when, notes_landed}
+use Rattle.pblk_core.proofs.AnsweredNotes.{notes_landed}
+use Rattle.pblk_core.proofs.LandedNotes.{note_answered}
 use Rattle.core_laws.proofs.VictimsAtWork.{over_where_closed}
-use Rattle.pblk_core.proofs.StartKinds.{is_start}
 use Rattle.pblk_world.proofs.Appending.{life_more}
 use Rattle.pblk_core.specs.declared.line_notes.LineNote.{LineNote}
-use Rattle.pblk_core.specs.LineNotes.{newest_landed, note_landed}
+use Rattle.pblk_core.specs.LineNotes.{newest_landed}
 use Rattle.pblk_core.specs.Resets.{resets_left, used_in, used_units}
-use Rattle.lemmas.proofs.Tests.{other_number, same as number_same, same_number}
+use Rattle.lemmas.proofs.Parts.{got_within}
+use Rattle.lemmas.proofs.Tests.{either_false}
 
 -- ---- the window keeps its front and its size
 
@@ -109,70 +109,37 @@ reads_keep : (w : WindowView) (bs : List ReadBlock) → ((all_readable w bs).fre
 reads_keep w [] = (refl, refl)
 reads_keep w (b ∷ bs) = reads_keep (turned w b.mark.position progress.Readable) bs
 
--- ---- how many stripes the line has
-
-total_is : (i : Image) (w : World) (unit : ℕ) (of : Program) → (is : IsOnWay i w unit of)
-    → is.row.opening.start.width * (i.shape.clba / i.shape.ws_opt) ≡ stripe_count i (now_units i w) is.row.opening.line
-total_is i w unit of is = ap (λ g. g * (i.shape.clba / i.shape.ws_opt)) is.line_is.well.width
-
-end_is : (i : Image) (w : World) (unit : ℕ) (of : Program) → (is : IsOnWay i w unit of)
-    → line_end i.shape is.row.opening / i.shape.ws_opt ≡ stripe_count i (now_units i w) is.row.opening.line
-end_is i w unit of is =
-    ap (λ g. g * i.shape.clba / i.shape.ws_opt) is.line_is.well.width
-    ∙ ap (λ n. n / i.shape.ws_opt) (sym is.line_is.striped.line_is)
-    ∙ mul-div_cancel (stripe_count i (now_units i w) is.row.opening.line) is.line_is.striped.some
-
 -- ---- the table
 
-pub whole_now : (i : Image) (w : World) (unit event : ℕ) (knows : List ℕ) (of : Program) → IsSimpleMount i w → (is : IsOnWay i w unit of)
-    → have_landed (after (log_of w) (Landed unit event) knows 0) is.row.opening (line_end i.shape is.row.opening / i.shape.ws_opt) ≡
-    (landed_count (log_of w 0) is.row.opening + 1 == stripe_count i (now_units i w) is.row.opening.line)
-whole_now i w unit event knows of simple is =
-    let room : HasRoom i.shape (log_of w 0) is.row.opening = has_room i w is.row.stripe.stripe.line is.row.opening simple.mount is.stands in
-    landed_whole i.shape (after (log_of w) (Landed unit event) knows 0) is.row.opening is.line_is.striped.some
-    (record {
-      some = room.some;
-      within =
-          subst (λ (ps : List Placed). length ps * i.shape.ws_opt ≤ line_end i.shape is.row.opening)
-          (sym (stripes_landed (log_of w) unit event knows is.row.opening)) room.within;
-    })
-    ∙ ap₂ (λ m n. m == n) (one_landed (log_of w 0) unit event knows is.row.stripe is.row.opening is.row.waits
-    (ap (is_life is.row.opening.number) is.row.life ∙ same_number is.row.opening.number)) (end_is i w unit of is)
-
-pub table_now : (i : Image) (w : World) (unit event : ℕ) (knows : List ℕ) (of : Program) (full : Bool) → IsSimpleMount i w → (is : IsOnWay i w unit of)
+pub table_now : (i : Image) (w : World) (unit event : ℕ) (knows : List ℕ) (of : Program) (full : Bool) → IsLegalMount i w → (is : IsOnWay i w unit of)
     → MayLand (log_of w) unit event
-    → (landed_count (log_of w 0) is.row.opening + 1 == stripe_count i (now_units i w) is.row.opening.line) ≡ full → (ts : List Taken)
+    → have_landed (after (log_of w) (Landed unit event) knows 0) is.row.opening (line_end i.shape is.row.opening / i.shape.ws_opt) ≡ full → (ts : List Taken)
     → AreItsEntries i (log_of w) is.row.stripe ts
     → rows_of i (after (log_of w) (Landed unit event) knows) ≡ with_row of.line (full_if full) (note_entries (log_of w 0) of.line (rows_of i (log_of w)) ts)
-table_now i w unit event knows of full simple is may e ts are =
-    let order = in_order i w simple.mount in
+table_now i w unit event knows of full mount is may e ts are =
+    let order = in_order i w mount in
     rows_landed i (log_of w) unit event knows is.row.stripe is.row.opening ts order.freed is.line_is.striped.some
-    (has_room i w is.row.stripe.stripe.line is.row.opening simple.mount is.stands) is.row.waits is.row.life is.stands
-    (chunk_landed i w unit event is.row.stripe simple may is.row.waits)
+    (has_room i w is.row.stripe.stripe.line is.row.opening mount is.stands) is.row.waits is.row.life is.stands
+    (chunk_landed i w unit event is.row.stripe mount may is.row.waits)
     (rising_by (first_position (log_of w 0)) (length (takes (log_of w 0))) (takes (log_of w 0)) order.numbered) are
-    ∙ ap₂ (λ ln b. with_row ln (full_if b) (note_entries (log_of w 0) ln (rows_of i (log_of w)) ts)) (sym is.its_line ∙ line_of_way i w unit of is)
-    (whole_now i w unit event knows of simple is ∙ e)
+    ∙ ap₂ (λ ln b. with_row ln (full_if b) (note_entries (log_of w 0) ln (rows_of i (log_of w)) ts)) (sym is.its_line ∙ line_of_way i w unit of is) e
 
 -- ---- the rows beside the entries
-
-given_before : (a b : Bool) → (a || b) ≡ false → a ≡ false
-given_before true b e = e
-given_before false b e = refl
 
 abbrev told_hold : Taken → Option ℕ → Option Taken → Option Hold
 told_hold t ln u = Some (record { mark = t.mark; line = ln; taker = taker_in t u })
 
-holds_now : (i : Image) (w : World) (unit event : ℕ) (knows : List ℕ) (of : Program) (kept : Holds) → IsSimpleMount i w → (is : IsOnWay i w unit of)
+holds_now : (i : Image) (w : World) (unit event : ℕ) (knows : List ℕ) (of : Program) (kept : Holds) → IsLegalMount i w → (is : IsOnWay i w unit of)
     → AreHolds i.shape (log_of w 0) kept → AreHolds i.shape (after (log_of w) (Landed unit event) knows 0) kept
-holds_now i w unit event knows of kept simple is are = record {
+holds_now i w unit event knows of kept mount is are = record {
   room = are.room;
   each = λ t there given.
       let l : Logged = record { event = Decides (Landed unit event); knows = knows } in
       let before : is_given_back i.shape (log_of w 0) t.entry.position ≡ false =
-      given_before (is_given_back i.shape (log_of w 0) t.entry.position)
+      (either_false (is_given_back i.shape (log_of w 0) t.entry.position)
       (can_be_read i.shape (after (log_of w) (Landed unit event) knows 0) is.row.opening unit t.entry.position)
-      (sym (given_back_landed i w unit event knows is.row.stripe is.row.opening t.entry.position simple.mount is.row.waits is.row.life
-      (rows_of_chunks i w is.row.opening unit simple.mount)) ∙ given) in
+      (sym (given_back_landed i w unit event knows is.row.stripe is.row.opening t.entry.position mount is.row.waits is.row.life
+      (rows_of_chunks i w is.row.opening unit mount)) ∙ given)).0 in
       are.each t (subst (λ (ts : List Taken). Contains ts t) (takes_landed (log_of w) unit event knows) there) before
       ∙ ap₂ (λ ln (u : Option Taken). told_hold t ln u)
       (sym (line_same i.shape (log_of w 0) (after (log_of w) (Landed unit event) knows 0) (stripes_kept (log_of w 0) (Landed unit event) knows refl).placements
@@ -183,29 +150,31 @@ holds_now i w unit event knows of kept simple is are = record {
 
 -- what a core's fields are once a program has landed: of its line's slot, and of the blocks that
 -- can be read from one to before another
-pub record IsLandedInto (old new : Core) (of : Program) (k : ℕ) (slot : OpenLine) (mid : OpenLines) (full : Bool) (from to : ℕ) : Type 0 where
+pub record IsLandedInto (old new : Core) (of : Program) (k : ℕ) (slot : OpenLine) (mid : OpenLines) (none sound : Bool) (from to : ℕ) : Type 0 where
   pub layout : new.layout ≡ old.layout
   pub map : new.map ≡ all_moved old.layout.capacity slot.records.line old.map (reads_of slot of.unit from to)
   pub capacity : fin.len new.map ≡ fin.len old.map
-  pub lines : new.lines ≡ with_row of.line (full_if full) (noted_lines old.holds.rows.items of.line old.lines of.positions)
+  -- it was Open
+  pub unfailed : (row : Row) → slice_get old.lines.rows of.line ≡ Some row → sound ≡ is_open row.state
+  pub lines : new.lines ≡ with_row of.line (full_if (none && sound)) (noted_lines old.holds.rows.items of.line old.lines of.positions)
   pub window : new.window ≡ all_readable (all_landed old.window of.positions) (reads_of slot of.unit from to)
   pub placer : new.placer ≡ landed old.placer of
   pub holds : new.holds ≡ old.holds
-  pub in_slot : IsLandedIn old.open mid k slot
-  pub stay : full ≡ false → new.open ≡ mid
-  pub gone : full ≡ true → IsRemoved mid new.open k
-  pub left : slot.stripes_left - 1 ≡ 0 → full ≡ true
-  pub none_left : full ≡ true → slot.stripes_left - 1 ≡ 0
+  pub in_slot : IsLessIn old.open mid k slot 1
+  pub stay : none ≡ false → new.open ≡ mid
+  pub gone : none ≡ true → IsRemoved mid new.open k
+  pub left : slot.stripes_left - 1 ≡ 0 → none ≡ true
+  pub none_left : none ≡ true → slot.stripes_left - 1 ≡ 0
   pub live : new.live ≡ old.live
   pub resets : resets_left new.resets ≡ resets_left old.resets
   pub used_lines : length new.resets.used ≡ length old.resets.used
-  pub used : full ≡ true → (live : ℕ) → slice_get old.live.items of.line ≡ Some live → used_in new.resets of.line ≡ live
+  pub used : none ≡ true → (live : ℕ) → slice_get old.live.items of.line ≡ Some live → used_in new.resets of.line ≡ live
   pub used_others : (other : ℕ) → other ≢ of.line → used_in new.resets other ≡ used_in old.resets other
   -- whether the stripe is one of its line's start record
   pub is_start : Bool
   pub start_is : IsTrue is_start ↔ (of.kind ≡ kinds.Start)
   pub notes : (row : LineNote) → slice_get old.notes.rows.items of.line ≡ Some row
-      → new.notes.rows.items ≡ slice_set old.notes.rows.items of.line (closed_when full (note_landed is_start row))
+      → new.notes.rows.items ≡ slice_set old.notes.rows.items of.line (note_answered none is_start (top_of of.positions) row)
   pub newest : (row : LineNote) → slice_get old.notes.rows.items of.line ≡ Some row → new.notes.newest ≡ newest_landed is_start row old.notes.newest
   pub start : new.start ≡ old.start
   pub first : new.first ≡ old.first
@@ -220,63 +189,39 @@ pub record AreReadNow (i : Image) (w : World) (unit event : ℕ) (knows : List �
   pub window : sectors_in new.window ≡ window_from i.shape (after (log_of w) (Landed unit event) knows 0) new.window.freed
   pub slots : (lba : ℕ) → lba < i.shape.capacity → fin.get new.map lba ≡ Some (slot_of i (after (log_of w) (Landed unit event) knows) lba)
 
-full_by : (i : Image) (w : World) (unit : ℕ) (of : Program) (left : ℕ) (full : Bool) → (is : IsOnWay i w unit of)
-    → left ≡ unlanded i.shape (log_of w 0) is.row.opening → (left - 1 ≡ 0 → full ≡ true) → (full ≡ true → left - 1 ≡ 0)
-    → (landed_count (log_of w 0) is.row.opening + 1 == stripe_count i (now_units i w) is.row.opening.line) ≡ full
-full_by i w unit of left true is e last none =
-    let total = total_is i w unit of is in
-    let few : landed_count (log_of w 0) is.row.opening + 1 ≤ stripe_count i (now_units i w) is.row.opening.line = fewer_landed i w unit of is in
-    let zero_left : left - 1 ≡ 0 = none refl in
-    let same : landed_count (log_of w 0) is.row.opening + 1 ≡ stripe_count i (now_units i w) is.row.opening.line = omega arith in
-    ap (λ n. n == stripe_count i (now_units i w) is.row.opening.line) same ∙ same_number (stripe_count i (now_units i w) is.row.opening.line)
-full_by i w unit of left false is e last none =
-    let total = total_is i w unit of is in
-    other_number (landed_count (log_of w 0) is.row.opening + 1) (stripe_count i (now_units i w) is.row.opening.line)
-    (λ same. no_both (last (let n : left - 1 ≡ 0 = omega arith in n)))
-  where
-    no_both : false ≡ true → ⊥
-    no_both f = cc
-
-number_less : (m n : ℕ) → m ≤ n → (m == n) ≡ false → m < n
-number_less m n h e = grind arith
-
-pub landed_stands : (i : Image) (w : World) (unit event : ℕ) (knows : List ℕ) (old new : Core) (of : Program) (mid : OpenLines) (full : Bool) (from to : ℕ)
-    → IsSimpleMount i w → (st : Stands i (log_of w) old)
+pub landed_stands : (i : Image) (w : World) (unit event : ℕ) (knows : List ℕ) (old new : Core) (of : Program) (mid : OpenLines) (none sound : Bool)
+    (from to : ℕ)
+    → IsLegalMount i w → (st : Stands i (log_of w) old)
     → (is : IsOnWay i w unit of) → IsAwaited i (log_of w) old.placer.entries.pad st.again of → MayLand (log_of w) unit event
     → (has : HasSlot i (log_of w) old.open is.row.opening)
-    → IsLandedInto old new of has.k has.slot mid full from to → AreReadNow i w unit event knows old new
+    → IsLandedInto old new of has.k has.slot mid none sound from to → AreReadNow i w unit event knows old new
     → Stands i (after (log_of w) (Landed unit event) knows) new
-landed_stands i w unit event knows old new of mid full from to simple st is waits may has into reads = record {
-  simple = simple_after (log_of w 0) (record { event = Decides (Landed unit event); knows = knows }) st.simple refl;
+landed_stands i w unit event knows old new of mid none sound from to mount st is waits may has into reads = record {
   layout = into.layout ∙ st.layout;
   beginning = st.beginning;
   has_begun = begun_kept (log_of w 0) (Landed unit event) knows refl ∙ st.has_begun;
   capacity = into.capacity ∙ st.capacity;
   slots = reads.slots;
-  table = into.lines ∙ ap (with_row of.line (full_if full)) lines_are
-      ∙ sym (table_now i w unit event knows of full simple is may full_is entries.entries entries.own);
+  table = into.lines ∙ ap (with_row of.line (full_if (none && sound))) lines_are
+      ∙ sym (table_now i w unit event knows of (none && sound) mount is may whole entries.entries entries.own);
   units = ap (λ l. l.items) into.live ∙ st.units
       ∙ same_in_range (live_now i (log_of w)) (live_now i new_logs) 0 i.shape.chunks
-      (λ line inside. sym (live_landed i w unit event knows is.row.stripe st.beginning line simple may is.row.waits st.has_begun));
+      (λ line inside. sym (live_landed i w unit event knows is.row.stripe st.beginning line mount may is.row.waits st.has_begun));
   resets = into.resets ∙ st.resets
-      ∙ sym (resets_landed i w unit event knows is.row.stripe st.beginning simple may is.row.waits st.has_begun (ap is_opened is.stands));
+      ∙ sym (resets_landed i w unit event knows is.row.stripe st.beginning mount may is.row.waits st.has_begun (ap is_opened is.stands));
   used_lines = into.used_lines ∙ st.used_lines;
   used = λ other c closed. used_now other c closed (nat_eq other of.line) refl;
-  notes = notes_landed i w simple.mount simple.engine.lost st.beginning st.has_begun unit event knows may is.row.stripe is.row.waits is.row.opening
-      is.row.life is.stands is.number is.there into.is_start (is_start i w unit of into.is_start simple is into.start_is) full whole old.notes new.notes
-      line_inside
-      (λ row there. into.notes row (ap (slice_get old.notes.rows.items) its_line ∙ there)
-      ∙ ap (λ n. slice_set old.notes.rows.items n (closed_when full (note_landed into.is_start row))) its_line)
-      (λ row there. into.newest row (ap (slice_get old.notes.rows.items) its_line ∙ there)) st.notes;
+  notes = notes_landed i w unit event knows of mount st.beginning st.has_begun is none old.notes new.notes may into.is_start into.start_is gone_is
+      into.notes into.newest st.notes;
   size = ap (λ v. v.size) into.window ∙ (reads_keep (all_landed old.window of.positions) (reads_of has.slot of.unit from to)).1
       ∙ (landed_keeps old.window of.positions).1 ∙ st.size;
   window = reads.window;
   from_first = subst (λ n. first_position (new_logs 0) ≤ n) (sym same_freed) (subst (λ p. p ≤ old.window.freed) (sym first_is) st.from_first);
-  to_freed = subst (λ n. n ≤ freed i.shape (new_logs 0)) (sym same_freed) (le_trans st.to_freed (freed_landed i w st.beginning unit event knows simple may));
-  holds = subst (AreHolds i.shape (new_logs 0)) (sym into.holds) (holds_now i w unit event knows of old.holds simple is st.holds);
+  to_freed = subst (λ n. n ≤ freed i.shape (new_logs 0)) (sym same_freed) (le_trans st.to_freed (freed_landed i w st.beginning unit event knows mount may));
+  holds = subst (AreHolds i.shape (new_logs 0)) (sym into.holds) (holds_now i w unit event knows of old.holds mount is st.holds);
   again = st.again;
   placing = placing_is;
-  open_lines = open_is full refl;
+  open_lines = open_is none refl;
   next_seq = ap (λ r. r.seq) into.start ∙ st.next_seq ∙ ap (λ os. st.beginning.beginning.seq + length os) (sym (openings_landed (log_of w) unit event knows));
   first_seq = ap (λ r. r.first_seq) into.start ∙ st.first_seq;
   own_capacity = ap (λ r. r.capacity) into.start ∙ st.own_capacity;
@@ -304,15 +249,53 @@ landed_stands i w unit event knows old new of mid full from to simple st is wait
         ∙ (landed_keeps old.window of.positions).0
 
     entries : AreEntriesOf i w old unit of is
-    entries = entries_of_way i w old unit of simple st is
+    entries = entries_of_way i w old unit of mount st is
 
     lines_are : noted_lines old.holds.rows.items of.line old.lines of.positions ≡ note_entries (log_of w 0) of.line (rows_of i (log_of w)) entries.entries
     lines_are = ap₂ (λ (t : Table) (qs : List ℕ). noted_lines old.holds.rows.items of.line t qs) st.table (sym entries.positions)
         ∙ lines_noted_are i.shape (log_of w 0) of.line old.holds.rows.items (rows_of i (log_of w)) entries.entries
-        (small_capacity i simple.mount.accepted) refl entries.names entries.rows
+        (small_capacity i mount.accepted) refl entries.names entries.rows
 
-    full_is : (landed_count (log_of w 0) is.row.opening + 1 == stripe_count i (now_units i w) is.row.opening.line) ≡ full
-    full_is = full_by i w unit of has.slot.stripes_left full is has.is.left into.left into.none_left
+    p : Placed
+    p = is.row.stripe
+
+    -- ---- what is left of its line
+
+    answered : IsAnswered i w (after (log_of w) (Landed unit event) knows) unit of is HasLanded 1
+    answered = has_landed_open i w mount unit event knows old.placer.entries.pad st.again of is waits
+
+    own_open : open_line i new_logs is.row.opening ≡ with_stripe (open_line i (log_of w) is.row.opening) is.number HasLanded
+    own_open = own_now i w new_logs unit of is HasLanded 1 answered has.k has.opening
+
+    left_is : has.slot.stripes_left ≡ stripes_left (open_line i (log_of w) is.row.opening)
+    left_is = has.is.left
+
+    last : stripes_left (open_line i (log_of w) is.row.opening) - 1 ≡ 0 → none ≡ true
+    last e = into.left (ap (λ n. n - 1) left_is ∙ e)
+
+    none_is : none ≡ true → stripes_left (open_line i (log_of w) is.row.opening) - 1 ≡ 0
+    none_is e = ap (λ n. n - 1) (sym left_is) ∙ into.none_left e
+
+    gone_is : not (has_left (open_line i (after (log_of w) (Landed unit event) knows) is.row.opening)) ≡ none
+    gone_is = ap (λ l. not (has_left l)) own_open ∙ go none refl
+      where
+        fewer : stripes_left (with_stripe (open_line i (log_of w) is.row.opening) is.number HasLanded) + 1
+            ≡ stripes_left (open_line i (log_of w) is.row.opening)
+        fewer = answered.fewer
+
+        go : (b : Bool) → none ≡ b → not (has_left (with_stripe (open_line i (log_of w) is.row.opening) is.number HasLanded)) ≡ b
+        go true e = ap not (none_left (with_stripe (open_line i (log_of w) is.row.opening) is.number HasLanded)
+            (let z = none_is e in let f = fewer in omega arith))
+        go false e = ap not (some_left (with_stripe (open_line i (log_of w) is.row.opening) is.number HasLanded)
+            (some (stripes_left (with_stripe (open_line i (log_of w) is.row.opening) is.number HasLanded)) refl))
+          where
+            some : (n : ℕ) → stripes_left (with_stripe (open_line i (log_of w) is.row.opening) is.number HasLanded) ≡ n
+                → 0 < stripes_left (with_stripe (open_line i (log_of w) is.row.opening) is.number HasLanded)
+            some zero z = absurd (no (sym e ∙ last (let f = fewer in omega (arith, z, f))))
+              where
+                no : false ≡ true → ⊥
+                no h = cc
+            some (suc n) z = omega (arith, z)
 
     -- ---- its line
 
@@ -322,22 +305,28 @@ landed_stands i w unit event knows old new of mid full from to simple st is wait
     line_inside : is.row.stripe.stripe.line < i.shape.chunks
     line_inside = subst (λ n. n < i.shape.chunks) is.its_line is.line_is.well.in_range
 
-    whole : have_landed (new_logs 0) is.row.opening (line_end i.shape is.row.opening / i.shape.ws_opt) ≡ full
-    whole = whole_now i w unit event knows of simple is ∙ full_is
+    sound_is : sound ≡ not (has_failed (log_of w 0) is.row.opening)
+    sound_is =
+        let inside : is.row.opening.line < length old.lines.rows = line_within i w old unit of st is in
+        let row = got_within old.lines.rows is.row.opening.line inside in
+        into.unfailed row.0 (ap (slice_get old.lines.rows) (sym (line_of_way i w unit of is)) ∙ row.1)
+        ∙ open_unless (has_failed (log_of w 0) is.row.opening) row.0.state (row_state i w old unit of row.0 mount st is row.1)
+
+    whole : have_landed (new_logs 0) is.row.opening (line_end i.shape is.row.opening / i.shape.ws_opt) ≡ (none && sound)
+    whole = whole_now i w mount unit of is event knows none last none_is ∙ ap (λ b. none && b) (sym sound_is)
 
     life_now : life_of (new_logs 0) of.line ≡ Opened is.row.opening
     life_now = life_more (log_of w 0) (record { event = Decides (Landed unit event); knows = knows }) of.line ∙ ap (life_of (log_of w 0)) its_line ∙ is.stands
 
-    -- it is closed where it is full
-    full_where : (c : ClosedLine) (b : Bool) → full ≡ b → closed_line i new_logs of.line ≡ Some c → full ≡ true
-    full_where c true e closed = e
-    full_where c false e closed =
-        let seq : ℕ = is.row.opening.start.seq in
-        let top : ℕ = placed_top i.shape (log_of w 0) is.row.opening in
-        absurd (none-some c (sym (ap (λ t. closed_if t (record { seq = seq; top = top })) (whole ∙ e))
-        ∙ sym (closed_landed i w unit event knows is.row.stripe is.row.opening simple.mount
-        (none_failed (log_of w 0) simple.engine.lost is.row.opening) may is.row.waits is.row.life is.stands)
-        ∙ ap (closed_line i new_logs) (sym its_line) ∙ closed))
+    -- it is closed where no stripe of it is left
+    gone_where : (c : ClosedLine) → closed_line i new_logs of.line ≡ Some c → none ≡ true
+    gone_where c closed = go none refl
+      where
+        go : (b : Bool) → none ≡ b → b ≡ true
+        go true e = refl
+        go false e = absurd (none-some c (sym (ap (λ t. closed_if t (closed_as i new_logs is.row.opening)) (gone_is ∙ e))
+            ∙ sym (closed_left_landed i w unit event knows is.row.stripe.stripe.line is.row.opening mount may is.stands)
+            ∙ ap (closed_line i new_logs) (sym its_line) ∙ closed))
 
     live_there : slice_get old.live.items of.line ≡ Some (live_now i (log_of w) of.line)
     live_there =
@@ -353,9 +342,9 @@ landed_stands i w unit event knows old new of mid full from to simple st is wait
         let over : list_all (λ (x : Chunk). is_over_state false x.state) (chunks_of (known_image i new_logs) of.line) ≡ true =
         ap (λ l. list_all (λ (x : Chunk). is_over_state (is_as_found l) x.state) (chunks_of (known_image i new_logs) of.line)) (sym life_now)
         ∙ (over_where_closed i new_logs of.line c closed).0 in
-        ap units_in (sym (live_landed i w unit event knows is.row.stripe st.beginning of.line simple may is.row.waits st.has_begun))
-        ∙ bits_back (known_image i new_logs) of.line (few_units i w new_logs simple.mount)
-        ∙ sym (used_over i w new_logs of.line simple.mount over)
+        ap units_in (sym (live_landed i w unit event knows is.row.stripe st.beginning of.line mount may is.row.waits st.has_begun))
+        ∙ bits_back (known_image i new_logs) of.line (few_units i w new_logs mount)
+        ∙ sym (used_over i w new_logs of.line mount over)
 
     used_now : (other : ℕ) (c : ClosedLine) → closed_line i new_logs other ≡ Some c → (b : Bool) → nat_eq other of.line ≡ b
         → units_in (used_in new.resets other) ≡ used_units (known_image i new_logs) other
@@ -363,27 +352,29 @@ landed_stands i w unit event knows old new of mid full from to simple st is wait
         let here : other ≡ of.line = eqb-true other of.line e in
         let its : closed_line i new_logs of.line ≡ Some c = ap (closed_line i new_logs) (sym here) ∙ closed in
         ap (λ n. units_in (used_in new.resets n)) here
-        ∙ ap units_in (into.used (full_where c full refl its) (live_now i (log_of w) of.line) live_there)
+        ∙ ap units_in (into.used (gone_where c its) (live_now i (log_of w) of.line) live_there)
         ∙ units_used c its
         ∙ ap (used_units (known_image i new_logs)) (sym here)
     used_now other c closed false e =
         let differs : other ≢ of.line = eqb-false other of.line e in
         let apart : other ≢ is.row.stripe.stripe.line = λ same. differs (same ∙ sym its_line) in
         let was : closed_line i (log_of w) other ≡ Some c =
-        sym (closed_others i w unit event knows is.row.stripe other simple.mount may is.row.waits apart) ∙ closed in
+        sym (closed_others i w unit event knows is.row.stripe other mount may is.row.waits apart) ∙ closed in
         ap units_in (into.used_others other differs) ∙ st.used other c was
-        ∙ sym (used_beside i w unit event knows is.row.stripe st.beginning simple may is.row.waits st.has_begun other apart)
+        ∙ sym (used_beside i w unit event knows is.row.stripe st.beginning mount may is.row.waits st.has_begun other apart)
 
-    few : landed_count (log_of w 0) is.row.opening + 1 ≤ stripe_count i (now_units i w) is.row.opening.line
-    few = fewer_landed i w unit of is
-
-    open_is : (b : Bool) → full ≡ b → AreOpenLines i (after (log_of w) (Landed unit event) knows) new.open
-    open_is true e = line_leaves i w unit event knows old.placer.entries.pad st.again of old.open mid new.open simple is waits st.open_lines has into.in_slot
-        (into.gone e)
-        (number_same (landed_count (log_of w 0) is.row.opening + 1) (stripe_count i (now_units i w) is.row.opening.line) (full_is ∙ e))
+    open_is : (b : Bool) → none ≡ b → AreOpenLines i (after (log_of w) (Landed unit event) knows) new.open
+    open_is true e = line_leaves i w new_logs unit of is HasLanded 1 answered old.open mid st.open_lines has into.in_slot new.open (into.gone e)
+        (into.none_left e)
     open_is false e = subst (AreOpenLines i (after (log_of w) (Landed unit event) knows)) (sym (into.stay e))
-        (lines_stay i w unit event knows old.placer.entries.pad st.again of old.open mid simple is waits st.open_lines has into.in_slot
-        (number_less (landed_count (log_of w 0) is.row.opening + 1) (stripe_count i (now_units i w) is.row.opening.line) few (full_is ∙ e)))
+        (lines_stay i w new_logs unit of is HasLanded 1 answered old.open mid st.open_lines has into.in_slot (some (has.slot.stripes_left - 1) refl))
+      where
+        some : (n : ℕ) → has.slot.stripes_left - 1 ≡ n → 0 < has.slot.stripes_left - 1
+        some zero z = absurd (no (sym e ∙ into.left z))
+          where
+            no : false ≡ true → ⊥
+            no h = cc
+        some (suc n) z = omega (arith, z)
 
     counts : new.answers.items ≡ answer_counts i.shape (new_logs 0)
     counts =
@@ -399,7 +390,7 @@ landed_stands i w unit event knows old new of mid full from to simple st is wait
     flight : new.under_way ≡ under_way i.shape (new_logs 0)
     flight =
         let less : under_way i.shape (log_of w 0) ≡ under_way i.shape (new_logs 0) + 1 =
-        one_less_under_way i w unit event knows is.row.stripe simple is.row.inside is.row.waits in
+        one_less_under_way i w unit event knows is.row.stripe mount is.row.inside is.row.waits in
         let was : old.under_way ≡ under_way i.shape (log_of w 0) = st.in_flight in
         into.under_way ∙ (let n : old.under_way - 1 ≡ under_way i.shape (new_logs 0) = omega arith in n)
 

@@ -1,6 +1,6 @@
 -- Lemmas on the words of Stands.
 use Rattle.std.proofs.Common.{le_trans, ◌≡◌}
-use Rattle.core_laws.specs.SimpleMounts.{IsSimpleMount}
+use Rattle.world_laws.specs.LegalMounts.{IsLegalMount}
 use Rattle.core_laws.specs.WindowOf.{users_below}
 use Rattle.core_laws.proofs.UsersEntries.{in_order}
 use Rattle.core_laws.proofs.Growing.{freed_within}
@@ -14,8 +14,8 @@ use Rattle.pblk_world.specs.World.{World, log_of}
 use Rattle.write_window.specs.Window as view
 
 -- the window's front synced is the log's
-pub synced_stands : (i : Image) (w : World) (c : Core) → IsSimpleMount i w → Stands i (log_of w) c
+pub synced_stands : (i : Image) (w : World) (c : Core) → IsLegalMount i w → Stands i (log_of w) c
     → view.synced c.window ≡ record { users = users_below (log_of w 0) (synced i.shape (log_of w 0)); position = synced i.shape (log_of w 0) }
-synced_stands i w c simple st =
-    front_synced i.shape (log_of w 0) c.window.freed c.window (in_order i w (accepted_small i.shape simple.mount.accepted) simple.mount.legal).numbered
+synced_stands i w c mount st =
+    front_synced i.shape (log_of w 0) c.window.freed c.window (in_order i w (accepted_small i.shape mount.accepted) mount.legal).numbered
     st.from_first (le_trans st.to_freed (freed_within i.shape (log_of w 0))) st.window

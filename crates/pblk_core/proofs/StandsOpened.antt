@@ -1,5 +1,5 @@
 -- A core that opened a line stands for the log with it.
-use Rattle.std.proofs.Common.{◌≡◌, ◌≢◌, ◌⊎◌, ℕ, ◌+◌, ◌-◌, ◌*◌, ◌/◌, ◌<◌, ◌≤◌, true, false, None, Some, List, [], ◌∷◌, ◌++◌, length, refl, sym, subst, ap, ap₂, ◌∙◌, arith, inl, inr, length-append, length-set, le_refl, take, nat_eq, Bool, if◌then◌else◌}
+use Rattle.std.proofs.Common.{◌≡◌, ◌≢◌, ◌⊎◌, ℕ, ◌+◌, ◌-◌, ◌*◌, ◌/◌, ◌<◌, ◌≤◌, true, false, None, Some, List, [], ◌∷◌, ◌++◌, length, refl, sym, subst, ap, ap₂, ◌∙◌, arith, inl, inr, length-append, length-set, le_refl, take, not, nat_eq, Bool, if◌then◌else◌}
 use Rattle.std.specs.Prelude.{map, slice_get, slice_set, slice_range}
 use Rattle.std.specs.List.{Contains, filter, flat_map, range_with_len}
 use Rattle.std.specs.FinMap as fin
@@ -12,7 +12,7 @@ use Rattle.pblk_model.specs.Image.{Image, line_units}
 use Rattle.pblk_model.specs.LineOrder.{start_len, data_len}
 use Rattle.pblk_world.specs.Events.{Open, EngineEvent, Decides, Logged}
 use Rattle.pblk_world.specs.World.{World, Logs, log_of}
-use Rattle.pblk_world.specs.EngineLog.{Taken, takes, Opening, openings, Placed, placements, stripes_of, is_life, has_landed, is_as_found, Opened, life_of}
+use Rattle.pblk_world.specs.EngineLog.{Taken, takes, Opening, openings, Placed, placements, stripes_of, is_life, has_failed, is_as_found, Opened, life_of}
 use Rattle.pblk_world.specs.Fronts.{first_position, is_users}
 use Rattle.pblk_world.specs.Lines.{known_image, found_image}
 use Rattle.pblk_world.specs.Opening.{MayOpen}
@@ -25,16 +25,15 @@ use Rattle.line_table.specs.Rows.{Changes, turned}
 use Rattle.line_table.proofs.Places.{get_within, get_set_same, get_set_other, each_more}
 use Rattle.stripe_placer.specs.Placing.{begun as line_begun}
 use Rattle.write_window.specs.Window as view
-use Rattle.core_laws.proofs.SimpleMounts.{simple_after}
 use Rattle.core_laws.specs.Stepping.{after}
 use Rattle.core_laws.specs.OpenedLines.{bits_of, live_now}
 use Rattle.core_laws.specs.PlacerOf.{placing_of}
-use Rattle.core_laws.specs.SimpleMounts.{IsSimpleMount}
+use Rattle.world_laws.specs.LegalMounts.{IsLegalMount}
 use Rattle.core_laws.specs.RowsOf.{rows_of, row_of_line}
 use Rattle.core_laws.specs.WindowOf.{is_given_back, sectors_in, window_from}
 use Rattle.core_laws.proofs.Engine.{prefix_whole}
 use Rattle.core_laws.proofs.TakenNumbers.{first_stays}
-use Rattle.core_laws.proofs.Opening.{placing_opened, placed_before}
+use Rattle.core_laws.proofs.Opening.{new_line, placing_opened, placed_before}
 use Rattle.core_laws.proofs.Steady.{AreAlike}
 use Rattle.core_laws.proofs.PlacedLines.{get_row as row_there}
 use Rattle.core_laws.proofs.TakenWindow.{given_same}
@@ -57,7 +56,11 @@ use Rattle.pblk_core.specs.declared.open_lines.OpenLine.{OpenLine}
 use Rattle.pblk_core.specs.Holds.{hold_of, taker_in}
 use Rattle.pblk_core.specs.Slots.{IsSlot, opened_slot}
 use Rattle.pblk_core.specs.LineNotes.{note_opened}
-use Rattle.pblk_core.specs.Stands.{Stands, AreHolds, AreOpenLines, AreUsed, IsOpenLine, left_openings}
+use Rattle.pblk_core.specs.Stands.{Stands, AreHolds, AreOpenLines, AreUsed, IsOpenLine, left_openings, stripes_left}
+use Rattle.pblk_core.specs.LineRecords.{placed_whole}
+use Rattle.pblk_core.proofs.LineCounts.{left_opened}
+use Rattle.pblk_layout.specs.Live.{units_in}
+use Rattle.stripe_placer.specs.OpenLines.{opened}
 use Rattle.pblk_core.specs.Named.{next_line, next_units, next_start}
 use Rattle.pblk_core.proofs.OpeningFacts.{MayOpenNext, IsNextLine, next_line_is, next_may_open}
 use Rattle.core_laws.proofs.Steady.{lost_same}
@@ -119,9 +122,6 @@ none_of log e knows o quiet number =
 none_in_range : (a b : ℕ) → map (λ (x : Block). x.mark) (slice_range [] a b) ≡ []
 none_in_range a b = ap (map (λ (x : Block). x.mark)) (ap (take (b - a)) (drop-nil a) ∙ take-nil (b - a))
 
-nothing_less : (n : ℕ) → n ≡ n - 0
-nothing_less n = omega arith
-
 no_marks : (s : Shape) (o : Opening) (ps : List Placed) → ps ≡ []
     → map (λ (b : Block). b.mark) (slice_range (flat_map (λ (p : Placed). p.stripe.blocks) ps) (start_len s) (end_address s o)) ≡ []
 no_marks s o ps none = ap (λ (qs : List Placed). map (λ (b : Block). b.mark)
@@ -157,10 +157,10 @@ pub record IsOpenedInto (old new : Core) : Type 0 where
 one_more : (n : ℕ) → n < 2 → n + 1 ≤ 2
 one_more n h = omega arith
 
-pub lines_opened : (i : Image) (w : World) (knows : List ℕ) (old new : Core) → IsSimpleMount i w → Stands i (log_of w) old → MayOpenNext old
+pub lines_opened : (i : Image) (w : World) (knows : List ℕ) (old new : Core) → IsLegalMount i w → Stands i (log_of w) old → MayOpenNext old
     → IsOpenedInto old new
     → AreOpenLines i (after (log_of w) (Open (next_line old) (next_start old)) knows) new.open
-lines_opened i w knows old new simple st may is = record {
+lines_opened i w knows old new mount st may is = record {
   two = ap length slots_are ∙ length-set old.open.slots.items old.open.count x ∙ st.open_lines.two;
   shapes = λ k line there. go k line (set_at old.open.slots.items old.open.count k x line inside (ap (λ ls. slice_get ls k) (sym slots_are) ∙ there));
   few = subst (λ n. n ≤ 2) (sym is.open_count) (one_more old.open.count may.few);
@@ -184,7 +184,7 @@ lines_opened i w knows old new simple st may is = record {
     alike = quiet_alike (log_of w 0) e knows quiet
 
     line_is : IsNextLine i w old
-    line_is = next_line_is i w old simple st may
+    line_is = next_line_is i w old mount st may
 
     inside : old.open.count < length old.open.slots.items
     inside = let two : length old.open.slots.items ≡ 2 = st.open_lines.two in let few : old.open.count < 2 = may.few in omega arith
@@ -234,19 +234,21 @@ lines_opened i w knows old new simple st may is = record {
             width = refl;
             seq = refl;
             start = ap (λ s. start_bytes s (next_start old)) shape_is;
-            marks = sym (no_marks i.shape o (stripes_of (new_logs 0) o) none);
+            marks = sym (no_marks i.shape o (placed_whole (new_logs 0) o)
+                (ap (filter (λ (p : Placed). not (has_failed (take p.number (new_logs 0)) o))) none));
           };
           live = line_is.units_are ∙ ap (λ (ls : Logs). bits_of (line_units (known_image i ls) (next_line old))) (sym (prefix_whole (log_of w) e knows));
           left = ap (λ (s : Shape). (next_start old).width * (s.clba / s.ws_opt)) st.layout
-              ∙ nothing_less ((next_start old).width * (i.shape.clba / i.shape.ws_opt))
-              ∙ sym (ap (λ (ps : List Placed). (next_start old).width * (i.shape.clba / i.shape.ws_opt) - length (filter (has_landed (new_logs 0)) ps)) none);
+              ∙ ap (λ n. length (units_in n) * (i.shape.clba / i.shape.ws_opt)) line_is.units_are
+              ∙ sym (ap stripes_left (new_line i (log_of w) (next_line old) (next_start old) knows)
+              ∙ left_opened (opened i.shape (next_line old) (live_now i (log_of w) (next_line old)))
+              (length (units_in (live_now i (log_of w) (next_line old))) * (i.shape.clba / i.shape.ws_opt)) refl);
         })
 
-pub opened_stands : (i : Image) (w : World) (knows : List ℕ) (old new : Core) → IsSimpleMount i w → Stands i (log_of w) old → MayOpenNext old
+pub opened_stands : (i : Image) (w : World) (knows : List ℕ) (old new : Core) → IsLegalMount i w → Stands i (log_of w) old → MayOpenNext old
     → IsOpenedInto old new
     → Stands i (after (log_of w) (Open (next_line old) (next_start old)) knows) new
-opened_stands i w knows old new simple st may is = record {
-  simple = simple_after (log_of w 0) (record { event = Decides (Open (next_line old) (next_start old)); knows = knows }) st.simple refl;
+opened_stands i w knows old new mount st may is = record {
   layout = is.layout ∙ st.layout;
   beginning = st.beginning;
   has_begun = begun_kept (log_of w 0) e knows refl ∙ st.has_begun;
@@ -260,8 +262,8 @@ opened_stands i w knows old new simple st may is = record {
   used_lines = ap (λ r. length r.used) is.resets ∙ st.used_lines;
   used = subst (AreUsed i new_logs) (sym is.resets)
       (quiet_used i (log_of w) e knows old.resets refl (λ unit. refl)
-      (λ line. closed_opened i w st.beginning (next_line old) (next_start old) knows line simple.mount st.has_begun allowed) st.used);
-  notes = notes_opened i w st.beginning (next_line old) (next_start old) knows old.notes new.notes simple.mount st.has_begun allowed
+      (λ line. closed_opened i w st.beginning (next_line old) (next_start old) knows line mount st.has_begun allowed) st.used);
+  notes = notes_opened i w st.beginning (next_line old) (next_start old) knows old.notes new.notes mount st.has_begun allowed
       (is.note_rows ∙ ap (λ (s : Shape). slice_set old.notes.rows.items (next_line old)
       (note_opened (next_start old).seq (next_start old).front (start_stripes s))) st.layout) is.newest st.notes;
   size = ap (λ v. v.size) is.window ∙ st.size;
@@ -275,7 +277,7 @@ opened_stands i w knows old new simple st may is = record {
   holds = subst (AreHolds i.shape (new_logs 0)) (sym is.holds) (quiet_holds i.shape (log_of w 0) e knows old.holds quiet st.holds);
   again = st.again;
   placing = placing_is;
-  open_lines = lines_opened i w knows old new simple st may is;
+  open_lines = lines_opened i w knows old new mount st may is;
   next_seq = is.seq ∙ seq_is;
   first_seq = is.first_seq ∙ st.first_seq;
   own_capacity = is.own_capacity ∙ st.own_capacity;
@@ -305,10 +307,10 @@ opened_stands i w knows old new simple st may is = record {
     alike = quiet_alike (log_of w 0) e knows quiet
 
     line_is : IsNextLine i w old
-    line_is = next_line_is i w old simple st may
+    line_is = next_line_is i w old mount st may
 
     allowed : MayOpen i (log_of w) st.beginning (next_line old) (next_start old)
-    allowed = next_may_open i w old st.beginning simple st may st.has_begun
+    allowed = next_may_open i w old st.beginning mount st may st.has_begun
 
     first_is : first_position (new_logs 0) ≡ first_position (log_of w 0)
     first_is = first_stays (log_of w 0) (record { event = Decides e; knows = knows }) st.beginning st.has_begun
@@ -337,8 +339,8 @@ opened_stands i w knows old new simple st may is = record {
     table_is =
         changed_is old.lines new.lines (next_line old) (turned states.Open (next_start old).width) (row_of_line i (log_of w) (0 + next_line old)) there is.lines
         ∙ ap (with_row (next_line old) (turned states.Open (next_start old).width)) st.table
-        ∙ sym (rows_opened i (log_of w) st.beginning (next_line old) (next_start old) knows simple.mount.accepted.drive
-        (freed_before i w simple.mount.legal) allowed)
+        ∙ sym (rows_opened i (log_of w) st.beginning (next_line old) (next_start old) knows mount.accepted.drive
+        (freed_before i w mount.legal) allowed)
 
     placing_is : new.placer ≡ placing_of i new_logs new.placer.entries.pad st.again
     placing_is =

@@ -20,7 +20,7 @@ use Rattle.write_window.specs.Window as view
 use Rattle.core_laws.specs.Stepping.{after}
 use Rattle.core_laws.specs.OpenedLines.{live_now, open_lines, standing}
 use Rattle.core_laws.specs.PlacerOf.{contains_unit, placing_of, entries_of, row_of}
-use Rattle.core_laws.specs.SimpleMounts.{IsSimpleMount}
+use Rattle.world_laws.specs.LegalMounts.{IsLegalMount}
 use Rattle.core_laws.specs.RowsOf.{row_of_line, rows_of}
 use Rattle.core_laws.specs.WindowOf.{sectors_in, window_from}
 use Rattle.core_laws.proofs.Engine.{stopped_more}
@@ -33,6 +33,7 @@ use Rattle.core_laws.proofs.QuietEvents.{IsQuiet, quiet_alike, quiet_window, qui
 use Rattle.core_laws.specs.ChangedTables.{with_row}
 use Rattle.core_laws.specs.ClosedLines.{ClosedLine, closed_line}
 use Rattle.core_laws.proofs.ClosedKept.{closed_reset}
+use Rattle.core_laws.proofs.AnsweredTops.{top_reset}
 use Rattle.core_laws.proofs.FreedWidths.{not_given_up}
 use Rattle.core_laws.proofs.KeptRows.{begun_kept}
 use Rattle.core_laws.proofs.OpenAddresses.{addresses_kept}
@@ -44,7 +45,6 @@ use Rattle.pblk_core.specs.Named.{named}
 use Rattle.pblk_core.specs.LineNotes.{AreNotes}
 use Rattle.pblk_core.specs.Resets.{resets_left, resets_of, units_to_reset, is_of_line, kept_units, emptied, IsResetTo, used_in}
 use Rattle.pblk_core.specs.Stands.{Stands, AreHolds, AreOpenLines, AreUsed}
-use Rattle.core_laws.proofs.SimpleMounts.{simple_after}
 use Rattle.pblk_core.proofs.FirstReset.{is_there, none_there}
 use Rattle.pblk_core.proofs.FoundLines.{HasOldRow, older_kept}
 use Rattle.pblk_core.proofs.KeptResets.{fits_same}
@@ -89,11 +89,10 @@ pub record IsResetInto (old new : Core) (line unit : ℕ) (state : ChunkState) :
 pub named_in : (i : Image) (logs : Logs) (c : Core) (line unit : ℕ) → Stands i logs c → named c ≡ Reset line unit → IsNamedReset i logs line unit
 named_in i logs c line unit st is = reset_named i logs line unit (ap (λ rs. slice_get rs 0) (sym st.resets) ∙ named_first c line unit is)
 
-pub reset_stands : (i : Image) (w : World) (line unit event : ℕ) (knows : List ℕ) (state : ChunkState) (old new : Core) → IsSimpleMount i w
+pub reset_stands : (i : Image) (w : World) (line unit event : ℕ) (knows : List ℕ) (state : ChunkState) (old new : Core) → IsLegalMount i w
     → Stands i (log_of w) old → named old ≡ Reset line unit
     → IsResetTo i (log_of w) unit event line state → IsResetInto old new line unit state → Stands i (after (log_of w) (ResetDone unit event) knows) new
-reset_stands i w line unit event knows state old new simple st names to is = record {
-  simple = simple_after (log_of w 0) (record { event = Decides (ResetDone unit event); knows = knows }) st.simple refl;
+reset_stands i w line unit event knows state old new mount st names to is = record {
   layout = is.layout ∙ st.layout;
   beginning = st.beginning;
   has_begun = begun_kept (log_of w 0) e knows refl ∙ st.has_begun;
@@ -168,14 +167,14 @@ reset_stands i w line unit event knows state old new simple st names to is = rec
     resets_are = is.resets ∙ ap (drop 1) st.resets ∙ sym (resets_less i (log_of w) unit event line knows state named_is seen)
 
     closed_is : (other : ℕ) → closed_line i (after (log_of w) (ResetDone unit event) knows) other ≡ closed_line i (log_of w) other
-    closed_is other = closed_reset i w st.beginning unit event knows other simple.mount st.has_begun to.may
+    closed_is other = closed_reset i w st.beginning unit event knows other mount st.has_begun to.may
         (ap (is_given_up (log_of w 0)) to.chunk ∙ named_is.given_up)
 
     -- a closed line has a sequence number, and the one that is reset was given up
     apart : (other : ℕ) (c : ClosedLine) → closed_line i (log_of w) other ≡ Some c → other ≢ line
     apart other c closed same =
         let kept : is_given_up (log_of w 0) other ≡ false =
-        not_given_up i w simple.mount other st.beginning st.has_begun c.seq (over_where_closed i (log_of w) other c closed).1 in
+        not_given_up i w mount other st.beginning st.has_begun c.seq (over_where_closed i (log_of w) other c closed).1 in
         not_both (is_given_up (log_of w 0) other) (ap (is_given_up (log_of w 0)) same ∙ named_is.given_up) kept
 
     used_are : AreUsed i (after (log_of w) (ResetDone unit event) knows) new.resets
@@ -188,10 +187,11 @@ reset_stands i w line unit event knows state old new simple st names to is = rec
 
     notes_are : AreNotes i (after (log_of w) (ResetDone unit event) knows) new.notes
     notes_are = subst (AreNotes i new_logs) (sym is.notes)
-        (quiet_notes i w st.beginning e knows old.notes simple.mount st.has_begun refl refl (λ m. life_more (log_of w 0) l m) closed_is st.notes)
+        (quiet_notes i w st.beginning e knows old.notes mount st.has_begun refl (λ m. life_more (log_of w 0) l m) closed_is
+        (λ m o life. top_reset i (log_of w) unit event knows m o to.may (ap (is_given_up (log_of w 0)) to.chunk ∙ named_is.given_up) life) st.notes)
 
     units_are : new.live.items ≡ map (live_now i new_logs) (range_with_len 0 i.shape.chunks)
-    units_are = is.live ∙ ap (λ us. kept_units us line unit state) st.units ∙ units_kept i w unit event line knows state simple.mount named_is seen
+    units_are = is.live ∙ ap (λ us. kept_units us line unit state) st.units ∙ units_kept i w unit event line knows state mount named_is seen
 
     from : 0 + line ≡ line
     from = omega arith
@@ -211,20 +211,20 @@ reset_stands i w line unit event knows state old new simple st names to is = rec
     table_is true at =
         let more = is_there (units_to_reset i new_logs) i.shape.chunks line (ap (λ rs. is_of_line line (slice_get rs 0)) (sym resets_are) ∙ at) in
         is.lines_stay at ∙ st.table
-        ∙ sym (table_stays i w unit event line knows state st.beginning more.0 more.1 simple.mount st.has_begun named_is seen
+        ∙ sym (table_stays i w unit event line knows state st.beginning more.0 more.1 mount st.has_begun named_is seen
         (sym (units_left i (log_of w) unit event line knows state named_is seen) ∙ more.2))
     table_is false at =
         let none : units_to_reset i new_logs line ≡ [] =
         none_there (units_to_reset i new_logs) i.shape.chunks line named_is.in_range others_before
         (ap (λ rs. is_of_line line (slice_get rs 0)) (sym resets_are) ∙ at) in
-        let wide : length (units_in (live_now i new_logs line)) ≡ width (known_image i new_logs) line = bits_width i w new_logs line simple.mount in
+        let wide : length (units_in (live_now i new_logs line)) ≡ width (known_image i new_logs) line = bits_width i w new_logs line mount in
         changed_is old.lines new.lines line
         (turned (emptied old.layout (length (units_in (live_now i new_logs line)))) (length (units_in (live_now i new_logs line))))
         (row_of_line i (log_of w) (0 + line)) there
         (is.lines_turn (live_now i new_logs line) at live_there)
         ∙ ap₂ (λ s n. with_row line (turned (emptied s n) n) old.lines) st.layout wide
         ∙ ap (with_row line (turned (emptied i.shape (width (known_image i new_logs) line)) (width (known_image i new_logs) line))) st.table
-        ∙ sym (table_turns i w unit event line knows state st.beginning simple.mount st.has_begun named_is seen
+        ∙ sym (table_turns i w unit event line knows state st.beginning mount st.has_begun named_is seen
         (sym (units_left i (log_of w) unit event line knows state named_is seen) ∙ none))
 
     placing_is : placing_of i new_logs old.placer.entries.pad st.again ≡ placing_of i (log_of w) old.placer.entries.pad st.again

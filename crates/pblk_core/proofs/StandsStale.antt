@@ -19,7 +19,6 @@ use Rattle.sector_pool.specs.declared.entry.Class.{Class}
 use Rattle.sector_pool.specs.declared.entry.Class.TheVariants.{User, Copy}
 use Rattle.sector_pool.specs.declared.entry.Entry.{Entry as FramedEntry}
 use Rattle.sector_pool.specs.declared.entry.Source.{Source as EntrySource}
-use Rattle.core_laws.specs.SimpleMounts.{IsSimpleMount}
 use Rattle.core_laws.specs.SlotOf.{slot_of}
 use Rattle.core_laws.specs.SlotPositions.{position_of_slot}
 use Rattle.core_laws.specs.Stepping.{after}
@@ -45,24 +44,24 @@ pub record IsStaleInto (old new : Core) (e : FramedEntry) : Type 0 where
   pub holds : new.holds.rows.items ≡ slice_set old.holds.rows.items (e.position % length old.holds.rows.items)
       (record { mark = void_mark e.position; line = None; taker = None })
 
-pub stale_stands : (i : Image) (w : World) (knows : List ℕ) (old new : Core) (e : FramedEntry) → IsSimpleMount i w → Stands i (log_of w) old
+pub stale_stands : (i : Image) (w : World) (knows : List ℕ) (old new : Core) (e : FramedEntry) → IsLegalMount i w → Stands i (log_of w) old
     → CanTake old e → IsStaleInto old new e → Stands i (after (log_of w) (Take (entry_of e) (void_mark e.position)) knows) new
-stale_stands i w knows old new e simple st next is = kept_stands i w knows old new e (void_mark e.position) simple st next is.kept (record {
+stale_stands i w knows old new e mount st next is = kept_stands i w knows old new e (void_mark e.position) mount st next is.kept (record {
   slots = λ lba inside. ap (λ m. fin.get m lba) is.map ∙ st.slots lba inside ∙ ap Some (sym (slot_same lba inside));
   table = is.lines ∙ st.table
-      ∙ sym (rows_void i (log_of w) (entry_of e) (void_mark e.position) knows (freed_before i w simple.mount.legal) (numbered i w old e simple st next)
-      (taken_is i w old e simple st next) (small void_lba (omega arith)));
-  holds = holds_void i (log_of w) knows (entry_of e) (void_mark e.position) old.holds old.window.freed (numbered i w old e simple st next)
-      (unplaced i w old e simple st next) st.holds (taken_is i w old e simple st next) st.to_freed (within i w old e simple st next) new.holds refl is.holds;
+      ∙ sym (rows_void i (log_of w) (entry_of e) (void_mark e.position) knows (freed_before i w mount.legal) (numbered i w old e mount st next)
+      (taken_is i w old e mount st next) (small void_lba (omega arith)));
+  holds = holds_void i (log_of w) knows (entry_of e) (void_mark e.position) old.holds old.window.freed (numbered i w old e mount st next)
+      (unplaced i w old e mount st next) st.holds (taken_is i w old e mount st next) st.to_freed (within i w old e mount st next) new.holds refl is.holds;
 })
   where
     small : (n : ℕ) → meta_lba ≤ n → i.shape.capacity ≤ n
-    small n most = let low : i.shape.capacity ≤ meta_lba = accepted_small i.shape simple.mount.accepted in omega (arith, most)
+    small n most = let low : i.shape.capacity ≤ meta_lba = accepted_small i.shape mount.accepted in omega (arith, most)
 
     slot_same : (lba : ℕ) → lba < i.shape.capacity
         → slot_of i (after (log_of w) (Take (entry_of e) (void_mark e.position)) knows) lba ≡ slot_of i (log_of w) lba
     slot_same lba inside =
-        slot_taken i (log_of w) (entry_of e) (void_mark e.position) knows lba (unplaced i w old e simple st next)
+        slot_taken i (log_of w) (entry_of e) (void_mark e.position) knows lba (unplaced i w old e mount st next)
         ∙ ap (λ b. if b then Cached e.position else slot_of i (log_of w) lba) (other_number void_lba lba apart)
       where
         apart : void_lba ≢ lba

@@ -25,6 +25,7 @@ use Rattle.core_laws.specs.OpenedLines.{bits_of, live_now, standing}
 use Rattle.core_laws.specs.Positions.{AreNumbered, IsUnplaced}
 use Rattle.core_laws.specs.SlotOf.{slot_by, slot_of}
 use Rattle.core_laws.specs.WindowOf.{is_given_back, sectors_in, window_from, HeldSectors, waiting_sector, without_frame, class_of, source_of}
+use Rattle.core_laws.proofs.AnsweredTops.{top_kept}
 use Rattle.core_laws.proofs.Taking.{alike, with_take, filter_last, placing_taken}
 use Rattle.core_laws.proofs.TakenSlots.{slot_taken, gives_back_same, any_same}
 use Rattle.core_laws.proofs.TakenWindow.{window_taken}
@@ -74,11 +75,9 @@ use Rattle.write_window.specs.declared.held.Progress.TheVariants.{Waiting}
 use Rattle.write_window.specs.Window as view
 use Rattle.stripe_placer.specs.Placing.{waits}
 use Rattle.world_laws.specs.LegalMounts.{IsLegalMount}
-use Rattle.core_laws.specs.SimpleMounts.{IsSimpleMount}
 use Rattle.core_laws.proofs.LatestSources.{entry_is_latest, named_is_place}
 use Rattle.core_laws.proofs.LiveSlots.{given_by}
 use Rattle.std.proofs.lemmas.Bool.{eqb-true}
-use Rattle.core_laws.proofs.SimpleMounts.{simple_after}
 use Rattle.pblk_model.specs.Contents.{least_missing}
 use Rattle.std.specs.Prelude.{slice_set, ◌%◌, map, slice_get}
 use Rattle.std.proofs.lemmas.Bool.Decides.{eqb_tells}
@@ -226,12 +225,12 @@ pub record TellsSectors (i : Image) (logs : Logs) (c : Core) : Type 0 where
   pub table : c.lines ≡ rows_of i logs
   pub holds : AreHolds i.shape (logs 0) c.holds
 
-module _ (i : Image) (w : World) (c : Core) (e : FramedEntry) (simple : IsSimpleMount i w) (st : Stands i (log_of w) c) (next : CanTake c e) where
+module _ (i : Image) (w : World) (c : Core) (e : FramedEntry) (mount : IsLegalMount i w) (st : Stands i (log_of w) c) (next : CanTake c e) where
   pub taken_is : e.position ≡ taken (log_of w 0)
   taken_is = next.next ∙ window_taken_is i w c st
 
   pub unplaced : IsUnplaced i.shape (log_of w 0) e.position
-  unplaced = subst (IsUnplaced i.shape (log_of w 0)) (sym taken_is) (next_is_unplaced i w simple)
+  unplaced = subst (IsUnplaced i.shape (log_of w 0)) (sym taken_is) (next_is_unplaced i w mount)
 
   pub within : taken (log_of w 0) < c.window.freed + i.shape.ring
   within =
@@ -241,13 +240,12 @@ module _ (i : Image) (w : World) (c : Core) (e : FramedEntry) (simple : IsSimple
       omega arith
 
   pub numbered : AreNumbered (log_of w 0)
-  numbered = (in_order i w (accepted_small i.shape simple.mount.accepted) simple.mount.legal).numbered
+  numbered = (in_order i w (accepted_small i.shape mount.accepted) mount.legal).numbered
 
-pub kept_stands : (i : Image) (w : World) (knows : List ℕ) (old new : Core) (e : FramedEntry) (mark : Mark) → IsSimpleMount i w → Stands i (log_of w) old
+pub kept_stands : (i : Image) (w : World) (knows : List ℕ) (old new : Core) (e : FramedEntry) (mark : Mark) → IsLegalMount i w → Stands i (log_of w) old
     → CanTake old e → IsKeptInto old new e → TellsSectors i (after (log_of w) (Take (entry_of e) mark) knows) new
     → Stands i (after (log_of w) (Take (entry_of e) mark) knows) new
-kept_stands i w knows old new e mark simple st next is tells = record {
-  simple = simple_after (log_of w 0) (record { event = Decides (Take (entry_of e) mark); knows = knows }) st.simple refl;
+kept_stands i w knows old new e mark mount st next is tells = record {
   layout = is.layout ∙ st.layout;
   beginning = st.beginning;
   has_begun = begun_kept (log_of w 0) (Take (entry_of e) mark) knows refl ∙ st.has_begun;
@@ -264,8 +262,9 @@ kept_stands i w knows old new e mark simple st next is tells = record {
   used = subst (AreUsed i new_logs) (sym is.resets)
       (quiet_used i (log_of w) (Take (entry_of e) mark) knows old.resets refl (λ unit. refl) same_closed st.used);
   notes = subst (AreNotes i new_logs) (sym is.notes)
-      (quiet_notes i w st.beginning (Take (entry_of e) mark) knows old.notes simple.mount st.has_begun refl refl
-      (λ line. life_more (log_of w 0) (record { event = Decides (Take (entry_of e) mark); knows = knows }) line) same_closed st.notes);
+      (quiet_notes i w st.beginning (Take (entry_of e) mark) knows old.notes mount st.has_begun refl
+      (λ line. life_more (log_of w 0) (record { event = Decides (Take (entry_of e) mark); knows = knows }) line) same_closed
+      (λ line o life. top_kept i (log_of w) (Take (entry_of e) mark) knows o refl (λ unit. refl)) st.notes);
   size = ap (λ v. v.size) is.window ∙ st.size;
   window = window_is;
   from_first = subst (λ v. first_position (new_logs 0) ≤ v.freed) (sym is.window) (subst (λ p. p ≤ old.window.freed) (sym first_is) st.from_first);
@@ -300,7 +299,7 @@ kept_stands i w knows old new e mark simple st next is tells = record {
     same_closed line = closed_taken i (log_of w) (entry_of e) mark knows line
 
     none : IsUnplaced i.shape (log_of w 0) e.position
-    none = unplaced i w old e simple st next
+    none = unplaced i w old e mount st next
 
     older_is : older_rows i (log_of w) ≡ older_rows i new_logs
     older_is = older_kept i (log_of w) (Take (entry_of e) mark) knows st.beginning st.has_begun refl
@@ -341,7 +340,7 @@ kept_stands i w knows old new e mark simple st next is tells = record {
         ∙ map_window (map-append without_frame old.window.entries (record { entry = e; progress = Waiting } ∷ []))
         ∙ with_last (waiting_is e (classed_is old.map e e.class e.source next.class))
         ∙ ap (λ (v : HeldSectors). record v { entries = v.entries ++ waiting_sector (entry_of e) ∷ [] }) st.window
-        ∙ sym (window_taken i.shape (log_of w 0) (entry_of e) mark knows old.window.freed none (taken_is i w old e simple st next)
+        ∙ sym (window_taken i.shape (log_of w 0) (entry_of e) mark knows old.window.freed none (taken_is i w old e mount st next)
         (freed_taken_within i w old st))
         ∙ ap (window_from i.shape (new_logs 0)) (sym (ap (λ v. v.freed) is.window))
 
@@ -368,30 +367,30 @@ source_slot (Media line at position) source e =
 -- ---- an entry that becomes the latest of its sector
 
 -- the line of a slot is one of the drive, and has a live sector
-slot_line : (i : Image) (w : World) (c : Core) (lba : ℕ) (slot : Slot) (line : ℕ) → IsSimpleMount i w → Stands i (log_of w) c → fin.get c.map lba ≡ Some slot
+slot_line : (i : Image) (w : World) (c : Core) (lba : ℕ) (slot : Slot) (line : ℕ) → IsLegalMount i w → Stands i (log_of w) c → fin.get c.map lba ≡ Some slot
     → lba < i.shape.capacity
     → line_of_slot c.holds.rows.items slot ≡ Some line → line_of i (log_of w) lba (last_take (log_of w 0) lba) ≡ Some line
-slot_line i w c lba slot line simple st found inside is =
+slot_line i w c lba slot line mount st found inside is =
     let now : slot ≡ slot_of i (log_of w) lba = same_Some slot (slot_of i (log_of w) lba) (sym found ∙ st.slots lba inside) in
-    sym (line_is i w c.holds lba simple inside st.holds) ∙ sym (ap (line_of_slot c.holds.rows.items) now) ∙ is
+    sym (line_is i w c.holds lba mount inside st.holds) ∙ sym (ap (line_of_slot c.holds.rows.items) now) ∙ is
 
-pub live_there : (i : Image) (w : World) (c : Core) (lba : ℕ) (slot : Slot) (line : ℕ) (row : Row) → IsSimpleMount i w → Stands i (log_of w) c
+pub live_there : (i : Image) (w : World) (c : Core) (lba : ℕ) (slot : Slot) (line : ℕ) (row : Row) → IsLegalMount i w → Stands i (log_of w) c
     → fin.get c.map lba ≡ Some slot → lba < i.shape.capacity
     → line_of_slot c.holds.rows.items slot ≡ Some line → IsRow c.lines line row → 0 < row.live
-live_there i w c lba slot line row simple st found inside is there =
-    let some : 0 < live i (log_of w) line = live_some i (log_of w) line lba inside (slot_line i w c lba slot line simple st found inside is) in
+live_there i w c lba slot line row mount st found inside is there =
+    let some : 0 < live i (log_of w) line = live_some i (log_of w) line lba inside (slot_line i w c lba slot line mount st found inside is) in
     let at : slice_get (map (row_of_line i (log_of w)) (range_with_len 0 i.shape.chunks)) line ≡ Some row =
     sym (ap (λ (t : Table). slice_get t.rows line) st.table) ∙ there in
     subst (λ (r : Row). 0 < r.live) ((row_at (row_of_line i (log_of w)) i.shape.chunks 0 line row at).1)
     (subst (λ n. 0 < live i (log_of w) n) (sym (zero-add line)) some)
 
-pub live_inside : (i : Image) (w : World) (c : Core) (lba : ℕ) (slot : Slot) (line : ℕ) → IsSimpleMount i w → Stands i (log_of w) c
+pub live_inside : (i : Image) (w : World) (c : Core) (lba : ℕ) (slot : Slot) (line : ℕ) → IsLegalMount i w → Stands i (log_of w) c
     → fin.get c.map lba ≡ Some slot → lba < i.shape.capacity
     → line_of_slot c.holds.rows.items slot ≡ Some line → line < length c.lines.rows
-live_inside i w c lba slot line simple st found inside is =
+live_inside i w c lba slot line mount st found inside is =
     let low : line < i.shape.chunks =
-    line_in_range i (log_of w) lba (last_take (log_of w 0) lba) line (plain_in_order i w simple.mount).placed
-    (slot_line i w c lba slot line simple st found inside is) in
+    line_in_range i (log_of w) lba (last_take (log_of w 0) lba) line (plain_in_order i w mount).placed
+    (slot_line i w c lba slot line mount st found inside is) in
     subst (λ n. line < n) (sym (ap (λ (t : Table). length t.rows) st.table ∙ length-map-range_with_len (row_of_line i (log_of w)) 0 i.shape.chunks)) low
 
 -- what a core's fields are once it took one
@@ -404,26 +403,26 @@ pub record IsTakenInto (old new : Core) (e : FramedEntry) (mark : Mark) : Type 0
   pub holds : new.holds.rows.items ≡ slice_set (rows_with_taker slot e.position old.holds.rows.items)
       (e.position % length (rows_with_taker slot e.position old.holds.rows.items)) (record { mark = mark; line = None; taker = None })
 
-pub taken_stands : (i : Image) (w : World) (knows : List ℕ) (old new : Core) (e : FramedEntry) (mark : Mark) → IsSimpleMount i w → Stands i (log_of w) old
+pub taken_stands : (i : Image) (w : World) (knows : List ℕ) (old new : Core) (e : FramedEntry) (mark : Mark) → IsLegalMount i w → Stands i (log_of w) old
     → CanTake old e → IsTakenInto old new e mark → mark.lba ≡ e.lba → e.lba < i.shape.capacity
     → Stands i (after (log_of w) (Take (entry_of e) mark) knows) new
-taken_stands i w knows old new e mark simple st next is names inside = kept_stands i w knows old new e mark simple st next is.kept (record {
+taken_stands i w knows old new e mark mount st next is names inside = kept_stands i w knows old new e mark mount st next is.kept (record {
   slots = λ x within. ap (λ m. fin.get m x) is.map ∙ slots_taken i (log_of w) (entry_of e) mark knows old.map x none names st.slots within;
   table = is.lines ∙ ap₂ (λ o t. lose_in o (has_landed_in old.window is.slot) e.position t) line_now st.table
       ∙ ap (λ slot. lose_in (line_of i (log_of w) e.lba (last_take (log_of w 0) e.lba)) (has_landed_in old.window slot) e.position (rows_of i (log_of w)))
       slot_now ∙ sym table_now;
-  holds = holds_taken i (log_of w) knows (entry_of e) mark old.holds old.window.freed (numbered i w old e simple st next) none st.holds
-      (taken_is i w old e simple st next) st.to_freed (within i w old e simple st next) new.holds names no_void holds_are;
+  holds = holds_taken i (log_of w) knows (entry_of e) mark old.holds old.window.freed (numbered i w old e mount st next) none st.holds
+      (taken_is i w old e mount st next) st.to_freed (within i w old e mount st next) new.holds names no_void holds_are;
 })
   where
     none : IsUnplaced i.shape (log_of w 0) e.position
-    none = unplaced i w old e simple st next
+    none = unplaced i w old e mount st next
 
     slot_now : is.slot ≡ slot_of i (log_of w) e.lba
     slot_now = same_Some is.slot (slot_of i (log_of w) e.lba) (sym is.found ∙ st.slots e.lba inside)
 
     line_now : line_of_slot old.holds.rows.items is.slot ≡ line_of i (log_of w) e.lba (last_take (log_of w 0) e.lba)
-    line_now = ap (line_of_slot old.holds.rows.items) slot_now ∙ line_is i w old.holds e.lba simple inside st.holds
+    line_now = ap (line_of_slot old.holds.rows.items) slot_now ∙ line_is i w old.holds e.lba mount inside st.holds
 
     holds_are : new.holds.rows.items ≡ slice_set (rows_with_taker (slot_of i (log_of w) e.lba) e.position old.holds.rows.items)
         (e.position % length (rows_with_taker (slot_of i (log_of w) e.lba) e.position old.holds.rows.items))
@@ -435,15 +434,15 @@ taken_stands i w knows old new e mark simple st next is names inside = kept_stan
         (has_landed_in old.window (slot_of i (log_of w) e.lba)) e.position (rows_of i (log_of w))
     table_now =
         rows_taken i (log_of w) (entry_of e) mark knows (has_landed_in old.window (slot_of i (log_of w) e.lba))
-        (freed_before i w simple.mount.legal) (numbered i w old e simple st next) none (taken_is i w old e simple st next)
+        (freed_before i w mount.legal) (numbered i w old e mount st next) none (taken_is i w old e mount st next)
         (subst (λ n. n < i.shape.capacity) (sym names) inside)
-        (ap (λ n. landed_line_of i (log_of w) n (last_take (log_of w 0) n)) names ∙ landed_is i w old e.lba simple st
+        (ap (λ n. landed_line_of i (log_of w) n (last_take (log_of w 0) n)) names ∙ landed_is i w old e.lba mount st
         ∙ ap (λ n. if has_landed_in old.window (slot_of i (log_of w) e.lba) then line_of i (log_of w) n (last_take (log_of w 0) n) else None) (sym names))
         ∙ ap (λ n. lose_in (line_of i (log_of w) n (last_take (log_of w 0) n)) (has_landed_in old.window (slot_of i (log_of w) e.lba)) e.position
         (rows_of i (log_of w))) names
 
     no_void : mark.lba < void_lba
-    no_void = let low : i.shape.capacity ≤ meta_lba = accepted_small i.shape simple.mount.accepted in
+    no_void = let low : i.shape.capacity ≤ meta_lba = accepted_small i.shape mount.accepted in
         let same : mark.lba ≡ e.lba = names in
         omega (arith, inside)
 

@@ -1,51 +1,35 @@
 -- An event that places, answers, opens and frees nothing leaves the open lines as they are.
-use Rattle.std.proofs.Common.{◌≡◌, ℕ, ◌-◌, ◌*◌, ◌/◌, ◌<◌, Some, List, length, sym, ap, ap₂, ◌∙◌, le_of_lt}
-use Rattle.std.specs.Prelude.{map, slice_get, slice_range}
-use Rattle.std.specs.List.{filter, flat_map, range_with_len}
+use Rattle.std.proofs.Common.{◌≡◌, ℕ, ◌<◌, Some, List, length, sym, ap, ap₂, ◌∙◌, le_of_lt}
+use Rattle.std.specs.Prelude.{slice_get}
+use Rattle.std.specs.List.{filter, range_with_len}
 use Rattle.std.specs.Option.{is_some}
 use Rattle.pblk_model.specs.Shape.{units}
 use Rattle.pblk_model.specs.declared.shape.Shape.{Shape}
 use Rattle.pblk_model.specs.Image.{Image, line_units}
-use Rattle.pblk_model.specs.LineOrder.{start_len}
-use Rattle.pblk_world.specs.Events.{EngineEvent, Logged}
+use Rattle.pblk_world.specs.Events.{EngineEvent, Decides, Logged}
 use Rattle.pblk_world.specs.World.{Logs}
-use Rattle.pblk_world.specs.EngineLog.{Opening, is_life, Placed, stripes_of, has_landed, is_land}
+use Rattle.pblk_world.specs.EngineLog.{Opening, is_life, Placed, stripes_of}
 use Rattle.pblk_world.specs.Lines.{known_image}
-use Rattle.pblk_world.specs.Placing.{data_marks, end_address}
 use Rattle.stripe_placer.specs.OpenLines.{has_left}
 use Rattle.core_laws.specs.Stepping.{after}
 use Rattle.core_laws.specs.OpenedLines.{opened_units, bits_of, open_line, standing}
 use Rattle.core_laws.proofs.Engine.{prefix_same}
-use Rattle.core_laws.proofs.Steady.{AreAlike, unanswered_in, answer_same, open_line_same, standing_before}
+use Rattle.core_laws.proofs.Steady.{AreAlike, unanswered_in, open_line_same, standing_before}
 use Rattle.core_laws.proofs.LeftLines.{left_before}
 use Rattle.pblk_core.specs.declared.open_lines.OpenLine.{OpenLine}
 use Rattle.pblk_core.specs.declared.open_lines.OpenLines.{OpenLines}
-use Rattle.pblk_core.specs.LineRecords.{AreOf}
-use Rattle.pblk_core.specs.Stands.{left_openings, unlanded, under_way, IsOpenLine, AreOpenLines}
-use Rattle.lemmas.proofs.Maps.{filter_agree, filter_same}
+use Rattle.pblk_core.specs.LineRecords.{AreKept, Records}
+use Rattle.pblk_core.specs.Stands.{left_openings, stripes_left, under_way, IsOpenLine, AreOpenLines}
+use Rattle.lemmas.proofs.Maps.{filter_agree}
+use Rattle.pblk_core.proofs.WholeMarks.{records_kept}
 
 pub stripes_same : (old new : List Logged) → AreAlike old new → (o : Opening) → stripes_of new o ≡ stripes_of old o
 stripes_same old new alike o = ap (λ ps. filter (λ (p : Placed). is_life o.number p.life) ps) alike.placements
 
-pub marks_same : (s : Shape) (old new : List Logged) → AreAlike old new → (o : Opening) → data_marks s new o ≡ data_marks s old o
-marks_same s old new alike o =
-    ap (λ ps. map (λ b. b.mark) (slice_range (flat_map (λ (p : Placed). p.stripe.blocks) ps) (start_len s) (end_address s o))) (stripes_same old new alike o)
-
-pub unlanded_same : (s : Shape) (old new : List Logged) → AreAlike old new → (o : Opening) → unlanded s new o ≡ unlanded s old o
-unlanded_same s old new alike o =
-    ap (λ ps. o.start.width * (s.clba / s.ws_opt) - length (filter (has_landed new) ps)) (stripes_same old new alike o)
-    ∙ ap (λ ps. o.start.width * (s.clba / s.ws_opt) - length ps)
-    (filter_same (has_landed new) (has_landed old) (λ p. ap is_land (answer_same old new alike p)) (stripes_of old o))
-
-pub records_same : (s : Shape) (old new : List Logged) → AreAlike old new → (o : Opening) (r : _) → AreOf s old o r → AreOf s new o r
-records_same s old new alike o r of = record {
-  shape = of.shape;
-  line = of.line;
-  width = of.width;
-  seq = of.seq;
-  start = of.start;
-  marks = of.marks ∙ sym (marks_same s old new alike o);
-}
+pub records_same : (s : Shape) (logs : Logs) (e : EngineEvent) (knows : List ℕ) → AreAlike (logs 0) (after logs e knows 0) → (o : Opening) (r : Records)
+    → AreKept s (logs 0) o r → AreKept s (after logs e knows 0) o r
+records_same s logs e knows alike o r of =
+    records_kept s (logs 0) (record { event = Decides e; knows = knows }) o r (stripes_same (logs 0) (after logs e knows 0) alike o) of
 
 pub units_same : (i : Image) (logs : Logs) (e : EngineEvent) (knows : List ℕ) (o : Opening) → o.number < length (logs 0)
     → opened_units i (after logs e knows) o ≡ opened_units i logs o
@@ -63,9 +47,9 @@ pub open_same : (i : Image) (logs : Logs) (e : EngineEvent) (knows : List ℕ) (
     → o.number < length (logs 0)
     → IsOpenLine i logs o kept → IsOpenLine i (after logs e knows) o kept
 open_same i logs e knows o kept alike before is = record {
-  records = records_same i.shape (logs 0) (after logs e knows 0) alike o kept.records is.records;
+  records = records_same i.shape logs e knows alike o kept.records is.records;
   live = is.live ∙ ap bits_of (sym (units_same i logs e knows o before));
-  left = is.left ∙ sym (unlanded_same i.shape (logs 0) (after logs e knows 0) alike o);
+  left = is.left ∙ ap stripes_left (sym (open_line_same i logs e knows alike o before));
 }
 
 -- where the same lines have a stripe left

@@ -1,5 +1,5 @@
 -- The entries that wait, in the window of a core and in the rows beside it.
-use Rattle.std.proofs.Common.{◌≡◌, ℕ, ◌+◌, ◌-◌, ◌<◌, ◌≤◌, ◌^◌, ◌%◌, ◌&&◌, zero, suc, nat_lt, nat_le, Bool, true, false, Some, None, Option, List, [], ◌∷◌, ◌++◌, length, take, drop, refl, sym, subst, ap, ap₂, ◌∙◌, arith, append-nil}
+use Rattle.std.proofs.Common.{◌≡◌, ℕ, ◌+◌, ◌-◌, ◌<◌, ◌≤◌, ◌^◌, ◌%◌, zero, suc, nat_lt, Bool, true, false, Some, None, Option, List, [], ◌∷◌, ◌++◌, length, take, drop, refl, sym, subst, ap, ap₂, ◌∙◌, arith, append-nil}
 use Rattle.std.specs.Prelude.{map, slice_get, if◌then◌else◌}
 use Rattle.std.specs.List.{AllByRecursion, range_with_len}
 use Rattle.std.specs.Option.{option_map, option_map_or, unwrap_or}
@@ -12,11 +12,12 @@ use Rattle.pblk_world.specs.World.{World, Logs, log_of}
 use Rattle.pblk_world.specs.EngineLog.{Taken, takes, block_of_taken}
 use Rattle.pblk_world.specs.Fronts.{first_position, taken, waiting, has_landed_at}
 use Rattle.pblk_world.specs.Legal.{MayDecide}
-use Rattle.pblk_world.specs.Space.{freed, placed_front}
+use Rattle.pblk_world.specs.Space.{freed}
 use Rattle.write_window.specs.Window.{WindowView, sector_at}
 use Rattle.write_window.specs.declared.held.Held.{Held}
-use Rattle.core_laws.proofs.PlainLogs.{never_lost}
-use Rattle.core_laws.specs.SimpleMounts.{IsSimpleMount}
+use Rattle.core_laws.proofs.EntryHolds.{line_of_waiting}
+use Rattle.core_laws.proofs.PlacedAnew.{IsWaiting as WaitsHere, waiting_wait}
+use Rattle.world_laws.specs.LegalMounts.{IsLegalMount}
 use Rattle.core_laws.specs.PlacerOf.{positions_of, placing_of}
 use Rattle.core_laws.specs.Positions.{AreNumbered}
 use Rattle.core_laws.specs.WindowOf.{HeldSector, HeldSectors, without_frame, held_of, is_given_back}
@@ -28,9 +29,8 @@ use Rattle.core_laws.proofs.Growing.{given_landed}
 use Rattle.core_laws.specs.Placed.{IsInWindow}
 use Rattle.core_laws.specs.EntryHolds.{placed_line}
 use Rattle.core_laws.proofs.EventByEvent.{of_legal_log}
-use Rattle.core_laws.proofs.PlacedInOrder.{IsOrdered, ordered, count_is, waiting_are_last}
+use Rattle.core_laws.proofs.PlacedInOrder.{IsOrdered, ordered}
 use Rattle.core_laws.proofs.HeldPositions.{in_window}
-use Rattle.core_laws.proofs.EntryHolds.{line_below_front}
 use Rattle.pblk_core.specs.Entries.{entry_block, entry_blocks}
 use Rattle.pblk_core.specs.Holds.{hold_of, row_at}
 use Rattle.pblk_core.specs.Stands.{Stands}
@@ -38,7 +38,6 @@ use Rattle.pblk_core.specs.declared.target_core.Core.{Core}
 use Rattle.pblk_core.specs.declared.hold.Hold.{Hold}
 use Rattle.core_laws.proofs.WindowOfLemmas.{bytes_without}
 use Rattle.lemmas.proofs.Lists.{all_append}
-use Rattle.lemmas.proofs.Options.{not_noted}
 use Rattle.lemmas.proofs.Parts.{all_at, all_by_get, get_dropped, get_more, get_whole, is_in}
 use Rattle.pblk_world.proofs.EngineLogLemmas.{takes_more}
 
@@ -71,14 +70,13 @@ sized_after i log known (Take entry mark) knows own may is =
 sized_after i log known e knows own may is =
     subst (AllByRecursion (IsSized i.shape)) (sym (takes_more log (record { event = Decides e; knows = knows }) ∙ append-nil (takes log))) is
 
-pub are_sized : (i : Image) (w : World) → IsSimpleMount i w → AllByRecursion (IsSized i.shape) (takes (log_of w 0))
+pub are_sized : (i : Image) (w : World) → IsLegalMount i w → AllByRecursion (IsSized i.shape) (takes (log_of w 0))
 are_sized i w is = of_legal_log i (λ log. AllByRecursion (IsSized i.shape) (takes log)) tt
-    (λ log known e knows own may kept. sized_after i log known e knows own may kept) w is.mount.legal
+    (λ log known e knows own may kept. sized_after i log known e knows own may kept) w is.legal
 
 -- ---- what waits
 
-pub record IsWaiting (i : Image) (w : World) (c : Core) (t : Taken) (k : ℕ) : Type 0 where
-  pub position : t.entry.position ≡ placed_front i.shape (log_of w 0) + k
+pub record IsWaiting (i : Image) (w : World) (c : Core) (t : Taken) : Type 0 where
   pub number : ℕ
   pub there : slice_get (takes (log_of w 0)) number ≡ Some t
   pub number_is : first_position (log_of w 0) + number ≡ t.entry.position
@@ -95,18 +93,16 @@ row_of_entry i w c t number st there kept =
     ap (λ n. slice_get c.holds.rows.items (t.entry.position % n)) st.holds.room
     ∙ st.holds.each t (is_in (takes (log_of w 0)) number t there) kept
 
-pub waiting_at : (i : Image) (w : World) (c : Core) (k : ℕ) (t : Taken) → IsSimpleMount i w → Stands i (log_of w) c
-    → slice_get (waiting i.shape (log_of w 0)) k ≡ Some t → IsWaiting i w c t k
-waiting_at i w c k t simple st e =
+pub waiting_at : (i : Image) (w : World) (c : Core) (k : ℕ) (t : Taken) → IsLegalMount i w → Stands i (log_of w) c
+    → slice_get (waiting i.shape (log_of w 0)) k ≡ Some t → IsWaiting i w c t
+waiting_at i w c k t mount st e =
     let s : Shape = i.shape in
     let log : List Logged = log_of w 0 in
-    let is : IsOrdered s log = ordered i w simple.mount in
-    let n : ℕ = is.order.count in
-    let there : slice_get (takes log) (n + k) ≡ Some t = sym (get_dropped n (takes log) k)
-    ∙ ap (λ (ts : List Taken). slice_get ts k) (sym (waiting_are_last s log (never_lost (log_of w 0) simple.engine.lost) is)) ∙ e in
-    let at : t.entry.position ≡ first_position log + (n + k) = numbered_at log (n + k) t is.numbered there in
-    let count = count_is s log is in
-    let position : t.entry.position ≡ placed_front s log + k = omega arith in
+    let is : IsOrdered s log = ordered i w mount in
+    let its : WaitsHere s log t = all_at (WaitsHere s log) (waiting s log) k t e (waiting_wait s log) in
+    let n : ℕ = its.0.0 in
+    let there : slice_get (takes log) n ≡ Some t = its.0.1 in
+    let at : t.entry.position ≡ first_position log + n = numbered_at log n t is.numbered there in
     let pad : ℕ = c.placer.entries.pad in
     let own : slice_get (held (placing_of i (log_of w) pad [])) k ≡ Some t.entry.position =
     get_more _ _ k t.entry.position
@@ -117,25 +113,17 @@ waiting_at i w c k t simple st e =
     let from : freed s log ≤ t.entry.position = inside.from_freed in
     let high : t.entry.position < taken log = inside.below_taken in
     let kept : is_given_back s log t.entry.position ≡ false = not_given (is_given_back s log t.entry.position) refl inside.not_landed in
-    let above : placed_front s log ≤ t.entry.position = omega arith in
     record {
-      position = position;
-      number = n + k;
+      number = n;
       there = there;
       number_is = sym at;
       low = omega arith;
       high = high;
       kept = kept;
-      unplaced = not_noted (placed_line s log t.entry.position) (line_below_front s log t.entry.position (never_lost (log_of w 0) simple.engine.lost) is
-          ∙ and_false (nat_le (first_position log) t.entry.position) (nat_lt t.entry.position (placed_front s log))
-          (not_below (placed_front s log) t.entry.position above));
-      row = row_of_entry i w c t (n + k) st there kept;
+      unplaced = line_of_waiting s log t its.1;
+      row = row_of_entry i w c t n st there kept;
     }
   where
-    and_false : (a b : Bool) → b ≡ false → (a && b) ≡ false
-    and_false true b e = e
-    and_false false b e = refl
-
     not_given : (b : Bool) → is_given_back i.shape (log_of w 0) t.entry.position ≡ b → has_landed_at i.shape (log_of w 0) t.entry.position ≡ false → b ≡ false
     not_given false e none = refl
     not_given true e none = let landed = given_landed i.shape (log_of w 0) t.entry.position e in absurd cc
@@ -176,9 +164,9 @@ sector_there i w c t number st there is low =
     ∙ ap (option_map (λ (t : Taken). t.entry.sector)) (ap (slice_get (takes (log_of w 0))) at ∙ there)
 
 -- each sector in the window has the size of the drive's
-pub sectors_sized : (i : Image) (w : World) (c : Core) (q : ℕ) (sector : List ℕ) → IsSimpleMount i w → Stands i (log_of w) c
+pub sectors_sized : (i : Image) (w : World) (c : Core) (q : ℕ) (sector : List ℕ) → IsLegalMount i w → Stands i (log_of w) c
     → sector_at c.window q ≡ Some sector → length sector ≡ i.shape.sector
-sectors_sized i w c q sector simple st e = go (nat_lt q c.window.freed) e
+sectors_sized i w c q sector mount st e = go (nat_lt q c.window.freed) e
   where
     at : (o : Option Taken) → slice_get (takes (log_of w 0)) (c.window.freed - first_position (log_of w 0) + (q - c.window.freed)) ≡ o
         → option_map (λ (t : Taken). t.entry.sector) o ≡ Some sector → length sector ≡ i.shape.sector
@@ -186,7 +174,7 @@ sectors_sized i w c q sector simple st e = go (nat_lt q c.window.freed) e
     at (Some t) f g =
         ap (λ (xs : List ℕ). length xs) (sym (same_Some t.entry.sector sector g))
         ∙ IsSized.sector (all_at (IsSized i.shape) (takes (log_of w 0)) (c.window.freed - first_position (log_of w 0) + (q - c.window.freed)) t f
-        (are_sized i w simple))
+        (are_sized i w mount))
 
     go : (b : Bool) → option_map (λ (h : Held). h.entry.frame.bytes) (if b then None else slice_get c.window.entries (q - c.window.freed)) ≡ Some sector
         → length sector ≡ i.shape.sector
@@ -202,7 +190,7 @@ pub blocks_are : (w : WindowView) (rows : List Hold) (ts : List Taken)
 blocks_are w rows [] all = refl
 blocks_are w rows (t ∷ ts) all = ap₂ (λ b bs. b ∷ bs) all.0 (blocks_are w rows ts all.1)
 
-pub block_is : (i : Image) (w : World) (c : Core) (t : Taken) (k : ℕ) → Stands i (log_of w) c → IsWaiting i w c t k
+pub block_is : (i : Image) (w : World) (c : Core) (t : Taken) (k : ℕ) → Stands i (log_of w) c → IsWaiting i w c t
     → entry_block c.window c.holds.rows.items t.entry.position ≡ block_of_taken t
 block_is i w c t k st is =
     let sector : sector_at c.window t.entry.position ≡ Some t.entry.sector = sector_there i w c t is.number st is.there is.number_is is.low in
@@ -211,10 +199,10 @@ block_is i w c t k st is =
       mark = option_map_or (λ (h : Hold). h.mark) (is.row j) pad_mark;
     }
 
-pub waiting_blocks : (i : Image) (w : World) (c : Core) (n : ℕ) → IsSimpleMount i w → Stands i (log_of w) c
+pub waiting_blocks : (i : Image) (w : World) (c : Core) (n : ℕ) → IsLegalMount i w → Stands i (log_of w) c
     → entry_blocks c.window c.holds.rows.items (positions_of (take n (waiting i.shape (log_of w 0)))) ≡ map block_of_taken
     (take n (waiting i.shape (log_of w 0)))
-waiting_blocks i w c n simple st =
+waiting_blocks i w c n mount st =
     blocks_are c.window c.holds.rows.items (take n (waiting i.shape (log_of w 0)))
     (all_by_get (λ (t : Taken). entry_block c.window c.holds.rows.items t.entry.position ≡ block_of_taken t) (take n (waiting i.shape (log_of w 0)))
-    (λ k t e. block_is i w c t k st (waiting_at i w c k t simple st (get_whole n (waiting i.shape (log_of w 0)) k t e))))
+    (λ k t e. block_is i w c t k st (waiting_at i w c k t mount st (get_whole n (waiting i.shape (log_of w 0)) k t e))))

@@ -1,5 +1,5 @@
 -- What a core names as its next work is what the logs name.
-use Rattle.std.proofs.Common.{◌≡◌, ℕ, ◌+◌, ◌-◌, ◌<◌, ◌≤◌, ◌==◌, ◌^◌, ◌&&◌, ◌||◌, not, nat_lt, Bool, true, false, None, Some, Option, List, [], length, refl, sym, ap, ap₂, ◌∙◌, arith}
+use Rattle.std.proofs.Common.{◌≡◌, ℕ, ◌+◌, ◌-◌, ◌==◌, ◌^◌, ◌&&◌, ◌||◌, not, nat_lt, Bool, true, false, None, Some, Option, List, [], length, refl, sym, ap, ap₂, ◌∙◌}
 use Rattle.std.specs.Prelude.{position, slice_get}
 use Rattle.std.specs.Option.{is_some, option_map_or}
 use Rattle.std.proofs.lemmas.List.{length-map}
@@ -7,13 +7,13 @@ use Rattle.pblk_model.specs.Image.{Image}
 use Rattle.pblk_model.specs.declared.run.Front.{Front}
 use Rattle.pblk_world.specs.World.{World, Logs, log_of}
 use Rattle.pblk_world.specs.EngineLog.{Begun, openings}
-use Rattle.pblk_world.specs.Fronts.{taken, synced, waiting}
-use Rattle.pblk_world.specs.Space.{placed_front}
+use Rattle.pblk_world.specs.Fronts.{synced, waiting}
 use Rattle.line_table.specs.Rows.{is_free}
+use Rattle.stripe_placer.specs.Entries.{waiting as entries_waiting}
 use Rattle.stripe_placer.specs.Placing.{Placing, next_stripe}
 use Rattle.write_window.specs.Window as view
 use Rattle.core_laws.specs.OpenedLines.{open_line, open_lines}
-use Rattle.core_laws.specs.SimpleMounts.{IsSimpleMount, NoneAgain}
+use Rattle.core_laws.specs.SimpleMounts.{NoneAgain}
 use Rattle.core_laws.proofs.LeftLines.{lines_of_left}
 use Rattle.core_laws.proofs.PlacerOfLemmas.{placing_unstopped}
 use Rattle.pblk_core.specs.declared.target_core.Core.{Core}
@@ -27,27 +27,10 @@ use Rattle.pblk_core.specs.declared.resets.LineChunk.{LineChunk}
 use Rattle.pblk_core.specs.declared.work.Work.{Work}
 use Rattle.pblk_core.specs.declared.work.Work.TheVariants.{Program}
 use Rattle.pblk_core.proofs.CopiesDue.{copy_due_is, waiting_count}
-use Rattle.pblk_core.proofs.SimpleLogs.{simple_in}
-use Rattle.pblk_core.proofs.StandsFacts.{window_taken_is}
 use Rattle.pblk_core.proofs.StandsLemmas.{synced_stands}
 
-pub synced_at : (i : Image) (w : World) (c : Core) → IsSimpleMount i w → Stands i (log_of w) c → (view.synced c.window).position ≡ synced i.shape (log_of w 0)
-synced_at i w c simple st = ap (λ (f : Front). f.position) (synced_stands i w c simple st)
-
-later : (a b : ℕ) → nat_lt a b ≡ nat_lt 0 (b - a)
-later a b = go (nat_lt a b) refl (nat_lt 0 (b - a)) refl
-  where
-    go : (x : Bool) → nat_lt a b ≡ x → (y : Bool) → nat_lt 0 (b - a) ≡ y → nat_lt a b ≡ nat_lt 0 (b - a)
-    go true e true f = e ∙ sym f
-    go false e false f = e ∙ sym f
-    go true e false f =
-        let low : a < b = grind arith in
-        let none : b - a ≤ 0 = grind arith in
-        absurd (omega arith)
-    go false e true f =
-        let low : b ≤ a = grind arith in
-        let some : 0 < b - a = grind arith in
-        absurd (omega arith)
+pub synced_at : (i : Image) (w : World) (c : Core) → IsLegalMount i w → Stands i (log_of w) c → (view.synced c.window).position ≡ synced i.shape (log_of w 0)
+synced_at i w c mount st = ap (λ (f : Front). f.position) (synced_stands i w c mount st)
 
 -- how many lines have a stripe left
 pub open_count : (i : Image) (w : World) (c : Core) → Stands i (log_of w) c → c.open.count ≡ length (open_lines i (log_of w))
@@ -64,16 +47,12 @@ beside_is i w c mount st col = same_choice _ _ _ _ _ _ _ _ _ _ _ _
     (ap (λ p. is_some (next_stripe p 0)) st.placing)
     (ap₂ (λ a n. a && (n == 0)) waits st.left)
     (ap (λ t. is_some (position is_free t.rows)) st.table)
-    (ap₂ (λ a b. nat_lt a 2 && b) (open_count i w c st) (ap₂ (λ m n. nat_lt m (2 ^ 61) && nat_lt n (2 ^ 61)) seq (synced_at i w c simple st)))
+    (ap₂ (λ a b. nat_lt a 2 && b) (open_count i w c st) (ap₂ (λ m n. nat_lt m (2 ^ 61) && nat_lt n (2 ^ 61)) seq (synced_at i w c mount st)))
     (ap (λ b. b && not (is_copying c)) (copy_due_is i w c mount st col))
     (ap (λ n. nat_lt 0 n || is_copying c) st.in_flight)
   where
-    simple : IsSimpleMount i w
-    simple = simple_in i w mount st
-
-    waits : nat_lt (c.first + c.placed) (view.taken c.window) ≡ nat_lt 0 (length (waiting i.shape (log_of w 0)))
-    waits = ap₂ nat_lt st.placed (window_taken_is i w c st) ∙ later (placed_front i.shape (log_of w 0)) (taken (log_of w 0))
-        ∙ ap (nat_lt 0) (sym (waiting_count i w simple))
+    waits : nat_lt 0 (length (entries_waiting c.placer.entries)) ≡ nat_lt 0 (length (waiting i.shape (log_of w 0)))
+    waits = ap (nat_lt 0) (waiting_count i w c st)
 
     seq : c.start.seq ≡ first_seq_of (log_of w) + length (openings (log_of w 0))
     seq = st.next_seq ∙ ap (λ n. n + length (openings (log_of w 0))) (sym (ap (λ o. option_map_or (λ (b : Begun). b.beginning.seq) o 0) st.has_begun))

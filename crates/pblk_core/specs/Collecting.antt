@@ -91,15 +91,16 @@ pub record IsCollecting (c : Core) : Type 0 where
   pub stands : Stands image (log_of world) c
   pub collects : Collects image (log_of world) c
 
--- Where the core collected what the logs of its mount say, it now does with this event of the engine
--- behind.
+-- Where the core collected what the logs of its mount say, it now does with this event of the
+-- engine behind.
 abbrev pub CollectsAfter : Core → EngineEvent → Core → Type 0
 CollectsAfter old e new = (i : Image) (w : World) (knows : List ℕ) → IsLegalMount i w
     → Stands i (log_of w) old → Collects i (log_of w) old → Collects i (after (log_of w) e knows) new
 
 -- The choice of a victim.
 
--- The tables have a row of each line of the drive, and the online units of each are units of the drive.
+-- The tables have a row of each line of the drive, and the online units of each are units of the
+-- drive.
 pub record HasEachLine (c : Core) : Type 0 where
   pub rows : length c.lines.rows ≡ c.layout.chunks
   pub noted : length c.notes.rows.items ≡ c.layout.chunks

@@ -11,6 +11,7 @@ use Rattle.pblk_world.specs.Victims.{live}
 use Rattle.pblk_world.specs.World.{Logs}
 use Rattle.line_table.specs.declared.row.Row.{Row}
 use Rattle.line_table.specs.Rows.{free_addresses}
+use Rattle.stripe_placer.specs.Entries.{waiting as entries_waiting}
 use Rattle.write_window.specs.Window as view
 use Rattle.pblk_core.specs.declared.target_core.Core.{Core}
 
@@ -33,7 +34,7 @@ is_due_in c = nat_le (free_addresses c.lines) (3 * data_len c.layout (units c.la
 abbrev pub copy_due : Core → Bool
 copy_due c = is_due_in c && (option_map_or (λ (row : Row). nat_lt 0 row.live) (victim_row c) false
     && (nat_lt (view.taken c.window) (max (2 ^ 61 - 2) c.first)
-    && nat_lt (view.taken c.window - (c.first + c.placed)) (c.left + free_addresses c.lines)))
+    && nat_lt (length (entries_waiting c.placer.entries)) (c.left + free_addresses c.lines)))
 
 -- While collection is due, a victim without live sectors asks for pads, up to one past the taker of
 -- its line, as far as numbers tell.

@@ -1,6 +1,8 @@
 -- A stripe that is under way or was stopped, and its entries as they land.
-use Rattle.std.specs.Prelude.{ℕ, ◌≡◌, ◌≢◌, if◌then◌else◌, true, List, slice_get, Some}
-use Rattle.std.specs.List.{fold}
+use Rattle.std.specs.Prelude.{ℕ, ◌≡◌, ◌≢◌, if◌then◌else◌, nat_le, Bool, true, false, List, length, slice_get, Some}
+use Rattle.std.specs.List.{filter, fold}
+use Rattle.line_table.specs.declared.row.LineState.{LineState}
+use Rattle.line_table.specs.declared.row.LineState.TheVariants.{Free, Open, Full, Failed, Freed, Dead}
 use Rattle.stripe_placer.specs.Placing.{Program}
 use Rattle.stripe_placer.specs.Placing.UnitRow.{Idle, UnderWay, Stopped}
 use Rattle.pblk_world.specs.Events.{Stripe, Logged}
@@ -43,3 +45,16 @@ one_landed w position = if has_landed_at w position then w else turned w positio
 
 abbrev pub all_landed : WindowView → List ℕ → WindowView
 all_landed w positions = fold one_landed w positions
+
+-- a line is in the state of one that was opened and of which no stripe was lost
+abbrev pub is_open : LineState → Bool
+is_open Free = false
+is_open Open = true
+is_open Full = false
+is_open Failed = false
+is_open Freed = false
+is_open Dead = false
+
+-- How many of these positions are placed for the first time: those from the placed front on.
+abbrev pub new_count : ℕ → List ℕ → ℕ
+new_count front positions = length (filter (λ q. nat_le front q) positions)

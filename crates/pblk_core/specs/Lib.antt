@@ -15,6 +15,7 @@ pub mod Readable
 pub mod Copies
 pub mod Named
 pub mod Landing
+pub mod Losing
 pub mod OlderLines
 pub mod Freeing
 pub mod Collecting

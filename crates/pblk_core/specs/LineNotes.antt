@@ -2,12 +2,10 @@
 use Rattle.std.specs.Prelude.{ℕ, ◌-◌, ◌<◌, ◌≤◌, ◌≡◌, ◌==◌, ◌&&◌, if◌then◌else◌, max, nat_lt, nat_le, Bool, true, false, ⊤, List, length, slice_get, Option, Some, None}
 use Rattle.std.specs.Option.{is_some, option_and_then, option_map, unwrap_or}
 use Rattle.pblk_model.specs.declared.found.LineRow.{LineRow}
-use Rattle.pblk_model.specs.declared.shape.Shape.{Shape}
 use Rattle.pblk_model.specs.Image.{Image}
-use Rattle.pblk_world.specs.Events.{Logged}
 use Rattle.pblk_world.specs.World.{Logs}
 use Rattle.pblk_world.specs.EngineLog.{Opened, Opening, life_of}
-use Rattle.core_laws.specs.ClosedLines.{ClosedLine, StartNumbers, closed_line, newest_numbers, placed_top, starts_left}
+use Rattle.core_laws.specs.ClosedLines.{ClosedLine, StartNumbers, answered_top, closed_line, newest_numbers, starts_left}
 use Rattle.pblk_core.specs.declared.line_notes.LineNote.{LineNote}
 use Rattle.pblk_core.specs.declared.line_notes.LineNotes.{LineNotes}
 use Rattle.pblk_core.specs.declared.line_notes.StartNote.{StartNote}
@@ -21,8 +19,9 @@ note_found row = record { seq = unwrap_or row.seq 0; front = 0; starts_left = 0;
 abbrev pub note_opened : ℕ → ℕ → ℕ → LineNote
 note_opened seq front starts = record { seq = seq; front = front; starts_left = starts; top = 0; closed = false }
 
-abbrev pub note_placed : ℕ → LineNote → LineNote
-note_placed top row = record row { top = max row.top top }
+-- blocks were written in its line: this is one past the greatest of their positions
+abbrev pub note_added : ℕ → LineNote → LineNote
+note_added top row = record row { top = max row.top top }
 
 abbrev pub note_started : LineNote → LineNote
 note_started row = record row { starts_left = row.starts_left - 1 }
@@ -90,15 +89,15 @@ abbrev pub numbers_in : StartNote → StartNumbers
 numbers_in start = record { seq = start.seq; front = start.front }
 
 -- the row of a line that is opened
-pub record IsNoteOf (s : Shape) (log : List Logged) (o : Opening) (row : LineNote) : Type 0 where
+pub record IsNoteOf (i : Image) (logs : Logs) (o : Opening) (row : LineNote) : Type 0 where
   pub seq : row.seq ≡ o.start.seq
   pub front : row.front ≡ o.start.front
-  pub starts_left : row.starts_left ≡ starts_left s log o
-  pub top : row.top ≡ placed_top s log o
+  pub starts_left : row.starts_left ≡ starts_left i.shape (logs 0) o
+  pub top : row.top ≡ answered_top i logs o
 
 pub record AreNotes (i : Image) (logs : Logs) (notes : LineNotes) : Type 0 where
   pub count : length notes.rows.items ≡ i.shape.chunks
   pub opened : (line : ℕ) (o : Opening) (row : LineNote) → life_of (logs 0) line ≡ Opened o → slice_get notes.rows.items line ≡ Some row
-      → IsNoteOf i.shape (logs 0) o row
+      → IsNoteOf i logs o row
   pub closed : (line : ℕ) (row : LineNote) → slice_get notes.rows.items line ≡ Some row → closed_by row ≡ closed_line i logs line
   pub newest : option_map numbers_in notes.newest ≡ newest_numbers i logs

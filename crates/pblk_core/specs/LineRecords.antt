@@ -1,5 +1,6 @@
 -- The two records of an open line, without its log.
-use Rattle.std.specs.Prelude.{ℕ, ◌+◌, ◌≡◌, List}
+use Rattle.std.specs.Prelude.{ℕ, ◌+◌, ◌-◌, ◌≡◌, not, List, map, length, take, slice_range}
+use Rattle.std.specs.List.{filter, flat_map}
 use Rattle.pblk_model.specs.declared.shape.Shape.{Shape}
 use Rattle.pblk_model.specs.declared.chunk.Mark.{Mark}
 use Rattle.pblk_model.specs.Chunk.{Block}
@@ -7,10 +8,11 @@ use Rattle.pblk_model.specs.LineOrder.{start_len, end_len, data_len}
 use Rattle.pblk_model.specs.StartRecord.{start_bytes}
 use Rattle.pblk_model.specs.EndRecord.{EndRecord, end_bytes}
 use Rattle.pblk_world.specs.Events.{Logged}
-use Rattle.pblk_world.specs.EngineLog.{Opening}
-use Rattle.pblk_world.specs.Placing.{record_blocks, data_marks}
+use Rattle.pblk_world.specs.EngineLog.{Opening, Placed, has_failed, stripes_of}
+use Rattle.pblk_world.specs.Placing.{record_blocks, data_marks, end_address}
 
--- What an open line's records are made of: its start record as bytes, and the marks of its data so far.
+-- What an open line's records are made of: its start record as bytes, and the marks of its data so
+-- far.
 pub record Records : Type 0 where
   pub shape : Shape
   pub line : ℕ
@@ -32,6 +34,10 @@ end_record_of r = record { line = r.line; width = r.width; seq = r.seq; pairs = 
 abbrev pub blocks_at_end : Records → List Block
 blocks_at_end r = record_blocks r.shape r.seq (end_len r.shape r.width) (end_bytes r.shape (end_record_of r))
 
+-- how many data addresses have no entry yet
+abbrev pub data_left : Records → ℕ
+data_left r = data_len r.shape r.width - length r.marks
+
 -- they are those of an opening whose data so far stand in the engine's log
 pub record AreOf (s : Shape) (log : List Logged) (o : Opening) (r : Records) : Type 0 where
   pub shape : r.shape ≡ s
@@ -40,3 +46,20 @@ pub record AreOf (s : Shape) (log : List Logged) (o : Opening) (r : Records) : T
   pub seq : r.seq ≡ o.start.seq
   pub start : r.start ≡ start_bytes s o.start
   pub marks : r.marks ≡ data_marks s log o
+
+-- In a line of which a stripe was lost pads alone are placed from then on, so that its records keep
+-- the marks of the stripes that were placed before.
+abbrev pub placed_whole : List Logged → Opening → List Placed
+placed_whole log o = filter (λ p. not (has_failed (take p.number log) o)) (stripes_of log o)
+
+abbrev pub whole_marks : Shape → List Logged → Opening → List Mark
+whole_marks s log o = map (λ b. b.mark)
+    (slice_range (flat_map (λ p. p.stripe.blocks) (placed_whole log o)) (start_len s) (end_address s o))
+
+pub record AreKept (s : Shape) (log : List Logged) (o : Opening) (r : Records) : Type 0 where
+  pub shape : r.shape ≡ s
+  pub line : r.line ≡ o.line
+  pub width : r.width ≡ o.start.width
+  pub seq : r.seq ≡ o.start.seq
+  pub start : r.start ≡ start_bytes s o.start
+  pub marks : r.marks ≡ whole_marks s log o

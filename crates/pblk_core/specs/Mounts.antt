@@ -12,7 +12,8 @@ use Rattle.pblk_core.specs.declared.target_core.Core.{Core}
 abbrev pub InItsMount : Core → (Image → World → Type 0) → Type 0
 InItsMount c P = (i : Image) (w : World) → IsLegalMount i w → Stands i (log_of w) c → P i w
 
--- Where the core stood for the logs of its mount, it now stands for them with this event of the engine behind.
+-- Where the core stood for the logs of its mount, it now stands for them with this event of the
+-- engine behind.
 abbrev pub StandsAfter : Core → EngineEvent → Core → Type 0
 StandsAfter old e new = (i : Image) (w : World) (knows : List ℕ) → IsLegalMount i w
     → Stands i (log_of w) old → Stands i (after (log_of w) e knows) new

@@ -11,6 +11,7 @@ use Rattle.pblk_world.specs.Fronts.{synced, waiting}
 use Rattle.pblk_world.specs.Space.{open_addresses}
 use Rattle.pblk_layout.specs.Live.{units_in}
 use Rattle.line_table.specs.Rows.{is_free}
+use Rattle.stripe_placer.specs.Entries.{waiting as entries_waiting}
 use Rattle.stripe_placer.specs.Placing.{Placing, next_stripe}
 use Rattle.write_window.specs.Window as view
 use Rattle.core_laws.specs.OpenedLines.{open_lines}
@@ -26,11 +27,13 @@ use Rattle.pblk_core.specs.declared.work.Why.{Why}
 use Rattle.pblk_core.specs.declared.work.Why.TheVariants.{Busy, NoLine, Rest}
 use Rattle.pblk_core.specs.declared.target_core.Core.{Core}
 
--- Why nothing can be done: something is in flight; or an entry waits for an address, and no line is Free.
+-- Why nothing can be done: something is in flight; or an entry waits for an address, and no line is
+-- Free.
 abbrev pub why : Bool → Bool → Why
 why in_flight lacks_line = if in_flight then Busy else if lacks_line then NoLine else Rest
 
--- A program; or, where an entry waits for an address, the opening of a line, if one is Free and may be opened; or a copy.
+-- A program; or, where an entry waits for an address, the opening of a line, if one is Free and may
+-- be opened; or a copy.
 abbrev pub choice : Bool → Bool → Bool → Bool → Bool → Bool → Work
 choice has_stripe asks_line has_free may_open has_copy in_flight =
     if has_stripe then Program
@@ -47,7 +50,7 @@ reset_or (Some chunk) otherwise = Reset chunk.line chunk.unit
 
 -- an entry waits, and no open line has an address left
 abbrev pub asks_line : Core → Bool
-asks_line c = nat_lt (c.first + c.placed) (view.taken c.window) && (c.left == 0)
+asks_line c = nat_lt 0 (length (entries_waiting c.placer.entries)) && (c.left == 0)
 
 abbrev pub has_free : Core → Bool
 has_free c = is_some (position is_free c.lines.rows)

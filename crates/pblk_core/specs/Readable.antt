@@ -55,8 +55,8 @@ all_moved capacity line m blocks = fold (moved capacity line) m blocks
 abbrev pub all_readable : WindowView → List ReadBlock → WindowView
 all_readable w blocks = fold (λ v (b : ReadBlock). turned v b.mark.position Readable) w blocks
 
--- The blocks of a unit's chunk of an open line that can be read from now on, from one to before another, with their addresses
--- and marks.
+-- The blocks of a unit's chunk of an open line that can be read from now on, from one to before
+-- another, with their addresses and marks.
 abbrev pub block_reads : OpenLine → ℕ → ℕ → Option ReadBlock
 block_reads l unit block = option_and_then (read_at l.records)
     (position_of (unit, block) (line_order l.records.shape (units_in l.live)))

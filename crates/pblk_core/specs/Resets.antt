@@ -84,7 +84,8 @@ emptied s width = if data_len s width == 0 then Dead else Free
 
 -- By the core: those that are left.
 
--- the lines that wait for resets, as the words of their set, and of each line the used units, as bits
+-- the lines that wait for resets, as the words of their set, and of each line the used units, as
+-- bits
 pub record ResetQueue : Type 0 where
   pub waiting : List ℕ
   pub used : List ℕ

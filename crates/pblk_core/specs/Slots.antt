@@ -42,3 +42,7 @@ with_marks slot marks = record {
 -- a stripe more has landed
 abbrev pub landed_slot : OpenLine → OpenLine
 landed_slot slot = record { records = slot.records; live = slot.live; stripes_left = slot.stripes_left - 1 }
+
+-- so many stripes won't land
+abbrev pub lost_slot : ℕ → OpenLine → OpenLine
+lost_slot count slot = record { records = slot.records; live = slot.live; stripes_left = slot.stripes_left - count }

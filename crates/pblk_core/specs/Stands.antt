@@ -1,5 +1,5 @@
 -- A core stands for the logs of a mount: each of its tables holds what the logs say.
-use Rattle.std.specs.Prelude.{ℕ, false, ◌+◌, ◌-◌, ◌*◌, ◌/◌, ◌%◌, ◌^◌, ◌<◌, ◌≤◌, ◌≡◌, List, map, min, length, slice_get, Some}
+use Rattle.std.specs.Prelude.{ℕ, false, ◌+◌, ◌-◌, ◌%◌, ◌^◌, ◌<◌, ◌≤◌, ◌≡◌, ◌||◌, Bool, List, map, min, length, slice_get, Some}
 use Rattle.std.specs.List.{AllByRecursion, Contains, filter, range_with_len}
 use Rattle.std.specs.Option.{is_some}
 use Rattle.std.specs.FinMap as map
@@ -10,28 +10,27 @@ use Rattle.pblk_model.specs.StartRecord.{Row as OlderLine}
 use Rattle.pblk_meta.specs.Records.{start_numbers}
 use Rattle.pblk_world.specs.Events.{Logged}
 use Rattle.pblk_world.specs.World.{World, Logs, log_of}
-use Rattle.pblk_world.specs.EngineLog.{Begun, begun, Opening, Taken, takes, openings, stripes_of, has_landed, answers}
+use Rattle.pblk_world.specs.EngineLog.{Begun, begun, Opening, Taken, takes, openings, answers}
 use Rattle.pblk_world.specs.Fronts.{first_position, user_takes}
 use Rattle.pblk_world.specs.Lines.{known_image}
 use Rattle.pblk_world.specs.Space.{freed, placed_front, open_addresses}
 use Rattle.pblk_world.specs.Starts.{older_rows}
 use Rattle.pblk_layout.specs.Live.{units_in}
-use Rattle.stripe_placer.specs.OpenLines.{has_left}
+use Rattle.stripe_placer.specs.OpenLines.{OpenLine, has_left, is_to_place, is_unanswered, numbers, stripe_is}
 use Rattle.core_laws.specs.OpenedLines.{opened_units, bits_of, live_now, open_line, standing}
 use Rattle.core_laws.specs.PlacerOf.{placing_of, unanswered_on}
 use Rattle.core_laws.specs.RowsOf.{rows_of}
 use Rattle.core_laws.specs.SlotOf.{slot_of}
 use Rattle.core_laws.specs.WindowOf.{is_given_back, sectors_in, window_from}
-use Rattle.core_laws.specs.SimpleMounts.{IsSimpleLog}
 use Rattle.core_laws.specs.ClosedLines.{ClosedLine, closed_line}
 use Rattle.core_laws.specs.Spent.{OpensWhenFull}
 use Rattle.world_laws.specs.LegalMounts.{IsLegalMount}
 use Rattle.pblk_core.specs.Holds.{hold_of}
-use Rattle.pblk_core.specs.LineRecords.{AreOf}
+use Rattle.pblk_core.specs.LineRecords.{AreKept}
 use Rattle.pblk_core.specs.LineNotes.{AreNotes}
 use Rattle.pblk_core.specs.Resets.{ResetQueue, resets_left, resets_of, used_in, used_units}
 use Rattle.pblk_core.specs.declared.hold.Holds.{Holds}
-use Rattle.pblk_core.specs.declared.open_lines.OpenLine.{OpenLine}
+use Rattle.pblk_core.specs.declared.open_lines.OpenLine.{OpenLine as KeptLine}
 use Rattle.pblk_core.specs.declared.open_lines.OpenLines.{OpenLines}
 use Rattle.pblk_core.specs.declared.target_core.Core.{Core}
 
@@ -45,21 +44,25 @@ pub record AreHolds (s : Shape) (log : List Logged) (holds : Holds) : Type 0 whe
 abbrev pub left_openings : Image → Logs → List Opening
 left_openings i logs = filter (λ o. has_left (open_line i logs o)) (standing (logs 0))
 
--- how many stripes of an opening haven't landed
-abbrev pub unlanded : Shape → List Logged → Opening → ℕ
-unlanded s log o = o.start.width * (s.clba / s.ws_opt) - length (filter (has_landed log) (stripes_of log o))
+-- How many stripes of a line are still to land or to be lost: those that aren't answered, and those
+-- that are to be placed. Of a chunk of which a stripe was lost no other is placed.
+abbrev pub is_left : OpenLine → ℕ → Bool
+is_left l j = is_to_place l j || stripe_is l is_unanswered j
 
-pub record IsOpenLine (i : Image) (logs : Logs) (o : Opening) (kept : OpenLine) : Type 0 where
-  pub records : AreOf i.shape (logs 0) o kept.records
+abbrev pub stripes_left : OpenLine → ℕ
+stripes_left l = length (filter (is_left l) (numbers l))
+
+pub record IsOpenLine (i : Image) (logs : Logs) (o : Opening) (kept : KeptLine) : Type 0 where
+  pub records : AreKept i.shape (logs 0) o kept.records
   pub live : kept.live ≡ bits_of (opened_units i logs o)
-  pub left : kept.stripes_left ≡ unlanded i.shape (logs 0) o
+  pub left : kept.stripes_left ≡ stripes_left (open_line i logs o)
 
 pub record AreOpenLines (i : Image) (logs : Logs) (kept : OpenLines) : Type 0 where
   pub two : length kept.slots.items ≡ 2
-  pub shapes : (k : ℕ) (line : OpenLine) → slice_get kept.slots.items k ≡ Some line → line.records.shape ≡ i.shape
+  pub shapes : (k : ℕ) (line : KeptLine) → slice_get kept.slots.items k ≡ Some line → line.records.shape ≡ i.shape
   pub count : kept.count ≡ length (left_openings i logs)
   pub few : kept.count ≤ 2
-  pub each : (k : ℕ) (o : Opening) (line : OpenLine) → slice_get (left_openings i logs) k ≡ Some o
+  pub each : (k : ℕ) (o : Opening) (line : KeptLine) → slice_get (left_openings i logs) k ≡ Some o
       → slice_get kept.slots.items k ≡ Some line → IsOpenLine i logs o line
 
 -- the chunks that are used of each line that is closed
@@ -88,7 +91,6 @@ pub record HasFitNumbers (c : Core) : Type 0 where
   pub rows : AllByRecursion (IsOlder c.start.first_seq c.first) (start_numbers c.start).rows
 
 pub record Stands (i : Image) (logs : Logs) (c : Core) : Type 0 where
-  pub simple : IsSimpleLog (logs 0)
   pub layout : c.layout ≡ i.shape
   pub beginning : Begun
   pub has_begun : begun (logs 0) ≡ Some beginning

@@ -32,8 +32,8 @@ is_source (Some Unwritten) source = false
 is_source (Some (Cached position)) source = false
 is_source (Some (Media line at position)) source = (line == source.line) && ((at == source.at) && (position == source.position))
 
--- An entry becomes the latest of its sector: a user's does, and a copy where the map still names its
--- source.
+-- An entry becomes the latest of its sector: a user's does, and a copy where the map still names
+-- its source.
 abbrev pub is_latest_from : Option Slot → Option EntrySource → Bool
 is_latest_from slot None = true
 is_latest_from slot (Some source) = is_source slot source

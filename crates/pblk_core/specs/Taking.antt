@@ -11,8 +11,8 @@ use Rattle.pblk_core.specs.Mounts.{InItsMount}
 use Rattle.pblk_core.specs.Taken.{HasItsSector, IsClassed, entry_of, mark_of}
 use Rattle.pblk_core.specs.declared.target_core.Core.{Core}
 
--- Its position is the next, and below 2^62. The window has room for it. It has a source exactly where
--- it is a copy, and its sector is below the capacity.
+-- Its position is the next, and below 2^62. The window has room for it. It has a source exactly
+-- where it is a copy, and its sector is below the capacity.
 pub record CanTake (c : Core) (e : Entry) : Type 0 where
   pub next : e.position ≡ view.taken c.window
   pub position : e.position < 2 ^ 62
@@ -20,8 +20,8 @@ pub record CanTake (c : Core) (e : Entry) : Type 0 where
   pub class : IsClassed c.map e e.class e.source
   pub lba : e.lba < c.layout.capacity
 
--- With its mark it may be taken in the core's mount, if it is a block of the drive, and a copy has the
--- sector of its source.
+-- With its mark it may be taken in the core's mount, if it is a block of the drive, and a copy has
+-- the sector of its source.
 abbrev pub IsLegalTake : Core → Entry → Type 0
 IsLegalTake c e = InItsMount c (λ i w. IsBlock i.shape (record { sector = e.frame.bytes; mark = mark_of c.map e })
     → HasItsSector i (log_of w) (entry_of e) (entry_of e).source → MayTake i (log_of w) (entry_of e) (mark_of c.map e))

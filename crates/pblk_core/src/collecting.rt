@@ -179,7 +179,7 @@ impl Core {
         };
         let has_live = 0 < self.lines.live(line);
         let taken = self.window.taken();
-        let waiting = taken - (self.first + self.placed);
+        let waiting = self.placer.waiting();
         let addresses = self.left + self.lines.free_addresses();
         let limit = LAST_POSITION.max(self.first);
         self.is_due() && has_live && taken < limit && waiting < addresses

@@ -1,11 +1,12 @@
-//! The entries of a stripe that is placed, or has landed.
+//! The entries of a stripe that is placed, has landed, or was lost.
 
-ghost use Rattle.std.specs.Prelude.{ℕ, ◌≡◌, ◌+◌, ◌*◌, ◌<◌, ◌≤◌, ◌^◌, [], ◌∷◌, List, length, Some, slice_get};
+ghost use Rattle.std.specs.Prelude.{ℕ, true, ◌≡◌, ◌+◌, ◌*◌, ◌<◌, ◌≤◌, ◌^◌, [], ◌∷◌, List, length, Some, slice_get};
 ghost use Rattle.line_table.specs.declared.row.Row.{Row};
 ghost use Rattle.line_table.specs.Rows.{IsRow};
 ghost use Rattle.write_window.specs.Window.{IsHeld, sector_at};
 ghost use Rattle.pblk_core.specs.Filling.{followed_by};
 ghost use Rattle.pblk_core.specs.Entries.{entry_blocks, note_hold, noted_lines, place_hold, placed_lines, placed_rows};
+ghost use Rattle.pblk_core.specs.Losing.{is_live, live_among, lost_rows, lower_hold, lowered_lines};
 
 use crate::hold::{Hold, Holds};
 use crate::stripe::Stripe;
@@ -115,6 +116,56 @@ pub(crate) fn settle_holds(holds: &mut Holds, line: u32, positions: &[u64])
             Hold {
                 mark: hold.mark,
                 line: Some(line),
+                taker: hold.taker,
+            },
+        );
+    }
+}
+
+/// Notes that the entries of these positions are in a line no more, as their stripe was lost: each
+/// was a live sector there, unless it is Void or a later entry of the sector was taken
+/// already. The line has so many live sectors.
+pub(crate) fn lower_lines(lines: &mut Lines, holds: &Holds, line: u32, positions: &[u64])
+    requires rows { 0 < length holds.now.rows.items }
+    requires inside { line < length lines.old.rows }
+    requires some { (row : Row) → IsRow lines.old line row
+        → live_among holds.now.rows.items positions.now ≤ row.live }
+    ensures { lines.new ≡ lowered_lines holds.now.rows.items line lines.old positions.now }
+{
+    for index in 0..positions.len() {
+        let hold = holds.get(positions[index]);
+        lower_line(lines, line, &hold);
+    }
+}
+
+// Notes that an entry is in a line no more.
+fn lower_line(lines: &mut Lines, line: u32, hold: &Hold)
+    requires inside { line < length lines.old.rows }
+    requires some { (row : Row) → IsRow lines.old line row → is_live hold.now ≡ true
+        → 0 < row.live }
+    ensures { lines.new ≡ lower_hold line lines.old (Some hold.now) }
+{
+    if hold.mark.lba == Mark::VOID_LBA {
+        return;
+    }
+    if hold.taker.is_none() {
+        lines.lower(line);
+    }
+}
+
+/// Notes in the rows of the entries of these positions that they are in no line.
+pub(crate) fn unsettle_holds(holds: &mut Holds, positions: &[u64])
+    requires rows { 0 < length holds.old.rows.items }
+    ensures { holds.new.rows.items ≡ lost_rows holds.old.rows.items positions.now }
+{
+    for index in 0..positions.len() {
+        let position = positions[index];
+        let hold = holds.get(position);
+        holds.set(
+            position,
+            Hold {
+                mark: hold.mark,
+                line: None,
                 taker: hold.taker,
             },
         );

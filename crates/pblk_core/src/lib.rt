@@ -7,6 +7,7 @@ mod freeing;
 mod hold;
 mod line_notes;
 mod line_turns;
+mod losing;
 mod naming;
 mod open_lines;
 mod opening;

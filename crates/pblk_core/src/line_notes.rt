@@ -2,7 +2,7 @@
 
 ghost use Rattle.std.specs.Prelude.{ℕ, ◌<◌, ◌^◌, ◌≡◌, ◌↔◌, map, length, slice_get, slice_set, Some, IfOk, IsTrue, true, false};
 ghost use Rattle.core_laws.specs.ClosedLines.{top_of};
-ghost use Rattle.pblk_core.specs.LineNotes.{IsSpentNote, newest_landed, outdated_seq, note_found, note_opened, note_placed, note_landed, note_closed, note_freed, head_start, newer_note, start_found};
+ghost use Rattle.pblk_core.specs.LineNotes.{IsSpentNote, newest_landed, outdated_seq, note_found, note_opened, note_added, note_landed, note_closed, note_freed, head_start, newer_note, start_found};
 
 use pblk_model::LineRow;
 use std::alloc::{AllocError, Global};
@@ -16,8 +16,9 @@ pub(crate) struct LineNote {
     pub(crate) front: u64,
     /// How many stripes of its start record haven't landed.
     pub(crate) starts_left: u32,
-    /// One past the greatest position that was placed in it; of a line as it was found, one past
-    /// the greatest that counts in it. 0 where there is none.
+    /// One past the greatest position that is written in it: that has landed there, or was written
+    /// there before its program failed. Of a line as it was found, one past the greatest that
+    /// counts in it. 0 where there is none.
     pub(crate) top: u64,
     /// Whether nothing more is written to it before its chunks are reset.
     pub(crate) closed: bool,
@@ -79,13 +80,13 @@ impl LineNotes {
         };
     }
 
-    /// Entries of these positions, each below 2^63, are placed in a line.
-    pub(crate) fn place(&mut self, line: u32, positions: &[u64])
+    /// Blocks of these positions, each below 2^63, are written in a line.
+    pub(crate) fn add(&mut self, line: u32, positions: &[u64])
         requires inside { line < length self.old.rows.items }
         requires small { (k q : ℕ) → slice_get positions.now k ≡ Some q → q < 2 ^ 63 }
         ensures rows { (row : LineNote) → slice_get self.old.rows.items line ≡ Some row
             → self.new.rows.items
-            ≡ slice_set self.old.rows.items line (note_placed (top_of positions.now) row) }
+            ≡ slice_set self.old.rows.items line (note_added (top_of positions.now) row) }
         ensures newest { self.new.newest ≡ self.old.newest }
     {
         let top = top_of(positions);

@@ -68,8 +68,7 @@ impl Core {
         requires collecting { IsCollecting self.now }
         ensures { result ≡ asks_line self.now }
     {
-        let placed = self.first + self.placed;
-        placed < self.window.taken() && self.left == 0
+        0 < self.placer.waiting() && self.left == 0
     }
 
     // Whether a stripe or a copy is under way.

@@ -10,7 +10,7 @@ ghost use Rattle.pblk_meta.specs.Records.{start_numbers};
 ghost use Rattle.pblk_world.specs.Placing.{stripe_at};
 ghost use Rattle.pblk_core.specs.Filling.{followed_by};
 ghost use Rattle.pblk_core.specs.LineRecords.{blocks_at_start, blocks_at_end, end_begins};
-ghost use Rattle.pblk_core.specs.Slots.{IsSlot, opened_slot, with_marks, landed_slot};
+ghost use Rattle.pblk_core.specs.Slots.{IsSlot, opened_slot, with_marks, landed_slot, lost_slot};
 
 use crate::records::LineRecords;
 use crate::stripe::Stripe;
@@ -20,7 +20,7 @@ use pblk_model::Mark;
 use std::alloc::{AllocError, Global};
 
 /// A line that has a stripe left: its records, a bit for each unit whose chunk of it isn't Offline,
-/// and how many of its stripes haven't landed.
+/// and how many of its stripes are still to land or to be lost.
 #[derive(Debug, Drop)]
 pub(crate) struct OpenLine {
     pub(crate) records: LineRecords,
@@ -155,7 +155,7 @@ impl OpenLines {
         slot.records.end_stripe(at, into);
     }
 
-    /// Notes that one more stripe of a line has landed, and gives how many haven't yet.
+    /// Notes that one more stripe of a line has landed, and gives how many are left.
     pub(crate) fn land(&mut self, index: usize) -> u32
         requires inside { index < length self.old.slots.items }
         requires some { (slot : _) → IsSlot self.old index slot → 0 < slot.stripes_left }
@@ -166,6 +166,21 @@ impl OpenLines {
     {
         let slot = &mut self.slots[index];
         slot.stripes_left -= 1;
+        slot.stripes_left
+    }
+
+    /// Notes that so many stripes of a line will not land, and gives how many are left.
+    pub(crate) fn lose(&mut self, index: usize, count: u32) -> u32
+        requires inside { index < length self.old.slots.items }
+        requires some { (slot : _) → IsSlot self.old index slot → count ≤ slot.stripes_left }
+        ensures left { (slot : _) → IsSlot self.old index slot
+            → result ≡ slot.stripes_left - count }
+        ensures slots { (slot : _) → IsSlot self.old index slot
+            → self.new.slots.items ≡ slice_set self.old.slots.items index (lost_slot count slot) }
+        ensures count { self.new.count ≡ self.old.count }
+    {
+        let slot = &mut self.slots[index];
+        slot.stripes_left -= count;
         slot.stripes_left
     }
 

@@ -14,7 +14,7 @@ ghost use Rattle.pblk_world.specs.EngineLog.{Opening};
 ghost use Rattle.pblk_world.specs.Placing.{start_blocks, end_blocks, end_address, stripe_at};
 ghost use Rattle.pblk_core.specs.Filling.{followed_by};
 ghost use Rattle.pblk_core.specs.Readable.{data_mark};
-ghost use Rattle.pblk_core.specs.LineRecords.{Records, AreOf, blocks_at_start, blocks_at_end, end_begins};
+ghost use Rattle.pblk_core.specs.LineRecords.{Records, AreOf, blocks_at_start, blocks_at_end, data_left, end_begins};
 
 use crate::stripe::Stripe;
 use pblk_layout::Layout;
@@ -143,6 +143,13 @@ impl LineRecords {
     {
         let index = at.checked_sub(self.layout.start_len())?;
         self.marks.get(index as usize).copied()
+    }
+
+    /// How many data addresses have no entry yet.
+    pub fn data_left(&self) -> u64
+        ensures { result ≡ data_left self.now }
+    {
+        u64::from(self.layout.data_len(self.width)).saturating_sub(self.marks.len() as u64)
     }
 
     /// Fills an empty stripe with the start record's blocks from the line address `at` on.

@@ -3,6 +3,8 @@
 ghost use Rattle.std.specs.Prelude.{ℕ, true, false, ◌≡◌, ◌≢◌, ◌^◌, ◌<◌, ◌+◌, ◌-◌, ◌≤◌, ◌==◌, if◌then◌else◌, List, length, min, Some, slice_get, slice_set, max};
 ghost use Rattle.pblk_model.specs.Frames.{Region};
 ghost use Rattle.pblk_model.specs.Image.{Image};
+ghost use Rattle.pblk_model.specs.Shape.{units};
+ghost use Rattle.pblk_layout.specs.Live.{units_in};
 ghost use Rattle.pblk_world.specs.AtRest.{IsDue};
 ghost use Rattle.pblk_world.specs.Answering.{MayLand, MayOfferAgain};
 ghost use Rattle.pblk_world.specs.Events.{Again, Place, Landed};
@@ -11,26 +13,30 @@ ghost use Rattle.pblk_world.specs.World.{World, Logs, log_of};
 ghost use Rattle.l2p_map.specs.declared.slot.Slot.TheVariants.{Media};
 ghost use Rattle.line_table.specs.Rows.{IsRow};
 ghost use Rattle.line_table.specs.declared.row.Row.{Row};
-ghost use Rattle.line_table.specs.declared.row.LineState.TheVariants as states;
 ghost use Rattle.std.specs.FinMap as fin;
 ghost use Rattle.write_window.specs.Window as view;
 ghost use Rattle.world_laws.specs.LegalMounts.{IsLegalMount};
+ghost use Rattle.core_laws.specs.ChangedTables.{full_if, with_row};
 ghost use Rattle.core_laws.specs.Stepping.{after};
 ghost use Rattle.stripe_placer.specs.Placing.{program, next_stripe};
 ghost use Rattle.stripe_placer.specs.Placing.UnitRow.{Idle, Stopped};
 ghost use Rattle.pblk_core.specs.Collecting.{BringsNone, Collects, CollectsAfter, HasEachLine, IsCollecting};
 ghost use Rattle.pblk_core.specs.Copies.{is_copying, victim_asks};
-ghost use Rattle.pblk_core.specs.Landing.{AreKeptBeside, IsIdleOn, IsOfferedOn, IsUnderWayOn, WasStopped, all_landed};
+ghost use Rattle.pblk_core.specs.Landing.{AreKeptBeside, IsIdleOn, IsOfferedOn, IsUnderWayOn, WasStopped, all_landed, is_open, new_count};
+ghost use Rattle.pblk_core.specs.Losing.{HasItsEntries};
 ghost use Rattle.pblk_core.specs.Named.{named, pad_of};
 ghost use Rattle.pblk_core.specs.Mounts.{InItsMount, StandsAfter};
 ghost use Rattle.pblk_core.specs.Stands.{Stands, IsStanding, answer_count};
+ghost use Rattle.pblk_core.specs.declared.line_notes.LineNote.{LineNote};
 ghost use Rattle.pblk_core.specs.declared.work.Work.TheVariants as works;
 
 use crate::filling::{fill, note_takers, settle_holds, settle_lines};
+use crate::open_lines::OpenLine;
 use crate::reading::make_readable;
 use crate::stripe::Stripe;
 use crate::target_core::Core;
-use line_table::LineState;
+use line_table::{LineState, Lines};
+use pblk_layout::Layout;
 use pblk_model::Shape;
 use stripe_placer::{Placement, StripeKind};
 use write_window::Window;
@@ -63,6 +69,7 @@ impl Core {
         ensures pad { pad_of self.old ≤ pad_of self.new }
         ensures pad_most { pad_of self.new ≤ max (pad_of self.old) (victim_asks self.new) }
         ensures under_way { IsUnderWayOn self.new into.new.stripe.unit }
+        ensures entries { HasItsEntries self.new into.new.stripe }
         ensures rows { AreKeptBeside into.new.stripe.unit self.old self.new }
         ensures shape { into.new.shape ≡ into.old.shape }
         ensures turn { InItsMount self.old (λ i w.
@@ -94,6 +101,7 @@ impl Core {
         ensures window { self.new.window ≡ self.old.window }
         ensures pad { pad_of self.new ≡ pad_of self.old }
         ensures under_way { IsUnderWayOn self.new into.new.stripe.unit }
+        ensures entries { HasItsEntries self.new into.new.stripe }
         ensures rows { AreKeptBeside into.new.stripe.unit self.old self.new }
         ensures shape { into.new.shape ≡ into.old.shape }
         ensures turn { InItsMount self.old (λ i w.
@@ -114,11 +122,10 @@ impl Core {
                 into.pad();
                 settle_lines(&mut self.lines, &self.holds, of.line, positions);
                 settle_holds(&mut self.holds, of.line, positions);
-                self.notes.place(of.line, positions);
                 let (_, marks) = into.parts();
                 self.open.mark_data(index, marks);
                 self.left -= u64::from(self.layout.shape().ws_opt);
-                self.placed += u64::from(of.count);
+                self.placed += count_new(positions, self.first + self.placed);
             }
             StripeKind::Pad => into.pad(),
             StripeKind::End => self.open.end_stripe(index, of.at, into),
@@ -140,6 +147,7 @@ impl Core {
         ensures window { self.new.window ≡ self.old.window }
         ensures pad { pad_of self.new ≡ pad_of self.old }
         ensures under_way { IsUnderWayOn self.new into.new.stripe.unit }
+        ensures entries { HasItsEntries self.new into.new.stripe }
         ensures rows { AreKeptBeside into.new.stripe.unit self.old self.new }
         ensures shape { into.new.shape ≡ into.old.shape }
         ensures turn { InItsMount self.old (λ i w.
@@ -206,8 +214,9 @@ impl Core {
         ensures rows { AreKeptBeside stripe.now.stripe.unit self.old self.new }
         ensures layout { self.new.layout ≡ self.old.layout }
         ensures each { HasEachLine self.new }
-        ensures map { (lba line at position : ℕ) (row : Row) → IsRow self.old.lines line row
-            → row.state ≢ states.Open → fin.get self.new.map lba ≡ Some (Media line at position)
+        ensures map { (lba line at position : ℕ) (note : LineNote)
+            → slice_get self.old.notes.rows.items line ≡ Some note → note.closed ≡ true
+            → fin.get self.new.map lba ≡ Some (Media line at position)
             → fin.get self.old.map lba ≡ Some (Media line at position) }
         ensures collection { self.new.collection ≡ self.old.collection }
         ensures brings { result ≡ false → BringsNone self.old self.new }
@@ -220,6 +229,7 @@ impl Core {
         let positions = self.placer.positions(unit);
         land_entries(&mut self.window, positions);
         note_takers(&mut self.lines, &self.holds, of.line, positions);
+        self.notes.add(of.line, positions);
         let index = self.open.find(of.line);
         let shape = self.layout.shape();
         let (from, to) = readable_range(shape, of.block);
@@ -237,8 +247,7 @@ impl Core {
         add_answer(&mut self.answers, unit);
         let is_newer = self.notes.land(of.line, of.kind == StripeKind::Start);
         if self.open.land(index) == 0 {
-            let width = self.layout.width(self.open.get(index).live);
-            self.lines.turn(of.line, LineState::Full, width);
+            fill_line(&mut self.lines, &self.layout, self.open.get(index), of.line);
             self.resets.set_used(of.line, self.live[of.line as usize]);
             self.notes.close(of.line);
             self.open.remove(index);
@@ -299,14 +308,42 @@ impl Core {
     }
 }
 
+// How many of these positions are placed for the first time: all from the placed front on.
+fn count_new(positions: &[u64], front: u64) -> u64
+    ensures { result ≡ new_count front positions.now }
+{
+    let mut count = 0;
+    for index in 0..positions.len() {
+        if front <= positions[index] {
+            count += 1;
+        }
+    }
+    count
+}
+
 // One more stripe of a unit was answered.
-fn add_answer(answers: &mut Vec<u64>, unit: u32)
+pub(crate) fn add_answer(answers: &mut Vec<u64>, unit: u32)
     requires inside { unit < length answers.old.items }
     ensures { (n : ℕ) → slice_get answers.old.items unit ≡ Some n
         → answers.new.items ≡ slice_set answers.old.items unit (min (n + 1) (2 ^ 64 - 1)) }
 {
     let count = &mut answers[unit as usize];
     *count = count.saturating_add(1);
+}
+
+// A line of which no stripe is left is Full, if none was lost.
+fn fill_line(lines: &mut Lines, layout: &Layout, slot: &OpenLine, line: u32)
+    requires inside { line < length lines.old.rows }
+    requires width { (row : Row) → IsRow lines.old line row
+        → row.width ≡ length (units_in slot.now.live) }
+    requires live { slot.now.live < 2 ^ units layout.now }
+    requires shape { lines.old.shape ≡ layout.now }
+    ensures { (row : Row) → IsRow lines.old line row
+        → lines.new ≡ with_row line (full_if (is_open row.state)) lines.old }
+{
+    if lines.state(line) == LineState::Open {
+        lines.turn(line, LineState::Full, layout.width(slot.live));
+    }
 }
 
 // Notes in the window that the entries of these positions have landed.

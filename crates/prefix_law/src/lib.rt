@@ -6,7 +6,7 @@
 //!   front taken.
 //! - The same holds after a stop that cuts any of the units.
 //! - Where each placed stripe is answered and what was lost was placed again, the end is the front
-//!   synced.
+//!   synced. So it is wherever no stripe that was placed holds the position at that front.
 //! - A world in which no mount has begun leaves the contents as they were.
 //! - The drive stays sealed.
 //!

@@ -2,6 +2,8 @@
 #![tactic(auto)]
 
 #[cfg(test)]
+mod blocks;
+#[cfg(test)]
 mod copies;
 #[cfg(test)]
 mod create;
@@ -10,11 +12,15 @@ mod drives;
 #[cfg(test)]
 mod failing;
 #[cfg(test)]
+mod failures;
+#[cfg(test)]
 mod geometry;
 #[cfg(test)]
 mod harness;
 #[cfg(test)]
 mod images;
+#[cfg(test)]
+mod loads;
 #[cfg(test)]
 mod mounts;
 #[cfg(test)]

@@ -159,19 +159,19 @@ pub(crate) fn files_of(
     Ok(files)
 }
 
-// Names what of a stop of the script doesn't go as told, if anything: the run, what it leaves, or
-// an opening of that.
-fn wrong_stop<R: Wait>(
+/// Names what of a run of the script with these options doesn't go as told, if anything: the run,
+/// what it leaves, or an opening of that.
+pub(crate) fn wrong_stop<R: Wait>(
     rt: &R,
     alloc: Global,
-    stop: &str,
+    options: &str,
     told: &str,
 ) -> Result<&'static str, AllocError> {
     let Some(small) = drive("small") else {
         return Ok("drive");
     };
     let mut files = files_of(alloc, &image(alloc, small, &[])?, SCRIPT)?;
-    let line = format!(in alloc; "run|image|script|--stop|{stop}")?;
+    let line = format!(in alloc; "run|image|script|{options}")?;
     let text = told_text(alloc, told)?;
     if !ends(rt, alloc, &mut files, &line, status_of(told), &text)? {
         return Ok("run");
@@ -204,8 +204,8 @@ fn wrong_openings<R: Wait>(
     Ok("")
 }
 
-// Whether an image holds this still after an opening that was stopped at any program of this unit,
-// and after one more. Here an opening makes six programs on a unit at most.
+// Whether an image holds this still after a mount that was stopped at any program or reset of this
+// unit, and after one more. Here a mount makes twelve of them on a unit at most.
 fn openings_keep<R: Wait>(
     rt: &R,
     alloc: Global,
@@ -214,7 +214,7 @@ fn openings_keep<R: Wait>(
     unit: u64,
     cut: u64,
 ) -> Result<bool, AllocError> {
-    for nth in 1..9 {
+    for nth in 1..14 {
         let mut files = files_of(alloc, left, "")?;
         let stop = format!(in alloc; "run|image|script|--stop|{unit}:{nth}:{cut}")?;
         let (status, text) = called(rt, alloc, &mut files, &stop)?;
@@ -228,8 +228,9 @@ fn openings_keep<R: Wait>(
     Ok(false)
 }
 
-// Whether an empty script is answered so, on a drive that is told of a stop at this program of a
-// unit: the stop is named, or it hasn't come.
+// Whether an empty script is answered so, on a drive that is told of a stop at this program or
+// reset of a unit: the stop is named, or it hasn't come. It comes at the opening where it is one of
+// a program; a chunk of no line is reset at the close.
 fn is_opening(
     alloc: Global,
     status: u8,
@@ -241,7 +242,9 @@ fn is_opening(
         return Ok(text == "kept 0\n".as_bytes());
     }
     let stopped = format!(in alloc; "e open {unit} {nth}\nkept 0\n")?;
-    Ok(status == 5 && text == stopped.as_bytes())
+    let closing = format!(in alloc; "e close {unit} ")?;
+    let is_told = text == stopped.as_bytes() || text.starts_with(closing.as_bytes());
+    Ok(status == 5 && is_told)
 }
 
 // Whether the image holds this, and does so after an opening.
@@ -261,7 +264,8 @@ fn keep<R: Wait>(
 #[test]
 fn a_stop_leaves_what_is_kept(rt: HostRuntime) -> Result<(), Fail> {
     for (stop, told) in &STOPS {
-        let wrong = wrong_stop(&rt, rt.alloc(), stop, told)?;
+        let options = format!(in rt.alloc(); "--stop|{stop}")?;
+        let wrong = wrong_stop(&rt, rt.alloc(), &options, told)?;
         assert!(rt; wrong.is_empty(), "{wrong}: {stop}");
     }
     Ok(())

@@ -63,6 +63,12 @@ call=create|image|--stop|0:1:1
 call=geometry|image|--stop=0:1:1
 call=show|image|--stop|0:1:1
 call=report|--stop|0:1:1|image
+call=run|image|script|--fail
+call=run|image|script|--fail|p:0:1
+call=run|image|script|--fail=f:0:1:0
+call=run|image|--fail|s:0:1|script
+call=run|image|script|--fail|r:0:4294967296
+call=create|image|--fail|f:0:1
 ";
 
 #[test]

@@ -1,5 +1,6 @@
 -- A line that is as the mount found it: each chunk is known as it was found, unless the line is a
--- stray. So it is behind each start record of the mount, if it has a sequence number, or else empty.
+-- stray. So it is behind each start record of the mount, if it has a sequence number, or else
+-- empty.
 use Rattle.std.proofs.Common.{◌≡◌, ◌≢◌, ℕ, ◌+◌, ◌-◌, ◌<◌, ◌≤◌, ◌==◌, ◌&&◌, suc, not, Bool, true, false, Some, None, Option, List, [], length, refl, sym, subst, ap, ap₂, ◌∙◌, arith}
 use Rattle.std.specs.Prelude.{slice_get, slice_index}
 use Rattle.std.specs.List.{AllByRecursion, filter, list_all, list_any, range_with_len}

@@ -22,9 +22,8 @@ use Rattle.world_laws.proofs.Positions.{position_of}
 use Rattle.world_laws.proofs.TakenEvents.{IsTakenAt, taken_at}
 use Rattle.rest_laws.specs.Copies.{TookCopy}
 use Rattle.rest_laws.specs.RoomRuns.{AreBegunInTurn, WasClaimed}
-use Rattle.rest_laws.proofs.LengthLogs.{IsWorldAt, world_at}
+use Rattle.rest_laws.proofs.LengthLogs.{IsWorldAt, world_at, first_at, taken_rises}
 use Rattle.rest_laws.proofs.OneCopy.{takes_copy}
-use Rattle.rest_laws.proofs.RunLogs.{first_at, taken_rises}
 
 module _ (i : Image) (w : World) (mount : IsLegalMount i w) (number : ℕ) (entry : Entry) (mark : Mark) (took : TookCopy (log_of w 0) number entry mark)
     (b : WasBegun i (log_of w) number entry.lba took.source) where

@@ -1,7 +1,6 @@
 -- The copies that were made of the victim at work, and its live sectors, are no more than its live
 -- sectors were.
-use Rattle.std.proofs.Common.{◌≡◌, ◌⊎◌, inl, inr, ℕ, ◌+◌, ◌<◌, ◌≤◌, ◌++◌, drop, suc, List, [], ◌∷◌, length, take, refl, sym, subst, ap, ◌∙◌, arith, length-append, length-take}
-use Rattle.std.specs.Option.{option_map_or}
+use Rattle.std.proofs.Common.{◌≡◌, ◌⊎◌, inl, inr, ℕ, ◌+◌, ◌<◌, ◌≤◌, suc, List, [], ◌∷◌, length, take, refl, sym, subst, ap, ◌∙◌, arith, length-take}
 use Rattle.std.proofs.lemmas.Bool.{cases_lt}
 use Rattle.std.proofs.lemmas.List.{take-take}
 use Rattle.std.proofs.lemmas.Option.{slice_get_within}
@@ -9,23 +8,21 @@ use Rattle.pblk_model.specs.declared.chunk.Mark.{Mark}
 use Rattle.pblk_model.specs.Image.{Image}
 use Rattle.pblk_model.specs.Marks.{sector_mark}
 use Rattle.pblk_world.specs.AtRest.{logs_at}
-use Rattle.pblk_world.specs.EngineLog.{Begun, taken_by, takes}
+use Rattle.pblk_world.specs.EngineLog.{taken_by, takes}
 use Rattle.pblk_world.specs.Events.{Decides, Entry, Logged, Source, Take}
-use Rattle.pblk_world.specs.Fronts.{first_position, last_take, taken}
+use Rattle.pblk_world.specs.Fronts.{last_take, taken}
 use Rattle.pblk_world.specs.Taking.{IsPlaceOfLatest}
 use Rattle.pblk_world.specs.Victims.{engine_prefix, live}
 use Rattle.pblk_world.specs.World.{World, Logs, log_of}
-use Rattle.pblk_world.proofs.EngineLogLemmas.{begun_taken}
 use Rattle.lemmas.proofs.Maps.{given_at}
-use Rattle.lemmas.proofs.Parts.{contained_among, get_taken, take_and_drop}
+use Rattle.lemmas.proofs.Parts.{contained_among, get_taken}
 use Rattle.world_laws.specs.LegalMounts.{IsLegalMount}
 use Rattle.world_laws.specs.Reasons.{WasBegun}
-use Rattle.world_laws.proofs.Later.{takes_joined}
 use Rattle.world_laws.proofs.NextLives.{IsDecided, decided}
 use Rattle.rest_laws.specs.Copies.{TookCopy}
 use Rattle.rest_laws.specs.AtWork.{AreCopiesOf, IsAtWorkFrom, IsCopyOf, WasTakenSince}
 use Rattle.rest_laws.proofs.FewerLive.{live_falls, live_falls_by_one}
-use Rattle.rest_laws.proofs.LengthLogs.{IsWorldAt, logs_same, world_at}
+use Rattle.rest_laws.proofs.LengthLogs.{IsWorldAt, logs_same, world_at, taken_rises}
 use Rattle.rest_laws.proofs.OneCopy.{takes_copy}
 use Rattle.rest_laws.proofs.VictimStripes.{live_there, live_whole, mount_at, victim_there}
 
@@ -155,24 +152,13 @@ module _ (i : Image) (w : World) (mount : IsLegalMount i w) (line : ℕ) where
 
   -- ---- a copy that isn't Void takes its sector itself
 
-  pub taken_rise : (a b : ℕ) → 0 < a → a ≤ b → taken (take a (log_of w 0)) ≤ taken (take b (log_of w 0))
-  taken_rise a b some low =
-      let parts : take a whole_log ++ drop a (take b whole_log) ≡ take b whole_log =
-      ap (λ (xs : List Logged). xs ++ drop a (take b whole_log)) (sym (take-take a b whole_log low)) ∙ take_and_drop a (take b whole_log) in
-      let count : length (takes (take b whole_log)) ≡ length (takes (take a whole_log)) + length (takes (drop a (take b whole_log))) =
-      ap length (ap takes (sym parts) ∙ takes_joined (take a whole_log) (drop a (take b whole_log)))
-      ∙ length-append (takes (take a whole_log)) (takes (drop a (take b whole_log))) in
-      let first : first_position (take a whole_log) ≡ first_position (take b whole_log) =
-      ap (λ o. option_map_or (λ (x : Begun). x.beginning.first) o 0) (begun_taken a whole_log some ∙ sym (begun_taken b whole_log (omega arith))) in
-      omega arith
-
   pub own_taken : (from number : ℕ) (entry : Entry) (mark : Mark) → 0 < from → from ≤ number → TookCopy (log_of w 0) number entry mark
       → mark ≡ sector_mark entry.lba entry.position → WasTakenSince (take (suc number) (log_of w 0)) entry.lba from
   own_taken from number entry mark some low took named =
       let d : IsDecided i w mount.legal number (Take entry mark) (record { event = Decides (Take entry mark); knows = took.knows }) =
       decided i w mount.legal number (Take entry mark) (record { event = Decides (Take entry mark); knows = took.knows }) took.there refl in
       let position : entry.position ≡ taken (take number whole_log) = d.allowed.2.position ∙ ap taken d.own in
-      let rise : taken (take from whole_log) ≤ taken (take number whole_log) = taken_rise from number some low in
+      let rise : taken (take from whole_log) ≤ taken (take number whole_log) = taken_rises whole_log from number some low in
       let part : take from (take (suc number) whole_log) ≡ take from whole_log = take-take from (suc number) whole_log (omega arith) in
       let front : taken (take from (take (suc number) whole_log)) ≡ taken (take from whole_log) = ap taken part in
       record {

@@ -1,8 +1,9 @@
 -- What an entry that is taken makes of the victim at work and of the copy that is under way: a
 -- user's entry takes a sector, that of the copy or another, and a copy that is taken is the one
 -- under way.
-use Rattle.std.proofs.Common.{◌≡◌, ◌≢◌, ◌⊎◌, inl, inr, ℕ, ◌+◌, ◌-◌, ◌<◌, ◌≤◌, ◌^◌, suc, Bool, true, false, nat_eq, Some, None, Option, take, refl, sym, subst, ap, ◌∙◌, arith}
+use Rattle.std.proofs.Common.{◌≡◌, ◌≢◌, ◌⊎◌, inl, inr, ℕ, ◌+◌, ◌-◌, ◌<◌, ◌≤◌, ◌^◌, zero, suc, Bool, true, false, nat_eq, Some, None, Option, [], ◌∷◌, take, refl, sym, subst, ap, ◌∙◌, arith}
 use Rattle.std.specs.Prelude.{slice_get}
+use Rattle.std.specs.List.{cons_option}
 use Rattle.std.proofs.lemmas.Bool.{cases_lt, cases_order, eqb-false, eqb-true}
 use Rattle.std.proofs.lemmas.List.{take-take}
 use Rattle.std.proofs.lemmas.Option.{none-some, same_Some}
@@ -19,17 +20,18 @@ use Rattle.lemmas.proofs.Maps.{given_at}
 use Rattle.lemmas.proofs.Parts.{contained_among, get_taken}
 use Rattle.lemmas.proofs.Tests.{not_both}
 use Rattle.world_laws.proofs.NextLives.{IsDecided, decided}
+use Rattle.world_laws.proofs.TakenEvents.{IsTakenAt, taken_at}
 use Rattle.room_law.specs.Counting.{Copy, Elsewhere, Fresh, Loss, MayLose, NoCopy, OfCopied, OfVictim, Outlived, Stale, State, Victim, after, copy_after, fewer_live, fresh, lost_by, past_copy}
 use Rattle.rest_laws.specs.AtWork.{WasTakenSince}
 use Rattle.rest_laws.specs.Copies.{TookCopy}
 use Rattle.rest_laws.specs.RoomRuns.{AreBegunAt, IsCopyAt, IsOfVictim, IsReasonedMount, IsVictimOf, UnderWay, WasOvertaken}
 use Rattle.rest_laws.proofs.BegunInTurn.{alone, may as begun_may, position_is, some as begun_some, within as begun_within}
 use Rattle.rest_laws.proofs.CopyMarks.{named_where_live, void_where_overtaken}
-use Rattle.rest_laws.proofs.CountedCopies.{taken_rise}
+use Rattle.rest_laws.proofs.LengthLogs.{taken_rises}
 use Rattle.rest_laws.proofs.FreedVictims.{low}
 use Rattle.rest_laws.proofs.StillLive.{elsewhere, lowered, outside}
 use Rattle.rest_laws.proofs.VictimSteps.{stays}
-use Rattle.rest_laws.proofs.UnderWay.{copied_of, fresh_kept, in_log, live_next, none_kept, outlived_kept, past_event, some_live, stale_kept, taken_says}
+use Rattle.rest_laws.proofs.UnderWay.{copied_of, fresh_kept, in_log, live_next, none_kept, outlived_kept, past_event, some_live, stale_kept}
 
 module _ (i : Image) (w : World) (is : IsReasonedMount i w) (at : ℕ → ℕ) (turns : AreBegunAt i (log_of w) at)
     (n : ℕ) (some : 0 < n) (l : Logged) (there : slice_get (log_of w 0) n ≡ Some l) where
@@ -43,7 +45,14 @@ module _ (i : Image) (w : World) (is : IsReasonedMount i w) (at : ℕ → ℕ) (
 
   module _ (t : Taken) (its : taken_by l.event ≡ Some t) where
     event : l.event ≡ Decides (Take t.entry t.mark)
-    event = taken_says l.event t its
+    event = by (taken_at (l ∷ []) 0 t (ap (λ (o : Option Taken). slice_get (cons_option o []) 0) its))
+      where
+        only : (k : ℕ) (other : Logged) → slice_get (l ∷ []) k ≡ Some other → l ≡ other
+        only zero other e = same_Some l other e
+        only (suc k) other e = absurd (none-some other e)
+
+        by : IsTakenAt (l ∷ []) 0 t → l.event ≡ Decides (Take t.entry t.mark)
+        by taken = ap (λ (x : Logged). x.event) (only taken.number taken.logged taken.there) ∙ taken.event
 
     not_free : (line : ℕ) → l.event ≡ Decides (Free line) → ⊥
     not_free line frees = none-some t (ap taken_by (sym frees) ∙ its)
@@ -60,7 +69,7 @@ module _ (i : Image) (w : World) (is : IsReasonedMount i w) (at : ℕ → ℕ) (
     -- an entry of its sector was taken since an earlier length
     since : (from : ℕ) → 0 < from → from ≤ n → WasTakenSince (take (suc n) (log_of w 0)) t.mark.lba from
     since from first low =
-        let rise : taken (take from (log_of w 0)) ≤ taken (take n (log_of w 0)) = taken_rise i w is.mount 0 from n first low in
+        let rise : taken (take from (log_of w 0)) ≤ taken (take n (log_of w 0)) = taken_rises (log_of w 0) from n first low in
         let part : take from (take (suc n) (log_of w 0)) ≡ take from (log_of w 0) = take-take from (suc n) (log_of w 0) (omega arith) in
         let same : taken (take from (take (suc n) (log_of w 0))) ≡ taken (take from (log_of w 0)) = ap taken part in
         record {
@@ -237,6 +246,12 @@ module _ (i : Image) (w : World) (is : IsReasonedMount i w) (at : ℕ → ℕ) (
             (λ m from upto. of m (omega (arith, ap at (is_next c))) upto) live in
             ap (λ (x : Taken). x.mark.lba) same_entry ∙ ap (λ (m : Mark). m.lba) named
 
+      -- one whose sector was overtaken is Void, and takes no sector from the victim
+      as_live : (line : ℕ) → victim i (log_of w) n ≡ Some line → (c : UnderWay i (log_of w) at n n) → WasOvertaken (log_of w) at n c.number c.entry.lba
+          → live i (engine_prefix (suc n) (log_of w)) line ≡ live i (engine_prefix n (log_of w)) line
+      as_live line e c over =
+          outside i w is.mount line n some (omega (arith, in_log i w is at turns n some l there)) e (next line e) l there t its (is_void c over)
+
       pub drops : (o : Option ℕ) → victim i (log_of w) n ≡ o → (v : Option Victim) → IsVictimOf i (engine_prefix n (log_of w)) o v → (c : Copy)
           → IsCopyAt i (log_of w) at n n c → IsVictimOf i (engine_prefix (suc n) (log_of w)) o (fewer_live (fresh c) v)
       drops None e None h c k = tt
@@ -250,18 +265,8 @@ module _ (i : Image) (w : World) (is : IsReasonedMount i w) (at : ℕ → ℕ) (
           let passes : is_live_in i old line t.mark.lba ≡ true = subst (λ m. is_live_in i old m t.mark.lba ≡ true) in_line
           (subst (λ x. is_live_in i old k.0.took.source.line x ≡ true) (sym named) k.3) in
           omega (arith, one_less line e small passes, h)
-      drops (Some line) e (Some v) h (Stale p) k =
-          omega (
-            arith,
-            outside i w is.mount line n some (omega (arith, in_log i w is at turns n some l there)) e (next line e) l there t its (is_void k.0 k.2),
-            h,
-          )
-      drops (Some line) e (Some v) h (Outlived p) k =
-          omega (
-            arith,
-            outside i w is.mount line n some (omega (arith, in_log i w is at turns n some l there)) e (next line e) l there t its (is_void k.0 k.2),
-            h,
-          )
+      drops (Some line) e (Some v) h (Stale p) k = omega (arith, as_live line e k.0 k.2, h)
+      drops (Some line) e (Some v) h (Outlived p) k = omega (arith, as_live line e k.0 k.2, h)
 
       pub next_position : (c : Copy) → IsCopyAt i (log_of w) at n n c → past_copy c ≡ taken (take n (log_of w 0)) + 1
       next_position NoCopy k = absurd (some_copy k)

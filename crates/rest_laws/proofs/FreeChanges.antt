@@ -1,33 +1,27 @@
 -- How the data addresses of the Free lines change with each step of a legal mount.
-use Rattle.std.proofs.Common.{◌≡◌, ℕ, ◌+◌, suc, true, Some, List, ◌∷◌, refl, sym, subst, ap, ap₂, ◌∙◌}
-use Rattle.std.specs.List.{list_all}
+use Rattle.std.proofs.Common.{◌≡◌, ℕ, ◌+◌, suc, true, Some, List, ◌∷◌, refl, sym, subst, ap, ◌∙◌}
 use Rattle.std.specs.Option.{option_and_then}
 use Rattle.std.proofs.lemmas.Option.{same_Some}
-use Rattle.pblk_model.specs.Chunk.{Chunk}
 use Rattle.pblk_model.specs.Image.{Image}
 use Rattle.pblk_model.specs.LineOrder.{data_len}
 use Rattle.pblk_model.specs.StartRecord.{StartRecord}
 use Rattle.pblk_model.specs.UnitLog.{UnitEvent}
 use Rattle.pblk_world.specs.Answering.{MayNoteReset}
-use Rattle.pblk_world.specs.EngineLog.{Begun, begun, is_as_found, life_of, LineLife}
+use Rattle.pblk_world.specs.EngineLog.{Begun, begun}
 use Rattle.pblk_world.specs.Events.{Again, Begin, Decides, EngineEvent, Free, Landed, Logged, Lost, Open, Place, ResetDone, Step, Take}
-use Rattle.pblk_world.specs.Freeing.{MayFree}
-use Rattle.pblk_world.specs.Lines.{are_over, chunks_of, is_over_state}
 use Rattle.pblk_world.specs.Opening.{MayOpen}
 use Rattle.pblk_world.specs.Space.{free_addresses}
-use Rattle.pblk_world.specs.Starts.{seq_of}
 use Rattle.pblk_world.specs.World.{World, Logs, log_of, prefixes, unit_event_at, unit_event_of}
 use Rattle.pblk_world.proofs.Appending.{life_more}
 use Rattle.world_laws.specs.LegalMounts.{IsLegalMount}
-use Rattle.world_laws.specs.SameTold.{AreSameTold}
 use Rattle.world_laws.proofs.ToldDecisions.{opening_told}
-use Rattle.world_laws.proofs.ToldImages.{image_same, told_back}
-use Rattle.world_laws.proofs.ToldTables.{free_addresses_told, seq_told}
+use Rattle.world_laws.proofs.ToldImages.{told_back}
+use Rattle.world_laws.proofs.ToldTables.{free_addresses_told}
 use Rattle.core_laws.specs.Stepping.{after}
 use Rattle.core_laws.proofs.FreedLines.{free_freed}
 use Rattle.rest_laws.specs.RoomSteps.{free_data, keeps_free}
 use Rattle.rest_laws.proofs.FreeSteps.{free_kept, free_landed, free_opened, free_reset}
-use Rattle.rest_laws.proofs.RoomChanges.{before, by_logs, land_whole, may, note_whole, told, unit_tells_none, whole}
+use Rattle.rest_laws.proofs.RoomChanges.{before, by_logs, land_whole, line_freed, may, note_whole, told, unit_tells_none, whole}
 
 module _ (i : Image) (s : Step) (w : World) (mount : IsLegalMount i (s ∷ w)) where
   pub unit_keeps : (unit : ℕ) → s.author ≡ suc unit → free_addresses i (log_of (s ∷ w)) ≡ free_addresses i (log_of w)
@@ -63,14 +57,8 @@ module _ (i : Image) (s : Step) (w : World) (mount : IsLegalMount i (s ∷ w)) w
         stays (Landed unit number) is (free_landed i w was unit number knows (land_whole (log_of w) s.logged unit number
         (whole i s w mount (Landed unit number) own is b begins) (may i s w mount (Landed unit number) own is b begins).2))
     engine_keeps (Free line) is keeps =
-        let named_may : MayFree i (prefixes s.logged (log_of w)) line = (may i s w mount (Free line) own is b begins).2 in
-        let same : AreSameTold i (log_of w) (prefixes s.logged (log_of w)) = told i s w mount (Free line) own is b begins in
-        let over : are_over i (log_of w) line ≡ true =
-        sym (ap₂ (λ (j : Image) (l : LineLife). list_all (λ (c : Chunk). is_over_state (is_as_found l) c.state) (chunks_of j line))
-        (image_same i (log_of w) (prefixes s.logged (log_of w)) same)
-        (ap (λ (xs : List Logged). life_of xs line) (whole i s w mount (Free line) own is b begins))) ∙ named_may.over in
-        let seq : seq_of i (log_of w) line ≡ Some named_may.seq = sym (seq_told i (log_of w) (prefixes s.logged (log_of w)) same line) ∙ named_may.has_seq in
-        stays (Free line) is (free_freed i w was line knows over b begins named_may.seq seq)
+        let it = line_freed i s w mount own b begins line is in
+        stays (Free line) is (free_freed i w was line knows it.2 b begins it.0 it.3)
 
     pub open_takes : (line : ℕ) (start : StartRecord) → s.logged.event ≡ Decides (Open line start)
         → free_addresses i (log_of w) ≡ free_addresses i (log_of (s ∷ w)) + data_len i.shape start.width

@@ -49,4 +49,5 @@ many_free i logs wide not_due = go (cases_lt (3 * full_data i.shape) (free_addre
     go (inl more) =
         let above : 3 < free_lines i logs = lt_of_mul-lt-mul_right (full_data i.shape) (below_same more (free_are i logs wide)) in
         omega arith
-    go (inr few) = absurd (not_both (nat_le (free_addresses i logs) (3 * full_data i.shape)) (le_true (free_addresses i logs) (3 * full_data i.shape) few) not_due)
+    go (inr few) = absurd (not_both (nat_le (free_addresses i logs) (3 * full_data i.shape))
+        (le_true (free_addresses i logs) (3 * full_data i.shape) few) not_due)

@@ -30,7 +30,7 @@ use Rattle.core_laws.proofs.LandedRows.{keeps_chunks}
 use Rattle.core_laws.proofs.RangeSums.{sum_more, sum_same}
 use Rattle.core_laws.proofs.ClosedKept.{one_told}
 use Rattle.rest_laws.specs.RoomSteps.{free_data}
-use Rattle.rest_laws.proofs.UsedResets.{in_range, unempty_now}
+use Rattle.rest_laws.proofs.UsedResets.{in_range, may_note, unempty_now}
 
 abbrev data_by : Image → Bool → Bool → ℕ → ℕ
 data_by i number empty wide = if not number && empty && nat_lt 0 (data_len i.shape wide) then data_len i.shape wide else 0
@@ -159,12 +159,13 @@ module _ (i : Image) (w : World) (mount : IsLegalMount i w) (b : Begun) (begins 
       line = may.reset.chunk
 
       inside : may.reset.chunk < i.shape.chunks
-      inside = in_range i w mount b begins unit number may
+      inside = in_range i w mount b begins unit number (may_note (log_of w) unit number may)
 
       -- a chunk of it is used
       not_free : free_data i (log_of w) may.reset.chunk ≡ 0
       not_free =
-          let used : are_empty (known_image i (log_of w)) line ≡ false = unempty_now i w mount b begins unit number may in
+          let used : are_empty (known_image i (log_of w)) line ≡ false = unempty_now i w mount b begins unit number
+          (may_note (log_of w) unit number may) in
           ap (λ t. if not (has_number i (log_of w) (life_of (log_of w 0) line) line) && t && nat_lt 0 (line_data (known_image i (log_of w)) line)
           then line_data (known_image i (log_of w)) line else 0) used
           ∙ no_line (not (has_number i (log_of w) (life_of (log_of w 0) line) line)) (nat_lt 0 (line_data (known_image i (log_of w)) line))

@@ -1,5 +1,5 @@
--- At rest the front freed is near the front taken: what can't be read yet stands in the line that was
--- opened last, at the ends of its chunks.
+-- At rest the front freed is near the front taken: what can't be read yet stands in the line that
+-- was opened last, at the ends of its chunks.
 use Rattle.std.proofs.Common.{◌≡◌, ◌⊎◌, inl, inr, ℕ, ◌+◌, ◌-◌, ◌*◌, ◌/◌, ◌%◌, ◌<◌, ◌≤◌, ◌&&◌, ◌||◌, nat_le, nat_lt, Bool, true, false, Some, List, length, take, drop, refl, sym, subst, ap, ◌∙◌, arith, div-add-mod', length-drop, length-take}
 use Rattle.std.specs.Prelude.{slice_get}
 use Rattle.std.specs.List.{Contains, enumerate_from, filter, list_any}
@@ -51,6 +51,12 @@ taken_waits i w simple =
     let count : length (filter (was_placed i.shape log) (takes log)) ≡ order.order.count = count_is i.shape log order in
     let few : order.order.count ≤ length (takes log) = order.order.within in
     omega arith
+
+-- ---- the front freed
+
+pub freed_is_least : (s : Shape) (log : List Logged)
+    → IsLeast (λ position. list_any (gives_back s log position) (placements log)) (length (takes log)) (first_position log) (freed s log)
+freed_is_least s log = least (λ position. list_any (gives_back s log position) (placements log)) (length (takes log)) (first_position log)
 
 -- ---- numbers
 
@@ -111,7 +117,7 @@ module _ (i : Image) (w : World) (simple : IsSimpleMount i w) (full : OpensWhenF
 
   held : freed i.shape (log_of w 0) < placed_front i.shape (log_of w 0) → (p : Placed) × IsHeldIn p
   held below =
-      let from : first_position log ≤ q = front.from in
+      let from : first_position log ≤ q = (freed_is_least s log).from in
       let within : placed_front s log ≤ taken log = front_within s log order in
       let also : list_any (holds_position s q) (placements log) ≡ true =
       some_hold_below s log order q
@@ -119,7 +125,7 @@ module _ (i : Image) (w : World) (simple : IsSimpleMount i w) (full : OpensWhenF
       let at = passing (holds_position s q) (placements log) also in
       let p : Placed = at.0 in
       let there : Contains (placements log) p = contained_among (placements log) p at.1 in
-      let missing : list_any (gives_back s log q) (placements log) ≡ false = front.missing (omega arith) in
+      let missing : list_any (gives_back s log q) (placements log) ≡ false = (freed_is_least s log).missing (omega arith) in
       let block = passing (bears_position s q) p.stripe.blocks at.2 in (
         p,
         record {
@@ -133,11 +139,6 @@ module _ (i : Image) (w : World) (simple : IsSimpleMount i w) (full : OpensWhenF
         },
       )
     where
-      front : IsLeast (λ position. list_any (gives_back i.shape (log_of w 0) position) (placements (log_of w 0))) (length (takes (log_of w 0)))
-          (first_position (log_of w 0)) (freed i.shape (log_of w 0))
-      front = least (λ position. list_any (gives_back i.shape (log_of w 0) position) (placements (log_of w 0))) (length (takes (log_of w 0)))
-          (first_position (log_of w 0))
-
       none_read : (p : Placed) → IsAmong (placements (log_of w 0)) p → has_landed (log_of w 0) p ≡ true
           → list_any (gives_back i.shape (log_of w 0) (freed i.shape (log_of w 0))) (placements (log_of w 0)) ≡ false
           → (block : Block) (index : ℕ) → slice_get p.stripe.blocks index ≡ Some block
@@ -158,11 +159,6 @@ module _ (i : Image) (w : World) (simple : IsSimpleMount i w) (full : OpensWhenF
   not_beyond : (p : Placed) → IsHeldIn p → 0 < p.number → placed_front i.shape (take p.number (log_of w 0)) ≤ freed i.shape (log_of w 0)
   not_beyond p h some = go (cases_lt q (placed_front s (take p.number log)))
     where
-      front : IsLeast (λ position. list_any (gives_back i.shape (log_of w 0) position) (placements (log_of w 0))) (length (takes (log_of w 0)))
-          (first_position (log_of w 0)) (freed i.shape (log_of w 0))
-      front = least (λ position. list_any (gives_back i.shape (log_of w 0) position) (placements (log_of w 0))) (length (takes (log_of w 0)))
-          (first_position (log_of w 0))
-
       go : (freed i.shape (log_of w 0) < placed_front i.shape (take p.number (log_of w 0)))
           ⊎ (placed_front i.shape (take p.number (log_of w 0)) ≤ freed i.shape (log_of w 0))
           → placed_front i.shape (take p.number (log_of w 0)) ≤ freed i.shape (log_of w 0)
@@ -170,7 +166,7 @@ module _ (i : Image) (w : World) (simple : IsSimpleMount i w) (full : OpensWhenF
       go (inl more) =
           let then_ : List Logged = take p.number log in
           let first : first_position then_ ≡ first_position log = first_then i w simple full p.number some in
-          let from : first_position log ≤ q = front.from in
+          let from : first_position log ≤ q = (freed_is_least s log).from in
           let also : list_any (holds_position s q) (placements then_) ≡ true =
           some_hold_below s then_ (ordered_then i w simple full p h.there) q
           ∙ and_both (nat_le (first_position then_) q) (nat_lt q (placed_front s then_)) (le_true (first_position then_) q (omega arith))

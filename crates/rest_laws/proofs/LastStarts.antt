@@ -1,5 +1,5 @@
--- The start record of the line that was opened last: once it has landed it is the newest one. It has
--- landed where no stripe is under way and none of a start record is to be placed.
+-- The start record of the line that was opened last: once it has landed it is the newest one. It
+-- has landed where no stripe is under way and none of a start record is to be placed.
 use Rattle.std.proofs.Common.{◌≡◌, ◌⊎◌, inl, inr, ℕ, ◌+◌, ◌<◌, ◌≤◌, cond, Bool, true, Some, List, [], ◌∷◌, ◌++◌, length, take, sym, subst, ap, ◌∙◌, arith}
 use Rattle.std.specs.Prelude.{map, slice_get}
 use Rattle.std.specs.List.{Contains, filter, last_or}
@@ -29,8 +29,8 @@ use Rattle.core_laws.proofs.LandedNow.{opened_now}
 use Rattle.rest_laws.specs.NewestOpened.{IsLastOpened}
 use Rattle.rest_laws.proofs.NextPlaces.{first_landed, stripe_with}
 
--- An opened line has begun where its stripes are answered and no stripe of its start record is to be
--- placed.
+-- An opened line has begun where its stripes are answered and no stripe of its start record is to
+-- be placed.
 pub start_landed : (i : Image) (w : World) (simple : IsSimpleMount i w) (o : Opening) → life_of (log_of w 0) o.line ≡ Opened o
     → ((p : Placed) → Contains (placements (log_of w 0)) p → is_answered (log_of w 0) p ≡ true)
     → ((stripe : Stripe) → stripe.line ≡ o.line → ¬ IsStart i (log_of w) o stripe)

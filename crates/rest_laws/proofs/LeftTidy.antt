@@ -1,6 +1,6 @@
 -- Where no event of a unit failed, a mount over a tidy image leaves a tidy image, once collection
 -- isn't due.
-use Rattle.std.proofs.Common.{◌≡◌, ◌⊎◌, inl, inr, ℕ, ◌+◌, ◌-◌, ◌<◌, ◌≤◌, ◌&&◌, ◌||◌, not, nat_lt, suc, Bool, true, false, Some, List, length, take, refl, sym, ap, ◌∙◌, arith}
+use Rattle.std.proofs.Common.{◌≡◌, ◌⊎◌, inl, inr, ℕ, ◌+◌, ◌-◌, ◌<◌, ◌≤◌, ◌||◌, suc, Bool, true, false, Some, List, length, take, refl, sym, ap, ◌∙◌, arith}
 use Rattle.std.specs.Prelude.{slice_get, slice_index}
 use Rattle.std.specs.List.{Contains, range_with_len}
 use Rattle.std.proofs.lemmas.Bool.{cases_order}
@@ -14,13 +14,12 @@ use Rattle.pblk_laws.specs.LineBlocks.{chunk_in}
 use Rattle.pblk_world.specs.Commanding.{ended_stripes, is_program, is_reset, was_stopped}
 use Rattle.pblk_world.specs.EngineLog.{AsFound, Begun, begun, Freed, is_opened, life_of, LineLife, named_events, Opened}
 use Rattle.pblk_world.specs.Events.{Logged}
-use Rattle.pblk_world.specs.Lines.{are_empty, found_image, has_number, is_empty_state, is_free_line, known_image, line_data}
+use Rattle.pblk_world.specs.Lines.{are_empty, found_image, has_number, is_empty_state, is_free_line, known_image}
 use Rattle.pblk_world.specs.Space.{is_due}
 use Rattle.pblk_world.specs.World.{World, Logs, log_of, media, unit_event_at, unit_event_of, unit_events}
 use Rattle.lemmas.proofs.Maps.{given_at}
 use Rattle.lemmas.proofs.Options.{split_then}
 use Rattle.lemmas.proofs.Parts.{all_at, get_below}
-use Rattle.lemmas.proofs.Tests.{both}
 use Rattle.world_laws.specs.KnownChunks.{IsChange}
 use Rattle.world_laws.specs.LegalMounts.{IsLegalMount}
 use Rattle.world_laws.specs.UnitChunks.{chunk_after}
@@ -41,7 +40,7 @@ use Rattle.rest_laws.specs.TidyMounts.{HasNoFailures}
 use Rattle.rest_laws.specs.Tidy.{HasWholeChunks, has_free_chunks, IsFaultless, IsFoundFaultless, IsTidy, is_free_state}
 use Rattle.rest_laws.proofs.FreeCounts.{many_free}
 use Rattle.rest_laws.proofs.NothingFailed.{faultless_wide, known_chunk}
-use Rattle.rest_laws.proofs.TidyFound.{chunk_passes, found_tidy, free_or_offline, more_pass, whole_image}
+use Rattle.rest_laws.proofs.TidyFound.{chunk_passes, found_tidy, free_or_offline, free_parts, more_pass, whole_image}
 use Rattle.rest_laws.proofs.WholeChunks.{known_whole, media_whole}
 
 -- ---- nothing failed that anybody heard of
@@ -167,19 +166,10 @@ module _ (i : Image) (w : World) (mount : IsLegalMount i w) (b : Begun) (begins 
 
     free_left : (line : ℕ) → is_free_line i (log_of w) line ≡ true → has_free_chunks (media i (log_of w)) line ≡ true
     free_left line free =
-        let parts = both (not (has_number i (log_of w) (life_of (log_of w 0) line) line) && are_empty (known_image i (log_of w)) line)
-        (nat_lt 0 (line_data (known_image i (log_of w)) line)) free in
-        let two = both (not (has_number i (log_of w) (life_of (log_of w 0) line) line)) (are_empty (known_image i (log_of w)) line) parts.0 in
-        let empty : are_empty (known_image i (log_of w)) line ≡ true = two.1 in
-        let none : has_number i (log_of w) (life_of (log_of w 0) line) line ≡ false =
-        not_true (has_number i (log_of w) (life_of (log_of w 0) line) line) two.0 in
+        let parts = free_parts i (log_of w) line free in
         chunks_pass (media i (log_of w)) line (λ (c : Chunk). is_free_state c.state)
-        (λ unit c there. by (not_opened (life_of (log_of w 0) line) none) empty unit c there)
+        (λ unit c there. by (not_opened (life_of (log_of w 0) line) parts.0) parts.1 unit c there)
       where
-        not_true : (t : Bool) → not t ≡ true → t ≡ false
-        not_true false e = refl
-        not_true true e = absurd cc
-
         not_opened : (life : LineLife) → has_number i (log_of w) life line ≡ false → is_opened life ≡ false
         not_opened AsFound none = refl
         not_opened (Opened o) none = absurd cc

@@ -1,10 +1,11 @@
 -- The logs at a length of the engine's log: they say what the engine had been told then.
-use Rattle.std.proofs.Common.{◌≡◌, ◌⊎◌, inl, inr, ℕ, ◌-◌, ◌<◌, ◌≤◌, zero, suc, Some, List, [], ◌++◌, append-nil, length, take, refl, sym, subst, ap, ap₂, ◌∙◌, arith, length-take, take_all}
+use Rattle.std.proofs.Common.{◌≡◌, ◌⊎◌, inl, inr, ℕ, ◌-◌, ◌<◌, ◌≤◌, zero, suc, Some, List, [], ◌++◌, append-nil, length, take, refl, sym, subst, ap, ap₂, ◌∙◌, arith, length-take, take_all, ◌+◌, drop, length-append, Option}
 use Rattle.std.specs.Prelude.{slice_get}
 use Rattle.std.specs.List.{Contains}
 use Rattle.std.proofs.lemmas.Bool.{cases_order}
 use Rattle.std.proofs.lemmas.List.{take-take}
 use Rattle.std.proofs.lemmas.Option.{same_Some}
+use Rattle.std.specs.Option.{option_map_or}
 use Rattle.pblk_model.specs.Image.{Image}
 use Rattle.pblk_world.specs.AtRest.{knows_last, logs_at}
 use Rattle.pblk_world.specs.Events.{Logged}
@@ -13,14 +14,42 @@ use Rattle.pblk_world.specs.Lines.{found_image}
 use Rattle.pblk_world.specs.Victims.{engine_prefix, stays_at_work, victim}
 use Rattle.pblk_world.specs.World.{World, Logs, log_of, known}
 use Rattle.pblk_world.proofs.VictimsLemmas.{whole_prefix}
+use Rattle.pblk_world.specs.EngineLog.{Begun, takes}
+use Rattle.pblk_world.specs.Fronts.{first_position, taken}
+use Rattle.pblk_world.proofs.EngineLogLemmas.{begun_taken}
 use Rattle.lemmas.proofs.Lists.{among_contained}
 use Rattle.lemmas.proofs.Numbers.{fun_same}
-use Rattle.lemmas.proofs.Parts.{get_taken, get_whole_within, got_within, is_in}
+use Rattle.lemmas.proofs.Parts.{get_taken, get_whole_within, got_within, is_in, take_and_drop}
 use Rattle.world_laws.specs.SameTold.{AreSameTold}
 use Rattle.world_laws.proofs.Made.{IsMade, known_part, log_then, made, own_then}
 use Rattle.world_laws.proofs.ToldImages.{found_at}
 use Rattle.world_laws.proofs.ToldSince.{same_told, told_up_to}
 use Rattle.world_laws.proofs.ToldTables.{victim_told}
+use Rattle.world_laws.proofs.Later.{takes_joined}
+
+-- ---- the first position and the front taken, at a length
+
+pub first_at : (log : List Logged) (n : ℕ) → 0 < n → first_position (take n log) ≡ first_position log
+first_at log n some = ap (λ (b : Option Begun). option_map_or (λ (x : Begun). x.beginning.first) b 0) (begun_taken n log some)
+
+-- more events took no fewer entries
+pub takes_rise : (log : List Logged) (a b : ℕ) → a ≤ b → length (takes (take a log)) ≤ length (takes (take b log))
+takes_rise log a b below =
+    let parts : take a log ++ drop a (take b log) ≡ take b log =
+    ap (λ (xs : List Logged). xs ++ drop a (take b log)) (sym (take-take a b log below)) ∙ take_and_drop a (take b log) in
+    let count : length (takes (take b log)) ≡ length (takes (take a log)) + length (takes (drop a (take b log))) =
+    ap length (ap takes (sym parts) ∙ takes_joined (take a log) (drop a (take b log)))
+    ∙ length-append (takes (take a log)) (takes (drop a (take b log))) in
+    omega arith
+
+pub taken_rises : (log : List Logged) (a b : ℕ) → 0 < a → a ≤ b → taken (take a log) ≤ taken (take b log)
+taken_rises log a b some below =
+    let rise : length (takes (take a log)) ≤ length (takes (take b log)) = takes_rise log a b below in
+    let first_a : first_position (take a log) ≡ first_position log = first_at log a some in
+    let first_b : first_position (take b log) ≡ first_position log = first_at log b (omega arith) in
+    omega arith
+
+-- ---- the logs at a length
 
 -- what an event knew, a later one of the engine knew too
 known_later : (i : Image) (w : World) (k m unit : ℕ) (l last : Logged) → IsLegal i w → slice_get (log_of w 0) k ≡ Some l

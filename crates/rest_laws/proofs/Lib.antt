@@ -28,6 +28,7 @@ pub mod RestingVictims
 pub mod FreeCounts
 pub mod RestingRoom
 pub mod WholeChunks
+pub mod LostEvents
 pub mod NothingFailed
 pub mod TidyFound
 pub mod UnresetSteps

@@ -36,7 +36,8 @@ ones_apart test f g is (x ∷ xs) =
     let here : g x ≡ as_number (test x) + f x = is x in
     omega arith
 
--- Where each y is of at most one x, the numbers of ys that are of each x add up to no more than there are.
+-- Where each y is of at most one x, the numbers of ys that are of each x add up to no more than
+-- there are.
 pub pairs_within : {X Y : Type 0} (of : X → Y → Bool) (xs : List X) (ys : List Y) → ((y : Y) → length (filter (λ x. of x y) xs) ≤ 1)
     → sum_by (λ x. length (filter (of x) ys)) xs ≤ length ys
 pairs_within {X} {Y} of xs [] once = none xs
@@ -74,8 +75,8 @@ once_in_range None a (suc n) = once_in_range None (a + 1) n
 once_in_range (Some m) a (suc n) = go (is_of a (Some m)) refl (once_in_range (Some m) (a + 1) n)
   where
     go : (b : Bool) → is_of a (Some m) ≡ b → length (filter (λ line. is_of line (Some m)) (range_with_len (a + 1) n)) ≤ 1
-        → length (cond b (a ∷ filter (λ line. is_of line (Some m)) (range_with_len (a + 1) n)) (filter (λ line. is_of line (Some m)) (range_with_len (a + 1) n)))
-        ≤ 1
+        → length (cond b (a ∷ filter (λ line. is_of line (Some m)) (range_with_len (a + 1) n))
+        (filter (λ line. is_of line (Some m)) (range_with_len (a + 1) n))) ≤ 1
     go false e rest = rest
     go true e rest =
         let here : m ≡ a = same m a e in

@@ -1,6 +1,6 @@
--- Where nothing that the engine heard of failed, no stripe was lost, and no line is narrower than the
--- drive if the mount found whole chunks.
-use Rattle.std.proofs.Common.{◌≡◌, ◌≢◌, ℕ, ◌+◌, ◌<◌, suc, cond, true, false, Some, None, Option, List, [], ◌∷◌, length, refl, sym, subst, ap, ◌∙◌, arith}
+-- Where nothing that the engine heard of failed, no stripe was lost, and no line is narrower than
+-- the drive if the mount found whole chunks.
+use Rattle.std.proofs.Common.{◌≡◌, ◌≢◌, ℕ, ◌+◌, ◌<◌, suc, cond, true, Some, Option, List, [], ◌∷◌, length, refl, sym, subst, ap, ◌∙◌, arith}
 use Rattle.std.specs.Prelude.{slice_get, slice_index}
 use Rattle.std.specs.List.{AllByRecursion, cons_option, filter, filter_map}
 use Rattle.std.specs.Option.{option_and_then}
@@ -12,58 +12,31 @@ use Rattle.pblk_model.specs.Chunk.{Chunk}
 use Rattle.pblk_model.specs.Image.{Image, IsFit, is_online_in}
 use Rattle.pblk_model.specs.Shape.{units}
 use Rattle.pblk_laws.specs.LineBlocks.{chunk_in}
-use Rattle.pblk_world.specs.Answering.{MayLose}
-use Rattle.pblk_world.specs.EngineLog.{Begun, begun, named_by, named_events}
-use Rattle.pblk_world.specs.Events.{Again, Begin, Decides, Does, Event, Free, Landed, Logged, Lost, Open, Place, ResetDone, Take}
-use Rattle.pblk_world.specs.Legal.{IsAllowed, IsLegal}
+use Rattle.pblk_world.specs.EngineLog.{Begun, begun}
+use Rattle.pblk_world.specs.Events.{Logged}
+use Rattle.pblk_world.specs.Legal.{IsLegal}
 use Rattle.pblk_world.specs.Lines.{found_image, known_image}
-use Rattle.pblk_world.specs.World.{World, Logs, known, log_of, media, prefixes, unit_event_of}
+use Rattle.pblk_world.specs.World.{World, Logs, log_of, media}
 use Rattle.pblk_world.proofs.EngineLogLemmas.{begun_knows}
 use Rattle.pblk_world.proofs.LinesLemmas.{length_known}
 use Rattle.pblk_world.proofs.VictimsLemmas.{whole_prefix}
-use Rattle.lemmas.proofs.Maps.{given_at}
 use Rattle.lemmas.proofs.Options.{split_then}
-use Rattle.lemmas.proofs.Parts.{all_at, all_by_get, contained_among, get_below, get_whole, got_within}
-use Rattle.lemmas.proofs.Tests.{same_number}
-use Rattle.world_laws.specs.LegalMounts.{IsLegalMount, NoneLost, decides, is_losing}
+use Rattle.lemmas.proofs.Parts.{all_at, all_by_get, get_below, got_within}
+use Rattle.world_laws.specs.LegalMounts.{IsLegalMount, NoneLost}
 use Rattle.world_laws.proofs.FitMedia.{media_fit}
 use Rattle.world_laws.proofs.KnownChunks.{IsKnownTo, known_first, known_later}
 use Rattle.world_laws.proofs.LifeUnits.{begun_within, chunk_known}
 use Rattle.world_laws.proofs.MediaChunks.{chunk_of_media}
-use Rattle.world_laws.proofs.NamedPrefixes.{IsByPrefixes, was_made}
 use Rattle.world_laws.proofs.UnitChunks.{still_there}
 use Rattle.rest_laws.specs.Tidy.{AreWide, HasWholeChunks, IsFaultless, IsWholeChunk}
+use Rattle.rest_laws.proofs.LostEvents.{none_lost}
 use Rattle.rest_laws.proofs.WholeChunks.{known_whole}
 
 -- ---- nothing was lost
 
 pub faultless_kept : (i : Image) (w : World) → IsLegal i w → IsFaultless (log_of w) → NoneLost (log_of w 0)
 faultless_kept i w legal fine =
-    all_by_get (λ (l : Logged). decides is_losing l.event ≡ false) (log_of w 0) (λ k l there. by k l there l.event refl)
-  where
-    not_lost : (k : ℕ) (l : Logged) (unit number : ℕ) → slice_get (log_of w 0) k ≡ Some l → l.event ≡ Decides (Lost unit number) → ⊥
-    not_lost k l unit number there is =
-        let made : IsByPrefixes i w 0 k l = was_made i w 0 k l legal there in
-        let may : MayLose (prefixes l (log_of w)) unit number =
-        (subst (λ (e : Event). IsAllowed i 0 e (prefixes l (log_of w))) is made.allowed).2 in
-        let known_event : slice_get (log_of w (suc unit)) number ≡ Some may.new.logged =
-        get_whole (known l (suc unit)) (log_of w (suc unit)) number may.new.logged may.new.is_known in
-        let names : named_by unit l.event ≡ Some number = ap (named_by unit) is ∙ ap (λ t. cond t (Some number) None) (same_number unit) in
-        fine.none_failed unit number may.landed_before may.program
-        (contained_among (named_events (log_of w 0) unit) number (given_at (λ (x : Logged). named_by unit x.event) (log_of w 0) l number k there names))
-        (ap (option_and_then (λ (x : Logged). unit_event_of x.event)) known_event ∙ may.new.event) may.failed
-
-    by : (k : ℕ) (l : Logged) → slice_get (log_of w 0) k ≡ Some l → (e : Event) → l.event ≡ e → decides is_losing e ≡ false
-    by k l there (Decides (Begin b)) is = refl
-    by k l there (Decides (Take entry mark)) is = refl
-    by k l there (Decides (Open line start)) is = refl
-    by k l there (Decides (Place stripe)) is = refl
-    by k l there (Decides (Landed unit number)) is = refl
-    by k l there (Decides (Lost unit number)) is = absurd (not_lost k l unit number there is)
-    by k l there (Decides (Again unit number)) is = refl
-    by k l there (Decides (ResetDone unit number)) is = refl
-    by k l there (Decides (Free line)) is = refl
-    by k l there (Does e maker) is = refl
+    none_lost i w legal (λ unit number h. fine.none_failed unit number h.landed_before h.program h.named h.there h.failed)
 
 -- ---- no line is narrower
 

@@ -3,11 +3,10 @@ use Rattle.std.proofs.Common.{◌≡◌, ◌⊎◌, inl, inr, ℕ, ◌+◌, ◌<
 use Rattle.std.specs.List.{Contains, list_any}
 use Rattle.std.proofs.lemmas.Bool.{cases_lt}
 use Rattle.pblk_model.specs.Image.{Image}
-use Rattle.pblk_world.specs.EngineLog.{holds_position, Opening, openings, placements, takes}
+use Rattle.pblk_world.specs.EngineLog.{holds_position, Opening, openings, placements}
 use Rattle.pblk_world.specs.Fronts.{first_position, taken, waiting}
-use Rattle.pblk_world.specs.Space.{freed, gives_back, placed_front}
+use Rattle.pblk_world.specs.Space.{freed, placed_front}
 use Rattle.pblk_world.specs.World.{World, log_of}
-use Rattle.pblk_world.proofs.SyncedFront.{IsLeast, least}
 use Rattle.lemmas.proofs.Lists.{contains_none}
 use Rattle.lemmas.proofs.Parts.{contained_among}
 use Rattle.lemmas.proofs.Tests.{and_both, le_true, lt_true}
@@ -15,7 +14,7 @@ use Rattle.world_laws.proofs.Stripes.{life_of_stripe, opening_then}
 use Rattle.core_laws.specs.SimpleMounts.{IsSimpleMount}
 use Rattle.core_laws.proofs.Distinct.{passing}
 use Rattle.core_laws.proofs.PlacedInOrder.{IsOrdered, ordered, some_hold_below}
-use Rattle.rest_laws.proofs.FreedNear.{taken_waits}
+use Rattle.rest_laws.proofs.FreedNear.{freed_is_least, taken_waits}
 
 pub unopened_waits : (i : Image) (w : World) → IsSimpleMount i w → openings (log_of w 0) ≡ []
     → taken (log_of w 0) ≤ freed i.shape (log_of w 0) + length (waiting i.shape (log_of w 0))
@@ -30,16 +29,11 @@ unopened_waits i w simple none = go (cases_lt q (placed_front i.shape (log_of w 
     order : IsOrdered i.shape (log_of w 0)
     order = ordered i w simple.mount
 
-    front : IsLeast (λ position. list_any (gives_back i.shape (log_of w 0) position) (placements (log_of w 0))) (length (takes (log_of w 0)))
-        (first_position (log_of w 0)) (freed i.shape (log_of w 0))
-    front = least (λ position. list_any (gives_back i.shape (log_of w 0) position) (placements (log_of w 0))) (length (takes (log_of w 0)))
-        (first_position (log_of w 0))
-
     go : (freed i.shape (log_of w 0) < placed_front i.shape (log_of w 0)) ⊎ (placed_front i.shape (log_of w 0) ≤ freed i.shape (log_of w 0))
         → taken (log_of w 0) ≤ freed i.shape (log_of w 0) + length (waiting i.shape (log_of w 0))
     go (inr few) = omega (arith, all, few)
     go (inl more) =
-        let from : first_position (log_of w 0) ≤ freed i.shape (log_of w 0) = front.from in
+        let from : first_position (log_of w 0) ≤ freed i.shape (log_of w 0) = (freed_is_least i.shape (log_of w 0)).from in
         let also : list_any (holds_position i.shape (freed i.shape (log_of w 0))) (placements (log_of w 0)) ≡ true =
         some_hold_below i.shape (log_of w 0) order (freed i.shape (log_of w 0))
         ∙ and_both (nat_le (first_position (log_of w 0)) (freed i.shape (log_of w 0)))

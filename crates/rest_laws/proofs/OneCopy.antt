@@ -1,10 +1,9 @@
 -- Of the copies that were taken at most the last one isn't below the front synced, and it is Void,
 -- where the victim at work is emptied.
-use Rattle.std.proofs.Common.{◌≡◌, ◌⊎◌, inl, inr, ℕ, ◌+◌, ◌-◌, ◌<◌, ◌≤◌, ◌++◌, drop, max, zero, suc, Bool, true, Some, None, Option, List, length, take, refl, sym, subst, ap, ◌∙◌, arith, length-append, length-take}
+use Rattle.std.proofs.Common.{◌≡◌, ◌⊎◌, inl, inr, ℕ, ◌+◌, ◌-◌, ◌<◌, ◌≤◌, max, zero, suc, Bool, true, Some, None, Option, List, length, take, refl, sym, subst, ap, ◌∙◌, arith, length-take}
 use Rattle.std.specs.Prelude.{slice_get}
 use Rattle.std.specs.List.{Contains, filter}
 use Rattle.std.proofs.lemmas.Bool.{cases_lt}
-use Rattle.std.proofs.lemmas.List.{take-take}
 use Rattle.std.proofs.lemmas.Option.{slice_get_within}
 use Rattle.pblk_model.specs.declared.chunk.Mark.{Mark}
 use Rattle.pblk_model.specs.declared.shape.Shape.{Shape}
@@ -20,20 +19,19 @@ use Rattle.pblk_world.specs.World.{World, log_of}
 use Rattle.pblk_world.proofs.SyncedFront.{synced_is, synced_within}
 use Rattle.lemmas.proofs.Lists.{among_contained}
 use Rattle.lemmas.proofs.Maps.{fewer_taken, given_at, in_filter}
-use Rattle.lemmas.proofs.Parts.{all_by_get, contained_among, get_taken, get_whole_within, got_within, take_and_drop}
+use Rattle.lemmas.proofs.Parts.{all_by_get, contained_among, get_taken, get_whole_within, got_within}
 use Rattle.lemmas.proofs.Tests.{lt_true}
 use Rattle.world_laws.specs.LegalMounts.{IsLegalMount}
 use Rattle.world_laws.specs.Reasons.{AreBegun, TakesCopy, WasBegun}
 use Rattle.world_laws.proofs.Fronts.{IsLandedAt, landed_at, synced_from}
 use Rattle.world_laws.proofs.HeldSectors.{all_pass}
-use Rattle.world_laws.proofs.Later.{takes_joined}
 use Rattle.world_laws.proofs.Positions.{position_below, position_of}
 use Rattle.world_laws.proofs.TakenEvents.{IsTakenAt, taken_at}
 use Rattle.core_laws.specs.Spent.{IsSpent}
 use Rattle.core_laws.proofs.SpentLines.{is_spent}
 use Rattle.rest_laws.specs.Copies.{IsEmptied, TookCopy}
 use Rattle.rest_laws.proofs.BegunCopies.{before_begun, begun_overtaken, copy_before, copy_synced_or_void}
-use Rattle.rest_laws.proofs.LengthLogs.{IsWorldAt, world_at}
+use Rattle.rest_laws.proofs.LengthLogs.{IsWorldAt, world_at, takes_rise}
 use Rattle.rest_laws.proofs.Overtaken.{IsOutlived, IsOvertaken, outlived_where_spent}
 
 -- ---- what is below synced was placed
@@ -181,16 +179,6 @@ module _ (i : Image) (w : World) (mount : IsLegalMount i w) where
             is_copy = e;
           }) position event.before
 
-      -- more events took no fewer entries
-      takes_rise : (a b : ℕ) → a ≤ b → length (takes (take a (log_of w 0))) ≤ length (takes (take b (log_of w 0)))
-      takes_rise a b below =
-          let parts : take a log ++ drop a (take b log) ≡ take b log =
-          ap (λ (xs : List Logged). xs ++ drop a (take b log)) (sym (take-take a b log below)) ∙ take_and_drop a (take b log) in
-          let count : length (takes (take b log)) ≡ length (takes (take a log)) + length (takes (drop a (take b log))) =
-          ap length (ap takes (sym parts) ∙ takes_joined (take a log) (drop a (take b log)))
-          ∙ length-append (takes (take a log)) (takes (drop a (take b log))) in
-          omega arith
-
       -- of two neighbours of which both are copies the earlier one is below synced
       neighbours : AreBegun i (log_of w) → (n : ℕ) → suc n < length (takes (log_of w 0)) → IsEither n → IsEither (suc n)
           → first_position (log_of w 0) + suc n ≤ max (synced i.shape (log_of w 0)) users
@@ -203,7 +191,7 @@ module _ (i : Image) (w : World) (mount : IsLegalMount i w) where
               let low : t.entry.position < synced i.shape log = below_later begun_all number later t.entry u.entry t.mark u.mark less took other in
               omega arith
           order (inr most) =
-              let rise : length (takes (take later log)) ≤ length (takes (take number log)) = takes_rise later number most in
+              let rise : length (takes (take later log)) ≤ length (takes (take number log)) = takes_rise log later number most in
               let one : length (takes (take number log)) ≡ length (take n (takes log)) = ap length before in
               let two : length (takes (take later log)) ≡ length (take (suc n) (takes log)) = ap length before_later in
               absurd (omega (arith, length-take n (takes log), length-take (suc n) (takes log)))

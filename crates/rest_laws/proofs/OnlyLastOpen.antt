@@ -1,5 +1,5 @@
--- Where no stripe is under way and none of an end record is left to be placed, only the line that was
--- opened last has a stripe left.
+-- Where no stripe is under way and none of an end record is left to be placed, only the line that
+-- was opened last has a stripe left.
 use Rattle.std.proofs.Common.{◌≡◌, ◌⊎◌, inl, inr, ℕ, ◌+◌, ◌-◌, ◌/◌, ◌<◌, ◌≤◌, max, Bool, true, false, List, length, take, refl, sym, subst, ap, ◌∙◌, arith, length-append, if◌then◌else◌}
 use Rattle.std.specs.List.{Contains}
 use Rattle.std.proofs.lemmas.Bool.{cases_lt}

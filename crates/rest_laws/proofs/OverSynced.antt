@@ -1,5 +1,5 @@
--- Where nothing was lost and each line was opened once the open ones were full: once all stripes of a
--- line have landed, all its positions are below the front synced.
+-- Where nothing was lost and each line was opened once the open ones were full: once all stripes of
+-- a line have landed, all its positions are below the front synced.
 use Rattle.std.proofs.Common.{◌≡◌, ◌⊎◌, inl, inr, ℕ, ◌*◌, ◌/◌, ◌%◌, ◌<◌, ◌≤◌, ◌&&◌, nat_le, nat_lt, Bool, true, false, Some, Option, List, length, take, drop, refl, sym, subst, ap, ◌∙◌, arith, length-take}
 use Rattle.std.specs.Prelude.{slice_get}
 use Rattle.std.specs.List.{Contains, list_any}
@@ -98,8 +98,8 @@ module _ (i : Image) (w : World) (simple : IsSimpleMount i w) (full : OpensWhenF
   pub first_then : (n : ℕ) → 0 < n → first_position (take n (log_of w 0)) ≡ first_position (log_of w 0)
   first_then n some = ap (λ (b : Option Begun). option_map_or (λ (x : Begun). x.beginning.first) b 0) (begun_taken n (log_of w 0) some)
 
-  -- A position below that of another stripe that was placed is in a stripe that was placed before or
-  -- is the same.
+  -- A position below that of another stripe that was placed is in a stripe that was placed before
+  -- or is the same.
   pub placed_before : (p q : Placed) (r m : ℕ) → Contains (placements (log_of w 0)) p → Contains (placements (log_of w 0)) q
       → holds_position i.shape r p ≡ true → holds_position i.shape m q ≡ true → first_position (log_of w 0) ≤ m → m ≤ r → p.number < q.number → ⊥
   placed_before p q r m p_there q_there p_holds q_holds from within earlier =
@@ -218,7 +218,8 @@ module _ (i : Image) (w : World) (simple : IsSimpleMount i w) (full : OpensWhenF
             by_opening : (x : Opening) → IsOf q x → ⊥
             by_opening x its_x = by_number (cases_order x.number o.number)
               where
-                -- the line has a stripe on the same unit, which was placed while the other was under way
+                -- the line has a stripe on the same unit, which was placed while the other was
+                -- under way
                 on_its_unit : q.number ≤ o.number → ⊥
                 on_its_unit late =
                     let beside = on_each_unit q.stripe.unit (on_drive i w q mount there) in

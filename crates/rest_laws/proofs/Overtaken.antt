@@ -58,7 +58,8 @@ overtaken_later i v w more lba from whole h =
       below = omega arith;
     }
 
--- All that was latest in a line was overtaken: an entry that has landed there, or a sector's winner.
+-- All that was latest in a line was overtaken: an entry that has landed there, or a sector's
+-- winner.
 pub record IsOutlived (i : Image) (w : World) (mount : IsLegalMount i w) (line : ℕ) : Type 0 where
   pub entry : (t : Taken) (p : Placed) (lba : ℕ) → IsStanding i w mount t.entry.position p → has_landed (log_of w 0) p ≡ true
       → p.stripe.line ≡ line → IsAmong (takes (log_of w 0)) t → t.mark.lba ≡ lba → lba < i.shape.capacity → IsOvertaken i w lba (suc t.entry.position)

@@ -1,12 +1,13 @@
 -- How far the front placed has come since a stripe was placed in the line that was opened last.
-use Rattle.std.proofs.Common.{◌≡◌, ◌⊎◌, inl, inr, ℕ, ◌+◌, ◌-◌, ◌*◌, ◌<◌, ◌≤◌, suc, cond, ◌||◌, Bool, true, false, Some, None, Option, List, [], ◌∷◌, ◌++◌, length, take, drop, refl, sym, subst, ap, ◌∙◌, arith, length-append, length-take}
+use Rattle.std.proofs.Common.{◌≡◌, ◌⊎◌, inl, inr, ℕ, ◌+◌, ◌-◌, ◌*◌, ◌<◌, ◌≤◌, suc, cond, ◌||◌, Bool, true, false, Some, List, [], ◌∷◌, ◌++◌, length, take, drop, refl, sym, subst, ap, ◌∙◌, arith, length-append, length-take}
 use Rattle.std.specs.Prelude.{slice_get}
-use Rattle.std.specs.List.{AllByRecursion, Contains, cons_option, filter, filter_map, flat_map}
+use Rattle.std.specs.List.{AllByRecursion, Contains, filter, flat_map}
 use Rattle.std.proofs.lemmas.Bool.{cases_order}
 use Rattle.std.proofs.lemmas.Grind.{flat_map-append}
 use Rattle.std.proofs.Math.Nat.{mul-le-mul_left, mul-suc}
 use Rattle.pblk_model.specs.declared.shape.Shape.{Shape}
 use Rattle.pblk_model.specs.Image.{Image}
+use Rattle.pblk_laws.proofs.Widths.{filter_map_length}
 use Rattle.pblk_world.specs.EngineLog.{Opening, holds_position, is_life, Placed, placements, stripes_of, takes}
 use Rattle.pblk_world.specs.Events.{Logged}
 use Rattle.pblk_world.specs.Fronts.{first_position, was_placed}
@@ -34,14 +35,6 @@ use Rattle.core_laws.proofs.LaterLines.{none_in_older}
 use Rattle.rest_laws.proofs.OverSynced.{IsOf, first_then, lost_then, of, ordered_then}
 
 -- ---- lists
-
-pub made_fewer : {X Y : Type 0} (give : X → Option Y) (xs : List X) → length (filter_map give xs) ≤ length xs
-made_fewer give [] = omega arith
-made_fewer {X} {Y} give (x ∷ xs) = go (give x) (made_fewer give xs)
-  where
-    go : (o : Option Y) → length (filter_map give xs) ≤ length xs → length (cons_option o (filter_map give xs)) ≤ suc (length xs)
-    go None rest = omega arith
-    go (Some y) rest = omega arith
 
 -- what those that pass make is at most so much for each of them, where the others make nothing
 pub made_by_passing : {X : Type 0} (test : X → Bool) (f : X → List ℕ) (m : ℕ) (xs : List X)
@@ -103,7 +96,7 @@ module _ (i : Image) (w : World) (simple : IsSimpleMount i w) (full : OpensWhenF
               in_filter (λ (y : Placed). is_life x.number y.life) (placements log) p (among_contained (placements log) p there) mine in
               let size : length p.stripe.blocks ≡ s.ws_opt =
               stripe_count i w x p mount.accepted mount.legal its.opened (contained_among (stripes_of log x) p of_line) in
-              let fewer : length (positions_in_stripe s p.stripe) ≤ length p.stripe.blocks = made_fewer (position_in s) p.stripe.blocks in
+              let fewer : length (positions_in_stripe s p.stripe) ≤ length p.stripe.blocks = filter_map_length (position_in s) p.stripe.blocks in
               inl (subst (λ k. is_life k p.life ≡ true) same mine, omega arith)
           by (inr (inl older)) = inr (none (positions_in_stripe s p.stripe) refl)
             where

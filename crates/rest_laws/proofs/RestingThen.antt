@@ -1,6 +1,6 @@
 -- A mount over a tidy image in which nothing failed, as it was at a length of the engine's log. At
 -- rest there, it has no cause to refuse anything.
-use Rattle.std.proofs.Common.{◌≡◌, ℕ, ◌+◌, ◌^◌, ◌<◌, ◌≤◌, ◌-◌, max, false, true, suc, Some, Option, List, ◌++◌, length, take, drop, sym, subst, ap, ◌∙◌, arith, length-append, length-take}
+use Rattle.std.proofs.Common.{◌≡◌, inr, ℕ, ◌+◌, ◌^◌, ◌<◌, ◌≤◌, ◌-◌, max, false, true, suc, Some, Option, List, ◌++◌, length, take, drop, sym, subst, ap, ◌∙◌, arith, length-append, length-take}
 use Rattle.std.specs.Prelude.{slice_get}
 use Rattle.std.specs.List.{Contains, enumerate_from, filter, filter_map, range_with_len}
 use Rattle.std.specs.Option.{option_and_then, option_map_or}
@@ -175,7 +175,7 @@ module _ (i : Image) (w : World) (is : IsTidyMount i w) where
           stripes = subst (λ (xs : List Logged). (p : Placed) → Contains (placements xs) p → is_answered xs p ≡ true) told.own rest.stripes;
           resets = λ unit number. all_noted i (world_at i w n is.mount.legal within).world mount_v b.0 begins unit number reset;
           none_to_free = λ line may. rest.none_to_free line (may_free_told i now (logs_at n (log_of w)) told line
-              (λ o is_open r written. written_then i w is.mount n some within line o is_open r written) may);
+              (λ o is_open r written. inr (written_then i w is.mount n some within line o is_open r written)) may);
         };
         beginning = left.beginning;
         begins = ap begun v.own ∙ left.begins;

@@ -157,6 +157,19 @@ module _ (i : Image) (s : Step) (w : World) (mount : IsLegalMount i (s ∷ w)) w
     abbrev knows : List ℕ
     knows = s.logged.knows
 
+    -- a line that is freed is over by the whole logs too, and has a sequence number by them
+    pub line_freed : (line : ℕ) → s.logged.event ≡ Decides (Free line)
+        → (seq : ℕ) × (line < i.shape.chunks) × (are_over i (log_of w) line ≡ true) × (seq_of i (log_of w) line ≡ Some seq)
+    line_freed line is =
+        let named_may : MayFree i (prefixes s.logged (log_of w)) line = (may (Free line) own is b begins).2 in
+        let same : AreSameTold i (log_of w) (prefixes s.logged (log_of w)) = told (Free line) own is b begins in
+        let over : are_over i (log_of w) line ≡ true =
+        sym (ap₂ (λ (j : Image) (l : LineLife). list_all (λ (c : Chunk). is_over_state (is_as_found l) c.state) (chunks_of j line))
+        (image_same i (log_of w) (prefixes s.logged (log_of w)) same)
+        (ap (λ (xs : List Logged). life_of xs line) (whole (Free line) own is b begins))) ∙ named_may.over in
+        let seq : seq_of i (log_of w) line ≡ Some named_may.seq = sym (seq_told i (log_of w) (prefixes s.logged (log_of w)) same line) ∙ named_may.has_seq in
+        (named_may.seq, named_may.in_range, over, seq)
+
     quiet_event : (e : EngineEvent) → s.logged.event ≡ Decides e
         → open_addresses i (after (log_of w) e s.logged.knows) ≡ open_addresses i (log_of w)
         → free_addresses i (after (log_of w) e s.logged.knows) ≡ free_addresses i (log_of w)
@@ -186,7 +199,8 @@ module _ (i : Image) (s : Step) (w : World) (mount : IsLegalMount i (s ∷ w)) w
     engine_keeps (Open line start) is keeps =
         let named_may = may (Open line start) own is b begins in
         let now : MayOpen i (log_of w) named_may.0 line start =
-        opening_told i (prefixes s.logged (log_of w)) (log_of w) (told_back i (log_of w) (prefixes s.logged (log_of w)) (told (Open line start) own is b begins))
+        opening_told i (prefixes s.logged (log_of w)) (log_of w)
+        (told_back i (log_of w) (prefixes s.logged (log_of w)) (told (Open line start) own is b begins))
         named_may.0 line start named_may.2 in
         let more : open_addresses i (after (log_of w) (Open line start) knows) ≡ open_addresses i (log_of w) + data_len i.shape start.width =
         addresses_opened i (log_of w) line start knows now.in_range (free_unopened i (log_of w) line now.is_free) in
@@ -199,15 +213,8 @@ module _ (i : Image) (s : Step) (w : World) (mount : IsLegalMount i (s ∷ w)) w
         moved : (a b c d n : ℕ) → a ≡ b + n → d ≡ c + n → a + c ≡ b + d
         moved a b c d n x y = omega arith
     engine_keeps (Free line) is keeps =
-        let named_may : MayFree i (prefixes s.logged (log_of w)) line = (may (Free line) own is b begins).2 in
-        let same : AreSameTold i (log_of w) (prefixes s.logged (log_of w)) = told (Free line) own is b begins in
-        let over : are_over i (log_of w) line ≡ true =
-        sym (ap₂ (λ (j : Image) (l : LineLife). list_all (λ (c : Chunk). is_over_state (is_as_found l) c.state) (chunks_of j line))
-        (image_same i (log_of w) (prefixes s.logged (log_of w)) same)
-        (ap (λ (xs : List Logged). life_of xs line) (whole (Free line) own is b begins))) ∙ named_may.over in
-        let seq : seq_of i (log_of w) line ≡ Some named_may.seq = sym (seq_told i (log_of w) (prefixes s.logged (log_of w)) same line) ∙ named_may.has_seq in
-        quiet_event (Free line) is (open_freed i w before line knows over)
-        (free_freed i w before line knows over b begins named_may.seq seq)
+        let it = line_freed line is in
+        quiet_event (Free line) is (open_freed i w before line knows it.2) (free_freed i w before line knows it.2 b begins it.0 it.3)
 
     -- a stripe
     module _ (none : NoneLost (log_of w 0)) where

@@ -15,6 +15,12 @@ eight_times w d room =
 pub eight_stripes : (s : Shape) → IsAccepted s → 8 * s.ws_opt ≤ full_data s
 eight_stripes s is = eight_times s.ws_opt (full_data s) is.target.room
 
+pub some_data : (s : Shape) → IsAccepted s → 0 < full_data s
+some_data s is =
+    let eight : 8 * s.ws_opt ≤ full_data s = eight_stripes s is in
+    let one : 0 < s.ws_opt = is.drive.ws_opt in
+    omega arith
+
 -- n lines with k live sectors each, of which U is the most, and 3/4 of the data d of so many lines
 too_few : (n k d lines most : ℕ) → 8 ≤ lines → lines ≤ n + 5 → n * k ≤ most → 4 * most ≤ 3 * (lines - 5) * d → 4 * k ≤ 3 * d
 too_few n k d lines most some few live spare =

@@ -23,8 +23,9 @@ use Rattle.room_law.specs.Counting as counting
 use Rattle.rest_laws.specs.RoomRuns.{HasNumbers, IsCopyAt, IsReasonedMount, IsRoomRun, IsRoomState, IsVictimOf, sizes_of}
 use Rattle.rest_laws.specs.RoomSteps.{free_lines}
 use Rattle.rest_laws.proofs.FreedNear.{taken_waits}
-use Rattle.rest_laws.proofs.LengthLogs.{IsWorldAt, told_at, victim_at, world_at}
-use Rattle.rest_laws.proofs.RunLogs.{few_free, first_at, more_free, taken_rises, told_of_length}
+use Rattle.rest_laws.proofs.LengthLogs.{IsWorldAt, told_at, victim_at, world_at, first_at, taken_rises}
+use Rattle.rest_laws.proofs.RunLogs.{few_free, more_free, told_of_length}
+use Rattle.rest_laws.proofs.RunNumbers.{has_numbers, numbers_are}
 use Rattle.rest_laws.proofs.RunStates.{addresses_are}
 use Rattle.rest_laws.proofs.VictimStripes.{mount_at}
 
@@ -186,16 +187,21 @@ module _ (i : Image) (w : World) (is : IsReasonedMount i w) where
                 here position (subst (λ k. ((position ≤ taken (take k (log_of w 0))) × (¬ IsCopyDue i (logs_at k (log_of w))))
                 ⊎ (position ≤ pad_target i (logs_at k (log_of w)) 0)) same a.why)
 
+    -- nothing is asked for past what was taken
+    asks_low : (position : ℕ) → ((position ≤ taken (take (suc n) (log_of w 0))) × (¬ IsCopyDue i (logs_at (suc n) (log_of w))))
+        ⊎ (position ≤ pad_target i (logs_at (suc n) (log_of w)) 0) → position ≤ s.taken
+    asks_low position why =
+        let low : position ≤ taken (take (suc n) log) = asks_taken (suc n) (omega arith) within position why in
+        let same : s.taken ≡ taken (take (suc n) log) = numbers.taken in
+        omega arith
+
     calmly : is_due i (engine_prefix (suc n) (log_of w)) ≡ false → (new : State) × IsRoomRun i (log_of w) at (suc n) new
     calmly not_due = (
       new,
-      made new (record { left = numbers.left; free = numbers.free; resetting = numbers.resetting; placed = numbers.placed; taken = numbers.taken })
+      made new (has_numbers i (engine_prefix (suc n) (log_of w)) new (numbers_are i (engine_prefix (suc n) (log_of w)) s numbers))
           refl refl refl (omega arith) (omega arith)
           (ByStep s (AskCalm s.taken) was.reached (record { calm = calm; within = omega arith }))
-          (λ position why.
-          let low : position ≤ taken (take (suc n) log) = asks_taken (suc n) (omega arith) within position why in
-          let same : s.taken ≡ taken (take (suc n) log) = numbers.taken in
-          omega arith),
+          (λ position why. let low : position ≤ s.taken = asks_low position why in omega arith),
     )
       where
         new : State
@@ -210,13 +216,10 @@ module _ (i : Image) (w : World) (is : IsReasonedMount i w) where
         → (new : State) × IsRoomRun i (log_of w) at (suc n) new
     urgently due none = (
       new,
-      made new (record { left = numbers.left; free = numbers.free; resetting = numbers.resetting; placed = numbers.placed; taken = numbers.taken })
+      made new (has_numbers i (engine_prefix (suc n) (log_of w)) new (numbers_are i (engine_prefix (suc n) (log_of w)) s numbers))
           refl refl refl (omega arith) (omega arith)
           (ByStep s (AskUrgent s.taken) was.reached (record { due = few; within = omega arith; no_copy = none }))
-          (λ position why.
-          let low : position ≤ taken (take (suc n) log) = asks_taken (suc n) (omega arith) within position why in
-          let same : s.taken ≡ taken (take (suc n) log) = numbers.taken in
-          omega arith),
+          (λ position why. let low : position ≤ s.taken = asks_low position why in omega arith),
     )
       where
         new : State

@@ -22,11 +22,12 @@ use Rattle.core_laws.proofs.ChosenVictims.{next_victim_is}
 use Rattle.rest_laws.specs.Copies.{TookCopy}
 use Rattle.rest_laws.specs.RoomRuns.{AreBegunAt, IsCopyAt, IsReasonedMount, IsRoomState, IsVictimOf, UnderWay, WasBegunInTurn, WasClaimed, sizes_of, still_at_work}
 use Rattle.rest_laws.proofs.BegunInTurn.{at_is, may as begun_may, position_is, inside as begun_inside, of_victim, turn, was_live}
-use Rattle.rest_laws.proofs.CountedCopies.{taken_rise}
+use Rattle.rest_laws.proofs.LengthLogs.{taken_rises}
 use Rattle.rest_laws.proofs.FreedVictims.{low}
 use Rattle.rest_laws.proofs.CameToWork.{had_room}
 use Rattle.rest_laws.proofs.RunLogs.{few_free, told_of_length}
 use Rattle.rest_laws.proofs.EntryTakes.{not_copy, this}
+use Rattle.rest_laws.proofs.RunNumbers.{has_numbers, numbers_are}
 use Rattle.rest_laws.proofs.UnderWay.{some_live, untaken}
 
 module _ (i : Image) (w : World) (is : IsReasonedMount i w) (at : ℕ → ℕ) (turns : AreBegunAt i (log_of w) at) where
@@ -125,13 +126,8 @@ module _ (i : Image) (w : World) (is : IsReasonedMount i w) (at : ℕ → ℕ) (
     came line chosen was = (
       after (sizes_of i) s (Choose (live i here_logs line)),
       record {
-        numbers = record {
-          left = was.numbers.left;
-          free = was.numbers.free;
-          resetting = was.numbers.resetting;
-          placed = was.numbers.placed;
-          taken = was.numbers.taken;
-        };
+        numbers = has_numbers i (engine_prefix (suc n) (log_of w)) (after (sizes_of i) s (Choose (live i here_logs line)))
+            (numbers_are i (engine_prefix (suc n) (log_of w)) s was.numbers);
         victim = refl;
         copy = was.copy;
         users = was.users;
@@ -221,7 +217,7 @@ module _ (i : Image) (w : World) (is : IsReasonedMount i w) (at : ℕ → ℕ) (
         alone = ap under_way alone_now;
         from =
             let rise : taken (take (suc n) (log_of w 0)) ≤ taken (take b.number (log_of w 0)) =
-            taken_rise i w is.mount 0 (suc n) b.number (omega arith) b.from in
+            taken_rises (log_of w 0) (suc n) b.number (omega arith) b.from in
             omega (arith, was.numbers.taken, position_is i w is.mount at turns b.number b.entry b.mark b.took);
         to = reached_by (subst (λ k. WasClaimed i (log_of w) k b.entry.position) its_at its_turn.claimed);
       }
@@ -234,13 +230,8 @@ module _ (i : Image) (w : World) (is : IsReasonedMount i w) (at : ℕ → ℕ) (
       begins = (
         after (sizes_of i) s (Begin b.entry.position),
         record {
-          numbers = record {
-            left = was.numbers.left;
-            free = was.numbers.free;
-            resetting = was.numbers.resetting;
-            placed = was.numbers.placed;
-            taken = was.numbers.taken;
-          };
+          numbers = has_numbers i (engine_prefix (suc n) (log_of w)) (after (sizes_of i) s (Begin b.entry.position))
+              (numbers_are i (engine_prefix (suc n) (log_of w)) s was.numbers);
           victim = one_more (victim i (log_of w) (suc n)) s.victim was.victim;
           copy = (
             record { number = b.number; entry = b.entry; mark = b.mark; took = b.took; from = omega (arith, b.begun_now); to = b.from },

@@ -22,7 +22,7 @@ use Rattle.lemmas.proofs.Lists.{IsAmong, among_contained}
 use Rattle.lemmas.proofs.Maps.{all_passed, from_filter}
 use Rattle.lemmas.proofs.Parts.{all_at, all_taken, contained_among, from_last}
 use Rattle.lemmas.proofs.Tests.{le_of_lt_false, not_both, not_true, same, same_number}
-use Rattle.world_laws.specs.LegalMounts.{IsLegalMount, NoneLost, decides, is_losing}
+use Rattle.world_laws.specs.LegalMounts.{IsLegalMount, NoneLost, decides, is_freeing, is_losing}
 use Rattle.world_laws.specs.Reasons.{WasRoom, WasUrgent}
 use Rattle.world_laws.proofs.Made.{IsMade, made}
 use Rattle.world_laws.proofs.NextLives.{IsDecided, decided, life_next}
@@ -32,14 +32,14 @@ use Rattle.core_laws.specs.OpenAddresses.{keeps_placed}
 use Rattle.core_laws.specs.PlacerOf.{fresh_entries}
 use Rattle.core_laws.proofs.PlacedInOrder.{IsOrdered, lost_are_none, ordered, placed_below}
 use Rattle.core_laws.proofs.PlainLogs.{never_lost}
-use Rattle.room_law.specs.Counting.{Copy, Fresh, FreeOther, FreeVictim, ByStep, Loss, MayLose, MayTakeUsers, NoCopy, OpenLine, Outlived, PlaceStripe, Reset, Stale, State, TakeCopy, TakeUsers, copy_after, fewer_live, lost_by, past_copy, under_way}
+use Rattle.room_law.specs.Counting.{Copy, Fresh, FreeOther, FreeVictim, ByStep, IsReached, Loss, MayLose, MayTakeUsers, NoCopy, OpenLine, Outlived, PlaceStripe, Reset, Stale, State, TakeCopy, TakeUsers, copy_after, fewer_live, lost_by, past_copy, under_way}
 use Rattle.room_law.specs.Counting as counting
 use Rattle.rest_laws.specs.RoomRuns.{AreBegunAt, IsCopyAt, IsReasonedMount, IsRoomRun, IsRoomState, IsVictimOf, UnderWay, sizes_of, still_at_work}
 use Rattle.rest_laws.specs.RoomSteps.{has_entry, keeps_free, keeps_room, keeps_unreset}
-use Rattle.rest_laws.proofs.LengthLogs.{IsWorldAt, world_at}
+use Rattle.rest_laws.proofs.LengthLogs.{IsWorldAt, world_at, taken_rises}
 use Rattle.rest_laws.proofs.LivesAtWork.{freed_then, unfreed}
 use Rattle.rest_laws.proofs.RunCopies as copies
-use Rattle.rest_laws.proofs.RunLogs.{none_unreset, taken_rises, told_of_length, unreset_told}
+use Rattle.rest_laws.proofs.RunLogs.{none_unreset, told_of_length, unreset_told}
 use Rattle.rest_laws.proofs.RunNumbers as numbers
 use Rattle.rest_laws.proofs.RunNumbers.{AreNumbers, has_numbers, numbers_are}
 use Rattle.rest_laws.proofs.RunStates.{next_state, takes_now, users_still}
@@ -101,42 +101,58 @@ module _ (i : Image) (w : World) (is : IsReasonedMount i w) (at : ℕ → ℕ) (
       go None e = refl
       go (Some line) e = ap (λ b. if b then None else Some line) (unfreed_next kept line e)
 
+  -- an event that frees no line keeps it
+  kept_by : (e : EngineEvent) → l.event ≡ Decides e → is_freeing e ≡ false → KeepsVictim
+  kept_by e its none other frees at_work =
+      not_both (decides is_freeing l.event) (ap (decides is_freeing) frees) (ap (decides is_freeing) its ∙ none)
+
+  -- ---- the state after it
+
+  abbrev AreUsersBelow : ℕ → Type 0
+  AreUsersBelow users = (t : Taken) → Contains (takes (take (suc n) (log_of w 0))) t → t.entry.source ≡ None → t.entry.position < users
+
+  -- a state that was reached, in which no more is asked for
+  stepped : (after : State) (line : Option ℕ) → still_at_work (engine_prefix (suc n) (log_of w)) (victim i (log_of w) n) ≡ line
+      → AreNumbers i (engine_prefix (suc n) (log_of w)) after.left after.free after.resetting after.placed after.taken
+      → IsVictimOf i (engine_prefix (suc n) (log_of w)) line after.victim → IsCopyAt i (log_of w) at n (suc n) after.copy → AreUsersBelow after.users
+      → s.reach ≤ after.reach → max after.calm after.urgent ≡ max s.calm s.urgent → IsReached (sizes_of i) after → Next
+  stepped after line stays now at_work copy users reach asks reached = (
+    after,
+    subst (λ o. IsRoomState i (log_of w) at (suc n) n n o after) (sym stays)
+        (next_state i w is at n line s after some inside run (has_numbers i new after now) at_work copy users reach
+        (omega (arith, asks)) reached),
+  )
+
+  -- one with the same victim, copy and users, after an event that takes nothing and leaves the
+  -- victim at work
+  beside : (after : State) → KeepsVictim → taken_by l.event ≡ None
+      → AreNumbers i (engine_prefix (suc n) (log_of w)) after.left after.free after.resetting after.placed after.taken
+      → after.victim ≡ s.victim → after.copy ≡ s.copy → after.users ≡ s.users
+      → s.reach ≤ after.reach → max after.calm after.urgent ≡ max s.calm s.urgent → IsReached (sizes_of i) after → Next
+  beside after kept none now at_work copy users =
+      stepped after (victim i (log_of w) n) (still kept) now
+      (subst (IsVictimOf i (engine_prefix (suc n) (log_of w)) (victim i (log_of w) n)) (sym at_work)
+      (copies.victim_beside i w is at turns n some l there s run none kept))
+      (subst (IsCopyAt i (log_of w) at n (suc n)) (sym copy) (copies.copy_beside i w is at turns n some l there s run none kept))
+      (subst AreUsersBelow (sym users) (users_still i w is at n l s there none run.users))
+
   -- ---- nothing changes
 
   no_change : KeepsVictim → taken_by l.event ≡ None → AreNumbers i (engine_prefix (suc n) (log_of w)) s.left s.free s.resetting s.placed s.taken → Next
-  no_change kept none now = (
-    s,
-    subst (λ line. IsRoomState i (log_of w) at (suc n) n n line s) (sym (still kept))
-        (next_state i w is at n (victim i (log_of w) n) s s some inside run (has_numbers i new s now)
-        (copies.victim_beside i w is at turns n some l there s run none kept) (copies.copy_beside i w is at turns n some l there s run none kept)
-        (users_still i w is at n l s there none run.users) (le_refl s.reach) (le_refl (max s.calm s.urgent)) run.reached),
-  )
+  no_change kept none now = beside s kept none now refl refl refl (le_refl s.reach) refl run.reached
 
-  quiet : (e : EngineEvent) → l.event ≡ Decides e → KeepsVictim → taken_by l.event ≡ None → keeps_room e ≡ true → keeps_free e ≡ true
+  quiet : (e : EngineEvent) → l.event ≡ Decides e → is_freeing e ≡ false → taken_by l.event ≡ None → keeps_room e ≡ true → keeps_free e ≡ true
       → keeps_unreset e ≡ true → keeps_placed e ≡ true → Next
-  quiet e its kept none a b c d =
-      no_change kept none (numbers.quiet i w is n some l there s.left s.free s.resetting s.placed s.taken h e its a b c d)
+  quiet e its stays none a b c d =
+      no_change (kept_by e its stays) none (numbers.quiet i w is n some l there s.left s.free s.resetting s.placed s.taken h e its a b c d)
 
   -- ---- a line is opened
 
   opens : (line : ℕ) (start : StartRecord) → l.event ≡ Decides (Open line start) → Next
-  opens line start its = (
-    after,
-    subst (λ o. IsRoomState i (log_of w) at (suc n) n n o after) (sym (still kept))
-        (next_state i w is at n (victim i (log_of w) n) s after some inside run (has_numbers i new after now)
-        (copies.victim_beside i w is at turns n some l there s run none kept) (copies.copy_beside i w is at turns n some l there s run none kept)
-        (users_still i w is at n l s there none run.users) (omega arith) (le_refl (max s.calm s.urgent)) (ByStep s OpenLine run.reached may)),
-  )
+  opens line start its =
+      beside (counting.after (sizes_of i) s OpenLine) (kept_by (Open line start) its refl) (ap taken_by its) now refl refl refl (omega arith) refl
+      (ByStep s OpenLine run.reached may)
     where
-      after : State
-      after = counting.after (sizes_of i) s OpenLine
-
-      kept : KeepsVictim
-      kept other frees at_work = let apart : Decides (Open line start) ≡ Decides (Free other) = sym its ∙ frees in absurd cc
-
-      none : taken_by l.event ≡ None
-      none = ap taken_by its
-
       full : s.left ≡ 0
       full = run.numbers.left ∙ sym (open_told i (engine_prefix n (log_of w)) (logs_at n (log_of w)) (told_of_length i w n mount.legal (omega (arith, inside))))
           ∙ (is.opened_full.each n l.knows line start (as_decided (Open line start) its)).full
@@ -157,71 +173,37 @@ module _ (i : Image) (w : World) (is : IsReasonedMount i w) (at : ℕ → ℕ) (
   resets : (unit number : ℕ) → l.event ≡ Decides (ResetDone unit number) → Next
   resets unit number its = go (numbers.reset i w is n some l there s.left s.free s.resetting s.placed s.taken h unit number its)
     where
-      after : State
-      after = counting.after (sizes_of i) s Reset
-
-      kept : KeepsVictim
-      kept other frees at_work = let apart : Decides (ResetDone unit number) ≡ Decides (Free other) = sym its ∙ frees in absurd cc
-
-      none : taken_by l.event ≡ None
-      none = ap taken_by its
-
       go : AreNumbers i (engine_prefix (suc n) (log_of w)) s.left s.free s.resetting s.placed s.taken
           ⊎ ((1 ≤ s.resetting) × AreNumbers i (engine_prefix (suc n) (log_of w)) s.left (s.free + 1) (s.resetting - 1) s.placed s.taken) → Next
-      go (inl now) = no_change kept none now
-      go (inr now) = (
-        after,
-        subst (λ o. IsRoomState i (log_of w) at (suc n) n n o after) (sym (still kept))
-            (next_state i w is at n (victim i (log_of w) n) s after some inside run (has_numbers i new after now.1)
-            (copies.victim_beside i w is at turns n some l there s run none kept) (copies.copy_beside i w is at turns n some l there s run none kept)
-            (users_still i w is at n l s there none run.users) (omega arith) (le_refl (max s.calm s.urgent)) (ByStep s Reset run.reached now.0)),
-      )
+      go (inl now) = no_change (kept_by (ResetDone unit number) its refl) (ap taken_by its) now
+      go (inr now) =
+          beside (counting.after (sizes_of i) s Reset) (kept_by (ResetDone unit number) its refl) (ap taken_by its) now.1 refl refl refl (omega arith) refl
+          (ByStep s Reset run.reached now.0)
 
   -- ---- a line is freed
 
-  frees_other : (line : ℕ) → l.event ≡ Decides (Free line) → (victim i (log_of w) n ≡ Some line → ⊥) → Next
-  frees_other line its other = (
-    after,
-    subst (λ o. IsRoomState i (log_of w) at (suc n) n n o after) (sym (still kept))
-        (next_state i w is at n (victim i (log_of w) n) s after some inside run (has_numbers i new after now)
-        (copies.victim_beside i w is at turns n some l there s run none kept) (copies.copy_beside i w is at turns n some l there s run none kept)
-        (users_still i w is at n l s there none run.users) (omega arith) (le_refl (max s.calm s.urgent)) (ByStep s FreeOther run.reached tt)),
-  )
-    where
-      after : State
-      after = counting.after (sizes_of i) s FreeOther
+  freed_now : (line : ℕ) → l.event ≡ Decides (Free line)
+      → AreNumbers i (engine_prefix (suc n) (log_of w)) s.left s.free (s.resetting + 1) s.placed s.taken
+  freed_now line its = numbers.freed i w is n some l there s.left s.free s.resetting s.placed s.taken h line its
 
+  frees_other : (line : ℕ) → l.event ≡ Decides (Free line) → (victim i (log_of w) n ≡ Some line → ⊥) → Next
+  frees_other line its other =
+      beside (counting.after (sizes_of i) s FreeOther) kept (ap taken_by its) (freed_now line its) refl refl refl (omega arith) refl
+      (ByStep s FreeOther run.reached tt)
+    where
       kept : KeepsVictim
       kept line_ frees at_work =
           let one : Decides (Free line) ≡ Decides (Free line_) = sym its ∙ frees in
           let alike : line ≡ line_ = cc in
           other (at_work ∙ ap (λ m. Some m) (sym alike))
 
-      none : taken_by l.event ≡ None
-      none = ap taken_by its
-
-      now : AreNumbers i (engine_prefix (suc n) (log_of w)) s.left s.free (s.resetting + 1) s.placed s.taken
-      now = numbers.freed i w is n some l there s.left s.free s.resetting s.placed s.taken h line its
-
   frees_victim : (line : ℕ) → l.event ≡ Decides (Free line) → victim i (log_of w) n ≡ Some line → Next
-  frees_victim line its at_work = (
-    after,
-    subst (λ o. IsRoomState i (log_of w) at (suc n) n n o after) (sym gone)
-        (next_state i w is at n None s after some inside run (has_numbers i new after now) tt
-        (copies.copy_outlived i w is at turns n some l there s run line at_work its)
-        (users_still i w is at n l s there none run.users) (omega arith) (le_refl (max s.calm s.urgent))
-        (ByStep s FreeVictim run.reached (copies.may_free_victim i w is at turns n some l there s run line at_work its))),
-  )
+  frees_victim line its at_work =
+      stepped (counting.after (sizes_of i) s FreeVictim) None gone (freed_now line its) tt
+      (copies.copy_outlived i w is at turns n some l there s run line at_work its)
+      (users_still i w is at n l s there (ap taken_by its) run.users) (omega arith) refl
+      (ByStep s FreeVictim run.reached (copies.may_free_victim i w is at turns n some l there s run line at_work its))
     where
-      after : State
-      after = counting.after (sizes_of i) s FreeVictim
-
-      none : taken_by l.event ≡ None
-      none = ap taken_by its
-
-      now : AreNumbers i (engine_prefix (suc n) (log_of w)) s.left s.free (s.resetting + 1) s.placed s.taken
-      now = numbers.freed i w is n some l there s.left s.free s.resetting s.placed s.taken h line its
-
       gone : still_at_work (engine_prefix (suc n) (log_of w)) (victim i (log_of w) n) ≡ None
       gone = ap (still_at_work new) at_work ∙ ap (λ b. if b then None else Some line) (freed_then i w mount line n l there its)
 
@@ -260,8 +242,8 @@ module _ (i : Image) (w : World) (is : IsReasonedMount i w) (at : ℕ → ℕ) (
     position : entry.position ≡ s.taken
     position = its_position entry mark n l there its ∙ sym run.numbers.taken
 
-    kept_by_take : KeepsVictim
-    kept_by_take other frees at_work = let apart : Decides (Take entry mark) ≡ Decides (Free other) = sym its ∙ frees in absurd cc
+    stays : still_at_work (engine_prefix (suc n) (log_of w)) (victim i (log_of w) n) ≡ victim i (log_of w) n
+    stays = still (kept_by (Take entry mark) its refl)
 
     now : AreNumbers i (engine_prefix (suc n) (log_of w)) s.left s.free s.resetting s.placed (s.taken + 1)
     now = numbers.entry_takes i w is n some l there s.left s.free s.resetting s.placed s.taken h entry mark its
@@ -288,20 +270,14 @@ module _ (i : Image) (w : World) (is : IsReasonedMount i w) (at : ℕ → ℕ) (
             absurd (none-some c.took.source (sym users ∙ same_source ∙ c.took.is_copy))
 
     takes_users : entry.source ≡ None → Next
-    takes_users users = (
-      after,
-      subst (λ o. IsRoomState i (log_of w) at (suc n) n n o after) (sym (still kept_by_take))
-          (next_state i w is at n (victim i (log_of w) n) s after some inside run (has_numbers i new after now)
-          loss.2 loss.3 all_users (omega arith) (le_refl (max s.calm s.urgent)) (ByStep s (TakeUsers loss.0) run.reached may)),
-    )
+    takes_users users =
+        stepped (counting.after (sizes_of i) s (TakeUsers loss.0)) (victim i (log_of w) n) stays now loss.2 loss.3 all_users (omega arith) refl
+        (ByStep s (TakeUsers loss.0) run.reached may)
       where
         loss : (x : Loss) × MayLose s x
             × IsVictimOf i (engine_prefix (suc n) (log_of w)) (victim i (log_of w) n) (fewer_live (lost_by x) s.victim)
             × IsCopyAt i (log_of w) at n (suc n) (copy_after x s.copy)
         loss = copies.users_loss i w is at turns n some l there s run (record { entry = entry; mark = mark }) takes_it users
-
-        after : State
-        after = counting.after (sizes_of i) s (TakeUsers loss.0)
 
         granted : s.taken < s.reach
         granted =
@@ -318,7 +294,7 @@ module _ (i : Image) (w : World) (is : IsReasonedMount i w) (at : ℕ → ℕ) (
         may : MayTakeUsers s loss.0
         may = record { granted = granted; in_turn = in_turn s.copy run.copy; loses = loss.1 }
 
-        all_users : (u : Taken) → Contains (takes (take (suc n) (log_of w 0))) u → u.entry.source ≡ None → u.entry.position < s.taken + 1
+        all_users : AreUsersBelow (s.taken + 1)
         all_users u held source =
             let v : IsWorldAt i w (suc n) = world_at i w (suc n) mount.legal inside in
             let among = among_contained (takes (log_of v.world 0)) u (subst (λ (xs : List Logged). Contains (takes xs) u) (sym v.own) held) in
@@ -328,20 +304,13 @@ module _ (i : Image) (w : World) (is : IsReasonedMount i w) (at : ℕ → ℕ) (
             omega arith
 
     takes_copy : (source : Source) → entry.source ≡ Some source → Next
-    takes_copy source copy = (
-      after,
-      subst (λ o. IsRoomState i (log_of w) at (suc n) n n o after) (sym (still kept_by_take))
-          (next_state i w is at n (victim i (log_of w) n) s after some inside run (has_numbers i new after now)
-          (copies.copy_victim i w is at turns n some l there s run t source takes_it copy)
-          (copies.copy_over i w is at turns n some l there s run t source takes_it copy)
-          all_users (omega arith) (le_refl (max s.calm s.urgent))
-          (ByStep s TakeCopy run.reached (copies.copy_next i w is at turns n some l there s run t source takes_it copy))),
-    )
+    takes_copy source copy =
+        stepped (counting.after (sizes_of i) s TakeCopy) (victim i (log_of w) n) stays now
+        (copies.copy_victim i w is at turns n some l there s run t source takes_it copy)
+        (copies.copy_over i w is at turns n some l there s run t source takes_it copy) all_users (omega arith) refl
+        (ByStep s TakeCopy run.reached (copies.copy_next i w is at turns n some l there s run t source takes_it copy))
       where
-        after : State
-        after = counting.after (sizes_of i) s TakeCopy
-
-        all_users : (u : Taken) → Contains (takes (take (suc n) (log_of w 0))) u → u.entry.source ≡ None → u.entry.position < s.users
+        all_users : AreUsersBelow s.users
         all_users u held users =
             go (from_last (takes (take n log)) (record { entry = entry; mark = mark }) u
             (among_contained (takes (take n log) ++ record { entry = entry; mark = mark } ∷ []) u
@@ -363,7 +332,7 @@ module _ (i : Image) (w : World) (is : IsReasonedMount i w) (at : ℕ → ℕ) (
 
   module _ (stripe : Stripe) (its : l.event ≡ Decides (Place stripe)) where
     kept_by_stripe : KeepsVictim
-    kept_by_stripe other frees at_work = let apart : Decides (Place stripe) ≡ Decides (Free other) = sym its ∙ frees in absurd cc
+    kept_by_stripe = kept_by (Place stripe) its refl
 
     takes_none : taken_by l.event ≡ None
     takes_none = ap taken_by its
@@ -401,18 +370,10 @@ module _ (i : Image) (w : World) (is : IsReasonedMount i w) (at : ℕ → ℕ) (
             le_of_lt_false t.entry.position (placed_front i.shape xs) (sym below ∙ not_true (was_placed i.shape xs t) unplaced)
 
     places_entries : has_entry i.shape stripe ≡ true → Next
-    places_entries has = (
-      after,
-      subst (λ o. IsRoomState i (log_of w) at (suc n) n n o after) (sym (still kept_by_stripe))
-          (next_state i w is at n (victim i (log_of w) n) s after some inside run (has_numbers i new after now)
-          (copies.victim_beside i w is at turns n some l there s run takes_none kept_by_stripe)
-          (copies.copy_beside i w is at turns n some l there s run takes_none kept_by_stripe)
-          (users_still i w is at n l s there takes_none run.users) (omega arith) (le_refl (max s.calm s.urgent)) (ByStep s PlaceStripe run.reached may)),
-    )
+    places_entries has =
+        beside (counting.after (sizes_of i) s PlaceStripe) kept_by_stripe takes_none now refl refl refl (omega arith) refl
+        (ByStep s PlaceStripe run.reached may)
       where
-        after : State
-        after = counting.after (sizes_of i) s PlaceStripe
-
         m : ℕ
         m = length (waiting i.shape (take n (log_of w 0)))
 
@@ -485,11 +446,5 @@ module _ (i : Image) (w : World) (is : IsReasonedMount i w) (at : ℕ → ℕ) (
       go (Decides (Place stripe)) its = places stripe its
       go (Decides (ResetDone unit event)) its = resets unit event its
       go (Decides (Free line)) its = frees line its
-      go (Decides (Landed unit event)) its =
-          quiet (Landed unit event) its
-          (λ other frees_ at_work. let apart : Decides (Landed unit event) ≡ Decides (Free other) = sym its ∙ frees_ in absurd cc)
-          (ap taken_by its) refl refl refl refl
-      go (Decides (Again unit event)) its =
-          quiet (Again unit event) its
-          (λ other frees_ at_work. let apart : Decides (Again unit event) ≡ Decides (Free other) = sym its ∙ frees_ in absurd cc)
-          (ap taken_by its) refl refl refl refl
+      go (Decides (Landed unit event)) its = quiet (Landed unit event) its refl (ap taken_by its) refl refl refl refl
+      go (Decides (Again unit event)) its = quiet (Again unit event) its refl (ap taken_by its) refl refl refl refl

@@ -1,32 +1,27 @@
 -- The logs at a length of the engine's log, by what the engine had been told, and an event of that
 -- log as a step between two worlds.
-use Rattle.std.proofs.Common.{◌≡◌, ◌⊎◌, inl, inr, ℕ, ◌+◌, ◌*◌, ◌≤◌, ◌<◌, ◌&&◌, not, suc, true, false, Some, List, [], ◌∷◌, ◌++◌, Option, length, take, drop, length-append, refl, sym, subst, ap, ap₂, ◌∙◌, arith, Bool}
+use Rattle.std.proofs.Common.{◌≡◌, ◌⊎◌, inl, inr, ℕ, ◌+◌, ◌*◌, ◌≤◌, ◌<◌, ◌&&◌, not, suc, true, false, Some, List, [], ◌∷◌, ◌++◌, length, take, refl, sym, subst, ap, ap₂, ◌∙◌, arith, Bool}
 use Rattle.std.specs.Prelude.{slice_get}
 use Rattle.std.specs.List.{Contains, range_with_len}
 use Rattle.std.proofs.Math.Nat.{mul-le-mul_right}
 use Rattle.std.proofs.lemmas.Bool.{cases_lt}
-use Rattle.std.specs.Option.{option_map_or}
-use Rattle.std.proofs.lemmas.List.{take-append-le, take-take}
+use Rattle.std.proofs.lemmas.List.{take-append-le}
 use Rattle.pblk_model.specs.Image.{Image}
 use Rattle.pblk_world.specs.AtRest.{logs_at}
-use Rattle.pblk_world.specs.EngineLog.{Begun, takes}
 use Rattle.pblk_world.specs.Events.{Logged}
-use Rattle.pblk_world.specs.Fronts.{first_position, taken}
 use Rattle.pblk_world.specs.Legal.{IsLegal}
 use Rattle.pblk_world.specs.Lines.{are_empty, is_given_up, known_image}
 use Rattle.pblk_world.specs.Space.{free_addresses, full_data, is_due}
 use Rattle.pblk_world.specs.Victims.{engine_prefix}
 use Rattle.pblk_world.specs.World.{World, Logs, known, log_of}
-use Rattle.pblk_world.proofs.EngineLogLemmas.{begun_taken}
 use Rattle.pblk_world.proofs.Growing.{grows}
 use Rattle.pblk_world.proofs.WorldLemmas.{log_here}
 use Rattle.lemmas.proofs.Maps.{filter_same, none_kept}
-use Rattle.lemmas.proofs.Parts.{take_and_drop, take_next}
+use Rattle.lemmas.proofs.Parts.{take_next}
 use Rattle.lemmas.proofs.Tests.{within_is}
 use Rattle.world_laws.specs.LegalMounts.{IsLegalMount}
 use Rattle.world_laws.specs.Orders.{AreReset}
 use Rattle.world_laws.specs.SameTold.{AreSameTold}
-use Rattle.world_laws.proofs.Later.{takes_joined}
 use Rattle.world_laws.proofs.Made.{IsMade, known_within, made, own_then, step_by}
 use Rattle.world_laws.proofs.ToldImages.{image_same}
 use Rattle.world_laws.proofs.ToldSince.{same_told, told_up_to}
@@ -51,22 +46,6 @@ pub told_of_length : (i : Image) (w : World) (n : ℕ) → IsLegal i w → n ≤
 told_of_length i w n legal within =
     let v : IsWorldAt i w n = world_at i w n legal within in
     told_through i (log_of v.world) (engine_prefix n (log_of w)) (logs_at n (log_of w)) v.told (told_at i w n legal within v)
-
--- ---- the first position and the front taken, at a length
-
-pub first_at : (log : List Logged) (n : ℕ) → 0 < n → first_position (take n log) ≡ first_position log
-first_at log n some = ap (λ (b : Option Begun). option_map_or (λ (x : Begun). x.beginning.first) b 0) (begun_taken n log some)
-
-pub taken_rises : (log : List Logged) (a b : ℕ) → 0 < a → a ≤ b → taken (take a log) ≤ taken (take b log)
-taken_rises log a b some below =
-    let parts : take a log ++ drop a (take b log) ≡ take b log =
-    ap (λ (xs : List Logged). xs ++ drop a (take b log)) (sym (take-take a b log below)) ∙ take_and_drop a (take b log) in
-    let count : length (takes (take b log)) ≡ length (takes (take a log)) + length (takes (drop a (take b log))) =
-    ap length (ap takes (sym parts) ∙ takes_joined (take a log) (drop a (take b log)))
-    ∙ length-append (takes (take a log)) (takes (drop a (take b log))) in
-    let first_a : first_position (take a log) ≡ first_position log = first_at log a some in
-    let first_b : first_position (take b log) ≡ first_position log = first_at log b (omega arith) in
-    omega arith
 
 -- ---- numbers of lines, by what was told
 

@@ -23,6 +23,7 @@ use Rattle.pblk_world.specs.Victims.{engine_prefix}
 use Rattle.pblk_world.specs.World.{World, Logs, log_of, prefixes, unit_event_at, unit_event_of}
 use Rattle.lemmas.proofs.Parts.{all_taken}
 use Rattle.world_laws.specs.LegalMounts.{IsLegalMount, NoneLost, decides, is_losing}
+use Rattle.world_laws.specs.SameTold.{AreSameTold}
 use Rattle.world_laws.proofs.Made.{step_by}
 use Rattle.world_laws.proofs.ToldImages.{image_same, told_back}
 use Rattle.world_laws.proofs.ToldDecisions.{opening_told}
@@ -37,7 +38,7 @@ use Rattle.rest_laws.proofs.FreeChanges as free
 use Rattle.rest_laws.proofs.FreeCounts.{free_are}
 use Rattle.rest_laws.proofs.FreedNear.{taken_waits}
 use Rattle.rest_laws.proofs.RoomChanges as room
-use Rattle.rest_laws.proofs.RoomyShapes.{eight_stripes}
+use Rattle.rest_laws.proofs.RoomyShapes.{some_data}
 use Rattle.rest_laws.proofs.RunLogs.{IsStep, step_at, unreset_told}
 use Rattle.rest_laws.proofs.UnresetChanges.{engine_keeps_unreset, free_adds, reset_moves, reset_takes}
 use Rattle.rest_laws.proofs.WaitingChanges.{entry_taken, fronts_kept, stripe_placed}
@@ -125,12 +126,6 @@ module _ (i : Image) (w : World) (is : IsReasonedMount i w) (n : ℕ) (some : 0 
   d : ℕ
   d = full_data i.shape
 
-  some_data : 0 < full_data i.shape
-  some_data =
-      let eight : 8 * i.shape.ws_opt ≤ full_data i.shape = eight_stripes i.shape is.mount.accepted in
-      let one : 0 < i.shape.ws_opt = is.mount.accepted.drive.ws_opt in
-      omega arith
-
   free_old : free_addresses i (engine_prefix n (log_of w)) ≡ free_lines i (engine_prefix n (log_of w)) * full_data i.shape
   free_old = free_are i old wide_old
 
@@ -139,20 +134,11 @@ module _ (i : Image) (w : World) (is : IsReasonedMount i w) (n : ℕ) (some : 0 
 
   -- ---- from the worlds to the logs
 
-  addresses_by : (add : ℕ) → addresses i (log_of (step_by 0 l ∷ (step_at i w n l is.mount there).before))
-      ≡ addresses i (log_of (step_at i w n l is.mount there).before) + add
-      → addresses i (engine_prefix (suc n) (log_of w)) ≡ addresses i (engine_prefix n (log_of w)) + add
-  addresses_by add h = addresses_told i (log_of (s ∷ v)) new st.is ∙ h ∙ ap (λ m. m + add) (sym (addresses_told i (log_of v) old st.was))
-
-  free_by : (add : ℕ) → free_addresses i (log_of (step_by 0 l ∷ (step_at i w n l is.mount there).before))
-      ≡ free_addresses i (log_of (step_at i w n l is.mount there).before) + add
-      → free_addresses i (engine_prefix (suc n) (log_of w)) ≡ free_addresses i (engine_prefix n (log_of w)) + add
-  free_by add h = free_addresses_told i (log_of (s ∷ v)) new st.is ∙ h ∙ ap (λ m. m + add) (sym (free_addresses_told i (log_of v) old st.was))
-
-  unreset_by : (add : ℕ) → unreset_lines i (log_of (step_by 0 l ∷ (step_at i w n l is.mount there).before))
-      ≡ unreset_lines i (log_of (step_at i w n l is.mount there).before) + add
-      → unreset_lines i (engine_prefix (suc n) (log_of w)) ≡ unreset_lines i (engine_prefix n (log_of w)) + add
-  unreset_by add h = unreset_told i (log_of (s ∷ v)) new st.is ∙ h ∙ ap (λ m. m + add) (sym (unreset_told i (log_of v) old st.was))
+  -- a count that is by what was told alone has grown by as much as in the worlds
+  counted_by : (count : Logs → ℕ) → ((a b : Logs) → AreSameTold i a b → count b ≡ count a) → (add : ℕ)
+      → count (log_of (step_by 0 l ∷ (step_at i w n l is.mount there).before)) ≡ count (log_of (step_at i w n l is.mount there).before) + add
+      → count (engine_prefix (suc n) (log_of w)) ≡ count (engine_prefix n (log_of w)) + add
+  counted_by count told add h = told (log_of (s ∷ v)) new st.is ∙ h ∙ ap (λ m. m + add) (sym (told (log_of v) old st.was))
 
   fronts_by : (placed more : ℕ)
       → (taken (log_of (step_by 0 l ∷ (step_at i w n l is.mount there).before) 0) ≡ taken (log_of (step_at i w n l is.mount there).before 0) + more)
@@ -177,7 +163,7 @@ module _ (i : Image) (w : World) (is : IsReasonedMount i w) (n : ℕ) (some : 0 
   lines_by : (f g : ℕ) → free_addresses i (engine_prefix (suc n) (log_of w)) + g * full_data i.shape
       ≡ free_addresses i (engine_prefix n (log_of w)) + f * full_data i.shape
       → free_lines i (engine_prefix (suc n) (log_of w)) + g ≡ free_lines i (engine_prefix n (log_of w)) + f
-  lines_by f g e = same_lines (full_data i.shape) (free_lines i new + g) (free_lines i old + f) some_data
+  lines_by f g e = same_lines (full_data i.shape) (free_lines i new + g) (free_lines i old + f) (some_data i.shape is.mount.accepted)
       (whole (free_lines i new) (free_lines i old) (full_data i.shape) (free_addresses i new) (free_addresses i old) free_new free_old e)
     where
       whole : (x y d p q : ℕ) → p ≡ x * d → q ≡ y * d → p + g * d ≡ q + f * d → (x + g) * d ≡ (y + f) * d
@@ -209,13 +195,26 @@ module _ (i : Image) (w : World) (is : IsReasonedMount i w) (n : ℕ) (some : 0 
         let opens : open_addresses i new + (0 + 0) ≡ open_addresses i old + (0 + 0) = left_by 0 0 (omega arith) 0 0 (omega arith) in
         (omega (arith, h.left_is), omega (arith, h.free_is))
 
+    -- what an event keeps
+    addresses_stay : (e : EngineEvent) → l.event ≡ Decides e → keeps_room e ≡ true
+        → addresses i (engine_prefix (suc n) (log_of w)) ≡ addresses i (engine_prefix n (log_of w)) + 0
+    addresses_stay e its kept = counted_by (addresses i) (addresses_told i) 0 (add_none (room.engine_keeps i s v mount refl b.0 b.1 e its kept))
+
+    free_stay : (e : EngineEvent) → l.event ≡ Decides e → keeps_free e ≡ true
+        → free_addresses i (engine_prefix (suc n) (log_of w)) ≡ free_addresses i (engine_prefix n (log_of w)) + 0
+    free_stay e its kept = counted_by (free_addresses i) (free_addresses_told i) 0 (add_none (free.engine_keeps i s v mount refl b.0 b.1 e its kept))
+
+    unreset_stay : (e : EngineEvent) → l.event ≡ Decides e → keeps_unreset e ≡ true
+        → unreset_lines i (engine_prefix (suc n) (log_of w)) ≡ unreset_lines i (engine_prefix n (log_of w)) + 0
+    unreset_stay e its kept = counted_by (unreset_lines i) (unreset_told i) 0 (add_none (engine_keeps_unreset i s v mount refl b.0 b.1 e its kept))
+
     pub quiet : (e : EngineEvent) → l.event ≡ Decides e → keeps_room e ≡ true → keeps_free e ≡ true → keeps_unreset e ≡ true → keeps_placed e ≡ true
         → IsNow left free_ resetting placed taken_
     quiet e its room_kept free_kept unreset_kept placed_kept =
-        let all = addresses_by 0 (add_none (room.engine_keeps i s v mount refl b.0 b.1 e its room_kept)) in
-        let free_all = free_by 0 (add_none (free.engine_keeps i s v mount refl b.0 b.1 e its free_kept)) in
+        let all = addresses_stay e its room_kept in
+        let free_all = free_stay e its free_kept in
         let lines = same_room all free_all in
-        let unreset = unreset_by 0 (add_none (engine_keeps_unreset i s v mount refl b.0 b.1 e its unreset_kept)) in
+        let unreset = unreset_stay e its unreset_kept in
         let kept = fronts_kept i s v mount refl b.0 b.1 e its placed_kept in
         let fronts = fronts_by 0 0 (add_none kept.0, add_none kept.1) in record {
           left_is = lines.0;
@@ -227,10 +226,10 @@ module _ (i : Image) (w : World) (is : IsReasonedMount i w) (n : ℕ) (some : 0 
 
     pub entry_takes : (entry : Entry) (mark : Mark) → l.event ≡ Decides (Take entry mark) → IsNow left free_ resetting placed (taken_ + 1)
     entry_takes entry mark its =
-        let all = addresses_by 0 (add_none (room.engine_keeps i s v mount refl b.0 b.1 (Take entry mark) its refl)) in
-        let free_all = free_by 0 (add_none (free.engine_keeps i s v mount refl b.0 b.1 (Take entry mark) its refl)) in
+        let all = addresses_stay (Take entry mark) its refl in
+        let free_all = free_stay (Take entry mark) its refl in
         let lines = same_room all free_all in
-        let unreset = unreset_by 0 (add_none (engine_keeps_unreset i s v mount refl b.0 b.1 (Take entry mark) its refl)) in
+        let unreset = unreset_stay (Take entry mark) its refl in
         let one = entry_taken i s v mount refl b.0 b.1 entry mark its in
         let fronts = fronts_by 0 1 (one.0, add_none one.1) in record {
           left_is = lines.0;
@@ -243,7 +242,8 @@ module _ (i : Image) (w : World) (is : IsReasonedMount i w) (n : ℕ) (some : 0 
     pub opened : (line : ℕ) (start : StartRecord) → l.event ≡ Decides (Open line start)
         → (1 ≤ free_) × IsNow (left + full_data i.shape) (free_ - 1) resetting placed taken_
     opened line start its =
-        let all : addresses i new ≡ addresses i old + 0 = addresses_by 0 (add_none (room.engine_keeps i s v mount refl b.0 b.1 (Open line start) its refl)) in
+        let all : addresses i new ≡ addresses i old + 0 =
+        addresses_stay (Open line start) its refl in
         let takes : free_addresses i (log_of v) ≡ free_addresses i (log_of (s ∷ v)) + data_len i.shape start.width =
         free.open_takes i s v mount refl b.0 b.1 line start its in
         let less : free_addresses i old ≡ free_addresses i new + full_data i.shape =
@@ -252,7 +252,7 @@ module _ (i : Image) (w : World) (is : IsReasonedMount i w) (n : ℕ) (some : 0 
         let lines : free_lines i new + 1 ≡ free_lines i old + 0 = lines_by 0 1 (omega arith) in
         let opens : open_addresses i new + (0 + 0) ≡ open_addresses i old + (0 + full_data i.shape) =
         left_by 0 0 (omega arith) 0 (full_data i.shape) (omega arith) in
-        let unreset = unreset_by 0 (add_none (engine_keeps_unreset i s v mount refl b.0 b.1 (Open line start) its refl)) in
+        let unreset = unreset_stay (Open line start) its refl in
         let kept = fronts_kept i s v mount refl b.0 b.1 (Open line start) its refl in
         let fronts = fronts_by 0 0 (add_none kept.0, add_none kept.1) in (
           omega (arith, h.free_is),
@@ -288,10 +288,10 @@ module _ (i : Image) (w : World) (is : IsReasonedMount i w) (n : ℕ) (some : 0 
         addresses_told i (log_of v) old st.was ∙ takes
         ∙ ap₂ (λ x t. x + (if t then i.shape.ws_opt else 0)) (sym (addresses_told i (log_of (s ∷ v)) new st.is)) some_entry in
         let free_all : free_addresses i new ≡ free_addresses i old + 0 =
-        free_by 0 (add_none (free.engine_keeps i s v mount refl b.0 b.1 (Place stripe) its refl)) in
+        free_stay (Place stripe) its refl in
         let lines : free_lines i new + 0 ≡ free_lines i old + 0 = lines_by 0 0 (omega arith) in
         let opens : open_addresses i new + (i.shape.ws_opt + 0) ≡ open_addresses i old + (0 + 0) = left_by 0 i.shape.ws_opt (omega arith) 0 0 (omega arith) in
-        let unreset = unreset_by 0 (add_none (engine_keeps_unreset i s v mount refl b.0 b.1 (Place stripe) its refl)) in
+        let unreset = unreset_stay (Place stripe) its refl in
         let moved = stripe_placed i s v mount refl b.0 b.1 none_lost stripe its in
         let fronts = fronts_by m 0 (
           add_none moved.0,
@@ -316,9 +316,9 @@ module _ (i : Image) (w : World) (is : IsReasonedMount i w) (n : ℕ) (some : 0 
         addresses_told i (log_of v) old st.was ∙ takes
         ∙ ap₂ (λ x t. x + (if t then i.shape.ws_opt else 0)) (sym (addresses_told i (log_of (s ∷ v)) new st.is)) no_entry in
         let free_all : free_addresses i new ≡ free_addresses i old + 0 =
-        free_by 0 (add_none (free.engine_keeps i s v mount refl b.0 b.1 (Place stripe) its refl)) in
+        free_stay (Place stripe) its refl in
         let lines = same_room (omega arith) free_all in
-        let unreset = unreset_by 0 (add_none (engine_keeps_unreset i s v mount refl b.0 b.1 (Place stripe) its refl)) in
+        let unreset = unreset_stay (Place stripe) its refl in
         let moved = stripe_placed i s v mount refl b.0 b.1 none_lost stripe its in
         let fronts = fronts_by 0 0 (
           add_none moved.0,
@@ -333,10 +333,10 @@ module _ (i : Image) (w : World) (is : IsReasonedMount i w) (n : ℕ) (some : 0 
 
     pub freed : (line : ℕ) → l.event ≡ Decides (Free line) → IsNow left free_ (resetting + 1) placed taken_
     freed line its =
-        let all = addresses_by 0 (add_none (room.engine_keeps i s v mount refl b.0 b.1 (Free line) its refl)) in
-        let free_all = free_by 0 (add_none (free.engine_keeps i s v mount refl b.0 b.1 (Free line) its refl)) in
+        let all = addresses_stay (Free line) its refl in
+        let free_all = free_stay (Free line) its refl in
         let lines = same_room all free_all in
-        let unreset = unreset_by 1 (free_adds i s v mount refl b.0 b.1 line its) in
+        let unreset = counted_by (unreset_lines i) (unreset_told i) 1 (free_adds i s v mount refl b.0 b.1 line its) in
         let kept = fronts_kept i s v mount refl b.0 b.1 (Free line) its refl in
         let fronts = fronts_by 0 0 (add_none kept.0, add_none kept.1) in record {
           left_is = lines.0;
@@ -371,10 +371,10 @@ module _ (i : Image) (w : World) (is : IsReasonedMount i w) (n : ℕ) (some : 0 
         more = free_data i (log_of (step_by 0 l ∷ (step_at i w n l is.mount there).before)) u.chunk
 
         all : addresses i (engine_prefix (suc n) (log_of w)) ≡ addresses i (engine_prefix n (log_of w)) + more
-        all = addresses_by more (room.reset_gives i s v mount refl b.0 b.1 unit number u its at)
+        all = counted_by (addresses i) (addresses_told i) more (room.reset_gives i s v mount refl b.0 b.1 unit number u its at)
 
         free_all : free_addresses i (engine_prefix (suc n) (log_of w)) ≡ free_addresses i (engine_prefix n (log_of w)) + more
-        free_all = free_by more (free.reset_gives i s v mount refl b.0 b.1 unit number u its at)
+        free_all = counted_by (free_addresses i) (free_addresses_told i) more (free.reset_gives i s v mount refl b.0 b.1 unit number u its at)
 
         opens : open_addresses i (engine_prefix (suc n) (log_of w)) ≡ open_addresses i (engine_prefix n (log_of w))
         opens =

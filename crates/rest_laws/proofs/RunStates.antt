@@ -27,7 +27,7 @@ use Rattle.room_law.proofs.Room.{reached_has_room}
 use Rattle.rest_laws.specs.RoomRuns.{HasNumbers, IsCopyAt, IsReasonedMount, IsRoomRun, IsRoomState, IsVictimOf, sizes_of}
 use Rattle.rest_laws.specs.RoomSteps.{free_lines}
 use Rattle.rest_laws.proofs.FreeCounts.{free_are}
-use Rattle.rest_laws.proofs.RoomyShapes.{eight_stripes}
+use Rattle.rest_laws.proofs.RoomyShapes.{some_data}
 use Rattle.rest_laws.proofs.RunLogs.{told_of_length}
 
 -- ---- the sizes
@@ -58,10 +58,7 @@ sizes i w is = record {
     stripes = units i.shape * (i.shape.clba / i.shape.ws_opt) - a - b
 
     some : 0 < full_data i.shape
-    some =
-        let eight : 8 * i.shape.ws_opt ≤ full_data i.shape = eight_stripes i.shape is.mount.accepted in
-        let one : 0 < i.shape.ws_opt = is.mount.accepted.drive.ws_opt in
-        omega arith
+    some = some_data i.shape is.mount.accepted
 
     chunk : i.shape.clba ≡ i.shape.clba / i.shape.ws_opt * i.shape.ws_opt
     chunk =

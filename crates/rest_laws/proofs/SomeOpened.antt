@@ -1,5 +1,5 @@
--- Where a mount found at least four lines with Free chunks alone, and few lines are Free now, it has
--- opened a line.
+-- Where a mount found at least four lines with Free chunks alone, and few lines are Free now, it
+-- has opened a line.
 use Rattle.std.proofs.Common.{◌≡◌, ◌⊎◌, inl, inr, ℕ, ◌*◌, ◌<◌, ◌≤◌, zero, suc, true, Some, None, Option, List, [], ◌∷◌, length, take, refl, sym, subst, ap, ◌∙◌, arith, if◌then◌else◌}
 use Rattle.std.specs.Prelude.{slice_get}
 use Rattle.std.specs.List.{AllByRecursion, Contains, filter, range_with_len}

@@ -14,6 +14,7 @@ use Rattle.pblk_model.specs.Accepted.{IsAccepted}
 use Rattle.pblk_model.specs.Image.{Image, width}
 use Rattle.pblk_model.specs.LineOrder.{data_len, end_len, start_len}
 use Rattle.pblk_model.specs.Shape.{units}
+use Rattle.pblk_laws.proofs.Widths.{filter_map_length}
 use Rattle.pblk_world.specs.AtRest.{logs_at}
 use Rattle.pblk_world.specs.EngineLog.{AsFound, Freed, has_failed, holds_position, is_answered, is_life, life_of, LineLife, Opened, Opening, openings, Placed, placements, stripes_of, Taken, takes}
 use Rattle.pblk_world.specs.Events.{Decides, Event, Logged, Source, Take}
@@ -54,7 +55,6 @@ use Rattle.rest_laws.specs.RoomRuns.{AreBegunInTurn, WasBegunInTurn}
 use Rattle.rest_laws.proofs.FreedNear.{taken_waits}
 use Rattle.rest_laws.proofs.LengthLogs.{IsWorldAt, world_at}
 use Rattle.rest_laws.proofs.PlacedOnce.{enough}
-use Rattle.rest_laws.proofs.PlacedSince.{made_fewer}
 
 -- ---- lists
 
@@ -188,7 +188,7 @@ module _ (i : Image) (w : World) (simple : IsSimpleMount i w) where
           made_most in_stripe i.shape.ws_opt (stripes_of log o) (all_by_get (λ p. length (in_stripe p) ≤ i.shape.ws_opt) (stripes_of log o) (λ k p there.
           let size : length p.stripe.blocks ≡ i.shape.ws_opt =
           stripe_count i w o p simple.mount.accepted simple.mount.legal opened (contained_among (stripes_of log o) p (k, there)) in
-          let fewer : length (in_stripe p) ≤ length p.stripe.blocks = made_fewer (position_in i.shape) p.stripe.blocks in
+          let fewer : length (in_stripe p) ≤ length p.stripe.blocks = filter_map_length (position_in i.shape) p.stripe.blocks in
           omega arith)) in
           let room : HasRoom i.shape log o = has_room i w line o simple.mount e in
           let within : length (stripes_of log o) * i.shape.ws_opt ≤ line_end i.shape o = room.within in

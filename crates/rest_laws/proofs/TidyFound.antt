@@ -1,4 +1,5 @@
--- A tidy image is found tidy, and what the engine knows stays whole, with lines of Free chunks, as long as nothing fails.
+-- A tidy image is found tidy, and what the engine knows stays whole, with lines of Free chunks, as
+-- long as nothing fails.
 use Rattle.std.proofs.Common.{◌≡◌, ◌≢◌, ◌⊎◌, inl, inr, ℕ, ◌≤◌, ◌+◌, ◌&&◌, not, nat_lt, Bool, true, false, Some, Option, List, [], ◌∷◌, length, refl, sym, subst, ap, ◌∙◌, arith}
 use Rattle.std.specs.Prelude.{slice_get}
 use Rattle.std.specs.List.{AllByRecursion, filter, list_all, range_with_len}
@@ -13,11 +14,11 @@ use Rattle.pblk_laws.specs.LineBlocks.{chunk_in}
 use Rattle.pblk_world.specs.EngineLog.{Begun, begun, life_of}
 use Rattle.pblk_world.specs.Lines.{are_empty, chunks_of, found_by, found_image, has_number, is_empty_state, is_free_line, known_image, line_data}
 use Rattle.pblk_world.specs.Space.{is_due}
-use Rattle.pblk_world.specs.World.{World, log_of}
+use Rattle.pblk_world.specs.World.{World, Logs, log_of}
 use Rattle.lemmas.proofs.Maps.{given_at}
 use Rattle.lemmas.proofs.Options.{split_then}
 use Rattle.lemmas.proofs.Parts.{all_by_get}
-use Rattle.lemmas.proofs.Tests.{both, not_both}
+use Rattle.lemmas.proofs.Tests.{both, not_both, not_true}
 use Rattle.world_laws.specs.LegalMounts.{IsLegalMount}
 use Rattle.world_laws.specs.Padding.{ArePadded, IsPaddedAt}
 use Rattle.world_laws.specs.EarlyLogs.{ArePrefixes}
@@ -71,6 +72,15 @@ open_apart states.Open free e = absurd cc
 open_apart states.Closed free e = absurd cc
 open_apart states.Offline free e = absurd cc
 
+-- a Free line has no number, and its chunks are empty
+pub free_parts : (i : Image) (logs : Logs) (line : ℕ) → is_free_line i logs line ≡ true
+    → (has_number i logs (life_of (logs 0) line) line ≡ false) × (are_empty (known_image i logs) line ≡ true)
+free_parts i logs line free =
+    let parts = both (not (has_number i logs (life_of (logs 0) line) line) && are_empty (known_image i logs) line)
+    (nat_lt 0 (line_data (known_image i logs) line)) free in
+    let two = both (not (has_number i logs (life_of (logs 0) line) line)) (are_empty (known_image i logs) line) parts.0 in
+    (not_true (has_number i logs (life_of (logs 0) line) line) two.0, two.1)
+
 module _ (i : Image) (w : World) (mount : IsLegalMount i w) (b : Begun) (begins : begun (log_of w 0) ≡ Some b) where
   pub same_shape : (found_image i (log_of w)).shape ≡ i.shape
   same_shape = ap (λ (x : Option Begun). (found_by i (log_of w) x).shape) begins
@@ -111,10 +121,7 @@ module _ (i : Image) (w : World) (mount : IsLegalMount i w) (b : Begun) (begins 
 
     free_known : (line : ℕ) → is_free_line i (log_of w) line ≡ true → has_free_chunks (known_image i (log_of w)) line ≡ true
     free_known line free =
-        let parts = both (not (has_number i (log_of w) (life_of (log_of w 0) line) line) && are_empty (known_image i (log_of w)) line)
-        (nat_lt 0 (line_data (known_image i (log_of w)) line)) free in
-        let empty : are_empty (known_image i (log_of w)) line ≡ true =
-        (both (not (has_number i (log_of w) (life_of (log_of w 0) line) line)) (are_empty (known_image i (log_of w)) line) parts.0).1 in
+        let empty : are_empty (known_image i (log_of w)) line ≡ true = (free_parts i (log_of w) line free).1 in
         chunks_pass (known_image i (log_of w)) line (λ (c : Chunk). is_free_state c.state) (λ unit c there.
         free_or_offline c.state (chunk_passes (known_image i (log_of w)) (λ (x : Chunk). is_empty_state x.state) line unit c empty there)
         (known_whole i w mount unit line b begins fine whole c there).online)

@@ -2,14 +2,13 @@
 use Rattle.std.proofs.Common.{◌≡◌, ◌⊎◌, inl, inr, ℕ, ◌/◌, ◌<◌, ◌≤◌, ◌==◌, max, true, Some, None, Option, List, length, refl, sym, subst, subst₂, ap, ap₂, ◌∙◌, if◌then◌else◌}
 use Rattle.std.specs.List.{Contains, list_all}
 use Rattle.pblk_model.specs.Chunk.{Chunk}
-use Rattle.pblk_model.specs.Contents.{counted}
 use Rattle.pblk_model.specs.Image.{Image}
 use Rattle.pblk_model.specs.LineOrder.{start_len}
 use Rattle.pblk_model.specs.Records.{Record}
 use Rattle.pblk_world.specs.AtRest.{asked_by, HasNoWork, IsCopyDue, IsDue, IsUrgent, pad_target, victim_now}
-use Rattle.pblk_world.specs.EngineLog.{AsFound, begun, Freed, has_failed, has_landed, is_answered, is_as_found, life_of, LineLife, Opened, Opening, Placed, stripes_of}
+use Rattle.pblk_world.specs.EngineLog.{AsFound, begun, Freed, has_failed, is_answered, is_as_found, life_of, LineLife, Opened, Opening, Placed, stripes_of}
 use Rattle.pblk_world.specs.Events.{Logged, Stripe}
-use Rattle.pblk_world.specs.Freeing.{HasLandedIn, IsAnswered, IsCountedIn, IsFoundRecord, IsLandedRecord, IsReplaced, IsWrittenRecord, MayFree}
+use Rattle.pblk_world.specs.Freeing.{HasLandedIn, IsAnswered, IsCountedIn, IsReplaced, IsWrittenRecord, MayFree}
 use Rattle.pblk_world.specs.Fronts.{synced, taken, waiting}
 use Rattle.pblk_world.specs.Lines.{are_empty, chunks_of, is_given_up, is_over_state, place_of}
 use Rattle.pblk_world.specs.Placing.{data_blocks, end_address, end_blocks, IsData, IsEnd, is_done_with, IsNext, IsPad, IsStart, line_end, next_address, next_block, start_blocks, stripe_at}
@@ -18,8 +17,9 @@ use Rattle.pblk_world.specs.Starts.{has_landed_start, have_landed}
 use Rattle.pblk_world.specs.Victims.{victim}
 use Rattle.pblk_world.specs.World.{Logs}
 use Rattle.world_laws.specs.SameTold.{AreSameTold}
+use Rattle.world_laws.proofs.Freeing.{landed_in_told}
 use Rattle.world_laws.proofs.ToldDecisions.{opening_told}
-use Rattle.world_laws.proofs.ToldImages.{by_three, image_same}
+use Rattle.world_laws.proofs.ToldImages.{by_three, image_same, told_back}
 use Rattle.world_laws.proofs.ToldTables.{addresses_told, due_told, live_told, newest_told, open_told, seq_told, takers_told, victim_told}
 
 module _ (i : Image) (a b : Logs) (h : AreSameTold i a b) where
@@ -127,94 +127,60 @@ module _ (i : Image) (a b : Logs) (h : AreSameTold i a b) where
 
   -- ---- lines that may be freed
 
-  abbrev AreWritten : Opening → Type 0
-  AreWritten o = (r : Record) → IsWrittenRecord i b o r → IsWrittenRecord i a o r
-
-  landed_still : (o : Opening) (r : Record) → IsLandedRecord i a o r → IsLandedRecord i b o r
-  landed_still o r is = record {
-    placed = is.placed;
-    of_opening = subst (λ (log : List Logged). Contains (stripes_of log o) is.placed) (sym h.own) is.of_opening;
-    landed = ap (λ (log : List Logged). has_landed log is.placed) h.own ∙ is.landed;
-    index = is.index;
-    block = is.block;
-    is_block = is.is_block;
-    place = ap (λ (j : Image). place_of j o.line r.at) (image_same i a b h) ∙ is.place;
-    bears = is.bears;
-  }
-
-  landed_before : (o : Opening) (r : Record) → IsLandedRecord i b o r → IsLandedRecord i a o r
-  landed_before o r is = record {
-    placed = is.placed;
-    of_opening = subst (λ (log : List Logged). Contains (stripes_of log o) is.placed) h.own is.of_opening;
-    landed = ap (λ (log : List Logged). has_landed log is.placed) (sym h.own) ∙ is.landed;
-    index = is.index;
-    block = is.block;
-    is_block = is.is_block;
-    place = ap (λ (j : Image). place_of j o.line r.at) (sym (image_same i a b h)) ∙ is.place;
-    bears = is.bears;
-  }
-
-  found_still : (line : ℕ) (r : Record) → IsFoundRecord i a line r → IsFoundRecord i b line r
-  found_still line r is = record {
-    counts = subst (λ (j : Image). Contains (counted j) r) (sym h.found) is.counts;
-    in_line = is.in_line;
-  }
-
-  has_landed_still : (life : LineLife) (line : ℕ) (r : Record) → HasLandedIn i a life line r → HasLandedIn i b life line r
-  has_landed_still AsFound line r is = found_still line r is
-  has_landed_still (Opened o) line r is = landed_still o r is
-  has_landed_still (Freed was knows) line r is = absurd is
-
-  counted_before : (life : LineLife) (line : ℕ) → ((o : Opening) → life ≡ Opened o → AreWritten o) → (r : Record)
-      → IsCountedIn i b life line r → IsCountedIn i a life line r
-  counted_before AsFound line written r is = record {
-    counts = subst (λ (j : Image). Contains (counted j) r) h.found is.counts;
-    in_line = is.in_line;
-  }
-  counted_before (Opened o) line written r (inl landed) = inl (landed_before o r landed)
-  counted_before (Opened o) line written r (inr is) = inr (written o refl r is)
-  counted_before (Freed was knows) line written r is = absurd is
-
   answered_still : (life : LineLife) → IsAnswered a life → IsAnswered b life
   answered_still AsFound is = tt
   answered_still (Opened o) is =
       subst (λ (log : List Logged). (p : Placed) → Contains (stripes_of log o) p → is_answered log p ≡ true) (sym h.own) is
   answered_still (Freed was knows) is = tt
 
-  -- where the records that were written in the line were so before
-  module _ (line : ℕ) (written : (o : Opening) → life_of (a 0) line ≡ Opened o → AreWritten o) where
+  pub answered_told : (line : ℕ) → IsAnswered a (life_of (a 0) line) → IsAnswered b (life_of (b 0) line)
+  answered_told line is =
+      subst (λ (log : List Logged). IsAnswered b (life_of log line)) (sym h.own) (answered_still (life_of (a 0) line) is)
+
+  replaced_still : (line lba : ℕ) (r : Record) → IsReplaced i a line lba r → IsReplaced i b line lba r
+  replaced_still line lba r is = record {
+    other = is.other;
+    is_other = is.is_other;
+    by = is.by;
+    landed = landed_in_told i a b h is.other is.by is.landed;
+    sector = is.sector;
+    newer = is.newer;
+    below_synced = subst (λ (log : List Logged). is.by.position < synced i.shape log) (sym h.own) is.below_synced;
+  }
+
+  -- where each record that was written in the line counted in it before
+  module _ (line : ℕ) (written : (o : Opening) → life_of (a 0) line ≡ Opened o → (r : Record) → IsWrittenRecord i b o r
+      → IsCountedIn i a (Opened o) line r) where
     abbrev life : LineLife
     life = life_of (a 0) line
 
-    its_life : life_of (b 0) line ≡ life
+    its_life : life_of (b 0) line ≡ life_of (a 0) line
     its_life = ap (λ (log : List Logged). life_of log line) h.own
 
-    counts : (r : Record) → IsCountedIn i b (life_of (b 0) line) line r → IsCountedIn i a (life_of (a 0) line) line r
-    counts r is = counted_before life line written r (subst (λ l. IsCountedIn i b l line r) its_life is)
+    landed_before : (its : LineLife) → life_of (a 0) line ≡ its → (r : Record) → HasLandedIn i b its line r → HasLandedIn i a its line r
+    landed_before its e r is = subst (λ x. HasLandedIn i a x line r) e (landed_in_told i b a (told_back i a b h) line r
+        (subst (λ x. HasLandedIn i b x line r) (sym e ∙ sym its_life) is))
 
-    replaced_still : (r : Record) (lba : ℕ) → IsReplaced i a line lba r → IsReplaced i b line lba r
-    replaced_still r lba is = record {
-      other = is.other;
-      is_other = is.is_other;
-      by = is.by;
-      landed = subst (λ (log : List Logged). HasLandedIn i b (life_of log is.other) is.other is.by) (sym h.own)
-          (has_landed_still (life_of (a 0) is.other) is.other is.by is.landed);
-      sector = is.sector;
-      newer = is.newer;
-      below_synced = subst (λ (log : List Logged). is.by.position < synced i.shape log) (sym h.own) is.below_synced;
-    }
+    counted_before : (its : LineLife) → life_of (a 0) line ≡ its → (r : Record) → IsCountedIn i b its line r → IsCountedIn i a its line r
+    counted_before AsFound e r is = landed_before AsFound e r is
+    counted_before (Opened o) e r (inl landed) = inl (landed_before (Opened o) e r landed)
+    counted_before (Opened o) e r (inr is) = written o e r is
+    counted_before (Freed was knows) e r is = absurd is
+
+    counts : (r : Record) → IsCountedIn i b (life_of (b 0) line) line r → IsCountedIn i a (life_of (a 0) line) line r
+    counts r is = counted_before life refl r (subst (λ l. IsCountedIn i b l line r) its_life is)
 
     pub may_free_told : MayFree i a line → MayFree i b line
     may_free_told may = record {
       in_range = may.in_range;
       seq = may.seq;
       has_seq = seq_told i a b h line ∙ may.has_seq;
-      answered = subst (IsAnswered b) (sym its_life) (answered_still life may.answered);
+      answered = answered_told line may.answered;
       newest = may.newest;
       is_newest = newest_told i a b h ∙ may.is_newest;
       older = may.older;
       below_front = λ r is. may.below_front r (counts r is);
-      replaced = λ r lba is sector. replaced_still r lba (may.replaced r lba (counts r is) sector);
+      replaced = λ r lba is sector. replaced_still line lba r (may.replaced r lba (counts r is) sector);
       over = by_three i a b (λ log found known. list_all (λ (c : Chunk). is_over_state (is_as_found (life_of log line)) c.state)
           (chunks_of known line)) h ∙ may.over;
     }

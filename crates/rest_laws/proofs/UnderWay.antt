@@ -8,7 +8,7 @@ use Rattle.std.proofs.lemmas.Option.{none-some, same_Some, slice_get_within}
 use Rattle.pblk_model.specs.declared.chunk.Mark.{Mark}
 use Rattle.pblk_model.specs.Image.{Image}
 use Rattle.pblk_world.specs.EngineLog.{Taken, taken_by}
-use Rattle.pblk_world.specs.Events.{Decides, Entry, Event, Free, Logged, Take}
+use Rattle.pblk_world.specs.Events.{Decides, Entry, Free, Logged, Take}
 use Rattle.pblk_world.specs.Victims.{engine_prefix, is_live_in, live, victim}
 use Rattle.pblk_world.specs.World.{World, Logs, log_of}
 use Rattle.lemmas.proofs.Maps.{in_filter, range_get}
@@ -18,11 +18,6 @@ use Rattle.rest_laws.specs.RoomRuns.{AreBegunAt, IsCopyAt, IsReasonedMount, IsVi
 use Rattle.rest_laws.proofs.KnownViews.{since_next}
 use Rattle.rest_laws.proofs.StillLive.{quiet, still}
 use Rattle.rest_laws.proofs.VictimSteps.{stays}
-
--- the event that takes an entry
-pub taken_says : (e : Event) (t : Taken) → taken_by e ≡ Some t → e ≡ Decides (Take t.entry t.mark)
-taken_says (Decides (Take entry mark)) t h = ap (λ (x : Taken). Decides (Take x.entry x.mark)) (same_Some (record { entry = entry; mark = mark }) t h)
-taken_says e t h = absurd (none-some t h)
 
 -- a sector that is live is counted
 pub some_live : (i : Image) (logs : Logs) (line lba : ℕ) → lba < i.shape.capacity → is_live_in i logs line lba ≡ true → 0 < live i logs line

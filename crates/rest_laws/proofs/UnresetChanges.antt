@@ -1,23 +1,21 @@
 -- How the number of lines that are to be reset changes with each step, and that a reset leaves what
 -- there is of addresses together with those of such lines.
 use Rattle.std.proofs.Common.{◌≡◌, ℕ, ◌+◌, ◌*◌, ◌<◌, ◌≤◌, ◌&&◌, not, nat_lt, suc, Bool, true, false, Some, None, Option, is_some, List, ◌∷◌, length, refl, sym, subst, ap, ap₂, ◌∙◌, arith, if◌then◌else◌}
-use Rattle.std.specs.List.{list_all, range_with_len}
+use Rattle.std.specs.List.{range_with_len}
 use Rattle.std.specs.Option.{option_and_then, option_map}
 use Rattle.std.proofs.lemmas.Option.{same_Some}
-use Rattle.pblk_model.specs.Chunk.{Chunk}
 use Rattle.pblk_model.specs.Image.{Image}
 use Rattle.std.proofs.Math.Nat.{mul-add, mul-one}
 use Rattle.pblk_model.specs.LineOrder.{data_len}
 use Rattle.pblk_model.specs.StartRecord.{StartRecord, start_of}
 use Rattle.pblk_model.specs.UnitLog.{UnitEvent}
 use Rattle.pblk_world.specs.Answering.{MayNoteReset}
-use Rattle.pblk_world.specs.EngineLog.{AsFound, Begun, begun, Freed, is_as_found, is_opened, life_of, LineLife, Opened}
+use Rattle.pblk_world.specs.EngineLog.{AsFound, Begun, begun, Freed, is_opened, life_of, LineLife, Opened}
 use Rattle.pblk_world.specs.Events.{Again, Begin, Decides, EngineEvent, Free, Landed, Logged, Lost, Open, Place, ResetDone, Step, Take}
-use Rattle.pblk_world.specs.Freeing.{MayFree}
-use Rattle.pblk_world.specs.Lines.{are_empty, are_over, chunks_of, found_image, has_number, is_given_up, is_over_state, known_image, line_data, strays_of}
+use Rattle.pblk_world.specs.Lines.{are_empty, found_image, has_number, is_given_up, known_image, line_data, strays_of}
 use Rattle.pblk_world.specs.Opening.{MayOpen}
 use Rattle.pblk_world.specs.Space.{addresses, full_data}
-use Rattle.pblk_world.specs.Starts.{seq_in, seq_of}
+use Rattle.pblk_world.specs.Starts.{seq_in}
 use Rattle.pblk_world.specs.World.{World, Logs, log_of, prefixes, unit_event_at, unit_event_of}
 use Rattle.pblk_world.proofs.Appending.{life_more}
 use Rattle.pblk_world.proofs.LinesLemmas.{not_given_up}
@@ -27,16 +25,15 @@ use Rattle.world_laws.specs.LegalMounts.{IsLegalMount}
 use Rattle.world_laws.specs.SameTold.{AreSameTold}
 use Rattle.world_laws.proofs.ToldDecisions.{opening_told}
 use Rattle.world_laws.proofs.ToldImages.{image_same, told_back}
-use Rattle.world_laws.proofs.ToldTables.{seq_told}
 use Rattle.core_laws.specs.Stepping.{after}
 use Rattle.core_laws.proofs.FreedWidths as widths
 use Rattle.core_laws.proofs.SteppingLemmas.{found_kept}
 use Rattle.rest_laws.specs.RoomSteps.{free_data, is_unreset, keeps_unreset, unreset_lines}
 use Rattle.rest_laws.specs.Tidy.{AreWide}
-use Rattle.rest_laws.proofs.RoomChanges.{before, by_logs, land_whole, may, note_whole, reset_gives, told, unit_tells_none, whole}
+use Rattle.rest_laws.proofs.RoomChanges.{before, by_logs, land_whole, line_freed, may, note_whole, reset_gives, told, unit_tells_none, whole}
 use Rattle.rest_laws.proofs.RoomyShapes.{eight_stripes}
 use Rattle.rest_laws.proofs.UnresetSteps.{unreset_freed, unreset_kept, unreset_landed, unreset_opened, unreset_reset}
-use Rattle.rest_laws.proofs.UsedResets.{in_range, still_given}
+use Rattle.rest_laws.proofs.UsedResets.{in_range, may_note, still_given}
 
 module _ (i : Image) (s : Step) (w : World) (mount : IsLegalMount i (s ∷ w)) where
   pub unit_keeps_unreset : (unit : ℕ) → s.author ≡ suc unit → unreset_lines i (log_of (s ∷ w)) ≡ unreset_lines i (log_of w)
@@ -85,15 +82,9 @@ module _ (i : Image) (s : Step) (w : World) (mount : IsLegalMount i (s ∷ w)) w
 
     pub free_adds : (line : ℕ) → s.logged.event ≡ Decides (Free line) → unreset_lines i (log_of (s ∷ w)) ≡ unreset_lines i (log_of w) + 1
     free_adds line is =
-        let named_may : MayFree i (prefixes s.logged (log_of w)) line = (may i s w mount (Free line) own is b begins).2 in
-        let same : AreSameTold i (log_of w) (prefixes s.logged (log_of w)) = told i s w mount (Free line) own is b begins in
-        let over : are_over i (log_of w) line ≡ true =
-        sym (ap₂ (λ (j : Image) (l : LineLife). list_all (λ (c : Chunk). is_over_state (is_as_found l) c.state) (chunks_of j line))
-        (image_same i (log_of w) (prefixes s.logged (log_of w)) same)
-        (ap (λ (xs : List Logged). life_of xs line) (whole i s w mount (Free line) own is b begins))) ∙ named_may.over in
-        let seq : seq_of i (log_of w) line ≡ Some named_may.seq = sym (seq_told i (log_of w) (prefixes s.logged (log_of w)) same line) ∙ named_may.has_seq in
+        let it = line_freed i s w mount own b begins line is in
         by_logs i s w mount (Free line) own is b begins (λ ls. unreset_lines i ls ≡ unreset_lines i (log_of w) + 1)
-        (unreset_freed i w was b begins knows line named_may.seq named_may.in_range over seq)
+        (unreset_freed i w was b begins knows line it.0 it.1 it.2 it.3)
 
     module _ (unit number : ℕ) (u : UnitEvent) (is : s.logged.event ≡ Decides (ResetDone unit number))
         (at : unit_event_at (log_of w) unit number ≡ Some u) where
@@ -106,7 +97,7 @@ module _ (i : Image) (s : Step) (w : World) (mount : IsLegalMount i (s ∷ w)) w
           (sym (ap (option_and_then (λ (l : Logged). unit_event_of l.event)) now.new.is_known ∙ now.new.event) ∙ at))
 
       given : is_given_up (log_of w 0) u.chunk ≡ true
-      given = ap (is_given_up (log_of w 0)) (sym same) ∙ still_given i w was b begins unit number now
+      given = ap (is_given_up (log_of w 0)) (sym same) ∙ still_given i w was b begins unit number (may_note (log_of w) unit number now)
 
       pub reset_takes : unreset_lines i (log_of w)
           ≡ unreset_lines i (log_of (s ∷ w)) + (if are_empty (known_image i (log_of (s ∷ w))) u.chunk then 1 else 0)
@@ -150,7 +141,7 @@ module _ (i : Image) (s : Step) (w : World) (mount : IsLegalMount i (s ∷ w)) w
               omega arith
 
           inside : u.chunk < i.shape.chunks
-          inside = subst (λ m. m < i.shape.chunks) same (in_range i w was b begins unit number now)
+          inside = subst (λ m. m < i.shape.chunks) same (in_range i w was b begins unit number (may_note (log_of w) unit number now))
 
           whole_data : line_data (known_image i (log_of (s ∷ w))) u.chunk ≡ full_data i.shape
           whole_data = ap (data_len i.shape) (wide u.chunk inside)

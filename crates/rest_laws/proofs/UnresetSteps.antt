@@ -30,7 +30,7 @@ use Rattle.core_laws.proofs.ClosedKept.{one_told}
 use Rattle.rest_laws.specs.RoomSteps.{is_unreset, unreset_lines}
 use Rattle.rest_laws.proofs.FreeSteps.{its_line}
 use Rattle.rest_laws.proofs.LiveSums.{as_number, passing_first}
-use Rattle.rest_laws.proofs.UsedResets.{in_range, still_given, unempty_now}
+use Rattle.rest_laws.proofs.UsedResets.{in_range, may_note, still_given, unempty_now}
 use Rattle.std.proofs.lemmas.List.Sums.{sum_by-cons}
 
 -- ---- how many pass, as a sum
@@ -177,7 +177,7 @@ module _ (i : Image) (w : World) (mount : IsLegalMount i w) (b : Begun) (begins 
       + (if are_empty (known_image i (after (log_of w) (ResetDone unit number) knows)) may.reset.chunk then 1 else 0)
   unreset_reset unit number may =
       count_more (is_unreset i new) (is_unreset i (log_of w)) i.shape.chunks line (if are_empty (known_image i new) line then 1 else 0)
-      (in_range i w mount b begins unit number may) here (λ m apart. sym (beside m apart))
+      (in_range i w mount b begins unit number (may_note (log_of w) unit number may)) here (λ m apart. sym (beside m apart))
     where
       new : Logs
       new = after (log_of w) (ResetDone unit number) knows
@@ -186,14 +186,15 @@ module _ (i : Image) (w : World) (mount : IsLegalMount i w) (b : Begun) (begins 
       line = may.reset.chunk
 
       given : is_given_up (log_of w 0) may.reset.chunk ≡ true
-      given = still_given i w mount b begins unit number may
+      given = still_given i w mount b begins unit number (may_note (log_of w) unit number may)
 
       life : (m : ℕ) → life_of (after (log_of w) (ResetDone unit number) knows 0) m ≡ life_of (log_of w 0) m
       life m = life_more (log_of w 0) (record { event = Decides (ResetDone unit number); knows = knows }) m
 
       before : is_unreset i (log_of w) may.reset.chunk ≡ true
       before =
-          let used : are_empty (known_image i (log_of w)) line ≡ false = unempty_now i w mount b begins unit number may in
+          let used : are_empty (known_image i (log_of w)) line ≡ false = unempty_now i w mount b begins unit number
+          (may_note (log_of w) unit number may) in
           ap₂ (λ t u. t && not u) given used
 
       now : is_unreset i new may.reset.chunk ≡ not (are_empty (known_image i new) may.reset.chunk)

@@ -1,31 +1,33 @@
 -- A reset that the engine has not heard of yet is of a chunk that the engine knows as used. So its
 -- line isn't opened, and is still given up.
-use Rattle.std.proofs.Common.{◌≡◌, ◌⊎◌, inl, inr, ℕ, ◌+◌, ◌-◌, ◌<◌, ◌≤◌, ◌&&◌, suc, zero, nat_eq, nat_lt, not, Bool, true, false, Some, None, Option, List, [], length, take, refl, sym, subst, ap, ap₂, ◌∙◌, arith, if◌then◌else◌}
+use Rattle.std.proofs.Common.{◌≡◌, ◌⊎◌, inl, inr, ℕ, ◌+◌, ◌-◌, ◌<◌, ◌≤◌, suc, zero, nat_eq, Bool, true, false, Some, None, Option, List, [], length, take, refl, sym, subst, ap, ap₂, ◌∙◌, arith, if◌then◌else◌}
 use Rattle.std.specs.Prelude.{slice_get, slice_index}
 use Rattle.std.specs.Option.{option_and_then, option_map_or}
 use Rattle.std.proofs.lemmas.Bool.{cases_lt, eqb-true}
 use Rattle.std.proofs.lemmas.Option.{none-some, same_Some}
 use Rattle.std.proofs.Math.Seq.{take-length}
 use Rattle.pblk_model.specs.Chunk.{Chunk}
+use Rattle.pblk_model.specs.ChunkStep.{ChunkCommand, Read, Reset, Write}
 use Rattle.pblk_model.specs.Found.{IsUsed}
 use Rattle.pblk_model.specs.Image.{Image, IsFit}
 use Rattle.pblk_model.specs.StartRecord.{StartRecord}
 use Rattle.pblk_model.specs.UnitLog.{after_log, UnitEvent, UnitOutcome, Answered, Failed, Stopped}
 use Rattle.pblk_laws.specs.LineBlocks.{chunk_in}
-use Rattle.pblk_world.specs.Answering.{IsDoneReset, MayNoteReset}
+use Rattle.pblk_world.specs.Answering.{IsDoneReset, IsNew, MayNoteReset}
+use Rattle.pblk_world.specs.AtRest.{IsUnnotedReset}
 use Rattle.pblk_world.specs.Commanding.{is_program, is_reset, was_stopped}
 use Rattle.pblk_world.specs.EngineLog.{Begun, begun, Freed, last_opening, life_of, LineLife, Opened, turned_by}
 use Rattle.pblk_world.specs.Events.{Again, Begin, Decides, Does, Event, Free, Landed, Logged, Lost, Open, Place, ResetDone, Take}
-use Rattle.pblk_world.specs.Lines.{are_empty, has_number, is_empty_state, is_given_up, is_given_up_by, known_image, line_data, strays_of}
+use Rattle.pblk_world.specs.Lines.{are_empty, is_empty_state, is_given_up, is_given_up_by, known_image, strays_of}
 use Rattle.pblk_world.specs.Opening.{MayOpen}
 use Rattle.pblk_world.specs.Victims.{engine_prefix}
-use Rattle.pblk_world.specs.World.{World, Logs, knows_engine, log_of, media}
+use Rattle.pblk_world.specs.World.{World, Logs, knows_engine, log_of, media, unit_event_of}
 use Rattle.pblk_world.proofs.EngineLogLemmas.{begun_taken}
 use Rattle.pblk_world.proofs.LinesLemmas.{used_is}
 use Rattle.pblk_world.proofs.VictimsLemmas.{whole_prefix}
 use Rattle.lemmas.proofs.Options.{split_then}
 use Rattle.lemmas.proofs.Parts.{all_at, contained_among, get_below, get_taken, got_within}
-use Rattle.lemmas.proofs.Tests.{both, not_both}
+use Rattle.lemmas.proofs.Tests.{not_both}
 use Rattle.world_laws.specs.LegalMounts.{IsLegalMount}
 use Rattle.world_laws.specs.UnitChunks.{NoProgram, chunk_after, first_events}
 use Rattle.world_laws.proofs.Deeds.{IsDeed, deed}
@@ -42,18 +44,46 @@ use Rattle.world_laws.proofs.Resets.{IsReset, empty_until, reset}
 use Rattle.world_laws.proofs.ToldBefore.{IsActive, IsNamedFor, all_named, going_before}
 use Rattle.world_laws.proofs.UnitChunks.{still_there}
 use Rattle.world_laws.proofs.KnownPrefixes.{named_there}
+use Rattle.rest_laws.proofs.TidyFound.{free_parts}
 
--- a reset that wasn't stopped
-going_reset : (o : UnitOutcome) → IsDoneReset o → was_stopped o ≡ false
+-- A reset of which the engine has noted nothing. It wasn't stopped.
+pub record IsUnheardReset (logs : Logs) (unit number : ℕ) : Type 0 where
+  pub reset : UnitEvent
+  pub new : IsNew logs unit number reset
+  pub is_reset : reset.command ≡ Reset
+  pub going : was_stopped reset.outcome ≡ false
+
+-- a reset that was done, or failed, wasn't stopped
+pub going_reset : (o : UnitOutcome) → IsDoneReset o → was_stopped o ≡ false
 going_reset (Answered answer) done = refl
 going_reset (Failed k) done = refl
 going_reset (Stopped k) done = absurd done
+
+abbrev pub may_note : (logs : Logs) (unit number : ℕ) → MayNoteReset logs unit number → IsUnheardReset logs unit number
+may_note logs unit number may =
+    record { reset = may.reset; new = may.new; is_reset = may.is_reset; going = going_reset may.reset.outcome may.not_stopped }
+
+reset_is : (command : ChunkCommand) → is_reset command ≡ true → command ≡ Reset
+reset_is (Write at blocks) e = absurd cc
+reset_is (Read b) e = absurd cc
+reset_is Reset e = refl
+
+pub unnoted : (logs : Logs) (unit number : ℕ) → IsUnnotedReset logs unit number → IsUnheardReset logs unit number
+unnoted logs unit number is = by (split_then (λ (l : Logged). unit_event_of l.event) (slice_get (logs (suc unit)) number) is.event is.is_known)
+  where
+    by : (l : Logged) × (slice_get (logs (suc unit)) number ≡ Some l) × (unit_event_of l.event ≡ Some is.event) → IsUnheardReset logs unit number
+    by at = record {
+      reset = is.event;
+      new = record { logged = at.0; is_known = at.1; event = at.2; once = is.unnoted };
+      is_reset = reset_is is.event.command is.reset;
+      going = is.not_stopped;
+    }
 
 abbrev IsGivenBy : List ℕ → ℕ → LineLife → Type 0
 IsGivenBy strays line life = is_given_up_by strays line life ≡ true
 
 module _ (i : Image) (w : World) (mount : IsLegalMount i w) (b : Begun) (begins : begun (log_of w 0) ≡ Some b) (unit number : ℕ)
-    (may : MayNoteReset (log_of w) unit number) where
+    (may : IsUnheardReset (log_of w) unit number) where
   abbrev log : List Logged
   log = log_of w 0
 
@@ -65,9 +95,6 @@ module _ (i : Image) (w : World) (mount : IsLegalMount i w) (b : Begun) (begins 
 
   abbrev base : ℕ
   base = slice_index b.knows (suc unit)
-
-  going : was_stopped may.reset.outcome ≡ false
-  going = going_reset may.reset.outcome may.not_stopped
 
   its_deed : IsDeed i w unit number may.new.logged
   its_deed = deed i w unit number may.new.logged mount.legal may.new.is_known
@@ -99,7 +126,7 @@ module _ (i : Image) (w : World) (mount : IsLegalMount i w) (b : Begun) (begins 
       go : IsUsed its_deed.found.state ⊎ (its_deed.event.outcome ≡ Stopped 0) → is_empty_state its_deed.found.state ≡ false
       go (inl used) = used_is its_deed.found.state used
       go (inr stopped) = absurd (not_both (was_stopped may.reset.outcome)
-          (ap (λ (e : UnitEvent). was_stopped e.outcome) (sym same_event) ∙ ap was_stopped stopped) going)
+          (ap (λ (e : UnitEvent). was_stopped e.outcome) (sym same_event) ∙ ap was_stopped stopped) may.going)
 
   found_there : chunk_after i (log_of w) may.reset.chunk unit number ≡ Some its_deed.found
   found_there = ap (λ (e : UnitEvent). chunk_after i (log_of w) e.chunk unit number) (sym same_event) ∙ its_deed.there
@@ -108,7 +135,7 @@ module _ (i : Image) (w : World) (mount : IsLegalMount i w) (b : Begun) (begins 
   is_active = inr (record {
     from = from_base;
     at = record { there = may.new.is_known; is_event = may.new.event; its_chunk = refl; passes = ap is_reset may.is_reset };
-    going = going;
+    going = may.going;
   })
 
   pub in_range : may.reset.chunk < i.shape.chunks
@@ -167,7 +194,7 @@ module _ (i : Image) (w : World) (mount : IsLegalMount i w) (b : Begun) (begins 
                     from = omega arith;
                     at = record { there = there; is_event = is_event; its_chunk = its_chunk; passes = program };
                     going = going_before i w mount.legal b begins unit line m number l may.new.logged e may.reset before there is_event may.new.is_known
-                        may.new.event going;
+                        may.new.event may.going;
                   }) in
                   let told : IsNamedFor i w mount.legal b begins unit line m may.new.logged =
                   all_named i w mount.legal b begins unit line (suc number) m number l may.new.logged e may.reset before (omega arith) active is_active in
@@ -217,12 +244,7 @@ module _ (i : Image) (w : World) (mount : IsLegalMount i w) (b : Begun) (begins 
   unopened_then k other start l knew there is same =
       let opens = opened_at i w k other start l mount.legal there is in
       let free : MayOpen i (engine_prefix k (log_of w)) opens.0 other start = opens.2 in
-      let parts = both (not (has_number i (engine_prefix k (log_of w)) (life_of (engine_prefix k (log_of w) 0) other) other)
-      && are_empty (known_image i (engine_prefix k (log_of w))) other)
-      (nat_lt 0 (line_data (known_image i (engine_prefix k (log_of w))) other)) free.is_free in
-      let empty : are_empty (known_image i (engine_prefix k (log_of w))) other ≡ true =
-      (both (not (has_number i (engine_prefix k (log_of w)) (life_of (engine_prefix k (log_of w) 0) other) other))
-      (are_empty (known_image i (engine_prefix k (log_of w))) other) parts.0).1 in
+      let empty : are_empty (known_image i (engine_prefix k (log_of w))) other ≡ true = (free_parts i (engine_prefix k (log_of w)) other free.is_free).1 in
       let inside : k < length log = get_below log k l there in
       not_both (are_empty (known_image i (engine_prefix k (log_of w))) other) empty
       (ap (are_empty (known_image i (engine_prefix k (log_of w)))) same ∙ unempty k knew (omega arith))

@@ -42,8 +42,8 @@ use Rattle.rest_laws.proofs.RoomyShapes.{eight_stripes, too_few_live}
 
 -- ---- what becomes of each line
 
--- A line is Free, or the one that was opened last, or it had a stripe left when that one was opened,
--- or it is behind its start record.
+-- A line is Free, or the one that was opened last, or it had a stripe left when that one was
+-- opened, or it is behind its start record.
 pub data Standing (i : Image) (logs : Logs) (n : Opening) (line : ℕ) : Type 0 where
   IsFree : is_free_line i logs line ≡ true → Standing i logs n line
   IsNewest : line ≡ n.line → Standing i logs n line

@@ -1,6 +1,6 @@
--- Where nothing failed that the mount found, each chunk is found as whole if it was so: it isn't Offline, and it
--- is full where it is Closed. Where nothing that the engine heard of failed, each chunk is known as whole if it
--- was found so.
+-- Where nothing failed that the mount found, each chunk is found as whole if it was so: it isn't
+-- Offline, and it is full where it is Closed. Where nothing that the engine heard of failed, each
+-- chunk is known as whole if it was found so.
 use Rattle.std.proofs.Common.{◌≡◌, ◌≢◌, ℕ, ◌+◌, ◌-◌, ◌*◌, ◌<◌, ◌≤◌, ◌==◌, ◌||◌, nat_eq, nat_lt, zero, suc, Bool, true, false, Some, None, Option, List, ◌++◌, length, take, refl, sym, subst, ap, ◌∙◌, arith, if◌then◌else◌, length-append, length-take}
 use Rattle.std.specs.Prelude.{slice_get, slice_index}
 use Rattle.std.specs.List.{AllByRecursion}

@@ -38,4 +38,5 @@ pub record IsCopyOf (i : Image) (logs : Logs) (line from number : ℕ) : Type 0 
 abbrev pub AreCopiesOf : Image → Logs → (line from least : ℕ) → List ℕ → Type 0
 AreCopiesOf i logs line from least [] = ⊤
 AreCopiesOf i logs line from least (number ∷ numbers) =
-    (least ≤ number) × IsCopyOf i logs line from number × AreCopiesOf i logs line from (suc number) numbers
+    (least ≤ number) × IsCopyOf i logs line from number
+    × AreCopiesOf i logs line from (suc number) numbers

@@ -17,4 +17,5 @@ pub record IsBehind (i : Image) (logs : Logs) (than : StartRecord) (line : ℕ) 
   pub seq : ℕ
   pub has_seq : seq_of i logs line ≡ Some seq
   pub older : seq < than.seq
-  pub below_front : AllByRecursion (λ position. position < than.front) (positions_in i logs (life_of (logs 0) line) line)
+  pub below_front : AllByRecursion (λ position. position < than.front)
+      (positions_in i logs (life_of (logs 0) line) line)

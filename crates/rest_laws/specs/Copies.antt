@@ -11,7 +11,8 @@ use Rattle.pblk_world.specs.World.{Logs}
 -- The event of this number took a copy, with this mark.
 pub record TookCopy (log : List Logged) (number : ℕ) (entry : Entry) (mark : Mark) : Type 0 where
   pub knows : List ℕ
-  pub there : slice_get log number ≡ Some (record { event = Decides (Take entry mark); knows = knows })
+  pub there : slice_get log number
+      ≡ Some (record { event = Decides (Take entry mark); knows = knows })
   pub source : Source
   pub is_copy : entry.source ≡ Some source
 

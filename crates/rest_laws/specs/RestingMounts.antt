@@ -10,9 +10,9 @@ use Rattle.world_laws.specs.LegalMounts.{IsLegalMount, NoneLost}
 use Rattle.core_laws.specs.Spent.{OpensWhenFull}
 use Rattle.rest_laws.specs.Tidy.{AreWide}
 
--- The mount is at rest for a pad target. No stripe was lost, each line was opened once the open ones were full,
--- and no line is narrower than the drive. The next start record could be spelled: its sequence number and its
--- front are not too great.
+-- The mount is at rest for a pad target. No stripe was lost, each line was opened once the open
+-- ones were full, and no line is narrower than the drive. The next start record could be spelled:
+-- its sequence number and its front are not too great.
 pub record IsRestingMount (i : Image) (w : World) (asked : ℕ) : Type 0 where
   pub mount : IsLegalMount i w
   pub none_lost : NoneLost (log_of w 0)

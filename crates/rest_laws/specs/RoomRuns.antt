@@ -30,8 +30,10 @@ use Rattle.rest_laws.specs.Tidy.{AreWide, has_free_chunks}
 pub record IsReasonedMount (i : Image) (w : World) : Type 0 where
   pub mount : IsLegalMount i w
   pub none_lost : NoneLost (log_of w 0)
-  pub wide : (n : ℕ) → 0 < n → n ≤ length (log_of w 0) → AreWide (known_image i (engine_prefix n (log_of w)))
-  pub some_free : 2 ≤ length (filter (has_free_chunks (found_image i (log_of w))) (range_with_len 0 i.shape.chunks))
+  pub wide : (n : ℕ) → 0 < n → n ≤ length (log_of w 0)
+      → AreWide (known_image i (engine_prefix n (log_of w)))
+  pub some_free : 2 ≤ length (filter (has_free_chunks (found_image i (log_of w)))
+      (range_with_len 0 i.shape.chunks))
   pub not_ended : taken (log_of w 0) < position_limit (log_of w 0)
   pub after_resets : AreAfterResets i (log_of w)
   pub opened_full : AreOpenedFull i (log_of w)
@@ -48,7 +50,8 @@ abbrev pub WasClaimed : Image → Logs → (n position : ℕ) → Type 0
 WasClaimed i logs n position = (position ≤ taken (take n (logs 0))) ⊎ WasRoom i logs n position
 
 -- A copy was begun, and positions are claimed in their order: there all below its own were claimed.
-pub record WasBegunInTurn (i : Image) (logs : Logs) (number : ℕ) (entry : Entry) (source : Source) : Type 0 where
+pub record WasBegunInTurn (i : Image) (logs : Logs) (number : ℕ) (entry : Entry) (source : Source)
+    : Type 0 where
   pub begun : WasBegun i logs number entry.lba source
   pub claimed : WasClaimed i logs begun.at entry.position
 
@@ -105,24 +108,29 @@ WasOvertaken logs at n number lba = WasTakenSince (take n (logs 0)) lba (at numb
 -- its position, and whether an entry of its sector was taken since. Until then the sector is live
 -- in the victim at work.
 abbrev pub IsCopyAt : Image → Logs → (at : ℕ → ℕ) → (upto n : ℕ) → Copy → Type 0
-IsCopyAt i logs at upto n NoCopy = (number : ℕ) (entry : Entry) (mark : Mark) → TookCopy (logs 0) number entry mark
-    → n ≤ number → upto < at number
-IsCopyAt i logs at upto n (Fresh position) = (c : UnderWay i logs at upto n) × (c.entry.position ≡ position)
+IsCopyAt i logs at upto n NoCopy = (number : ℕ) (entry : Entry) (mark : Mark)
+    → TookCopy (logs 0) number entry mark → n ≤ number → upto < at number
+IsCopyAt i logs at upto n (Fresh position) =
+    (c : UnderWay i logs at upto n) × (c.entry.position ≡ position)
     × IsOfVictim i logs at n c.number c.took.source.line
     × (is_live_in i (engine_prefix n logs) c.took.source.line c.entry.lba ≡ true)
-IsCopyAt i logs at upto n (Stale position) = (c : UnderWay i logs at upto n) × (c.entry.position ≡ position)
+IsCopyAt i logs at upto n (Stale position) =
+    (c : UnderWay i logs at upto n) × (c.entry.position ≡ position)
     × WasOvertaken logs at n c.number c.entry.lba
-IsCopyAt i logs at upto n (Outlived position) = (c : UnderWay i logs at upto n) × (c.entry.position ≡ position)
+IsCopyAt i logs at upto n (Outlived position) =
+    (c : UnderWay i logs at upto n) × (c.entry.position ≡ position)
     × WasOvertaken logs at n c.number c.entry.lba
 
 -- A state of the run at length n of the log. This line, if any, is at work as its victim. The
 -- copies that were begun at length `upto` or before are begun, and what was asked for at length
 -- `asked` or before is asked for.
-pub record IsRoomState (i : Image) (logs : Logs) (at : ℕ → ℕ) (n upto asked : ℕ) (line : Option ℕ) (s : State) : Type 0 where
+pub record IsRoomState (i : Image) (logs : Logs) (at : ℕ → ℕ) (n upto asked : ℕ) (line : Option ℕ)
+    (s : State) : Type 0 where
   pub numbers : HasNumbers i (engine_prefix n logs) s
   pub victim : IsVictimOf i (engine_prefix n logs) line s.victim
   pub copy : IsCopyAt i logs at upto n s.copy
-  pub users : (t : Taken) → Contains (takes (take n (logs 0))) t → t.entry.source ≡ None → t.entry.position < s.users
+  pub users : (t : Taken) → Contains (takes (take n (logs 0))) t → t.entry.source ≡ None
+      → t.entry.position < s.users
   pub reach : (position : ℕ) → WasRoom i logs n position → position ≤ s.reach
   pub asks : (position : ℕ) → WasAsked i logs asked position → position ≤ max s.calm s.urgent
   pub reached : IsReached (sizes_of i) s

@@ -1,4 +1,5 @@
--- What an event of the engine may make of the unplaced data addresses, and of the lines to be reset.
+-- What an event of the engine may make of the unplaced data addresses, and of the lines that are to
+-- be reset.
 use Rattle.std.specs.Prelude.{ℕ, ◌&&◌, if◌then◌else◌, not, Bool, true, false, is_some, length}
 use Rattle.std.specs.List.{filter, list_any, range_with_len}
 use Rattle.pblk_model.specs.declared.shape.Shape.{Shape}

@@ -23,7 +23,8 @@ is_free_state states.Offline = false
 abbrev pub has_free_chunks : Image → ℕ → Bool
 has_free_chunks i line = list_all (λ c. is_free_state c.state) (chunks_of i line)
 
--- no program and no reset of the chunk has failed: it isn't Offline, and it is full where it is Closed
+-- no program and no reset of the chunk has failed: it isn't Offline, and it is full where it is
+-- Closed
 pub record IsWholeChunk (s : Shape) (c : Chunk) : Type 0 where
   pub online : c.state ≢ states.Offline
   pub full : c.state ≡ states.Closed → pointer c ≡ s.clba
@@ -31,8 +32,9 @@ pub record IsWholeChunk (s : Shape) (c : Chunk) : Type 0 where
 abbrev pub HasWholeChunks : Image → Type 0
 HasWholeChunks i = AllByRecursion (AllByRecursion (IsWholeChunk i.shape)) i.units
 
--- An image of a drive on which no program and no reset has failed so far, and that has room for a mount: it is
--- sealed, no chunk is Offline, each Closed chunk is full, and at least four lines have Free chunks alone.
+-- An image of a drive on which no program and no reset has failed so far, and that has room for a
+-- mount: it is sealed, no chunk is Offline, each Closed chunk is full, and at least four lines have
+-- Free chunks alone.
 pub record IsTidy (i : Image) : Type 0 where
   pub sealed : IsSealed i
   pub whole : HasWholeChunks i
@@ -41,13 +43,16 @@ pub record IsTidy (i : Image) : Type 0 where
 -- No event of a unit that the engine's log names failed. What a unit did beside these may be
 -- anything.
 pub record IsFaultless (logs : Logs) : Type 0 where
-  pub none_failed : (unit number landed_before : ℕ) (e : UnitEvent) → Contains (named_events (logs 0) unit) number
+  pub none_failed : (unit number landed_before : ℕ) (e : UnitEvent)
+      → Contains (named_events (logs 0) unit) number
       → unit_event_at logs unit number ≡ Some e → e.outcome ≢ Failed landed_before
 
 -- No event of a unit failed that the mount had found when it began.
 pub record IsFoundFaultless (logs : Logs) : Type 0 where
-  pub none_failed : (b : Begun) → begun (logs 0) ≡ Some b → (unit number landed_before : ℕ) (e : UnitEvent)
-      → number < slice_index b.knows (suc unit) → unit_event_at logs unit number ≡ Some e → e.outcome ≢ Failed landed_before
+  pub none_failed : (b : Begun) → begun (logs 0) ≡ Some b
+      → (unit number landed_before : ℕ) (e : UnitEvent)
+      → number < slice_index b.knows (suc unit)
+      → unit_event_at logs unit number ≡ Some e → e.outcome ≢ Failed landed_before
 
 -- No line of the image is narrower than the drive: none of its chunks is Offline.
 abbrev pub AreWide : Image → Type 0

@@ -37,5 +37,5 @@ pub record IsTidyMount (i : Image) (w : World) : Type 0 where
 
 -- No event of any unit failed.
 pub record HasNoFailures (logs : Logs) : Type 0 where
-  pub none_failed : (unit number landed_before : ℕ) (e : UnitEvent) → unit_event_at logs unit number ≡ Some e
-      → e.outcome ≢ Failed landed_before
+  pub none_failed : (unit number landed_before : ℕ) (e : UnitEvent)
+      → unit_event_at logs unit number ≡ Some e → e.outcome ≢ Failed landed_before

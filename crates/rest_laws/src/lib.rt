@@ -1,5 +1,6 @@
-//! Laws for tidy drives: a mount in which no command fails never gets stuck for want of room, as
-//! long as numbers are left, and leaves a tidy drive. With them stand the laws that this rests on.
+//! Laws for tidy drives: a mount in which no command of a unit fails, though one may be stopped,
+//! never gets stuck for want of room, as long as numbers are left, and leaves a tidy drive. With
+//! them stand the laws that this rests on.
 //!
 //! - A blank image is tidy. Where no unit event failed, a tidy image is found tidy, no stripe was
 //!   lost, and no line is narrower than the drive.

@@ -20,7 +20,8 @@ pub fn what_waits_is_less_than_the_addresses()
         → length (waiting i.shape (logs_at n (log_of w) 0)) < addresses i (logs_at n (log_of w)) }
     ensures prefix { (i : Image) (w : World) (n : ℕ) → IsReasonedMount i w
         → 0 < n → n ≤ length (log_of w 0) → AreReset i (engine_prefix n (log_of w))
-        → length (waiting i.shape (take n (log_of w 0))) < addresses i (engine_prefix n (log_of w)) }
+        → length (waiting i.shape (take n (log_of w 0)))
+        < addresses i (engine_prefix n (log_of w)) }
     ensures end { (i : Image) (w : World) → IsReasonedMount i w
         → 0 < length (log_of w 0) → AreReset i (log_of w)
         → length (waiting i.shape (log_of w 0)) < addresses i (log_of w) }

@@ -39,7 +39,8 @@ pub fn only_the_last_line_is_open()
 pub fn the_front_freed_is_near()
     ensures near { (i : Image) (w : World) (last : Opening)
         → IsLegalMount i w → NoneLost (log_of w 0) → OpensWhenFull i (log_of w)
-        → IsLastOpened (log_of w 0) last → width (known_image i (log_of w)) last.line ≡ units i.shape
+        → IsLastOpened (log_of w 0) last
+        → width (known_image i (log_of w)) last.line ≡ units i.shape
         → ((p : Placed) → Contains (placements (log_of w 0)) p → is_answered (log_of w 0) p ≡ true)
         → ((o : Opening) → o.number < last.number → life_of (log_of w 0) o.line ≡ Opened o
         → are_over i (log_of w) o.line ≡ true)

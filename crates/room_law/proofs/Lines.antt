@@ -69,8 +69,8 @@ chosen w n live s None may h = record {
   );
 }
 
--- The victim is freed. Its copies are those of an earlier one then, and one of them at most waits or
--- is under way. So it is as where the zone begins.
+-- The victim is freed. Its copies are those of an earlier one then, and one of them at most waits
+-- or is under way. So it is as where the zone begins.
 
 gone_copies : (placed taken users : ℕ) (c : Copy) → taken + under_way c ≤ max placed users + 1 → behind c ≡ under_way c
     → Copies taken placed taken users None c

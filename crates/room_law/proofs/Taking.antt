@@ -119,8 +119,8 @@ taken_users w n s loss one may h =
     user_taken w n s (fewer_live (lost_by loss) s.victim) (copy_after loss s.copy) one may.granted may.in_turn
     (loses w n s loss s.victim s.copy may.loses h.live) h
 
--- The copy that was under way is taken. Copies of earlier victims lie below a position, which is past
--- this copy's where it is one of them.
+-- The copy that was under way is taken. Copies of earlier victims lie below a position, which is
+-- past this copy's where it is one of them.
 
 copy_taken : (w n old : ℕ) (s : State) (v : Option Victim) → 1 ≤ w → past_copy s.copy ≡ s.taken + 1
     → at_work v ≡ at_work s.victim → live_of v ≤ live_of s.victim → (h : Counted w n s) → h.old ≤ old

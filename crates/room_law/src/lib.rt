@@ -1,6 +1,6 @@
 //! The law that what waits has room, by counting: it speaks of a few numbers and of the steps that
 //! change them (`specs/Counting.antt`), and of no log, unit or file. The steps are meant as those
-//! of a target on a tidy drive, as long as no command fails or is stopped.
+//! of a target on a tidy drive, as long as no command of a unit fails; one may be stopped.
 //!
 //! - Where no line is to be reset, fewer entries wait than data addresses are left. While lines are
 //!   to be reset, no more wait than are left.

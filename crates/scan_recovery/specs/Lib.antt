@@ -14,4 +14,3 @@ pub mod Packed
 pub mod LineBuffer
 pub mod Readying
 pub mod Lost
-pub mod MayStop

@@ -19,25 +19,18 @@ use Rattle.unit_port.specs.Armed.{IsUnarmed, is_fail, is_stop}
 use Rattle.unit_port.specs.Unit.{ModelUnit, IsStopped}
 use Rattle.unit_port.specs.Commands.{EventAt, IsNext, AreNext, command_of, with_event, after_one, after_all, events_of}
 use Rattle.scan_recovery.specs.Fetches.{IsFetch}
-use Rattle.scan_recovery.specs.MayStop.{AllMayStop, MayStop}
 use Rattle.scan_recovery.specs.Pads.{ArePads, IsNextPad, pads_from}
 use Rattle.scan_recovery.specs.Units.{image_of}
 use Rattle.scan_recovery.specs.Readying.{WereReadied}
 use Rattle.scan_recovery.proofs.PadSteps.{event_was, next_above}
 use Rattle.scan_recovery.proofs.PadsLemmas.{pads_count}
 use Rattle.scan_recovery.proofs.UnitLogs.{others_event, own_event}
-use Rattle.step_laws.specs.Opened.{AreArmed, IsArmed}
+use Rattle.step_laws.specs.Opened.{IsArmed}
 use Rattle.step_laws.proofs.UnitEvents.{IsPadOrFetch, IsReadying, AreReadying}
 use Rattle.lemmas.proofs.Lists.{all_replicated}
 use Rattle.lemmas.proofs.Tests.{not_both, or_no, or_right}
 
 -- ---- units that a fuse or a plan may stop
-
--- one that a fuse alone may stop is such a one
-pub may_stop_armed : (us : List ModelUnit) → AllMayStop us → AreArmed us
-may_stop_armed us may number u there =
-    let one : MayStop u = may number u there in
-    elim one.fuse [ inl none ↦ inl (one.plans, none) | inr since ↦ inr since ]
 
 pub stop_is : (o : UnitOutcome) → was_stopped o ≡ is_stop o
 stop_is (Answered a) = refl

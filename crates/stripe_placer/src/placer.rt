@@ -8,7 +8,7 @@ ghost use Rattle.std.specs.Option.{option_map, option_map_or, option_and_then};
 ghost use Rattle.pblk_model.specs.Shape.{units};
 ghost use Rattle.pblk_model.specs.LineOrder.{data_len};
 ghost use Rattle.pblk_layout.specs.Live.{units_in};
-ghost use Rattle.stripe_placer.specs.Entries.{Rises};
+ghost use Rattle.stripe_placer.specs.Entries.{Rises, waiting};
 ghost use Rattle.stripe_placer.specs.OpenLines.{OpenLine, next_of, in_one_chunk, in_line, has_left};
 ghost use Rattle.stripe_placer.specs.OpenLines.Stripe.{Unanswered, Landed, Lost};
 ghost use Rattle.stripe_placer.specs.Placing.{nothing_placed, held, waits, padded_to, begun};
@@ -238,6 +238,13 @@ impl Placer {
             → result.now ≡ positions_in row }
     {
         self.units[unit as usize].positions()
+    }
+
+    /// How many entries wait for a stripe.
+    pub fn waiting(&self) -> u64
+        ensures { result ≡ length (waiting self.now.entries) }
+    {
+        self.queue.count()
     }
 
     /// The pad target.

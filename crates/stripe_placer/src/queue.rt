@@ -165,6 +165,13 @@ impl Queue {
         self.pad = self.pad.max(position);
     }
 
+    /// How many entries there are.
+    pub(crate) fn count(&self) -> u64
+        ensures { result ≡ length (waiting self.now.entries) }
+    {
+        (self.lost.len() + self.fresh.len()) as u64
+    }
+
     /// Whether there are entries for a stripe of so many blocks.
     pub(crate) fn has_stripe(&self, blocks: u32) -> bool
         ensures { result ≡ has_stripe blocks self.now.entries }

@@ -2,6 +2,7 @@
 
 use command_words::{CommandLine, CreateNumbers, RunOptions, read_words};
 use std::alloc::{AllocError, Global};
+use unit_port::{CommandKind, FaultPlan};
 
 /// What the words of a line say, which are parted by `|`: the command, its file names and its
 /// numbers in their order, each in brackets; or `refused`.
@@ -43,5 +44,17 @@ fn run(
     if let Some(fuse) = options.stop {
         write!(text, " stop {} {} {}", fuse.unit, fuse.nth, fuse.cut)?;
     }
+    for plan in options.plans.as_slice() {
+        add_plan(&mut text, plan)?;
+    }
     Ok(text)
+}
+
+fn add_plan(text: &mut String, plan: &FaultPlan) -> Result<(), AllocError> {
+    let kind = match plan.kind {
+        CommandKind::Program => "program",
+        CommandKind::Fetch => "fetch",
+        CommandKind::Reset => "reset",
+    };
+    write!(text, " {kind} {} {} {}", plan.unit, plan.nth, plan.cut)
 }

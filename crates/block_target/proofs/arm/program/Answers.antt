@@ -41,6 +41,3 @@ returns-clause-given g c = λ i w handed maker there.
     (Write c.at.result (blocks_of old.shape.sector c.parts.result.0.now c.parts.result.1.now)) event.0 (TellsDone c.program.result)
     c.chunk.ensures.chunk command event.2 c.program.ensures.fits
     (λ unarmed. (told_quiet c.program.result event.0 event.1 (c.program.ensures.quiet unarmed)).1) event.1
-
-pub returns-clause-unfailing : goal.returns-clause-unfailing
-returns-clause-unfailing g c = c.program.ensures.unfailing c.requires.there.3.arm.armed.plans

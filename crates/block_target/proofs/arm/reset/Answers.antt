@@ -14,6 +14,3 @@ returns-clause-given g c = λ i w number handed maker there.
     reset_given i w number c.args.line handed (g.U.Unit.model c.args.unit.now) there (g.U.Unit.model c.reset.new.self) maker event.0
     (TellsDone c.reset.result) event.2 c.reset.ensures.fits
     (λ unarmed. (told_quiet c.reset.result event.0 event.1 (c.reset.ensures.quiet unarmed)).1) event.1
-
-pub returns-clause-unfailing : goal.returns-clause-unfailing
-returns-clause-unfailing g c = c.reset.ensures.unfailing c.requires.there.4.arm.armed.plans

@@ -4,7 +4,6 @@ use Rattle.pblk_model.specs.Frames.{count_out}
 use Rattle.pblk_core.specs.Named.{pad_of}
 use Rattle.pblk_core.specs.declared.target_core.Core.{Core}
 use Rattle.pblk_core.proofs.FreedWindow.{front_is_freed}
-use Rattle.pblk_core.proofs.SimpleLogs.{simple_in}
 use Rattle.block_target.proofs.PumpedFrames.{IsFirstFrame, first_frame}
 use Rattle.block_target.proofs.heart.free_frames.Goals as goal
 
@@ -48,7 +47,7 @@ pub returns-clause-drained : goal.returns-clause-drained
 returns-clause-drained c = λ i w mount st.
     let same : c.pop_free.new.self ≡ c.loop-frame.core = c.in_default.ensures.unchanged in
     let now = c.loop-frame.invariant.stands i w mount st in
-    let front = front_is_freed i w c.loop-frame.core (simple_in i w mount now) now (c.in_default.ensures.none.0 refl) in
+    let front = front_is_freed i w c.loop-frame.core mount now (c.in_default.ensures.none.0 refl) in
     ap (λ (x : Core). x.window.freed) same ∙ front
 
 pub returns-clause-unread : goal.returns-clause-unread

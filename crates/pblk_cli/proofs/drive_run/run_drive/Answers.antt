@@ -1,6 +1,6 @@
 use Rattle.std.proofs.Common.{sym, subst}
 use Rattle.ocssd_drive.specs.Drive.{DriveView}
-use Rattle.scan_recovery.specs.MayStop.{AllMayStop}
+use Rattle.step_laws.specs.Opened.{AreArmed}
 use Rattle.scan_recovery.proofs.UnitsLemmas.{drive_fits}
 use Rattle.pblk_cli.specs.Serving.{units_of}
 use Rattle.pblk_cli.proofs.RanDrives.{left_made, ran_made, together_made, whole_made}
@@ -10,7 +10,7 @@ pub serve-units-requires-clause-fit : goal.serve-units-requires-clause-fit
 serve-units-requires-clause-fit g c = drive_fits c.args.drive _ c.shape-shape.result c.drive.view_is c.shape-shape.ensures.shape c.shape-shape.ensures.whole
 
 pub serve-units-requires-clause-armed : goal.serve-units-requires-clause-armed
-serve-units-requires-clause-armed g c = subst (λ (d : DriveView). AllMayStop (units_of d.units)) (sym c.drive.view_is) c.requires.stops
+serve-units-requires-clause-armed g c = subst (λ (d : DriveView). AreArmed (units_of d.units)) (sym c.drive.view_is) c.requires.armed
 
 pub invariant_of-drive : goal.invariant_of-drive
 invariant_of-drive g c = whole_made c.args.drive _ c.shape-shape.result c.serve-units.result.units.items c.drive.view_is c.shape-shape.ensures.shape
@@ -18,7 +18,7 @@ invariant_of-drive g c = whole_made c.args.drive _ c.shape-shape.result c.serve-
 
 pub disarm-requires : goal.disarm-requires
 disarm-requires g c = together_made c.args.drive _ c.shape-shape.result c.serve-units.result.units.items c.drive.view_is c.shape-shape.ensures.shape
-    c.shape-shape.ensures.whole c.serve-units.ensures.back c.requires.armed
+    c.shape-shape.ensures.whole c.serve-units.ensures.back c.requires.together
 
 pub returns-in-Ok-clause-ran : goal.returns-in-Ok-clause-ran
 returns-in-Ok-clause-ran g c = ran_made c.args.drive _ c.shape-shape.result c.serve-units.result.units.items c.drive.view_is c.shape-shape.ensures.shape

@@ -2,17 +2,14 @@ use Rattle.std.proofs.Common.{◌≡◌, ℕ, Some, None, Option, List, [], ◌�
 use Rattle.pblk_model.specs.declared.script.Command.{Command}
 use Rattle.pblk_model.specs.Contents.{contents, end}
 use Rattle.pblk_model.specs.History.{users}
-use Rattle.pblk_model.specs.Image.{Image}
 use Rattle.pblk_model.specs.ImageFile.{image_of}
 use Rattle.pblk_model.specs.Text.{HistoryLine, Transcript}
 use Rattle.pblk_model.specs.Transcript.{Ran, sector_writes}
 use Rattle.pblk_world.specs.EngineLog.{Begun, begun}
 use Rattle.pblk_world.specs.Events.{Logged}
 use Rattle.pblk_world.specs.Fronts.{history, user_positions}
-use Rattle.pblk_world.specs.World.{World, log_of}
+use Rattle.pblk_world.specs.World.{log_of}
 use Rattle.prefix_law.proofs.Prefix.{without_beginning, nothing_logged}
-use Rattle.world_laws.specs.LegalMounts.{IsLegalMount}
-use Rattle.world_laws.proofs.Beginnings.{has_begun}
 use Rattle.pblk_cli.specs.Stops.{HasBegun}
 use Rattle.pblk_cli.proofs.laws.a_stopped_opening_changes_nothing.Goals as goal
 
@@ -31,9 +28,9 @@ no_commands script t None event is h = absurd (cc)
 no_commands script t (Some e) event is h = h.0
 
 pub returns-clause-none : goal.returns-clause-none
-returns-clause-none c = λ found left stop commands text event run is.
+returns-clause-none c = λ found left options commands text event run is.
     let none : log_of run.world.world 0 ≡ [] =
-    nothing_logged (image_of found) run.world.world run.world.legal.mount
+    nothing_logged (image_of found) run.world.world run.world.legal
     (none_begun run.transcript.opening event (begun (log_of run.world.world 0)) is run.world.has_begun) in (
       no_commands commands run.transcript run.transcript.opening event is run.told.ran,
       no_lines found.sector run.transcript.history (sym run.world.history_is ∙ ap history none),
@@ -41,7 +38,7 @@ returns-clause-none c = λ found left stop commands text event run is.
     )
 
 pub returns-clause-contents : goal.returns-clause-contents
-returns-clause-contents c = λ found left stop commands text event run is sealed.
-    let same = without_beginning (image_of found) run.world.world run.world.legal.mount sealed
+returns-clause-contents c = λ found left options commands text event run is sealed.
+    let same = without_beginning (image_of found) run.world.world run.world.legal sealed
     (none_begun run.transcript.opening event (begun (log_of run.world.world 0)) is run.world.has_begun) in
     (ap contents run.world.media_are ∙ same.contents, ap end run.world.media_are ∙ same.end)

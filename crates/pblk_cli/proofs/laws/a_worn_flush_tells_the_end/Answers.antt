@@ -41,13 +41,13 @@ begins i w n a legal refused flush =
     go (l ∷ log) e some = has_begun i w l log legal e
 
 pub returns : goal.returns
-returns c = λ found left stop commands t a run sealed among flush.
+returns c = λ found left options commands t a run unlost sealed among flush.
     let i : Image = image_of found in
     let is = one i (log_of run.world) 0 (worns_of commands t) a run.worn among in
-    let begun_is = begins i run.world is.0 a run.legal.mount.legal is.1 flush in
+    let begun_is = begins i run.world is.0 a run.legal.legal is.1 flush in
     let refused = subst (λ count. IsRefusal i (log_of run.world) is.0 count a.wanted a.have) flush is.1.cause in
     let none_lost : NoneLost (take is.0 (log_of run.world 0)) =
-    all_taken (λ (l : Logged). decides is_losing l.event ≡ false) is.0 (log_of run.world 0) run.legal.engine.lost in
-    let told = c.a_refused_flush_tells_the_end.ensures i run.world begun_is.0 is.0 a.wanted a.have run.legal.mount sealed begun_is.1
+    all_taken (λ (l : Logged). decides is_losing l.event ≡ false) is.0 (log_of run.world 0) unlost in
+    let told = c.a_refused_flush_tells_the_end.ensures i run.world begun_is.0 is.0 a.wanted a.have run.legal sealed begun_is.1
     (unlost_again i.shape (take is.0 (log_of run.world 0)) none_lost) refused in
     (is.0, told.0, told.1, told.2, told.3)

@@ -14,5 +14,5 @@ returns c = λ image script n options status again text more old mid new told ma
     let bytes : after.input.drive_is.bytes ≡ image_bytes (created_drive n) =
     same_Some after.input.drive_is.bytes (image_bytes (created_drive n)) (sym (after.input.drive_is.read told) ∙ made.2.0 told) in
     one_drive (image_bytes (created_drive n)) after.input.drive (created_drive n)
-    (subst (λ b. IsImage b after.input.drive) bytes after.input.drive_is.is) made.5 after.run.world.legal.mount.fit
+    (subst (λ b. IsImage b after.input.drive) bytes after.input.drive_is.is) made.5 after.run.world.legal.fit
     (subst IsFit (sym (blank_image (created_geometry n) n.sector n.capacity n.ring)) (blank_fit (shape_with (created_geometry n) n.sector n.capacity n.ring)))

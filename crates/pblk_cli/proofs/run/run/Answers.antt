@@ -30,7 +30,7 @@ pub returns-clause-comes : goal.returns-clause-comes
 returns-clause-comes g c = inr (inr (
   refl,
   input_of c.args.image.now c.args.script.now c.in-Ok.read.0.items c.deref.result.now
-      c.args.options.now.stop (stored c.in-Ok-drive_of.drive) c.in-Ok-run_script.made.1.status c.in-Ok-run_script.made.1.text.items
+      (options_seen c.args.options.now) (stored c.in-Ok-drive_of.drive) c.in-Ok-run_script.made.1.status c.in-Ok-run_script.made.1.text.items
       c.in-Ok-run_script.made.0.items
       (g.F.Files.view c.args.files.now) (g.F.Files.view c.read_both.new.files) c.in-Ok.ensures.image
       (rw c.deref.ensures.value c.in-Ok.ensures.script) c.in-Ok-drive_of.ensures.drive c.in-Ok-run_script.ensures.run,

@@ -1,5 +1,4 @@
 use Rattle.std.proofs.Common.{◌≡◌, inl, map, ℕ, zero, suc, List, length, slice_get, replicate, Some, refl, sym, subst, arith, ◌∙◌, ap}
-use Rattle.std.specs.List.{AllByRecursion}
 use Rattle.std.proofs.lemmas.List.{length-replicate}
 use Rattle.std.proofs.lemmas.Option.{none-some, same_Some}
 use Rattle.pblk_model.specs.declared.shape.Shape.{Shape}
@@ -7,8 +6,8 @@ use Rattle.pblk_model.specs.Shape.{units}
 use Rattle.pblk_model.specs.Chunk.{IsChunk, free_chunk}
 use Rattle.unit_port.specs.Unit.{ModelUnit}
 use Rattle.ocssd_drive.specs.Units.{WornUnit, new_unit}
-use Rattle.scan_recovery.specs.MayStop.{AllMayStop}
 use Rattle.scan_recovery.specs.Units.{AreFit, IsUnitOf}
+use Rattle.step_laws.specs.Opened.{AreArmed}
 use Rattle.target_tests.proofs.harness.new_units.Goals as goal
 use Rattle.lemmas.proofs.Lists.{all_replicated}
 use Rattle.pblk_model.proofs.ChunkLemmas.{free_is_chunk}
@@ -35,17 +34,16 @@ are_fit s us e =
     = record { count = count_new s (units s); each = λ k u is. subst (λ (x : ModelUnit). IsUnitOf s x) (sym (each_new s (units s) k u is)) (is_fit s) } in
     subst (λ (xs : List WornUnit). AreFit s (map (λ (v : WornUnit). v.unit) xs)) (sym e) all
 
-may_stop : (s : Shape) (us : List WornUnit) → us ≡ replicate (units s) (new_unit s) → AllMayStop (map (λ (v : WornUnit). v.unit) us)
-may_stop s us e =
-    subst (λ (xs : List WornUnit). AllMayStop (map (λ (v : WornUnit). v.unit) xs)) (sym e)
-    (λ k u is. record {
-      plans = ap (λ (x : ModelUnit). x.armed.plans) (each_new s (units s) k u is);
-      fuse = inl (ap (λ (x : ModelUnit). x.armed.fuse) (each_new s (units s) k u is));
-    })
+are_armed : (s : Shape) (us : List WornUnit) → us ≡ replicate (units s) (new_unit s) → AreArmed (map (λ (v : WornUnit). v.unit) us)
+are_armed s us e =
+    subst (λ (xs : List WornUnit). AreArmed (map (λ (v : WornUnit). v.unit) xs)) (sym e)
+    (λ k u is.
+    let same = each_new s (units s) k u is in
+    inl (ap (λ (x : ModelUnit). x.armed.plans) same, ap (λ (x : ModelUnit). x.armed.fuse) same))
 
 pub returns : goal.returns
 returns c =
     let s = c.args.shape.now in
     let reached : c.loop-unit._unit ≡ c.units-unit-end.result = omega arith in
     let same = c.loop-unit.invariant ∙ ap (λ n. replicate n (new_unit s)) (reached ∙ c.units-unit-end.ensures) in
-    record { fit = are_fit s c.loop-unit.made.items same; armed = may_stop s c.loop-unit.made.items same }
+    record { fit = are_fit s c.loop-unit.made.items same; armed = are_armed s c.loop-unit.made.items same }

@@ -1,4 +1,4 @@
-use Rattle.std.proofs.Common.{List, ap, ◌∙◌, refl}
+use Rattle.std.proofs.Common.{List, ap, ◌∙◌}
 use Rattle.std.specs.Prelude.{slice_get}
 use Rattle.pblk_world.specs.Events.{Landed}
 use Rattle.stripe_placer.specs.Placing.{UnitRow}
@@ -35,7 +35,7 @@ renew-requires-clause-own c = c.landed.ensures.own c.args.self.now.pool.region c
 pub returns-clause-beats : goal.returns-clause-beats
 returns-clause-beats c = λ i w event knows mount is may legal.
     beats_later i w (Landed c.args.stripe.now.stripe.unit event) knows c.args.self.now c.landed.new.self c.renew.new.self mount is legal
-    (c.landed.ensures.stands i w event knows mount is.stands may) (c.landed.ensures.collects i w event knows mount is.stands is.collects may) refl
+    (c.landed.ensures.stands i w event knows mount is.stands may) (c.landed.ensures.collects i w event knows mount is.stands is.collects may)
     c.landed.ensures.count c.landed.ensures.pad_most (renewed c)
 
 pub returns-clause-rows : goal.returns-clause-rows

@@ -10,5 +10,6 @@ grant-granted-requires-clause-drained c = first_unread c.args.shape.now c.args.f
 
 pub returns-in-Ok-clause-begun : goal.returns-in-Ok-clause-begun
 returns-in-Ok-clause-begun c =
-    has_begun c.args.shape.now c.args.found c.in-Ok.core c.in-Ok.ensures.stands c.in-Ok.ensures.collects c.in-Ok.ensures.pad c.in_ok-pool.pool c.grant-granted.result
+    has_begun c.args.shape.now c.args.found c.in-Ok.core c.in-Ok.ensures.stands c.in-Ok.ensures.collects c.in-Ok.ensures.pad c.in_ok-pool.pool
+    c.grant-granted.result
     c.in_ok-pool.ensures.none_out c.in_ok-pool.ensures.count c.in_ok-pool.ensures.size c.grant-granted.ensures

@@ -1,4 +1,4 @@
-use Rattle.std.proofs.Common.{ap, length, refl}
+use Rattle.std.proofs.Common.{ap, length}
 use Rattle.pblk_world.specs.Events.{Open}
 use Rattle.pblk_core.specs.Named.{next_start}
 use Rattle.write_window.specs.Window as window
@@ -30,7 +30,7 @@ pub returns-clause-beats : goal.returns-clause-beats
 returns-clause-beats c = λ i w knows mount is legal.
     let start = next_start c.args.self.now.core in
     beats_later i w (Open start.line start) knows c.args.self.now c.open_line.new.self c.renew.new.self mount is legal
-    (c.open_line.ensures.stands i w knows mount is.stands) (c.open_line.ensures.collects i w knows mount is.stands is.collects) refl
+    (c.open_line.ensures.stands i w knows mount is.stands) (c.open_line.ensures.collects i w knows mount is.stands is.collects)
     (ap (λ (x : window.WindowView). length x.entries) c.open_line.ensures.window) c.open_line.ensures.pad_most (renewed c)
 
 pub returns-clause-granted : goal.returns-clause-granted

@@ -1,7 +1,8 @@
-use Rattle.std.proofs.Common.{◌≡◌, List, ap, ◌∙◌, length, refl}
+use Rattle.std.proofs.Common.{◌≡◌, List, ap, ◌∙◌, length, sym}
 use Rattle.std.specs.Prelude.{slice_get}
 use Rattle.pblk_world.specs.Events.{Place}
 use Rattle.pblk_world.specs.World.{log_of}
+use Rattle.core_laws.specs.PlacerOf.{positions_in_stripe}
 use Rattle.stripe_placer.specs.Placing.{UnitRow}
 use Rattle.write_window.specs.Window as window
 use Rattle.block_target.proofs.HeartSteps.{IsRenewed, beats_later, beats_still, grant_rises, standing_placed}
@@ -37,7 +38,7 @@ returns-clause-due c = λ new i w mount is. c.place.ensures.due new i w mount is
 pub returns-clause-beats : goal.returns-clause-beats
 returns-clause-beats c = λ new i w knows mount is legal.
     beats_later i w (Place c.place.new.into.stripe) knows c.args.self.now c.place.new.self c.renew.new.self mount is legal
-    (c.place.ensures.stands new i w knows mount is.stands) (c.place.ensures.collects new i w knows mount is.stands is.collects) refl (as_many c)
+    (c.place.ensures.stands new i w knows mount is.stands) (c.place.ensures.collects new i w knows mount is.stands is.collects) (as_many c)
     c.place.ensures.pad_most (renewed c)
 
 pub returns-clause-again : goal.returns-clause-again
@@ -57,3 +58,12 @@ returns-clause-granted c =
     grant_rises c.args.self.now c.place.new.self c.renew.new.self
     (standing_placed c.args.self.now c.place.new.into.stripe c.place.new.into.again c.place.new.self c.requires.beating
     c.place.ensures.legal c.place.ensures.stands c.place.ensures.again) (renewed c)
+
+pub returns-clause-entries : goal.returns-clause-entries
+returns-clause-entries c = λ of is.
+    let st = standing_placed c.args.self.now c.place.new.into.stripe c.place.new.into.again c.place.new.self c.requires.beating
+    c.place.ensures.legal c.place.ensures.stands c.place.ensures.again in
+    let same : c.renew.new.self.core.layout ≡ c.place.new.self.layout =
+    (c.renew.ensures.stands st.image st.world st.legal st.stands).layout ∙ sym st.stands.layout in
+    ap (λ s. positions_in_stripe s c.place.new.into.stripe) same
+    ∙ c.place.ensures.entries of (ap (λ (rows : List UnitRow). slice_get rows c.place.new.into.stripe.unit) (sym c.renew.ensures.rows) ∙ is)

@@ -1,4 +1,4 @@
-use Rattle.std.proofs.Common.{ap, length, refl, subst, sym}
+use Rattle.std.proofs.Common.{ap, length, subst, sym}
 use Rattle.pblk_world.specs.Events.{ResetDone}
 use Rattle.write_window.specs.Window as window
 use Rattle.block_target.proofs.HeartSteps.{IsRenewed, beats_later, collecting_at, grant_rises, standing_next}
@@ -35,7 +35,7 @@ renew-requires-clause-own c =
 pub returns-clause-beats : goal.returns-clause-beats
 returns-clause-beats c = λ i w event knows mount is may legal.
     beats_later i w (ResetDone c.args.unit event) knows c.args.self.now c.reset_done.new.self c.renew.new.self mount is legal
-    (c.reset_done.ensures.stands i w event knows mount is.stands may) (c.reset_done.ensures.collects i w event knows mount is.stands is.collects may) refl
+    (c.reset_done.ensures.stands i w event knows mount is.stands may) (c.reset_done.ensures.collects i w event knows mount is.stands is.collects may)
     (ap (λ (x : window.WindowView). length x.entries) c.reset_done.ensures.window) c.reset_done.ensures.pad_most (renewed c)
 
 pub returns-clause-granted : goal.returns-clause-granted

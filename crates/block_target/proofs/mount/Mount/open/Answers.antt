@@ -1,7 +1,7 @@
 use Rattle.std.proofs.Common.{◌≡◌, ◌++◌, take, drop, length, map, refl, sym, subst}
 use Rattle.scan_recovery.specs.Lost.{NoneLost}
-use Rattle.scan_recovery.specs.MayStop.{AllMayStop}
 use Rattle.scan_recovery.specs.Readying.{AreHandedBack}
+use Rattle.step_laws.specs.Opened.{AreArmed}
 use Rattle.pblk_core.specs.Named.{pad_of}
 use Rattle.block_target.specs.Mount.{IsMount, mount_view}
 use Rattle.block_target.specs.Opened.{IsReady, IsOpened}
@@ -10,7 +10,7 @@ use Rattle.block_target.proofs.mount.Mount.open.Goals as goal
 
 pub ready_drive-requires-clause-armed : goal.ready_drive-requires-clause-armed
 ready_drive-requires-clause-armed g c =
-    subst (λ xs. AllMayStop (map g.U.Unit.model xs)) (sym c.as_mut_slice.ensures.value) c.requires.armed
+    subst (λ xs. AreArmed (map g.U.Unit.model xs)) (sym c.as_mut_slice.ensures.value) c.requires.armed
 
 pub new-requires-clause-fit : goal.new-requires-clause-fit
 new-requires-clause-fit g c =

@@ -9,7 +9,6 @@ use Rattle.step_laws.proofs.LatestSectors.{unwritten_zeros, media_latest}
 use Rattle.block_target.specs.Mount.{MountView, IsSound, IsFetchable, logs_in, world_in, latest, mount_view}
 use Rattle.block_target.proofs.ReadLook.{latest_at, cached_sector, cached_is_held, line_inside, line_live, at_inside, fetchable, zeros_are}
 use Rattle.block_target.proofs.mount.Mount.read.Goals as goal
-use Rattle.pblk_core.proofs.SimpleLogs.{simple_in}
 
 pub copy_from_slice-requires : goal.copy_from_slice-requires
 copy_from_slice-requires g c =
@@ -17,13 +16,13 @@ copy_from_slice-requires g c =
     let v : MountView = mount_view c.self.inside.shape c.self.inside.drives c.self.inside.deeds (map g.U.Unit.model c.self.inside.units.items)
     (map g.U.Unit.wear c.self.inside.units.items) c.self.inside.heart.granted (pad_of c.self.inside.heart.core) c.self.inside.asked in
     let core = c.self.inside.heart.core in
-    let simple = m.sound.legal in
+    let mount = m.sound.legal in
     let st = m.heart.stands in
-    let slot : slot_of v.image (logs_in v) c.args.lba ≡ Cached c.in-Cached.position = sym (c.look.ensures v.image (world_in v) simple st)
+    let slot : slot_of v.image (logs_in v) c.args.lba ≡ Cached c.in-Cached.position = sym (c.look.ensures v.image (world_in v) mount st)
     ∙ c.in-Cached.is in
     let size : length c.args.out.now ≡ v.image.shape.sector = c.requires.size ∙ ap (λ (x : MountView). x.image.shape.sector) (sym c.self.view_is) in
-    size ∙ sym (sectors_sized v.image (world_in v) core c.in-Cached.position c.in-Some.sector.now
-    (simple_in v.image (world_in v) simple st) st c.in-Some.ensures.sector)
+    size ∙ sym (sectors_sized v.image (world_in v) core c.in-Cached.position c.in-Some.sector.now mount st
+    c.in-Some.ensures.sector)
 
 pub unreachable-requires : goal.unreachable-requires
 unreachable-requires g c =
@@ -31,10 +30,10 @@ unreachable-requires g c =
     let v : MountView = mount_view c.self.inside.shape c.self.inside.drives c.self.inside.deeds (map g.U.Unit.model c.self.inside.units.items)
     (map g.U.Unit.wear c.self.inside.units.items) c.self.inside.heart.granted (pad_of c.self.inside.heart.core) c.self.inside.asked in
     let core = c.self.inside.heart.core in
-    let simple = m.sound.legal in
+    let mount = m.sound.legal in
     let st = m.heart.stands in
     let inside : c.args.lba < v.image.shape.capacity = subst (λ (x : MountView). c.args.lba < x.image.shape.capacity) (sym c.self.view_is) c.requires.lba in
-    let slot : slot_of v.image (logs_in v) c.args.lba ≡ Cached c.in-Cached.position = sym (c.look.ensures v.image (world_in v) simple st)
+    let slot : slot_of v.image (logs_in v) c.args.lba ≡ Cached c.in-Cached.position = sym (c.look.ensures v.image (world_in v) mount st)
     ∙ c.in-Cached.is in
     c.in-None.ensures.none.0 refl (cached_is_held v core c.args.lba m.sound st inside c.in-Cached.position slot)
 
@@ -44,15 +43,15 @@ address-unit-requires-clause-line g c =
     let v : MountView = mount_view c.self.inside.shape c.self.inside.drives c.self.inside.deeds (map g.U.Unit.model c.self.inside.units.items)
     (map g.U.Unit.wear c.self.inside.units.items) c.self.inside.heart.granted (pad_of c.self.inside.heart.core) c.self.inside.asked in
     let core = c.self.inside.heart.core in
-    let simple = m.sound.legal in
+    let mount = m.sound.legal in
     let st = m.heart.stands in
     let inside : c.args.lba < v.image.shape.capacity = subst (λ (x : MountView). c.args.lba < x.image.shape.capacity) (sym c.self.view_is) c.requires.lba in
     let slot : slot_of v.image (logs_in v) c.args.lba ≡ Media c.in-Media.line c.in-Media.at c.in-Media.position =
-    sym (c.look.ensures v.image (world_in v) simple st) ∙ c.in-Media.is in
+    sym (c.look.ensures v.image (world_in v) mount st) ∙ c.in-Media.is in
     let is : IsBlockOfSlot v.image (logs_in v) c.args.lba c.in-Media.line c.in-Media.at c.in-Media.position =
-    on_the_drive v.image (world_in v) m.sound.beginning c.args.lba c.in-Media.line c.in-Media.at c.in-Media.position simple
+    on_the_drive v.image (world_in v) m.sound.beginning c.args.lba c.in-Media.line c.in-Media.at c.in-Media.position mount
     m.sound.has_begun inside slot in
-    line_inside v core c.args.lba c.in-Media.line c.in-Media.at c.in-Media.position simple st is
+    line_inside v core c.args.lba c.in-Media.line c.in-Media.at c.in-Media.position mount st is
 
 pub address-unit-requires-clause-live : goal.address-unit-requires-clause-live
 address-unit-requires-clause-live g c =
@@ -60,15 +59,15 @@ address-unit-requires-clause-live g c =
     let v : MountView = mount_view c.self.inside.shape c.self.inside.drives c.self.inside.deeds (map g.U.Unit.model c.self.inside.units.items)
     (map g.U.Unit.wear c.self.inside.units.items) c.self.inside.heart.granted (pad_of c.self.inside.heart.core) c.self.inside.asked in
     let core = c.self.inside.heart.core in
-    let simple = m.sound.legal in
+    let mount = m.sound.legal in
     let st = m.heart.stands in
     let inside : c.args.lba < v.image.shape.capacity = subst (λ (x : MountView). c.args.lba < x.image.shape.capacity) (sym c.self.view_is) c.requires.lba in
     let slot : slot_of v.image (logs_in v) c.args.lba ≡ Media c.in-Media.line c.in-Media.at c.in-Media.position =
-    sym (c.look.ensures v.image (world_in v) simple st) ∙ c.in-Media.is in
+    sym (c.look.ensures v.image (world_in v) mount st) ∙ c.in-Media.is in
     let is : IsBlockOfSlot v.image (logs_in v) c.args.lba c.in-Media.line c.in-Media.at c.in-Media.position =
-    on_the_drive v.image (world_in v) m.sound.beginning c.args.lba c.in-Media.line c.in-Media.at c.in-Media.position simple
+    on_the_drive v.image (world_in v) m.sound.beginning c.args.lba c.in-Media.line c.in-Media.at c.in-Media.position mount
     m.sound.has_begun inside slot in
-    line_live v core c.args.lba c.in-Media.line c.in-Media.at c.in-Media.position simple st is
+    line_live v core c.args.lba c.in-Media.line c.in-Media.at c.in-Media.position mount st is
 
 pub address-unit-requires-clause-inside : goal.address-unit-requires-clause-inside
 address-unit-requires-clause-inside g c =
@@ -76,15 +75,15 @@ address-unit-requires-clause-inside g c =
     let v : MountView = mount_view c.self.inside.shape c.self.inside.drives c.self.inside.deeds (map g.U.Unit.model c.self.inside.units.items)
     (map g.U.Unit.wear c.self.inside.units.items) c.self.inside.heart.granted (pad_of c.self.inside.heart.core) c.self.inside.asked in
     let core = c.self.inside.heart.core in
-    let simple = m.sound.legal in
+    let mount = m.sound.legal in
     let st = m.heart.stands in
     let inside : c.args.lba < v.image.shape.capacity = subst (λ (x : MountView). c.args.lba < x.image.shape.capacity) (sym c.self.view_is) c.requires.lba in
     let slot : slot_of v.image (logs_in v) c.args.lba ≡ Media c.in-Media.line c.in-Media.at c.in-Media.position =
-    sym (c.look.ensures v.image (world_in v) simple st) ∙ c.in-Media.is in
+    sym (c.look.ensures v.image (world_in v) mount st) ∙ c.in-Media.is in
     let is : IsBlockOfSlot v.image (logs_in v) c.args.lba c.in-Media.line c.in-Media.at c.in-Media.position =
-    on_the_drive v.image (world_in v) m.sound.beginning c.args.lba c.in-Media.line c.in-Media.at c.in-Media.position simple
+    on_the_drive v.image (world_in v) m.sound.beginning c.args.lba c.in-Media.line c.in-Media.at c.in-Media.position mount
     m.sound.has_begun inside slot in
-    at_inside v core c.args.lba c.in-Media.line c.in-Media.at c.in-Media.position simple st is
+    at_inside v core c.args.lba c.in-Media.line c.in-Media.at c.in-Media.position mount st is
 
 pub fetch-requires-clause-there : goal.fetch-requires-clause-there
 fetch-requires-clause-there g c =
@@ -92,16 +91,16 @@ fetch-requires-clause-there g c =
     let v : MountView = mount_view c.self.inside.shape c.self.inside.drives c.self.inside.deeds (map g.U.Unit.model c.self.inside.units.items)
     (map g.U.Unit.wear c.self.inside.units.items) c.self.inside.heart.granted (pad_of c.self.inside.heart.core) c.self.inside.asked in
     let core = c.self.inside.heart.core in
-    let simple = m.sound.legal in
+    let mount = m.sound.legal in
     let st = m.heart.stands in
     let inside : c.args.lba < v.image.shape.capacity = subst (λ (x : MountView). c.args.lba < x.image.shape.capacity) (sym c.self.view_is) c.requires.lba in
     let slot : slot_of v.image (logs_in v) c.args.lba ≡ Media c.in-Media.line c.in-Media.at c.in-Media.position =
-    sym (c.look.ensures v.image (world_in v) simple st) ∙ c.in-Media.is in
+    sym (c.look.ensures v.image (world_in v) mount st) ∙ c.in-Media.is in
     let is : IsBlockOfSlot v.image (logs_in v) c.args.lba c.in-Media.line c.in-Media.at c.in-Media.position =
-    on_the_drive v.image (world_in v) m.sound.beginning c.args.lba c.in-Media.line c.in-Media.at c.in-Media.position simple
+    on_the_drive v.image (world_in v) m.sound.beginning c.args.lba c.in-Media.line c.in-Media.at c.in-Media.position mount
     m.sound.has_begun inside slot in
     let there : IsFetchable v c.address-unit.result.0 c.in-Media.line c.address-unit.result.1 is.block =
-    fetchable v core c.args.lba c.in-Media.line c.in-Media.at c.in-Media.position simple st is c.address-unit.result c.address-unit.ensures in
+    fetchable v core c.args.lba c.in-Media.line c.in-Media.at c.in-Media.position mount st is c.address-unit.result c.address-unit.ensures in
     let same : IsFetchable c.args.self.now c.address-unit.result.0 c.in-Media.line c.address-unit.result.1 is.block =
     subst (λ (x : MountView). IsFetchable x c.address-unit.result.0 c.in-Media.line c.address-unit.result.1 is.block) c.self.view_is there in
     (is.block, same)
@@ -112,14 +111,14 @@ returns-in-Unwritten-clause-latest g c = λ ok.
     let v : MountView = mount_view c.self.inside.shape c.self.inside.drives c.self.inside.deeds (map g.U.Unit.model c.self.inside.units.items)
     (map g.U.Unit.wear c.self.inside.units.items) c.self.inside.heart.granted (pad_of c.self.inside.heart.core) c.self.inside.asked in
     let core = c.self.inside.heart.core in
-    let simple = m.sound.legal in
+    let mount = m.sound.legal in
     let st = m.heart.stands in
     let inside : c.args.lba < v.image.shape.capacity = subst (λ (x : MountView). c.args.lba < x.image.shape.capacity) (sym c.self.view_is) c.requires.lba in
-    let slot : slot_of v.image (logs_in v) c.args.lba ≡ Unwritten = sym (c.look.ensures v.image (world_in v) simple st) ∙ c.in-Unwritten.is in
+    let slot : slot_of v.image (logs_in v) c.args.lba ≡ Unwritten = sym (c.look.ensures v.image (world_in v) mount st) ∙ c.in-Unwritten.is in
     let size : length c.args.out.now ≡ v.image.shape.sector = c.requires.size ∙ ap (λ (x : MountView). x.image.shape.sector) (sym c.self.view_is) in
     let filled : c.fill.new.self ≡ replicate (length c.args.out.now) 0 = c.fill.ensures.after (λ y e. e) in
     subst (λ (x : MountView). slice_get (latest x) c.args.lba ≡ Some c.fill.new.self) c.self.view_is
-    (latest_at v c.args.lba m.sound ∙ unwritten_zeros v.image (world_in v) c.args.lba simple inside slot
+    (latest_at v c.args.lba m.sound ∙ unwritten_zeros v.image (world_in v) c.args.lba mount inside slot
     ∙ ap (λ (b : List ℕ). Some b) (zeros_are v.image.shape.sector ∙ ap (λ n. replicate n 0) (sym size) ∙ sym filled))
 
 pub returns-in-Some-clause-latest : goal.returns-in-Some-clause-latest
@@ -128,10 +127,10 @@ returns-in-Some-clause-latest g c = λ ok.
     let v : MountView = mount_view c.self.inside.shape c.self.inside.drives c.self.inside.deeds (map g.U.Unit.model c.self.inside.units.items)
     (map g.U.Unit.wear c.self.inside.units.items) c.self.inside.heart.granted (pad_of c.self.inside.heart.core) c.self.inside.asked in
     let core = c.self.inside.heart.core in
-    let simple = m.sound.legal in
+    let mount = m.sound.legal in
     let st = m.heart.stands in
     let inside : c.args.lba < v.image.shape.capacity = subst (λ (x : MountView). c.args.lba < x.image.shape.capacity) (sym c.self.view_is) c.requires.lba in
-    let slot : slot_of v.image (logs_in v) c.args.lba ≡ Cached c.in-Cached.position = sym (c.look.ensures v.image (world_in v) simple st)
+    let slot : slot_of v.image (logs_in v) c.args.lba ≡ Cached c.in-Cached.position = sym (c.look.ensures v.image (world_in v) mount st)
     ∙ c.in-Cached.is in
     let sector = c.in-Some.ensures.sector in
     let copied : c.copy_from_slice.new.self ≡ c.in-Some.sector.now = c.copy_from_slice.ensures.after in
@@ -144,21 +143,21 @@ returns-in_ok-fetch-in-Media-clause-latest g c = λ ok.
     let v : MountView = mount_view c.self.inside.shape c.self.inside.drives c.self.inside.deeds (map g.U.Unit.model c.self.inside.units.items)
     (map g.U.Unit.wear c.self.inside.units.items) c.self.inside.heart.granted (pad_of c.self.inside.heart.core) c.self.inside.asked in
     let core = c.self.inside.heart.core in
-    let simple = m.sound.legal in
+    let mount = m.sound.legal in
     let st = m.heart.stands in
     let inside : c.args.lba < v.image.shape.capacity = subst (λ (x : MountView). c.args.lba < x.image.shape.capacity) (sym c.self.view_is) c.requires.lba in
     let slot : slot_of v.image (logs_in v) c.args.lba ≡ Media c.in-Media.line c.in-Media.at c.in-Media.position =
-    sym (c.look.ensures v.image (world_in v) simple st) ∙ c.in-Media.is in
+    sym (c.look.ensures v.image (world_in v) mount st) ∙ c.in-Media.is in
     let is : IsBlockOfSlot v.image (logs_in v) c.args.lba c.in-Media.line c.in-Media.at c.in-Media.position =
-    on_the_drive v.image (world_in v) m.sound.beginning c.args.lba c.in-Media.line c.in-Media.at c.in-Media.position simple
+    on_the_drive v.image (world_in v) m.sound.beginning c.args.lba c.in-Media.line c.in-Media.at c.in-Media.position mount
     m.sound.has_begun inside slot in
     let there : IsFetchable v c.address-unit.result.0 c.in-Media.line c.address-unit.result.1 is.block =
-    fetchable v core c.args.lba c.in-Media.line c.in-Media.at c.in-Media.position simple st is c.address-unit.result c.address-unit.ensures in
+    fetchable v core c.args.lba c.in-Media.line c.in-Media.at c.in-Media.position mount st is c.address-unit.result c.address-unit.ensures in
     let same : IsFetchable c.args.self.now c.address-unit.result.0 c.in-Media.line c.address-unit.result.1 is.block =
     subst (λ (x : MountView). IsFetchable x c.address-unit.result.0 c.in-Media.line c.address-unit.result.1 is.block) c.self.view_is there in
     subst (λ (x : MountView). slice_get (latest x) c.args.lba ≡ Some c.fetch.new.out) c.self.view_is
     (latest_at v c.args.lba m.sound
-    ∙ media_latest v.image (world_in v) c.args.lba c.in-Media.line c.in-Media.at c.in-Media.position simple inside is
+    ∙ media_latest v.image (world_in v) c.args.lba c.in-Media.line c.in-Media.at c.in-Media.position mount inside is
     ∙ ap (λ (b : List ℕ). Some b) (sym (c.in_ok-fetch-in-Media.ensures.sector ok is.block same)))
 
 pub returns-in-Unwritten-clause-sound : goal.returns-in-Unwritten-clause-sound

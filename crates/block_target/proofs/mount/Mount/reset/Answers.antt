@@ -1,25 +1,27 @@
-use Rattle.std.proofs.Common.{◌≡◌, ◌<◌, ◌++◌, [], ◌∷◌, List, ℕ, Some, length, map, refl, sym, subst, ap, ◌∙◌}
-use Rattle.std.specs.Prelude.{slice_get, slice_set}
-use Rattle.pblk_model.specs.ChunkStep.{Done, Reset}
-use Rattle.pblk_model.specs.UnitLog.{Answered, Stopped}
+use Rattle.std.proofs.Common.{◌≡◌, ◌⊎◌, inl, inr, ◌<◌, ◌++◌, [], ◌∷◌, List, ℕ, Some, length, map, false, refl, sym, subst, ap, ◌∙◌}
+use Rattle.std.specs.Prelude.{slice_get, slice_set, Ok, Err}
+use Rattle.pblk_model.specs.ChunkStep.{Reset}
+use Rattle.pblk_model.specs.UnitLog.{Stopped}
+use Rattle.pblk_world.specs.Commanding.{was_stopped}
 use Rattle.pblk_world.specs.World.{log_of}
 use Rattle.step_laws.specs.Whole.{next_maker}
 use Rattle.pblk_core.specs.Named.{pad_of}
 use Rattle.pblk_core.specs.Resets.{IsToReset}
 use Rattle.pblk_core.specs.declared.work.Work.TheVariants as works
 use Rattle.unit_port.specs.Unit.{ModelUnit, TellsDone}
+use Rattle.unit_port.specs.declared.unit.UnitErr.TheVariants as errors
 use Rattle.scan_recovery.specs.Lost.{IsLostAt, NoneLost}
 use Rattle.block_target.specs.Arm.{WasGiven}
 use Rattle.block_target.specs.Deeds.{Deed, NotesReset, world_of}
 use Rattle.block_target.specs.Mount.{MountView, IsMount, engine_log, logs_in, mount_view, work_in, world_in}
 use Rattle.block_target.proofs.FreedMounts.{longer_freed}
-use Rattle.block_target.proofs.GivenCommands.{was_done, was_halted}
+use Rattle.block_target.proofs.GivenCommands.{was_done, was_failed, was_halted}
 use Rattle.block_target.proofs.GoingOn.{Leaves, moved_on}
 use Rattle.block_target.proofs.MountLemmas.{is_named, same_from}
 use Rattle.block_target.proofs.PumpedReset.{beating_noted, before_of, has_line, leaves_reset, leaves_stopped, may_be_noted, reset_deeds, reset_kept, reset_longer, reset_there, stopped_lost, unit_within}
 use Rattle.block_target.proofs.UnitLists.{unit_inside_all, unit_there, units_set, wear_kept}
 use Rattle.block_target.proofs.mount.Mount.reset.Given.{Over}
-use Rattle.block_target.proofs.mount.Mount.reset.Goals.{After-add, After-free_lines}
+use Rattle.block_target.proofs.mount.Mount.reset.Goals.{After-add, After-free_lines, in-Err-Failed, in-Ok}
 use Rattle.block_target.proofs.mount.Mount.reset.Goals as goal
 
 pub reset-answer-requires : goal.reset-answer-requires
@@ -92,27 +94,35 @@ module _ (g : Over) (c : After-add g) where
 
 -- ---- it was stopped
 
+halted : (g : Over) (c : After-add g) → c.reset-answer.result ≡ Err errors.Stopped → (k : ℕ) × ((given g c).event.outcome ≡ Stopped k)
+halted g c halts = was_halted (given g c).event.outcome c.reset-answer.result halts (given g c).told
+
 pub invariant_of-self : goal.invariant_of-self
 invariant_of-self g c =
     let d = (goal.at.invariant_of-self g c).After-add in
-    let stops = was_halted (given g d).event.outcome c.reset-answer.result c.in-Err.field-0 c.in-Err.is c.reset-answer.ensures.unfailing (given g d).told in
+    let stops = halted g d (c.in-Err-Stopped.is ∙ ap Err (rw c.in-Err-Stopped.is at c.in-Err-Stopped.field-0-is)) in
     record { mount = (leaves_err g d stops.0 stops.1).mount; buffer_size = c.self.invariant.buffer_size }
 
-pub returns-in-Err-clause-same : goal.returns-in-Err-clause-same
-returns-in-Err-clause-same g c =
-    let d = (goal.at.returns-in-Err-clause-same g c).After-add in
-    let stops = was_halted (given g d).event.outcome c.reset-answer.result c.in-Err.field-0 c.in-Err.is c.reset-answer.ensures.unfailing (given g d).told in
+pub returns-in-Err-Stopped-clause-same : goal.returns-in-Err-Stopped-clause-same
+returns-in-Err-Stopped-clause-same g c =
+    let d = (goal.at.returns-in-Err-Stopped-clause-same g c).After-add in
+    let stops = halted g d (c.in-Err-Stopped.is ∙ ap Err (rw c.in-Err-Stopped.is at c.in-Err-Stopped.field-0-is)) in
     same_from c.self.view_is (leaves_err g d stops.0 stops.1).same
 
-pub returns-in-Err-clause-lost : goal.returns-in-Err-clause-lost
-returns-in-Err-clause-lost g c =
-    let d = (goal.at.returns-in-Err-clause-lost g c).After-add in
-    let stops = was_halted (given g d).event.outcome c.reset-answer.result c.in-Err.field-0 c.in-Err.is c.reset-answer.ensures.unfailing (given g d).told in
+pub returns-in-Err-Stopped-clause-lost : goal.returns-in-Err-Stopped-clause-lost
+returns-in-Err-Stopped-clause-lost g c =
+    let d = (goal.at.returns-in-Err-Stopped-clause-lost g c).After-add in
+    let stops = halted g d (c.in-Err-Stopped.is ∙ ap Err (rw c.in-Err-Stopped.is at c.in-Err-Stopped.field-0-is)) in
     subst (λ (old : MountView). IsLostAt old.units (us g d) c.args.unit c.events.result) c.self.view_is
     (stopped_lost (m g d) c.args.line c.args.unit (is g d) (was g d) (new g d) (there g d) (given g d) stops.0 stops.1 (us g d) c.events.result (units_are g d)
     c.events.ensures.count)
 
--- ---- it was done
+-- ---- it was done, or failed
+
+over : (g : Over) (c : After-add g) → ((x : Unit {0}) × (c.reset-answer.result ≡ Ok x)) ⊎ (c.reset-answer.result ≡ Err errors.Failed)
+    → was_stopped (given g c).event.outcome ≡ false
+over g c (inl done) = ap was_stopped (was_done (given g c).event.outcome c.reset-answer.result done.0 done.1 (given g c).told)
+over g c (inr failed) = ap was_stopped (was_failed (given g c).event.outcome c.reset-answer.result failed (given g c).told).1
 
 pub state-state-requires : goal.state-state-requires
 state-state-requires g c =
@@ -126,14 +136,22 @@ reset_done-requires-clause-named g c =
 pub reset_done-requires-clause-may : goal.reset_done-requires-clause-may
 reset_done-requires-clause-may g c =
     let d = (goal.at.reset_done-requires-clause-may g c).After-add in
-    let done = was_done (given g d).event.outcome c.reset-answer.result c.in-Ok.field-0 c.in-Ok.is (given g d).told in
+    let done : was_stopped (given g d).event.outcome ≡ false =
+    elim c.match-answer.branch [
+      | in-Ok w ↦ over g d (inl (w.in-Ok.field-0, w.in-Ok.is))
+      | in-Err-Failed w ↦ over g d (inr (w.in-Err-Failed.is ∙ ap Err (rw w.in-Err-Failed.is at w.in-Err-Failed.field-0-is)))
+    ] in
     let state = c.state-state.ensures in
     may_be_noted (m g d) c.args.line c.args.unit (is g d) (was g d) (new g d) (there g d) (given g d) done c.state-state.result.0 state.0 state.1 state.2
 
 pub free_lines-requires : goal.free_lines-requires
 free_lines-requires g c =
     let d = (goal.at.free_lines-requires g c).After-add in
-    let done = was_done (given g d).event.outcome c.reset-answer.result c.in-Ok.field-0 c.in-Ok.is (given g d).told in
+    let done : was_stopped (given g d).event.outcome ≡ false =
+    elim c.match-answer.branch [
+      | in-Ok w ↦ over g d (inl (w.in-Ok.field-0, w.in-Ok.is))
+      | in-Err-Failed w ↦ over g d (inr (w.in-Err-Failed.is ∙ ap Err (rw w.in-Err-Failed.is at w.in-Err-Failed.field-0-is)))
+    ] in
     let state = c.state-state.ensures in
     record {
       beating = beating_noted (m g d) c.args.line c.args.unit (is g d) (was g d) (new g d) (there g d) (given g d) done c.state-state.result.0 state.0
@@ -144,8 +162,12 @@ module _ (g : Over) (c : After-free_lines g) where
   abbrev e : After-add g
   e = (goal.at.invariant_of-self-2 g c).After-add
 
-  done : (given g e).event.outcome ≡ Answered Done
-  done = was_done (given g e).event.outcome c.reset-answer.result c.in-Ok.field-0 c.in-Ok.is (given g e).told
+  done : was_stopped (given g e).event.outcome ≡ false
+  done =
+      elim c.match-answer.branch [
+        | in-Ok w ↦ over g e (inl (w.in-Ok.field-0, w.in-Ok.is))
+        | in-Err-Failed w ↦ over g e (inr (w.in-Err-Failed.is ∙ ap Err (rw w.in-Err-Failed.is at w.in-Err-Failed.field-0-is)))
+      ]
 
   last : c.add-2.new.self ≡ reset_deeds (m g e) c.args.line c.args.unit (is g e) (was g e) (new g e) (there g e) (given g e) done
   last = c.add-2.ensures ∙ ap (λ (ds : List Deed). ds ++ NotesReset c.args.unit ∷ []) c.add.ensures

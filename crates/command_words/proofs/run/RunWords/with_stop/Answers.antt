@@ -16,4 +16,4 @@ returns-in_err-read_fuse-clause-refused c = rw c.from_residual.ensures (λ items
 pub returns-clause-taken : goal.returns-clause-taken
 returns-clause-taken c = λ items h.
     with_stop items c.args.value.now c.in_ok-read_fuse.field-0 c.args.self _ (none_there c.args.self.options.stop (sym c.if-is_some.ensures))
-    c.in_ok-read_fuse.ensures.found refl refl h
+    c.in_ok-read_fuse.ensures.found refl refl refl h

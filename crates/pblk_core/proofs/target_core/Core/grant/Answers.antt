@@ -3,7 +3,6 @@ use Rattle.pblk_model.specs.declared.shape.Shape.{Shape}
 use Rattle.pblk_model.specs.Shape.{units}
 use Rattle.pblk_model.specs.LineOrder.{data_len}
 use Rattle.line_table.specs.Rows.{free_addresses}
-use Rattle.pblk_core.proofs.SimpleLogs.{its_simple, simple_in}
 use Rattle.pblk_core.proofs.FreedWindow.{front_is_freed}
 use Rattle.pblk_core.proofs.SmallGrant.{IsSmall, small, granted_is, space_fits}
 use Rattle.pblk_core.proofs.target_core.Core.grant.Goals as goal
@@ -11,7 +10,7 @@ use Rattle.pblk_core.proofs.target_core.Core.grant.Goals as goal
 pub overflow_add-ring : goal.overflow_add-ring
 overflow_add-ring c =
     let is : IsSmall c.args.self.now =
-    small c.requires.standing.image c.requires.standing.world c.args.self.now (its_simple c.requires.standing) c.requires.standing.stands in
+    small c.requires.standing.image c.requires.standing.world c.args.self.now c.requires.standing.legal c.requires.standing.stands in
     let a : c.args.self.now.window.freed ≤ 2 ^ 62 = is.freed in
     let r : c.args.self.now.layout.ring ≤ 16384 = is.ring in
     let f : c.freed.result ≡ c.args.self.now.window.freed = c.freed.ensures.freed in
@@ -21,7 +20,7 @@ overflow_add-ring c =
 pub overflow_sub-ring : goal.overflow_sub-ring
 overflow_sub-ring c =
     let is : IsSmall c.args.self.now =
-    small c.requires.standing.image c.requires.standing.world c.args.self.now (its_simple c.requires.standing) c.requires.standing.stands in
+    small c.requires.standing.image c.requires.standing.world c.args.self.now c.requires.standing.legal c.requires.standing.stands in
     let k : units c.args.self.now.layout * c.args.self.now.layout.ws_opt ≤ c.args.self.now.layout.ring = is.kept in
     let e : c.from.result ≡ c.args.self.now.layout.ring = c.from.ensures ∙ ap (λ (s : Shape). s.ring) c.shape-shape.ensures.shape in
     let u : c.from-2.result ≡ units c.args.self.now.layout * c.args.self.now.layout.ws_opt =
@@ -31,7 +30,7 @@ overflow_sub-ring c =
 pub overflow_add-addresses : goal.overflow_add-addresses
 overflow_add-addresses c =
     let is : IsSmall c.args.self.now =
-    small c.requires.standing.image c.requires.standing.world c.args.self.now (its_simple c.requires.standing) c.requires.standing.stands in
+    small c.requires.standing.image c.requires.standing.world c.args.self.now c.requires.standing.legal c.requires.standing.stands in
     let a : c.args.self.now.left ≤ 2 ^ 26 = is.left in
     let b : c.free_addresses.result ≤ 2 ^ 26 = subst (λ n. n ≤ 2 ^ 26) (sym c.free_addresses.ensures) is.free in
     omega arith
@@ -39,14 +38,14 @@ overflow_add-addresses c =
 pub overflow_add-space : goal.overflow_add-space
 overflow_add-space c =
     let is : IsSmall c.args.self.now =
-    small c.requires.standing.image c.requires.standing.world c.args.self.now (its_simple c.requires.standing) c.requires.standing.stands in
+    small c.requires.standing.image c.requires.standing.world c.args.self.now c.requires.standing.legal c.requires.standing.stands in
     let a : c.args.self.now.first + c.args.self.now.placed ≤ 2 ^ 62 = is.placed in
     omega arith
 
 pub overflow_add-space-2 : goal.overflow_add-space-2
 overflow_add-space-2 c =
     let is : IsSmall c.args.self.now =
-    small c.requires.standing.image c.requires.standing.world c.args.self.now (its_simple c.requires.standing) c.requires.standing.stands in
+    small c.requires.standing.image c.requires.standing.world c.args.self.now c.requires.standing.legal c.requires.standing.stands in
     let e : c.saturating_sub.result ≡ c.args.self.now.left + c.free_addresses.result - 2 * c.from-kept.result = c.saturating_sub.ensures in
     let f : c.free_addresses.result ≡ free_addresses c.args.self.now.lines = c.free_addresses.ensures in
     let fits : c.args.self.now.first + c.args.self.now.placed + c.saturating_sub.result / c.from-3.result < 2 ^ 64 =
@@ -54,7 +53,7 @@ overflow_add-space-2 c =
     omega arith
 
 pub returns : goal.returns
-returns c = λ i w mount st. let simple = simple_in i w mount st in
+returns c = λ i w mount st.
     let shape : c.shape-shape.result.now ≡ c.args.self.now.layout = c.shape-shape.ensures.shape in
     let wide : c.units-units.result ≡ units c.args.self.now.layout = c.units-units.ensures ∙ ap units shape in
     c.min-2.ensures
@@ -67,4 +66,4 @@ returns c = λ i w mount st. let simple = simple_in i w mount st in
     (c.from-kept.ensures ∙ c.data_len.ensures.len ∙ ap (data_len c.args.self.now.layout) wide))
     (c.from-3.ensures ∙ ap (λ (s : Shape). s.ws_opt) shape)))
     c.max.ensures
-    ∙ granted_is i w c.args.self.now st (front_is_freed i w c.args.self.now simple st c.requires.drained)
+    ∙ granted_is i w c.args.self.now st (front_is_freed i w c.args.self.now mount st c.requires.drained)

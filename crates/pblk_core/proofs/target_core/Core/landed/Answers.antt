@@ -1,35 +1,16 @@
-use Rattle.std.proofs.Common.{◌≡◌, ◌<◌, ◌&&◌, not, Bool, length, sym, subst, ap, ◌∙◌}
-use Rattle.std.specs.FinMap as fin
+use Rattle.std.proofs.Common.{◌≡◌, ◌&&◌, not, length, sym, subst, ap, ◌∙◌}
 use Rattle.std.proofs.lemmas.Option.{none-some}
-use Rattle.pblk_model.specs.Image.{Image}
 use Rattle.pblk_world.specs.Events.{Landed}
-use Rattle.pblk_world.specs.World.{Logs}
 use Rattle.write_window.specs.Window.{WindowView}
 use Rattle.write_window.specs.Window as view
 use Rattle.pblk_core.specs.declared.collecting.Collection.{Collection}
 use Rattle.pblk_core.specs.declared.target_core.Core.{Core}
-use Rattle.pblk_core.specs.Collecting.{HasEachLine, HasPassed, weighed}
-use Rattle.pblk_core.specs.Stands.{Stands}
+use Rattle.pblk_core.specs.Collecting.{weighed}
 use Rattle.pblk_core.proofs.BarrenLines.{barren_if}
 use Rattle.pblk_core.proofs.Collected.{collected, passed_landed}
-use Rattle.pblk_core.proofs.SmallCalls.{collecting_stands}
+use Rattle.pblk_core.proofs.LookedAgain.{each_looked, looked_stands, looked_passed}
 use Rattle.pblk_core.proofs.TabledLines.{tabled}
 use Rattle.pblk_core.proofs.target_core.Core.landed.Goals as goal
-
--- where what is collected alone is another
-each_looked : (landed looked : Core) (col : Collection) → looked ≡ record landed { collection = col } → HasEachLine landed → HasEachLine looked
-each_looked landed looked col look each =
-    subst HasEachLine (sym look) (record { rows = each.rows; noted = each.noted; online = each.online; few = each.few })
-
-looked_stands : (i : Image) (logs : Logs) (landed looked : Core) (col : Collection) → looked ≡ record landed { collection = col } → Stands i logs landed
-    → Stands i logs looked
-looked_stands i logs landed looked col look st = subst (Stands i logs) (sym look) (collecting_stands i logs landed col st)
-
-looked_passed : (landed looked : Core) (barren : Bool) → looked ≡ record landed { collection = record landed.collection { barren = barren } }
-    → HasPassed landed → HasPassed looked
-looked_passed landed looked barren look was = λ lba line at position low at_work there. was lba line at position
-    (subst (λ (x : Core). lba < x.collection.cursor) look low) (sym (ap (λ (x : Core). x.collection.victim) look) ∙ at_work)
-    (sym (ap (λ (x : Core). fin.get x.map lba) look) ∙ there)
 
 pub choose-requires : goal.choose-requires
 choose-requires c =
@@ -76,5 +57,6 @@ returns-clause-collects c = λ i w event knows mount st was may.
     })
 
 pub returns-clause-own : goal.returns-clause-own
-returns-clause-own c = λ r own. subst (λ (v : WindowView). view.AreOf r v.entries) (sym (c.choose.ensures.window ∙ ap (λ (x : Core). x.window) c.look_again.ensures))
+returns-clause-own c = λ r own. subst (λ (v : WindowView). view.AreOf r v.entries)
+    (sym (c.choose.ensures.window ∙ ap (λ (x : Core). x.window) c.look_again.ensures))
     (c.note_landed-may_be.ensures.own r own)

@@ -5,7 +5,6 @@ use Rattle.line_table.specs.Rows.{Table}
 use Rattle.pblk_model.specs.declared.shape.Shape.{Shape}
 use Rattle.stripe_placer.specs.Placing.{Placing, UnitRow}
 use Rattle.world_laws.specs.MountBeginnings.{beginning_of}
-use Rattle.core_laws.proofs.SimpleMounts.{simple_unbegun}
 use Rattle.pblk_core.specs.Copies.{victim_asks}
 use Rattle.pblk_core.specs.Named.{pad_of}
 use Rattle.pblk_core.proofs.Collected.{asks_none, collected_begun}
@@ -22,13 +21,13 @@ choose-requires c = record {
 
 pub returns-clause-stands : goal.returns-clause-stands
 returns-clause-stands c = λ i w knows same mount none found closed.
-    c.choose.ensures.stands i _ (made_on i w knows c.args.shape.now c.args.found c.in_ok-core.core same (simple_unbegun i w mount none) none c.requires.fit
+    c.choose.ensures.stands i _ (made_on i w knows c.args.shape.now c.args.found c.in_ok-core.core same mount none c.requires.fit
     found closed c.in_ok-core.ensures)
 
 pub returns-clause-collects : goal.returns-clause-collects
 returns-clause-collects c = λ i w knows same mount none found closed.
     let is = c.in_ok-core.ensures in
-    let mid = made_on i w knows c.args.shape.now c.args.found c.in_ok-core.core same (simple_unbegun i w mount none) none c.requires.fit found closed is in
+    let mid = made_on i w knows c.args.shape.now c.args.found c.in_ok-core.core same mount none c.requires.fit found closed is in
     collected_begun c.in_ok-core.core c.choose.new.self i w (beginning_of c.args.found) knows mount none
     (is.lines_held ∙ ap (λ (s : Shape). s.chunks) (sym same)) is.none_at_work (record {
       stands = c.choose.ensures.stands i _ mid;

@@ -14,7 +14,6 @@ use Rattle.pblk_core.specs.Named.{named}
 use Rattle.pblk_core.specs.Resets.{emptied}
 use Rattle.pblk_core.specs.Stands.{IsStanding}
 use Rattle.pblk_core.proofs.BarrenLines.{IsUnclosed, brings_none, turned_elsewhere, unclosed_by_state}
-use Rattle.pblk_core.proofs.SimpleLogs.{simple_in}
 use Rattle.pblk_core.proofs.NamedReset.{named_first}
 use Rattle.pblk_core.proofs.ResetConditions.{each_reset, reset_next, kept_beside, kept_few, kept_there, emptied_change, table_shape}
 use Rattle.pblk_core.proofs.StandsReset.{reset_stands}
@@ -65,8 +64,8 @@ turn-requires-clause-change c = λ row there.
     (emptied_change c.args.self.now.layout c.width-width.result)))
 
 pub returns-then-not-is_at-clause-stands : goal.returns-then-not-is_at-clause-stands
-returns-then-not-is_at-clause-stands c = λ i w event knows mount st to. let simple = simple_in i w mount st in
-    reset_stands i w c.args.line c.args.unit event knows c.args.state c.args.self.now _ simple st c.requires.named to (record {
+returns-then-not-is_at-clause-stands c = λ i w event knows mount st to.
+    reset_stands i w c.args.line c.args.unit event knows c.args.state c.args.self.now _ mount st c.requires.named to (record {
       layout = refl;
       map = refl;
       window = refl;
@@ -94,8 +93,8 @@ returns-then-not-is_at-clause-stands c = λ i w event knows mount st to. let sim
     })
 
 pub returns-else-not-is_at-clause-stands : goal.returns-else-not-is_at-clause-stands
-returns-else-not-is_at-clause-stands c = λ i w event knows mount st to. let simple = simple_in i w mount st in
-    reset_stands i w c.args.line c.args.unit event knows c.args.state c.args.self.now _ simple st c.requires.named to (record {
+returns-else-not-is_at-clause-stands c = λ i w event knows mount st to.
+    reset_stands i w c.args.line c.args.unit event knows c.args.state c.args.self.now _ mount st c.requires.named to (record {
       layout = refl;
       map = refl;
       window = refl;

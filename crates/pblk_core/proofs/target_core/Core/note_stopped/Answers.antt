@@ -7,7 +7,6 @@ use Rattle.stripe_placer.specs.Placing.UnitRow.{Stopped, UnderWay}
 use Rattle.lemmas.proofs.Parts.{get_set_same}
 use Rattle.pblk_core.proofs.LandedCore.{of_core, told_row}
 use Rattle.pblk_core.proofs.LandedWay.{unit_is}
-use Rattle.pblk_core.proofs.SimpleLogs.{its_simple, simple_in}
 use Rattle.pblk_core.proofs.StandsAgain.{stopped_stands}
 use Rattle.pblk_core.proofs.TabledLines.{each_line}
 use Rattle.pblk_world.specs.World.{log_of}
@@ -19,7 +18,7 @@ pub under_way-requires : goal.under_way-requires
 under_way-requires c =
     let sd = c.requires.standing in
     let unit : ℕ = c.args.stripe.now.stripe.unit in
-    let its = of_core sd.image sd.world c.args.self.now unit c.requires.under_way.0 (its_simple sd) sd.stands c.requires.under_way.1 in
+    let its = of_core sd.image sd.world c.args.self.now unit c.requires.under_way.0 sd.legal sd.stands c.requires.under_way.1 in
     subst (λ s. c.unit.result < units s) (sym (ap (λ (p : Placing). p.shape) sd.stands.placing))
     (subst (λ u. u < units sd.image.shape) (sym c.unit.ensures) its.is.row.inside)
 
@@ -34,7 +33,7 @@ on_its_unit c =
 its_unit : (c : In-Some) → Program.unit (program_in c) ≡ c.args.stripe.now.stripe.unit
 its_unit c =
     let sd = c.requires.standing in
-    let its = of_core sd.image sd.world c.args.self.now c.args.stripe.now.stripe.unit (program_in c) (its_simple sd) sd.stands (on_its_unit c) in
+    let its = of_core sd.image sd.world c.args.self.now c.args.stripe.now.stripe.unit (program_in c) sd.legal sd.stands (on_its_unit c) in
     unit_is sd.image sd.world c.args.stripe.now.stripe.unit (program_in c) its.is
 
 here : (c : In-Some) → slice_get c.args.self.now.placer.units (Program.unit (program_in c)) ≡ Some (UnderWay (program_in c))
@@ -46,7 +45,7 @@ stopped-requires c = here (goal.at.stopped-requires c).In-Some
 pub returns-clause-stands : goal.returns-clause-stands
 returns-clause-stands c = λ i w event knows mount st may.
     let at = (goal.at.returns-clause-stands c).In-Some in
-    stopped_stands i w c.args.stripe.now.stripe.unit event knows c.args.self.now _ (program_in at) (simple_in i w mount st) st (its_unit at) (here at) (record {
+    stopped_stands i w c.args.stripe.now.stripe.unit event knows c.args.self.now _ (program_in at) mount st (its_unit at) (here at) (record {
       layout = refl;
       map = refl;
       lines = refl;

@@ -22,7 +22,6 @@ use Rattle.pblk_core.specs.LineNotes.{note_opened}
 use Rattle.pblk_core.specs.Slots.{opened_slot}
 use Rattle.pblk_core.specs.Named.{next_line, next_start}
 use Rattle.pblk_core.proofs.BarrenLines.{brings_none, set_unclosed, turned_elsewhere}
-use Rattle.pblk_core.proofs.SimpleLogs.{its_simple, simple_in}
 use Rattle.pblk_core.proofs.OpeningFacts.{open_is_named, next_line_is, next_may_open, chosen, chosen_few, none_open, stripes_few}
 use Rattle.pblk_core.proofs.ResetConditions.{table_shape}
 use Rattle.pblk_core.proofs.OpeningNumbers.{next_fits}
@@ -41,8 +40,8 @@ pub overflow_mul-stripes : goal.overflow_mul-stripes
 overflow_mul-stripes c =
     let st = c.requires.standing in
     let may = open_is_named c.args.self.now c.requires.named in
-    let is = next_line_is st.image st.world c.args.self.now (its_simple st) st.stands may in
-    let it = chosen st.image st.world c.args.self.now c.in-Some.line c.index-live.result.now c.index-live.result.now (its_simple st) st.stands may
+    let is = next_line_is st.image st.world c.args.self.now st.legal st.stands may in
+    let it = chosen st.image st.world c.args.self.now c.in-Some.line c.index-live.result.now c.index-live.result.now st.legal st.stands may
     (sym c.least_free.ensures.least ∙ c.in-Some.is) c.index-live.ensures in
     let value : c.width-width.result * (c.shape-shape.result.now.clba / c.shape-shape.result.now.ws_opt) ≡ width (known_image st.image (log_of st.world))
     (next_line c.args.self.now) * (st.image.shape.clba / st.image.shape.ws_opt) =
@@ -66,7 +65,7 @@ begin-requires-clause-width c = λ line there.
     let may = open_is_named c.args.self.now c.requires.named in
     let few : c.width-width.result ≤ units c.args.self.now.layout =
     chosen_few st.image st.world c.args.self.now c.in-Some.line c.index-live.result.now c.index-live.result.now c.width-width.result
-    (its_simple st) st.stands may
+    st.legal st.stands may
     (sym c.least_free.ensures.least ∙ c.in-Some.is) c.index-live.ensures c.width-width.ensures.few in
     subst (λ (s : Shape). c.width-width.result ≤ units s) (st.stands.layout ∙ sym (st.stands.open_lines.shapes c.args.self.now.open.count line there)) few
 
@@ -75,8 +74,8 @@ pub open-requires : goal.open-requires
 open-requires c =
     let st = c.requires.standing in
     let may = open_is_named c.args.self.now c.requires.named in
-    let is = next_line_is st.image st.world c.args.self.now (its_simple st) st.stands may in
-    let it = chosen st.image st.world c.args.self.now c.in-Some.line c.index-live.result.now c.index-live.result.now (its_simple st) st.stands may
+    let is = next_line_is st.image st.world c.args.self.now st.legal st.stands may in
+    let it = chosen st.image st.world c.args.self.now c.in-Some.line c.index-live.result.now c.index-live.result.now st.legal st.stands may
     (sym c.least_free.ensures.least ∙ c.in-Some.is) c.index-live.ensures in
     subst (λ n. n < length c.args.self.now.notes.rows.items) it.0 (subst (λ n. next_line c.args.self.now < n) (sym st.stands.notes.count) is.least.in_range)
 
@@ -91,7 +90,7 @@ turn-requires-clause-width c =
     let may = open_is_named c.args.self.now c.requires.named in
     subst (λ (s : Shape). c.width-width.result ≤ units s) (table_shape c.args.self.now st)
     (chosen_few st.image st.world c.args.self.now c.in-Some.line c.index-live.result.now c.index-live.result.now c.width-width.result
-    (its_simple st) st.stands may
+    st.legal st.stands may
     (sym c.least_free.ensures.least ∙ c.in-Some.is) c.index-live.ensures c.width-width.ensures.few)
 
 pub data_len-requires : goal.data_len-requires
@@ -99,14 +98,14 @@ data_len-requires c =
     let st = c.requires.standing in
     let may = open_is_named c.args.self.now c.requires.named in
     chosen_few st.image st.world c.args.self.now c.in-Some.line c.index-live.result.now c.index-live.result.now c.width-width.result
-    (its_simple st) st.stands may
+    st.legal st.stands may
     (sym c.least_free.ensures.least ∙ c.in-Some.is) c.index-live.ensures c.width-width.ensures.few
 
 pub begin-requires-clause-fits : goal.begin-requires-clause-fits
 begin-requires-clause-fits c = λ line there.
     let st = c.requires.standing in
     let may = open_is_named c.args.self.now c.requires.named in
-    let it = chosen st.image st.world c.args.self.now c.in-Some.line c.index-live.result.now c.index-live.result.now (its_simple st) st.stands may
+    let it = chosen st.image st.world c.args.self.now c.in-Some.line c.index-live.result.now c.index-live.result.now st.legal st.stands may
     (sym c.least_free.ensures.least ∙ c.in-Some.is) c.index-live.ensures in
     let wide : c.width-width.result ≡ (next_start c.args.self.now).width = c.width-width.ensures.width ∙ ap (λ m. length (units_in m)) it.1 in
     let front : c.synced.result.position ≡ (next_start c.args.self.now).front = ap (λ f. f.position) c.synced.ensures.synced in
@@ -137,14 +136,14 @@ begin-requires-clause-fits c = λ line there.
       rows = c.args.self.now.start.rows;
     })))) (sym (st.stands.open_lines.shapes c.args.self.now.open.count line there))
     (subst (λ (r : StartRecord). IsTrue (start_fits st.image.shape r.line r.width r)) same
-    (next_fits st.image st.world c.args.self.now (its_simple st) st.stands may))
+    (next_fits st.image st.world c.args.self.now st.legal st.stands may))
 
 pub begin-requires-2-clause-line : goal.begin-requires-2-clause-line
 begin-requires-2-clause-line c =
     let st = c.requires.standing in
     let may = open_is_named c.args.self.now c.requires.named in
-    let is = next_line_is st.image st.world c.args.self.now (its_simple st) st.stands may in
-    let it = chosen st.image st.world c.args.self.now c.in-Some.line c.index-live.result.now c.index-live.result.now (its_simple st) st.stands may
+    let is = next_line_is st.image st.world c.args.self.now st.legal st.stands may in
+    let it = chosen st.image st.world c.args.self.now c.in-Some.line c.index-live.result.now c.index-live.result.now st.legal st.stands may
     (sym c.least_free.ensures.least ∙ c.in-Some.is) c.index-live.ensures in
     subst (λ n. n < c.args.self.now.placer.shape.chunks) it.0
     (subst (λ p. next_line c.args.self.now < p.shape.chunks) (sym st.stands.placing) is.least.in_range)
@@ -153,8 +152,8 @@ pub begin-requires-2-clause-another : goal.begin-requires-2-clause-another
 begin-requires-2-clause-another c = λ k d within same.
     let st = c.requires.standing in
     let may = open_is_named c.args.self.now c.requires.named in
-    let is = next_line_is st.image st.world c.args.self.now (its_simple st) st.stands may in
-    let it = chosen st.image st.world c.args.self.now c.in-Some.line c.index-live.result.now c.index-live.result.now (its_simple st) st.stands may
+    let is = next_line_is st.image st.world c.args.self.now st.legal st.stands may in
+    let it = chosen st.image st.world c.args.self.now c.in-Some.line c.index-live.result.now c.index-live.result.now st.legal st.stands may
     (sym c.least_free.ensures.least ∙ c.in-Some.is) c.index-live.ensures in
     none_open st.image (log_of st.world) (next_line c.args.self.now) k d is.closed
     (subst (λ p. k < length p.lines) st.stands.placing within)
@@ -164,8 +163,8 @@ pub begin-requires-2-clause-units : goal.begin-requires-2-clause-units
 begin-requires-2-clause-units c =
     let st = c.requires.standing in
     let may = open_is_named c.args.self.now c.requires.named in
-    let is = next_line_is st.image st.world c.args.self.now (its_simple st) st.stands may in
-    let it = chosen st.image st.world c.args.self.now c.in-Some.line c.index-live.result.now c.index-live.result.now (its_simple st) st.stands may
+    let is = next_line_is st.image st.world c.args.self.now st.legal st.stands may in
+    let it = chosen st.image st.world c.args.self.now c.in-Some.line c.index-live.result.now c.index-live.result.now st.legal st.stands may
     (sym c.least_free.ensures.least ∙ c.in-Some.is) c.index-live.ensures in
     rw c.bits-2.ensures (subst (λ p. c.index-live.result.now < 2 ^ units p.shape) (sym st.stands.placing)
     (subst (λ m. m < 2 ^ units st.image.shape) (sym it.1) is.small))
@@ -174,8 +173,8 @@ pub begin-requires-2-clause-data : goal.begin-requires-2-clause-data
 begin-requires-2-clause-data c = λ none.
     let st = c.requires.standing in
     let may = open_is_named c.args.self.now c.requires.named in
-    let is = next_line_is st.image st.world c.args.self.now (its_simple st) st.stands may in
-    let it = chosen st.image st.world c.args.self.now c.in-Some.line c.index-live.result.now c.index-live.result.now (its_simple st) st.stands may
+    let is = next_line_is st.image st.world c.args.self.now st.legal st.stands may in
+    let it = chosen st.image st.world c.args.self.now c.in-Some.line c.index-live.result.now c.index-live.result.now st.legal st.stands may
     (sym c.least_free.ensures.least ∙ c.in-Some.is) c.index-live.ensures in
     let same : data_len c.args.self.now.placer.shape (length (units_in c.index-live.result.now)) ≡ data_len st.image.shape
     (width (known_image st.image (log_of st.world)) (next_line c.args.self.now)) =
@@ -202,13 +201,13 @@ overflow_add-self-2 c =
     search rules
 
 pub returns-clause-legal : goal.returns-clause-legal
-returns-clause-legal c = λ i w begun mount st has. let simple =
-    simple_in i w mount st in next_may_open i w c.args.self.now begun simple st (open_is_named c.args.self.now c.requires.named) has
+returns-clause-legal c = λ i w begun mount st has.
+    next_may_open i w c.args.self.now begun mount st (open_is_named c.args.self.now c.requires.named) has
 
 pub returns-clause-stands : goal.returns-clause-stands
-returns-clause-stands c = λ i w knows mount st. let simple = simple_in i w mount st in
+returns-clause-stands c = λ i w knows mount st.
     let may = open_is_named c.args.self.now c.requires.named in
-    let it = chosen i w c.args.self.now c.in-Some.line c.index-live.result.now c.index-live.result.now simple st may
+    let it = chosen i w c.args.self.now c.in-Some.line c.index-live.result.now c.index-live.result.now mount st may
     (sym c.least_free.ensures.least ∙ c.in-Some.is) c.index-live.ensures in
     let width : c.width-width.result ≡ (next_start c.args.self.now).width = c.width-width.ensures.width ∙ ap (λ m. length (units_in m)) it.1 in
     let front : c.synced.result.position ≡ (next_start c.args.self.now).front = ap (λ f. f.position) c.synced.ensures.synced in
@@ -218,7 +217,7 @@ returns-clause-stands c = λ i w knows mount st. let simple = simple_in i w moun
     let live = c.bits.ensures ∙ it.1 in
     let starts : c.start_len.result / c.shape-shape.result.now.ws_opt ≡ start_stripes c.args.self.now.layout =
     ap₂ (λ n (s : Shape). n / s.ws_opt) c.start_len.ensures.len c.shape-shape.ensures.shape in
-    opened_stands i w knows c.args.self.now _ simple st may (record {
+    opened_stands i w knows c.args.self.now _ mount st may (record {
       layout = refl;
       map = refl;
       lines = subst (λ n. Changes c.args.self.now.lines c.turn.new.self n (turned states.Open (next_start c.args.self.now).width)) (sym it.0)
@@ -262,8 +261,8 @@ pub returns-clause-brings : goal.returns-clause-brings
 returns-clause-brings c =
     let st = c.requires.standing in
     let may = open_is_named c.args.self.now c.requires.named in
-    let is = next_line_is st.image st.world c.args.self.now (its_simple st) st.stands may in
-    let it = chosen st.image st.world c.args.self.now c.in-Some.line c.index-live.result.now c.index-live.result.now (its_simple st) st.stands may
+    let is = next_line_is st.image st.world c.args.self.now st.legal st.stands may in
+    let it = chosen st.image st.world c.args.self.now c.in-Some.line c.index-live.result.now c.index-live.result.now st.legal st.stands may
     (sym c.least_free.ensures.least ∙ c.in-Some.is) c.index-live.ensures in
     let each = each_line st.image st.world (log_of st.world) st.legal st.stands in
     let inside : c.in-Some.line < c.args.self.now.layout.chunks = subst (λ n. n < c.args.self.now.layout.chunks) it.0

@@ -7,10 +7,10 @@ use Rattle.pblk_model.specs.LineOrder.{start_len}
 use Rattle.pblk_model.specs.Shape.{units}
 use Rattle.pblk_world.specs.Placing.{stripe_at}
 use Rattle.pblk_world.specs.World.{World, log_of}
-use Rattle.stripe_placer.specs.Placing.{IsNext, Placing, Program, placed, program}
+use Rattle.stripe_placer.specs.Placing.{IsNext, Placing, Program, placed, program, under_way_in}
 use Rattle.stripe_placer.specs.Placing.UnitRow.{Stopped}
 use Rattle.stripe_placer.proofs.PlacingLemmas.{placed_has}
-use Rattle.core_laws.specs.SimpleMounts.{IsSimpleMount}
+use Rattle.world_laws.specs.LegalMounts.{IsLegalMount}
 use Rattle.pblk_core.specs.Entries.{entry_blocks}
 use Rattle.pblk_core.specs.Filling.{Filling, followed_by}
 use Rattle.pblk_core.specs.LineRecords.{blocks_at_start, blocks_at_end, end_begins}
@@ -19,13 +19,15 @@ use Rattle.pblk_core.specs.Stands.{Stands, answer_count}
 use Rattle.pblk_core.proofs.AnswerCounts.{count_told}
 use Rattle.pblk_core.specs.declared.target_core.Core.{Core}
 use Rattle.pblk_core.proofs.KeptFrames.{placed_pad}
-use Rattle.pblk_core.proofs.PlacedStripe.{IsInPart}
-use Rattle.pblk_core.proofs.PlacingConditions.{padded_is, stripe_of, unit_inside}
+use Rattle.pblk_core.proofs.PlacingConditions.{padded_is, pads_are, stripe_of, unit_inside}
+use Rattle.core_laws.specs.PlacerOf.{positions_in_stripe}
+use Rattle.std.specs.Option.{option_and_then}
+use Rattle.std.proofs.lemmas.Option.{same_Some}
+use Rattle.pblk_core.proofs.LandedCore.{positions_are}
 use Rattle.pblk_core.proofs.BarrenLines.{brings_kept}
-use Rattle.pblk_core.proofs.SimpleLogs.{its_simple, simple_in}
 use Rattle.pblk_core.proofs.StandsAgain.{IsPlacedAgain, again_into, again_stands}
 use Rattle.pblk_core.proofs.StoppedConditions.{IsStopped, end_again_within, few_again, from_again, held_again, its_stopped, line_there, marks_again, says_stopped, slot_kept, slot_there, start_within}
-use Rattle.pblk_core.proofs.StoppedStripe.{data_again, end_again, part, start_again}
+use Rattle.pblk_core.proofs.StoppedStripe.{data_again, end_again, pad_again, start_again}
 use Rattle.pblk_core.proofs.WaitingEntries.{sectors_sized}
 use Rattle.pblk_core.proofs.target_core.Core.place_again.Goals as goal
 use Rattle.pblk_core.proofs.UnitRows.{placed_beside}
@@ -35,22 +37,22 @@ pub find-index-requires-clause-there : goal.find-index-requires-clause-there
 find-index-requires-clause-there c =
     let sd = c.requires.standing in
     let of : Program = program c.args.self.now.placer c.args.of.now in
-    line_there sd.image sd.world c.args.self.now of (its_simple sd)
-    (its_stopped sd.image sd.world c.args.self.now of (its_simple sd) sd.stands c.requires.stopped)
+    line_there sd.image sd.world c.args.self.now of sd.legal
+    (its_stopped sd.image sd.world c.args.self.now of sd.legal sd.stands c.requires.stopped)
 
 pub positions-positions-requires : goal.positions-positions-requires
 positions-positions-requires c =
     let sd = c.requires.standing in
     let of : Program = program c.args.self.now.placer c.args.of.now in
-    let its = its_stopped sd.image sd.world c.args.self.now of (its_simple sd) sd.stands c.requires.stopped in
+    let its = its_stopped sd.image sd.world c.args.self.now of sd.legal sd.stands c.requires.stopped in
     subst (λ (s : Shape). of.unit < units s) (sym (ap (λ (p : Placing). p.shape) sd.stands.placing)) its.is.row.inside
 
 -- the slot that is found is the line's
-found_slot : (c : After-find-index) (i : Image) (w : World) (simple : IsSimpleMount i w) → Stands i (log_of w) c.args.self.now
+found_slot : (c : After-find-index) (i : Image) (w : World) (mount : IsLegalMount i w) → Stands i (log_of w) c.args.self.now
     → (its : IsStopped i w c.args.self.now (program c.args.self.now.placer c.args.of.now)) → IsSlot c.args.self.now.open c.find-index.result its.has.slot
-found_slot c i w simple st its =
+found_slot c i w mount st its =
     let at = c.find-index.ensures in
-    slot_there i w c.args.self.now (program c.args.self.now.placer c.args.of.now) simple its c.find-index.result st at.inside at.line at.first
+    slot_there i w c.args.self.now (program c.args.self.now.placer c.args.of.now) mount its c.find-index.result st at.inside at.line at.first
 
 pub start_stripe-requires-clause-shape : goal.start_stripe-requires-clause-shape
 start_stripe-requires-clause-shape c = λ slot there.
@@ -62,36 +64,36 @@ pub start_stripe-requires-clause-within : goal.start_stripe-requires-clause-with
 start_stripe-requires-clause-within c =
     let sd = c.requires.standing in
     let of : Program = program c.args.self.now.placer c.args.of.now in
-    let its = its_stopped sd.image sd.world c.args.self.now of (its_simple sd) sd.stands c.requires.stopped in
+    let its = its_stopped sd.image sd.world c.args.self.now of sd.legal sd.stands c.requires.stopped in
     let begun : c.begin.new.self.shape ≡ sd.image.shape = ap (λ f. f.shape) c.begin.ensures ∙ c.requires.shape ∙ sd.stands.layout in
-    subst (λ (s : Shape). of.at + s.ws_opt ≤ start_len s) (sym begun) (start_within sd.image sd.world c.args.self.now of (its_simple sd) its c.in-Start.is)
+    subst (λ (s : Shape). of.at + s.ws_opt ≤ start_len s) (sym begun) (start_within sd.image sd.world c.args.self.now of sd.legal its c.in-Start.is)
 
 pub fill-requires-clause-held : goal.fill-requires-clause-held
 fill-requires-clause-held c = λ k q e.
     let sd = c.requires.standing in
     let core : Core = c.args.self.now in
     let of : Program = program core.placer c.args.of.now in
-    let its = its_stopped sd.image sd.world core of (its_simple sd) sd.stands c.requires.stopped in
+    let its = its_stopped sd.image sd.world core of sd.legal sd.stands c.requires.stopped in
     let told : c.positions-positions.result.now ≡ of.positions = c.positions-positions.ensures (Stopped of) c.requires.stopped in
-    held_again sd.image sd.world core of (its_simple sd) its k q sd.stands (ap (λ qs. slice_get qs k) (sym told) ∙ e)
+    held_again sd.image sd.world core of sd.legal its k q sd.stands (ap (λ qs. slice_get qs k) (sym told) ∙ e)
 
 pub fill-requires-clause-size : goal.fill-requires-clause-size
 fill-requires-clause-size c = λ q sector e.
     let sd = c.requires.standing in
     let begun : c.begin.new.self.shape ≡ sd.image.shape = ap (λ f. f.shape) c.begin.ensures ∙ c.requires.shape ∙ sd.stands.layout in
-    sectors_sized sd.image sd.world c.args.self.now q sector (its_simple sd) sd.stands e ∙ ap (λ (s : Shape). s.sector) (sym begun)
+    sectors_sized sd.image sd.world c.args.self.now q sector sd.legal sd.stands e ∙ ap (λ (s : Shape). s.sector) (sym begun)
 
 pub fill-requires-clause-room : goal.fill-requires-clause-room
 fill-requires-clause-room c =
     let sd = c.requires.standing in
     let core : Core = c.args.self.now in
     let of : Program = program core.placer c.args.of.now in
-    let its = its_stopped sd.image sd.world core of (its_simple sd) sd.stands c.requires.stopped in
+    let its = its_stopped sd.image sd.world core of sd.legal sd.stands c.requires.stopped in
     let told : c.positions-positions.result.now ≡ of.positions = c.positions-positions.ensures (Stopped of) c.requires.stopped in
     let begun : c.begin.new.self.shape ≡ sd.image.shape = ap (λ f. f.shape) c.begin.ensures ∙ c.requires.shape ∙ sd.stands.layout in
     subst (λ (s : Shape). length c.positions-positions.result.now ≤ s.ws_opt) (sym begun)
     (subst (λ n. n ≤ sd.image.shape.ws_opt) (sym (ap (λ (qs : List ℕ). length qs) told))
-    (few_again sd.image sd.world core of (its_simple sd) its c.in-Data.is))
+    (few_again sd.image sd.world core of sd.legal its c.in-Data.is))
 
 pub end_stripe-requires-clause-shape : goal.end_stripe-requires-clause-shape
 end_stripe-requires-clause-shape c = λ slot there.
@@ -104,30 +106,30 @@ end_stripe-requires-clause-told c = λ slot there.
     let sd = c.requires.standing in
     let core : Core = c.args.self.now in
     let of : Program = program core.placer c.args.of.now in
-    let its = its_stopped sd.image sd.world core of (its_simple sd) sd.stands c.requires.stopped in
-    let at = found_slot (goal.at.end_stripe-requires-clause-told c).After-find-index sd.image sd.world (its_simple sd) sd.stands its in
-    marks_again sd.image sd.world core of (its_simple sd) its slot c.in-End.is
-    (slot_kept sd.image sd.world core of (its_simple sd) its c.find-index.result slot at there)
+    let its = its_stopped sd.image sd.world core of sd.legal sd.stands c.requires.stopped in
+    let at = found_slot (goal.at.end_stripe-requires-clause-told c).After-find-index sd.image sd.world sd.legal sd.stands its in
+    marks_again sd.image sd.world core of sd.legal its slot c.in-End.is
+    (slot_kept sd.image sd.world core of sd.legal its c.find-index.result slot at there)
 
 pub end_stripe-requires-clause-from : goal.end_stripe-requires-clause-from
 end_stripe-requires-clause-from c = λ slot there.
     let sd = c.requires.standing in
     let core : Core = c.args.self.now in
     let of : Program = program core.placer c.args.of.now in
-    let its = its_stopped sd.image sd.world core of (its_simple sd) sd.stands c.requires.stopped in
-    let at = found_slot (goal.at.end_stripe-requires-clause-from c).After-find-index sd.image sd.world (its_simple sd) sd.stands its in
-    from_again sd.image sd.world core of (its_simple sd) its slot c.in-End.is
-    (slot_kept sd.image sd.world core of (its_simple sd) its c.find-index.result slot at there)
+    let its = its_stopped sd.image sd.world core of sd.legal sd.stands c.requires.stopped in
+    let at = found_slot (goal.at.end_stripe-requires-clause-from c).After-find-index sd.image sd.world sd.legal sd.stands its in
+    from_again sd.image sd.world core of sd.legal its slot c.in-End.is
+    (slot_kept sd.image sd.world core of sd.legal its c.find-index.result slot at there)
 
 pub end_stripe-requires-clause-within : goal.end_stripe-requires-clause-within
 end_stripe-requires-clause-within c = λ slot there.
     let sd = c.requires.standing in
     let core : Core = c.args.self.now in
     let of : Program = program core.placer c.args.of.now in
-    let its = its_stopped sd.image sd.world core of (its_simple sd) sd.stands c.requires.stopped in
-    let at = found_slot (goal.at.end_stripe-requires-clause-within c).After-find-index sd.image sd.world (its_simple sd) sd.stands its in
-    end_again_within sd.image sd.world core of (its_simple sd) its slot
-    (slot_kept sd.image sd.world core of (its_simple sd) its c.find-index.result slot at there)
+    let its = its_stopped sd.image sd.world core of sd.legal sd.stands c.requires.stopped in
+    let at = found_slot (goal.at.end_stripe-requires-clause-within c).After-find-index sd.image sd.world sd.legal sd.stands its in
+    end_again_within sd.image sd.world core of sd.legal its slot
+    (slot_kept sd.image sd.world core of sd.legal its c.find-index.result slot at there)
 
 -- ---- what is filled
 
@@ -148,9 +150,9 @@ begun_with : (c : Joined-of) (blocks : List Block) → (followed_by c.begin.new.
 begun_with c blocks = ap (λ f. (followed_by f blocks).stripe) c.begin.ensures
 
 -- the stripe is as it was placed
-the_stripe : (c : Joined-of) (i : Image) (w : World) → IsSimpleMount i w → Stands i (log_of w) (core_in c) → (its : IsStoppedIn c i w)
+the_stripe : (c : Joined-of) (i : Image) (w : World) → IsLegalMount i w → Stands i (log_of w) (core_in c) → (its : IsStoppedIn c i w)
     → IsSlot (core_in c).open c.find-index.result its.has.slot → c.match-of.into.stripe ≡ its.is.row.stripe.stripe
-the_stripe c i w simple st its there =
+the_stripe c i w mount st its there =
     let core : Core = core_in c in
     let of : Program = program_in c in
     let begun : Filling = c.begin.new.self in
@@ -158,19 +160,22 @@ the_stripe c i w simple st its there =
       | in-Start v ↦
           let blocks : List Block = stripe_at begun.shape (blocks_at_start its.has.slot.records) 0 of.at in
           ap (λ f. f.stripe) (v.into-is ∙ v.start_stripe.ensures its.has.slot there) ∙ begun_with c blocks
-          ∙ start_again i w of.unit of simple its.is its.has.slot begun.shape v.in-Start.is its.has.is (begun_shape c i w st)
+          ∙ start_again i w of.unit of mount its.is its.has.slot begun.shape v.in-Start.is its.has.is (begun_shape c i w st)
       | in-Data v ↦
           let blocks : List Block = entry_blocks core.window core.holds.rows.items of.positions in
           let told : v.positions-positions.result.now ≡ of.positions = v.positions-positions.ensures (Stopped of) c.requires.stopped in
           let filled = v.fill.ensures ∙ ap (λ qs. followed_by begun (entry_blocks core.window core.holds.rows.items qs)) told in
           let padded = padded_is of c.args.into.now.shape true _ blocks begun v.fill.new.into v.pad.new.self c.begin.ensures filled v.pad.ensures in
           ap (λ f. f.stripe) v.into-is ∙ padded
-          ∙ data_again i w of.unit of simple its.is core c.args.into.now.shape v.in-Data.is st (c.requires.shape ∙ st.layout)
-      | in-Pad v ↦ absurd (subst (IsInPart i.shape its.is.row.opening of.at) v.in-Pad.is (part i w of.unit of simple its.is))
+          ∙ data_again i w of.unit of mount its.is core c.args.into.now.shape v.in-Data.is st (c.requires.shape ∙ st.layout)
+      | in-Pad v ↦
+          let padded = pads_are of c.args.into.now.shape true _ begun v.pad-in-Pad.new.self c.begin.ensures v.pad-in-Pad.ensures in
+          ap (λ f. f.stripe) v.into-is ∙ padded
+          ∙ pad_again i w of.unit of mount its.is c.args.into.now.shape v.in-Pad.is (c.requires.shape ∙ st.layout)
       | in-End v ↦
           let blocks : List Block = stripe_at begun.shape (blocks_at_end its.has.slot.records) (end_begins its.has.slot.records) of.at in
           ap (λ f. f.stripe) (v.into-is ∙ v.end_stripe.ensures.filled its.has.slot there) ∙ begun_with c blocks
-          ∙ end_again i w of.unit of simple its.is its.has.slot begun.shape v.in-End.is its.has.is (begun_shape c i w st)
+          ∙ end_again i w of.unit of mount its.is its.has.slot begun.shape v.in-End.is its.has.is (begun_shape c i w st)
     ]
 
 -- its placer is as it was when the stripe has been filled
@@ -239,24 +244,23 @@ returns-clause-again c =
     let all = goal.at.returns-clause-again c in
     let at = all.Joined-of in
     let sd = c.requires.standing in
-    let its = its_stopped sd.image sd.world (core_in at) (program_in at) (its_simple sd) sd.stands c.requires.stopped in
-    (the_filling at sd.image sd.world its (found_slot all.After-find-index sd.image sd.world (its_simple sd) sd.stands its)).again
+    let its = its_stopped sd.image sd.world (core_in at) (program_in at) sd.legal sd.stands c.requires.stopped in
+    (the_filling at sd.image sd.world its (found_slot all.After-find-index sd.image sd.world sd.legal sd.stands its)).again
 
 pub returns-clause-shape : goal.returns-clause-shape
 returns-clause-shape c =
     let all = goal.at.returns-clause-shape c in
     let at = all.Joined-of in
     let sd = c.requires.standing in
-    let its = its_stopped sd.image sd.world (core_in at) (program_in at) (its_simple sd) sd.stands c.requires.stopped in
-    (the_filling at sd.image sd.world its (found_slot all.After-find-index sd.image sd.world (its_simple sd) sd.stands its)).shape
+    let its = its_stopped sd.image sd.world (core_in at) (program_in at) sd.legal sd.stands c.requires.stopped in
+    (the_filling at sd.image sd.world its (found_slot all.After-find-index sd.image sd.world sd.legal sd.stands its)).shape
 
 pub returns-clause-stripe : goal.returns-clause-stripe
 returns-clause-stripe c = λ i w mount st.
-    let simple = simple_in i w mount st in
     let all = goal.at.returns-clause-stripe c in
     let at = all.Joined-of in
-    let its = its_stopped i w (core_in at) (program_in at) simple st c.requires.stopped in
-    let same = the_stripe at i w simple st its (found_slot all.After-find-index i w simple st its) in
+    let its = its_stopped i w (core_in at) (program_in at) mount st c.requires.stopped in
+    let same = the_stripe at i w mount st its (found_slot all.After-find-index i w mount st its) in
     says_stopped i w (core_in at) (program_in at) c.match-of.into.stripe its same (ap (λ s. s.unit) same ∙ its.is.its_unit)
 
 pub returns-clause-stands : goal.returns-clause-stands
@@ -277,34 +281,49 @@ returns-clause-under_way c =
     let all = goal.at.returns-clause-under_way c in
     let at = all.Joined-of in
     let sd = c.requires.standing in
-    let its = its_stopped sd.image sd.world (core_in at) (program_in at) (its_simple sd) sd.stands c.requires.stopped in
-    let same = the_stripe at sd.image sd.world (its_simple sd) sd.stands its
-    (found_slot all.After-find-index sd.image sd.world (its_simple sd) sd.stands its) in
+    let its = its_stopped sd.image sd.world (core_in at) (program_in at) sd.legal sd.stands c.requires.stopped in
+    let same = the_stripe at sd.image sd.world sd.legal sd.stands its
+    (found_slot all.After-find-index sd.image sd.world sd.legal sd.stands its) in
     let inside = unit_inside sd.image sd.world (core_in at) c.args.of.now.unit sd.stands its.is.row.inside in (
       program_in at,
       ap₂ (λ (p : Placing) u. slice_get p.units u) (the_rest at c.placed.new.self c.placed.ensures.placed).placer (ap (λ s. s.unit) same ∙ its.is.its_unit)
           ∙ placed_has c.args.self.now.placer (program_in at) inside,
     )
 
+pub returns-clause-entries : goal.returns-clause-entries
+returns-clause-entries c = λ other there.
+    let all = goal.at.returns-clause-entries c in
+    let at = all.Joined-of in
+    let sd = c.requires.standing in
+    let its = its_stopped sd.image sd.world (core_in at) (program_in at) sd.legal sd.stands c.requires.stopped in
+    let same = the_stripe at sd.image sd.world sd.legal sd.stands its
+    (found_slot all.After-find-index sd.image sd.world sd.legal sd.stands its) in
+    let inside = unit_inside sd.image sd.world (core_in at) c.args.of.now.unit sd.stands its.is.row.inside in
+    let rest = the_rest at c.placed.new.self c.placed.ensures.placed in
+    let own = ap₂ (λ (p : Placing) u. slice_get p.units u) rest.placer (ap (λ s. s.unit) same ∙ its.is.its_unit)
+    ∙ placed_has c.args.self.now.placer (program_in at) inside in
+    ap₂ positions_in_stripe (rest.layout ∙ sd.stands.layout) same
+    ∙ sym (positions_are sd.image sd.world c.args.of.now.unit (program_in at) its.is)
+    ∙ ap (λ (x : Program). x.positions) (same_Some (program_in at) other (ap (option_and_then under_way_in) (sym own ∙ there)))
+
 pub returns-clause-rows : goal.returns-clause-rows
 returns-clause-rows c = λ other apart.
     let all = goal.at.returns-clause-rows c in
     let at = all.Joined-of in
     let sd = c.requires.standing in
-    let its = its_stopped sd.image sd.world (core_in at) (program_in at) (its_simple sd) sd.stands c.requires.stopped in
-    let same = the_stripe at sd.image sd.world (its_simple sd) sd.stands its
-    (found_slot all.After-find-index sd.image sd.world (its_simple sd) sd.stands its) in
+    let its = its_stopped sd.image sd.world (core_in at) (program_in at) sd.legal sd.stands c.requires.stopped in
+    let same = the_stripe at sd.image sd.world sd.legal sd.stands its
+    (found_slot all.After-find-index sd.image sd.world sd.legal sd.stands its) in
     ap (λ (p : Placing). slice_get p.units other) (the_rest at c.placed.new.self c.placed.ensures.placed).placer
     ∙ placed_beside c.args.self.now.placer (program_in at) c.match-of.into.stripe.unit other (sym (ap (λ s. s.unit) same ∙ its.is.its_unit)) apart
 
 pub returns-clause-turn : goal.returns-clause-turn
 returns-clause-turn c = λ i w mount st.
-    let simple = simple_in i w mount st in
     let all = goal.at.returns-clause-turn c in
     let at = all.Joined-of in
-    let its = its_stopped i w (core_in at) (program_in at) simple st c.requires.stopped in
-    let slot = found_slot all.After-find-index i w simple st its in
-    let unit : c.match-of.into.stripe.unit ≡ c.args.of.now.unit = ap (λ s. s.unit) (the_stripe at i w simple st its slot) ∙ its.is.its_unit in
+    let its = its_stopped i w (core_in at) (program_in at) mount st c.requires.stopped in
+    let slot = found_slot all.After-find-index i w mount st its in
+    let unit : c.match-of.into.stripe.unit ≡ c.args.of.now.unit = ap (λ s. s.unit) (the_stripe at i w mount st its slot) ∙ its.is.its_unit in
     (the_filling at i w its slot).turn
     ∙ count_told i (log_of w) c.args.self.now c.args.of.now.unit c.index-turn.result.now st its.is.row.inside c.index-turn.ensures
     ∙ ap (answer_count (log_of w 0)) (sym unit)

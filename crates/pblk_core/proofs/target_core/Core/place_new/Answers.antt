@@ -6,17 +6,13 @@ use Rattle.pblk_model.specs.Chunk.{Block}
 use Rattle.stripe_placer.specs.declared.placement.StripeKind.{StripeKind}
 use Rattle.stripe_placer.specs.declared.placement.StripeKind.TheVariants as kinds
 use Rattle.line_table.specs.Rows.{Table}
-use Rattle.core_laws.specs.ClosedLines.{top_of}
 use Rattle.core_laws.specs.StripeFor.{IsStripeFor}
 use Rattle.pblk_core.specs.Entries.{entry_blocks, placed_lines, placed_rows}
 use Rattle.pblk_core.specs.Filling.{Filling, followed_by}
-use Rattle.pblk_core.specs.LineNotes.{note_placed}
 use Rattle.pblk_core.specs.LineRecords.{blocks_at_start, blocks_at_end, end_begins}
 use Rattle.pblk_core.specs.Slots.{IsSlot, with_marks}
-use Rattle.lemmas.proofs.Parts.{get_set_other, got_within}
-use Rattle.pblk_core.specs.declared.line_notes.LineNote.{LineNote}
-use Rattle.pblk_core.proofs.BarrenLines.{brings_none, placed_elsewhere, set_unclosed, unclosed_by_logs}
-use Rattle.pblk_core.proofs.SimpleLogs.{its_simple, simple_in}
+use Rattle.pblk_core.specs.declared.line_notes.LineNotes.{LineNotes}
+use Rattle.pblk_core.proofs.BarrenLines.{brings_none, placed_elsewhere, unclosed_by_logs}
 use Rattle.pblk_core.proofs.KeptFrames.{placed_pad}
 use Rattle.pblk_core.proofs.PlacedStripe.{due_now}
 use Rattle.pblk_core.proofs.StandsPlaced.{entries_for, line_unclosed, slots_for, placed_stands}
@@ -25,16 +21,20 @@ use Rattle.pblk_model.specs.Image.{Image}
 use Rattle.pblk_world.specs.World.{World, log_of}
 use Rattle.pblk_world.specs.Events.{Stripe}
 use Rattle.pblk_world.specs.Placing.{stripe_at}
-use Rattle.core_laws.specs.SimpleMounts.{IsSimpleMount}
-use Rattle.stripe_placer.specs.Placing.{Program, Placing, program}
+use Rattle.world_laws.specs.LegalMounts.{IsLegalMount}
+use Rattle.stripe_placer.specs.Placing.{Program, Placing, program, under_way_in}
 use Rattle.pblk_model.specs.Shape.{units}
 use Rattle.pblk_core.specs.Stands.{Stands, answer_count}
 use Rattle.pblk_core.proofs.AnswerCounts.{count_told}
 use Rattle.pblk_core.specs.declared.open_lines.OpenLine.{OpenLine as KeptLine}
 use Rattle.pblk_core.specs.declared.target_core.Core.{Core}
 use Rattle.pblk_core.proofs.PlacedStripe.{IsInPart}
+use Rattle.core_laws.specs.PlacerOf.{positions_in_stripe}
+use Rattle.std.specs.Option.{option_and_then}
+use Rattle.std.proofs.lemmas.Option.{same_Some}
+use Rattle.pblk_core.specs.Landing.{new_count}
 use Rattle.pblk_core.proofs.WaitingEntries.{sectors_sized}
-use Rattle.pblk_core.proofs.PlacingConditions.{offer, IsFound, found, found_there, slot_is, in_the_window, positions_small, few_entries, line_inside, live_room, marks_room, marks_told, end_from, end_within, left_room, placed_short, under_way_short, told_entries, unit_inside, start_stripe_is, end_stripe_is, data_stripe_is, stripe_of, IsSettledInto, settled_same, left_back, slot_there, no_positions, padded_is, told_marks}
+use Rattle.pblk_core.proofs.PlacingConditions.{offer, IsFound, found, found_there, slot_is, in_the_window, few_entries, line_inside, live_room, marks_room, marks_told, end_from, end_within, left_room, placed_short, few_new, front_short, pad_stripe_is, pads_are, under_way_short, told_entries, unit_inside, start_stripe_is, end_stripe_is, data_stripe_is, stripe_of, IsSettledInto, settled_same, left_back, slot_there, no_positions, padded_is, told_marks}
 use Rattle.stripe_placer.proofs.PlacingLemmas.{placed_has, placed_shape}
 use Rattle.pblk_core.proofs.target_core.Core.place_new.Goals as goal
 use Rattle.pblk_core.proofs.UnitRows.{placed_beside}
@@ -48,23 +48,23 @@ positions-positions-requires c =
     let sd = c.requires.standing in
     let old : Placing = c.args.self.now.placer in
     let of : Program = program old c.args.of.now in
-    let its = offer sd.image sd.world c.args.self.now of (its_simple sd) sd.stands c.requires.next c.requires.idle in
+    let its = offer sd.image sd.world c.args.self.now of sd.legal sd.stands c.requires.next c.requires.idle in
     subst (λ (p : Placing). of.unit < units p.shape) (sym c.placed.ensures.placed)
     (subst (λ (s : Shape). of.unit < units s) (sym (placed_shape old of ∙ ap (λ (p : Placing). p.shape) sd.stands.placing)) its.1.unit)
 
 -- the line of the program is found among the open ones
-its_line : (c : After-find-index) (i : Image) (w : World) → IsSimpleMount i w → Stands i (log_of w) c.args.self.now
+its_line : (c : After-find-index) (i : Image) (w : World) → IsLegalMount i w → Stands i (log_of w) c.args.self.now
     → IsFound i w c.args.self.now (program c.args.self.now.placer c.args.of.now) c.find-index.result
-its_line c i w simple st =
+its_line c i w mount st =
     let at = c.find-index.ensures in
-    found i w c.args.self.now (program c.args.self.now.placer c.args.of.now) c.find-index.result simple st c.requires.next c.requires.idle
+    found i w c.args.self.now (program c.args.self.now.placer c.args.of.now) c.find-index.result mount st c.requires.next c.requires.idle
     at.inside at.line at.first
 
 pub find-index-requires-clause-there : goal.find-index-requires-clause-there
 find-index-requires-clause-there c =
     let sd = c.requires.standing in
     let of : Program = program c.args.self.now.placer c.args.of.now in
-    found_there sd.image sd.world c.args.self.now of (its_simple sd) sd.stands c.requires.next c.requires.idle
+    found_there sd.image sd.world c.args.self.now of sd.legal sd.stands c.requires.next c.requires.idle
 
 pub start_stripe-requires-clause-shape : goal.start_stripe-requires-clause-shape
 start_stripe-requires-clause-shape c = λ slot there.
@@ -76,7 +76,7 @@ pub start_stripe-requires-clause-within : goal.start_stripe-requires-clause-with
 start_stripe-requires-clause-within c =
     let sd = c.requires.standing in
     let of : Program = program c.args.self.now.placer c.args.of.now in
-    let its = offer sd.image sd.world c.args.self.now of (its_simple sd) sd.stands c.requires.next c.requires.idle in
+    let its = offer sd.image sd.world c.args.self.now of sd.legal sd.stands c.requires.next c.requires.idle in
     let begun : c.begin.new.self.shape ≡ sd.image.shape = ap (λ f. f.shape) c.begin.ensures ∙ c.requires.shape ∙ sd.stands.layout in
     subst (λ (s : Shape). of.at + s.ws_opt ≤ start_len s) (sym begun) (subst (IsInPart sd.image.shape its.0 of.at) c.in-Start.is its.1.part)
 
@@ -85,23 +85,23 @@ fill-requires-clause-held c = λ k q e.
     let sd = c.requires.standing in
     let core : Core = c.args.self.now in
     let of : Program = program core.placer c.args.of.now in
-    let its = offer sd.image sd.world c.args.self.now of (its_simple sd) sd.stands c.requires.next c.requires.idle in
+    let its = offer sd.image sd.world c.args.self.now of sd.legal sd.stands c.requires.next c.requires.idle in
     let told : c.positions-positions.result.now ≡ of.positions =
     told_entries sd.image sd.world core c.placed.new.self its.0 of _ sd.stands its.1 c.placed.ensures.placed c.positions-positions.ensures in
-    in_the_window sd.image sd.world core its.0 of k q (its_simple sd) sd.stands its.1 (ap (λ qs. slice_get qs k) (sym told) ∙ e)
+    in_the_window sd.image sd.world core its.0 of k q sd.legal sd.stands its.1 (ap (λ qs. slice_get qs k) (sym told) ∙ e)
 
 pub fill-requires-clause-size : goal.fill-requires-clause-size
 fill-requires-clause-size c = λ q sector e.
     let sd = c.requires.standing in
     let begun : c.begin.new.self.shape ≡ sd.image.shape = ap (λ f. f.shape) c.begin.ensures ∙ c.requires.shape ∙ sd.stands.layout in
-    sectors_sized sd.image sd.world c.args.self.now q sector (its_simple sd) sd.stands e ∙ ap (λ (s : Shape). s.sector) (sym begun)
+    sectors_sized sd.image sd.world c.args.self.now q sector sd.legal sd.stands e ∙ ap (λ (s : Shape). s.sector) (sym begun)
 
 pub fill-requires-clause-room : goal.fill-requires-clause-room
 fill-requires-clause-room c =
     let sd = c.requires.standing in
     let core : Core = c.args.self.now in
     let of : Program = program core.placer c.args.of.now in
-    let its = offer sd.image sd.world c.args.self.now of (its_simple sd) sd.stands c.requires.next c.requires.idle in
+    let its = offer sd.image sd.world c.args.self.now of sd.legal sd.stands c.requires.next c.requires.idle in
     let told : c.positions-positions.result.now ≡ of.positions =
     told_entries sd.image sd.world core c.placed.new.self its.0 of _ sd.stands its.1 c.placed.ensures.placed c.positions-positions.ensures in
     let begun : c.begin.new.self.shape ≡ sd.image.shape = ap (λ f. f.shape) c.begin.ensures ∙ c.requires.shape ∙ sd.stands.layout in
@@ -113,7 +113,7 @@ pub settle_lines-requires-clause-inside : goal.settle_lines-requires-clause-insi
 settle_lines-requires-clause-inside c =
     let sd = c.requires.standing in
     let of : Program = program c.args.self.now.placer c.args.of.now in
-    let its = offer sd.image sd.world c.args.self.now of (its_simple sd) sd.stands c.requires.next c.requires.idle in
+    let its = offer sd.image sd.world c.args.self.now of sd.legal sd.stands c.requires.next c.requires.idle in
     line_inside sd.image sd.world c.args.self.now of.line sd.stands its.1.line
 
 pub settle_lines-requires-clause-room : goal.settle_lines-requires-clause-room
@@ -121,39 +121,22 @@ settle_lines-requires-clause-room c = λ row there.
     let sd = c.requires.standing in
     let core : Core = c.args.self.now in
     let of : Program = program core.placer c.args.of.now in
-    let its = offer sd.image sd.world c.args.self.now of (its_simple sd) sd.stands c.requires.next c.requires.idle in
+    let its = offer sd.image sd.world c.args.self.now of sd.legal sd.stands c.requires.next c.requires.idle in
     let told : c.positions-positions.result.now ≡ of.positions =
     told_entries sd.image sd.world core c.placed.new.self its.0 of _ sd.stands its.1 c.placed.ensures.placed c.positions-positions.ensures in
     let few : of.count ≤ sd.image.shape.ws_opt = few_entries sd.image sd.world core.placer.entries.pad its.0 of its.1 in
     subst (λ n. row.live + n < 2 ^ 32) (sym (ap (λ (qs : List ℕ). length qs) told ∙ sym its.1.count))
-    (live_room sd.image sd.world core of.line of.count row (its_simple sd) sd.stands there few)
-
-pub place-requires-clause-inside : goal.place-requires-clause-inside
-place-requires-clause-inside c =
-    let sd = c.requires.standing in
-    let of : Program = program c.args.self.now.placer c.args.of.now in
-    let its = offer sd.image sd.world c.args.self.now of (its_simple sd) sd.stands c.requires.next c.requires.idle in
-    subst (λ n. of.line < n) (sym sd.stands.notes.count) its.1.line
-
-pub place-requires-clause-small : goal.place-requires-clause-small
-place-requires-clause-small c = λ k q e.
-    let sd = c.requires.standing in
-    let core : Core = c.args.self.now in
-    let of : Program = program core.placer c.args.of.now in
-    let its = offer sd.image sd.world c.args.self.now of (its_simple sd) sd.stands c.requires.next c.requires.idle in
-    let told : c.positions-positions.result.now ≡ of.positions =
-    told_entries sd.image sd.world core c.placed.new.self its.0 of _ sd.stands its.1 c.placed.ensures.placed c.positions-positions.ensures in
-    positions_small sd.image sd.world core its.0 of k q (its_simple sd) sd.stands its.1 (ap (λ qs. slice_get qs k) (sym told) ∙ e)
+    (live_room sd.image sd.world core of.line of.count row sd.legal sd.stands there few)
 
 pub mark_data-requires-clause-room : goal.mark_data-requires-clause-room
 mark_data-requires-clause-room c = λ slot there.
     let sd = c.requires.standing in
     let core : Core = c.args.self.now in
     let of : Program = program core.placer c.args.of.now in
-    let f = its_line (goal.at.mark_data-requires-clause-room c).After-find-index sd.image sd.world (its_simple sd) sd.stands in
+    let f = its_line (goal.at.mark_data-requires-clause-room c).After-find-index sd.image sd.world sd.legal sd.stands in
     let shape : c.pad.new.self.shape ≡ sd.image.shape =
     ap (λ f. f.shape) c.pad.ensures ∙ ap (λ f. f.shape) c.fill.ensures ∙ ap (λ f. f.shape) c.begin.ensures ∙ c.requires.shape ∙ sd.stands.layout in
-    marks_room sd.image sd.world f.o of core.placer.entries.pad slot (length c.parts.result.1.now) (its_simple sd) f.now c.in-Data.is
+    marks_room sd.image sd.world f.o of core.placer.entries.pad slot (length c.parts.result.1.now) sd.legal f.now c.in-Data.is
     (slot_is sd.image sd.world core of c.find-index.result slot f there)
     (subst (λ (s : Shape). length c.parts.result.1.now ≤ s.ws_opt) shape c.parts.ensures.few)
 
@@ -162,19 +145,14 @@ overflow_sub-self c =
     let sd = c.requires.standing in
     let core : Core = c.args.self.now in
     let of : Program = program core.placer c.args.of.now in
-    let its = offer sd.image sd.world c.args.self.now of (its_simple sd) sd.stands c.requires.next c.requires.idle in
-    let less : sd.image.shape.ws_opt ≤ core.left = left_room sd.image sd.world core its.0 of (its_simple sd) sd.stands its.1 c.in-Data.is in
+    let its = offer sd.image sd.world c.args.self.now of sd.legal sd.stands c.requires.next c.requires.idle in
+    let less : sd.image.shape.ws_opt ≤ core.left = left_room sd.image sd.world core its.0 of sd.legal sd.stands its.1 c.in-Data.is in
     subst (λ n. n ≤ core.left) (sym (c.from.ensures ∙ ap (λ (s : Shape). s.ws_opt) (c.shape.ensures.shape ∙ sd.stands.layout))) less
 
 pub overflow_add-self : goal.overflow_add-self
 overflow_add-self c =
     let sd = c.requires.standing in
-    let core : Core = c.args.self.now in
-    let of : Program = program core.placer c.args.of.now in
-    let its = offer sd.image sd.world c.args.self.now of (its_simple sd) sd.stands c.requires.next c.requires.idle in
-    let few : c.args.self.now.placed + c.args.of.now.count < 2 ^ 64 =
-    placed_short sd.image sd.world core its.0 of (its_simple sd) sd.stands its.1 c.in-Data.is in
-    let count : c.from-in-Data.result ≡ c.args.of.now.count = c.from-in-Data.ensures in
+    let short : c.args.self.now.first + c.args.self.now.placed < 2 ^ 64 = front_short sd.image sd.world c.args.self.now sd.legal sd.stands in
     omega arith
 
 pub end_stripe-requires-clause-shape : goal.end_stripe-requires-clause-shape
@@ -188,8 +166,8 @@ end_stripe-requires-clause-told c = λ slot there.
     let sd = c.requires.standing in
     let core : Core = c.args.self.now in
     let of : Program = program core.placer c.args.of.now in
-    let f = its_line (goal.at.end_stripe-requires-clause-told c).After-find-index sd.image sd.world (its_simple sd) sd.stands in
-    marks_told sd.image sd.world f.o of core.placer.entries.pad slot (its_simple sd) f.now c.in-End.is
+    let f = its_line (goal.at.end_stripe-requires-clause-told c).After-find-index sd.image sd.world sd.legal sd.stands in
+    marks_told sd.image sd.world f.o of core.placer.entries.pad slot sd.legal f.now c.in-End.is
     (slot_is sd.image sd.world core of c.find-index.result slot f there)
 
 pub end_stripe-requires-clause-from : goal.end_stripe-requires-clause-from
@@ -197,7 +175,7 @@ end_stripe-requires-clause-from c = λ slot there.
     let sd = c.requires.standing in
     let core : Core = c.args.self.now in
     let of : Program = program core.placer c.args.of.now in
-    let f = its_line (goal.at.end_stripe-requires-clause-from c).After-find-index sd.image sd.world (its_simple sd) sd.stands in
+    let f = its_line (goal.at.end_stripe-requires-clause-from c).After-find-index sd.image sd.world sd.legal sd.stands in
     end_from sd.image sd.world f.o of core.placer.entries.pad slot f.now c.in-End.is
     (slot_is sd.image sd.world core of c.find-index.result slot f there)
 
@@ -206,9 +184,27 @@ end_stripe-requires-clause-within c = λ slot there.
     let sd = c.requires.standing in
     let core : Core = c.args.self.now in
     let of : Program = program core.placer c.args.of.now in
-    let f = its_line (goal.at.end_stripe-requires-clause-within c).After-find-index sd.image sd.world (its_simple sd) sd.stands in
-    end_within sd.image sd.world f.o of core.placer.entries.pad slot (its_simple sd) f.now
+    let f = its_line (goal.at.end_stripe-requires-clause-within c).After-find-index sd.image sd.world sd.legal sd.stands in
+    end_within sd.image sd.world f.o of core.placer.entries.pad slot sd.legal f.now
     (slot_is sd.image sd.world core of c.find-index.result slot f there)
+
+pub overflow_add-self-in-Data : goal.overflow_add-self-in-Data
+overflow_add-self-in-Data c =
+    let sd = c.requires.standing in
+    let core : Core = c.args.self.now in
+    let of : Program = program core.placer c.args.of.now in
+    let its = offer sd.image sd.world core of sd.legal sd.stands c.requires.next c.requires.idle in
+    let told : c.positions-positions.result.now ≡ of.positions =
+    told_entries sd.image sd.world core c.placed.new.self its.0 of _ sd.stands its.1 c.placed.ensures.placed c.positions-positions.ensures in
+    let few : of.count ≤ sd.image.shape.ws_opt = few_entries sd.image sd.world core.placer.entries.pad its.0 of its.1 in
+    let most : length c.positions-positions.result.now ≤ sd.image.shape.ws_opt =
+    subst (λ n. n ≤ sd.image.shape.ws_opt) (sym (ap (λ (qs : List ℕ). length qs) told ∙ sym its.1.count)) few in
+    let new : c.count_new.result ≤ length c.positions-positions.result.now =
+    subst (λ n. n ≤ length c.positions-positions.result.now) (sym c.count_new.ensures)
+    (few_new (core.first + core.placed) c.positions-positions.result.now) in
+    let short : core.placed + c.count_new.result < 2 ^ 64 =
+    placed_short sd.image sd.world core c.count_new.result sd.legal sd.stands (omega arith) in
+    omega arith
 
 pub overflow_add-self-2 : goal.overflow_add-self-2
 overflow_add-self-2 c =
@@ -220,7 +216,7 @@ overflow_add-self-2 c =
       | in-Pad w ↦ ap (λ (x : Core). x.under_way) w.self-is
       | in-End w ↦ ap (λ (x : Core). x.under_way) w.self-is
     ] in
-    let few : c.args.self.now.under_way + 1 < 2 ^ 32 = under_way_short sd.image sd.world c.args.self.now (its_simple sd) sd.stands in
+    let few : c.args.self.now.under_way + 1 < 2 ^ 32 = under_way_short sd.image sd.world c.args.self.now sd.legal sd.stands in
     omega arith
 
 -- the program, and the core before it
@@ -240,13 +236,10 @@ begun_shape c i v st = ap (λ f. f.shape) c.begin.ensures ∙ c.requires.shape �
 begun_with : (c : Joined-of) (blocks : List Block) → (followed_by c.begin.new.self blocks).stripe ≡ stripe_of (program_in c) blocks
 begun_with c blocks = ap (λ f. (followed_by f blocks).stripe) c.begin.ensures
 
-no_pad : (c : Joined-of) (i : Image) (v : World) → (f : IsFoundIn c i v) → c.args.of.now.kind ≡ kinds.Pad → ⊥
-no_pad c i v f is = subst (IsInPart i.shape f.o c.args.of.now.at) is f.now.part
-
 -- the stripe is the program's
-the_stripe : (c : Joined-of) (i : Image) (v : World) → IsSimpleMount i v → Stands i (log_of v) (core_in c) → (f : IsFoundIn c i v)
+the_stripe : (c : Joined-of) (i : Image) (v : World) → IsLegalMount i v → Stands i (log_of v) (core_in c) → (f : IsFoundIn c i v)
     → IsStripeFor i (log_of v) f.o (program_in c) c.match-of.into.stripe
-the_stripe c i v simple st f =
+the_stripe c i v mount st f =
     let core : Core = core_in c in
     let of : Program = program_in c in
     let pad : ℕ = core.placer.entries.pad in
@@ -264,8 +257,11 @@ the_stripe c i v simple st f =
           let filled = w.fill.ensures ∙ ap (λ qs. followed_by begun (entry_blocks core.window core.holds.rows.items qs)) told in
           let padded = padded_is of c.args.into.now.shape false _ blocks begun w.fill.new.into w.pad.new.self c.begin.ensures filled w.pad.ensures in
           subst (IsStripeFor i (log_of v) f.o of) (sym (ap (λ f. f.stripe) w.into-is ∙ padded))
-          (data_stripe_is i v core f.o of c.args.into.now.shape simple st f.now w.in-Data.is (c.requires.shape ∙ st.layout))
-      | in-Pad w ↦ absurd (no_pad c i v f w.in-Pad.is)
+          (data_stripe_is i v core f.o of c.args.into.now.shape mount st f.now w.in-Data.is (c.requires.shape ∙ st.layout))
+      | in-Pad w ↦
+          let padded = pads_are of c.args.into.now.shape false _ begun w.pad-in-Pad.new.self c.begin.ensures w.pad-in-Pad.ensures in
+          subst (IsStripeFor i (log_of v) f.o of) (sym (ap (λ f. f.stripe) w.into-is ∙ padded))
+          (pad_stripe_is i v pad f.o of c.args.into.now.shape f.now w.in-Pad.is (c.requires.shape ∙ st.layout))
       | in-End w ↦
           let blocks : List Block = stripe_at begun.shape (blocks_at_end f.has.slot.records) (end_begins f.has.slot.records) of.at in
           let filled = ap (λ f. f.stripe) (w.into-is ∙ w.end_stripe.ensures.filled f.has.slot there) ∙ begun_with c blocks in
@@ -273,9 +269,9 @@ the_stripe c i v simple st f =
           (end_stripe_is i v pad f.o of f.has.slot begun.shape f.now w.in-End.is f.has.is (begun_shape c i v st))
     ]
 
-the_rest : (c : Joined-of) (i : Image) (v : World) → IsSimpleMount i v → Stands i (log_of v) (core_in c) → (f : IsFoundIn c i v)
+the_rest : (c : Joined-of) (i : Image) (v : World) → IsLegalMount i v → Stands i (log_of v) (core_in c) → (f : IsFoundIn c i v)
     → IsSettledInto (core_in c) c.match-of.self f.has.k f.has.slot (program_in c) c.match-of.into.stripe
-the_rest c i v simple st f =
+the_rest c i v mount st f =
     let core : Core = core_in c in
     let of : Program = program_in c in
     let mid : Core = c.match-of.self in
@@ -306,47 +302,47 @@ the_rest c i v simple st f =
                 ∙ ap₂ (λ n (ms : List Mark). slice_set core.open.slots.items n (with_marks slot ms)) f.at marks ∙ sym (ap slots w.in-Data.is);
             live = ap (λ (x : Core). x.live) w.self-is;
             resets = ap (λ (x : Core). x.resets) w.self-is;
-            note_rows = λ row there. ap (λ (x : Core). x.notes.rows.items) w.self-is ∙ w.place.ensures.rows row there
-                ∙ ap (λ (qs : List ℕ). slice_set core.notes.rows.items of.line (note_placed (top_of qs) row)) told;
-            newest = ap (λ (x : Core). x.notes.newest) w.self-is ∙ w.place.ensures.newest;
+            notes = ap (λ (x : Core). x.notes) w.self-is;
             start = ap (λ (x : Core). x.start) w.self-is;
             first = ap (λ (x : Core). x.first) w.self-is;
-            placed = ap (λ (x : Core). x.placed) w.self-is ∙ ap (λ n. core.placed + n) (w.from-in-Data.ensures ∙ f.now.count);
+            placed = ap (λ (x : Core). x.placed) w.self-is
+                ∙ ap (λ n. core.placed + n) (w.count_new.ensures ∙ ap (new_count (core.first + core.placed)) told);
             left = ap (λ (x : Core). x.left + entries_for of.kind core.layout.ws_opt) w.self-is
                 ∙ left_back core.left w.from.result i.shape.ws_opt (entries_for of.kind core.layout.ws_opt)
                 (w.from.ensures ∙ ap (λ (s : Shape). s.ws_opt) (w.shape.ensures.shape ∙ st.layout))
-                (ap takes w.in-Data.is ∙ ap (λ (s : Shape). s.ws_opt) st.layout) (left_room i v core f.o of simple st f.now w.in-Data.is);
+                (ap takes w.in-Data.is ∙ ap (λ (s : Shape). s.ws_opt) st.layout) (left_room i v core f.o of mount st f.now w.in-Data.is);
             under_way = ap (λ (x : Core). x.under_way) w.self-is;
             answers = ap (λ (x : Core). x.answers.items) w.self-is;
             users = ap (λ (x : Core). x.users) w.self-is;
           }
-      | in-Pad w ↦ absurd (no_pad c i v f w.in-Pad.is)
+      | in-Pad w ↦ settled_same core mid new core.open f.has.k slot of stripe w.self-is is refl refl
+          (no_positions i v pad f.o of kinds.Pad f.now w.in-Pad.is refl) (ap slots w.in-Pad.is) (ap takes w.in-Pad.is)
       | in-End w ↦ settled_same core mid new w.end_stripe.new.self f.has.k slot of stripe w.self-is is w.end_stripe.ensures.count w.end_stripe.ensures.slots
           (no_positions i v pad f.o of kinds.End f.now w.in-End.is refl) (ap slots w.in-End.is) (ap takes w.in-End.is)
     ]
 
 pub returns-clause-legal : goal.returns-clause-legal
-returns-clause-legal c = λ i v mount st. let simple = simple_in i v mount st in
+returns-clause-legal c = λ i v mount st.
     let all = goal.at.returns-clause-legal c in
     let at = all.Joined-of in
-    let f = its_line all.After-find-index i v simple st in
-    f.now.may c.match-of.into.stripe (the_stripe at i v simple st f)
+    let f = its_line all.After-find-index i v mount st in
+    f.now.may c.match-of.into.stripe (the_stripe at i v mount st f)
 
 pub returns-clause-due : goal.returns-clause-due
-returns-clause-due c = λ i v mount st. let simple = simple_in i v mount st in
+returns-clause-due c = λ i v mount st.
     let all = goal.at.returns-clause-due c in
     let at = all.Joined-of in
-    let f = its_line all.After-find-index i v simple st in
-    due_now i v c.args.self.now.placer.entries.pad f.o (program_in at) c.match-of.into.stripe simple f.now (the_stripe at i v simple st f)
+    let f = its_line all.After-find-index i v mount st in
+    due_now i v c.args.self.now.placer.entries.pad f.o (program_in at) c.match-of.into.stripe mount f.now (the_stripe at i v mount st f)
 
 pub returns-clause-stands : goal.returns-clause-stands
-returns-clause-stands c = λ i v knows mount st. let simple = simple_in i v mount st in
+returns-clause-stands c = λ i v knows mount st.
     let all = goal.at.returns-clause-stands c in
     let at = all.Joined-of in
-    let f = its_line all.After-find-index i v simple st in
+    let f = its_line all.After-find-index i v mount st in
     let stripe : Stripe = c.match-of.into.stripe in
-    let rest : IsSettledInto (core_in at) c.match-of.self f.has.k f.has.slot (program_in at) stripe = the_rest at i v simple st f in
-    placed_stands i v knows (core_in at) _ f.o (program_in at) stripe simple st f.has f.now (the_stripe at i v simple st f) f.now.count (record {
+    let rest : IsSettledInto (core_in at) c.match-of.self f.has.k f.has.slot (program_in at) stripe = the_rest at i v mount st f in
+    placed_stands i v knows (core_in at) _ f.o (program_in at) stripe mount st f.has f.now (the_stripe at i v mount st f) f.now.count (record {
       layout = rest.layout;
       map = rest.map;
       lines = rest.lines;
@@ -357,8 +353,7 @@ returns-clause-stands c = λ i v knows mount st. let simple = simple_in i v moun
       open_slots = rest.open_slots;
       live = rest.live;
       resets = rest.resets;
-      note_rows = rest.note_rows;
-      newest = rest.newest;
+      notes = rest.notes;
       start = rest.start;
       first = rest.first;
       placed = rest.placed;
@@ -373,19 +368,34 @@ returns-clause-under_way c =
     let all = goal.at.returns-clause-under_way c in
     let at = all.Joined-of in
     let sd = c.requires.standing in
-    let f = its_line all.After-find-index sd.image sd.world (its_simple sd) sd.stands in
-    let rest = the_rest at sd.image sd.world (its_simple sd) sd.stands f in
+    let f = its_line all.After-find-index sd.image sd.world sd.legal sd.stands in
+    let rest = the_rest at sd.image sd.world sd.legal sd.stands f in
     let for : IsStripeFor sd.image (log_of sd.world) f.o (program_in at) c.match-of.into.stripe =
-    the_stripe at sd.image sd.world (its_simple sd) sd.stands f in
+    the_stripe at sd.image sd.world sd.legal sd.stands f in
     let inside = unit_inside sd.image sd.world (core_in at) c.args.of.now.unit sd.stands f.now.unit in
     (program_in at, ap₂ (λ (p : Placing) u. slice_get p.units u) rest.placer for.unit ∙ placed_has c.args.self.now.placer (program_in at) inside)
+
+pub returns-clause-entries : goal.returns-clause-entries
+returns-clause-entries c = λ other there.
+    let all = goal.at.returns-clause-entries c in
+    let at = all.Joined-of in
+    let sd = c.requires.standing in
+    let f = its_line all.After-find-index sd.image sd.world sd.legal sd.stands in
+    let rest = the_rest at sd.image sd.world sd.legal sd.stands f in
+    let for : IsStripeFor sd.image (log_of sd.world) f.o (program_in at) c.match-of.into.stripe =
+    the_stripe at sd.image sd.world sd.legal sd.stands f in
+    let inside = unit_inside sd.image sd.world (core_in at) c.args.of.now.unit sd.stands f.now.unit in
+    let own = ap₂ (λ (p : Placing) u. slice_get p.units u) rest.placer for.unit ∙ placed_has c.args.self.now.placer (program_in at) inside in
+    ap (λ s. positions_in_stripe s c.match-of.into.stripe) (rest.layout ∙ sd.stands.layout)
+    ∙ (f.now.its c.match-of.into.stripe for).positions
+    ∙ ap (λ (x : Program). x.positions) (same_Some (program_in at) other (ap (option_and_then under_way_in) (sym own ∙ there)))
 
 pub returns-clause-shape : goal.returns-clause-shape
 returns-clause-shape c =
     let all = goal.at.returns-clause-shape c in
     let at = all.Joined-of in
     let sd = c.requires.standing in
-    let f = its_line all.After-find-index sd.image sd.world (its_simple sd) sd.stands in
+    let f = its_line all.After-find-index sd.image sd.world sd.legal sd.stands in
     let there : IsSlot c.args.self.now.open c.find-index.result f.has.slot =
     slot_there sd.image sd.world (core_in at) (program_in at) c.find-index.result f in
     let begun : c.begin.new.self.shape ≡ c.args.into.now.shape = ap (λ f. f.shape) c.begin.ensures in
@@ -401,16 +411,16 @@ returns-clause-window c =
     let all = goal.at.returns-clause-window c in
     let at = all.Joined-of in
     let sd = c.requires.standing in
-    let f = its_line all.After-find-index sd.image sd.world (its_simple sd) sd.stands in
-    (the_rest at sd.image sd.world (its_simple sd) sd.stands f).window
+    let f = its_line all.After-find-index sd.image sd.world sd.legal sd.stands in
+    (the_rest at sd.image sd.world sd.legal sd.stands f).window
 
 pub returns-clause-pad : goal.returns-clause-pad
 returns-clause-pad c =
     let all = goal.at.returns-clause-pad c in
     let at = all.Joined-of in
     let sd = c.requires.standing in
-    let f = its_line all.After-find-index sd.image sd.world (its_simple sd) sd.stands in
-    ap (λ (p : Placing). p.entries.pad) (the_rest at sd.image sd.world (its_simple sd) sd.stands f).placer
+    let f = its_line all.After-find-index sd.image sd.world sd.legal sd.stands in
+    ap (λ (p : Placing). p.entries.pad) (the_rest at sd.image sd.world sd.legal sd.stands f).placer
     ∙ placed_pad c.args.self.now.placer (program_in at)
 
 pub returns-clause-first : goal.returns-clause-first
@@ -418,7 +428,7 @@ returns-clause-first c =
     let all = goal.at.returns-clause-first c in
     let at = all.Joined-of in
     let sd = c.requires.standing in
-    let f = its_line all.After-find-index sd.image sd.world (its_simple sd) sd.stands in
+    let f = its_line all.After-find-index sd.image sd.world sd.legal sd.stands in
     let there : IsSlot c.args.self.now.open c.find-index.result f.has.slot =
     slot_there sd.image sd.world (core_in at) (program_in at) c.find-index.result f in
     let begun : c.begin.new.self.again ≡ false = ap (λ f. f.again) c.begin.ensures in
@@ -434,21 +444,20 @@ returns-clause-rows c = λ other apart.
     let all = goal.at.returns-clause-rows c in
     let at = all.Joined-of in
     let sd = c.requires.standing in
-    let f = its_line all.After-find-index sd.image sd.world (its_simple sd) sd.stands in
-    let rest = the_rest at sd.image sd.world (its_simple sd) sd.stands f in
+    let f = its_line all.After-find-index sd.image sd.world sd.legal sd.stands in
+    let rest = the_rest at sd.image sd.world sd.legal sd.stands f in
     let for : IsStripeFor sd.image (log_of sd.world) f.o (program_in at) c.match-of.into.stripe =
-    the_stripe at sd.image sd.world (its_simple sd) sd.stands f in
+    the_stripe at sd.image sd.world sd.legal sd.stands f in
     ap (λ (p : Placing). slice_get p.units other) rest.placer
     ∙ placed_beside c.args.self.now.placer (program_in at) c.match-of.into.stripe.unit other (sym for.unit) apart
 
 pub returns-clause-turn : goal.returns-clause-turn
 returns-clause-turn c = λ i w mount st.
-    let simple = simple_in i w mount st in
     let all = goal.at.returns-clause-turn c in
     let at = all.Joined-of in
-    let f = its_line all.After-find-index i w simple st in
+    let f = its_line all.After-find-index i w mount st in
     let there : IsSlot c.args.self.now.open c.find-index.result f.has.slot = slot_there i w (core_in at) (program_in at) c.find-index.result f in
-    let for : IsStripeFor i (log_of w) f.o (program_in at) c.match-of.into.stripe = the_stripe at i w simple st f in
+    let for : IsStripeFor i (log_of w) f.o (program_in at) c.match-of.into.stripe = the_stripe at i w mount st f in
     let begun : c.begin.new.self.turn ≡ c.index-turn.result.now = ap (λ f. f.turn) c.begin.ensures in
     let told : c.match-of.into.turn ≡ c.index-turn.result.now = elim c.match-of.branch as (λ b. c.match-of.into.turn ≡ c.index-turn.result.now) [
       | in-Start w ↦ ap (λ f. f.turn) (w.into-is ∙ w.start_stripe.ensures f.has.slot there) ∙ begun
@@ -467,19 +476,16 @@ returns-clause-brings c =
     let sd = c.requires.standing in
     let core : Core = core_in at in
     let of : Program = program_in at in
-    let f = its_line all.After-find-index sd.image sd.world (its_simple sd) sd.stands in
-    let rest = the_rest at sd.image sd.world (its_simple sd) sd.stands f in
-    let inside : of.line < length core.notes.rows.items = subst (λ n. of.line < n) (sym sd.stands.notes.count) f.now.line in
-    let row = got_within core.notes.rows.items of.line inside in
+    let f = its_line all.After-find-index sd.image sd.world sd.legal sd.stands in
+    let rest = the_rest at sd.image sd.world sd.legal sd.stands f in
     let unclosed = unclosed_by_logs sd.image sd.world core of.line sd.stands
-    (line_unclosed sd.image sd.world core.placer.entries.pad f.o of (its_simple sd) f.now) in
+    (line_unclosed sd.image sd.world core.placer.entries.pad f.o of sd.legal f.now) in
     brings_none core c.match-of.self of.line (record {
       layout = rest.layout;
-      newest = rest.newest;
+      newest = ap (λ (n : LineNotes). n.newest) rest.notes;
       others = λ other apart. record {
-        notes = ap (λ (rs : List LineNote). slice_get rs other) (rest.note_rows row.0 row.1)
-            ∙ get_set_other core.notes.rows.items of.line other _ apart;
+        notes = ap (λ (n : LineNotes). slice_get n.rows.items other) rest.notes;
         rows = ap (λ (t : Table). slice_get t.rows other) rest.lines ∙ placed_elsewhere core.holds.rows.items of.line other of.positions core.lines apart;
         live = ap (λ us. slice_get us.items other) rest.live;
       };
-    }) (set_unclosed core.notes.rows.items c.match-of.self.notes.rows.items of.line _ inside (rest.note_rows row.0 row.1) (unclosed row.0 row.1))
+    }) (λ note there. unclosed note (ap (λ (n : LineNotes). slice_get n.rows.items of.line) (sym rest.notes) ∙ there))

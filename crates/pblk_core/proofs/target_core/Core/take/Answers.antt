@@ -20,8 +20,8 @@ use Rattle.pblk_core.proofs.BarrenLines.{barren_but}
 use Rattle.pblk_core.proofs.TabledLines.{tabled_by_logs, tabled_same}
 use Rattle.pblk_core.proofs.target_core.Core.take.Goals as goal
 
--- What is collected once the entry is in the tables: all but whether a copy is under way, and whether
--- it is known that no line may be collected, is as it was.
+-- What is collected once the entry is in the tables: all but whether a copy is under way, and
+-- whether it is known that no line may be collected, is as it was.
 record IsEnded (old entered ended : Core) : Type 0 where
   whole : ended ≡ record entered { collection = ended.collection }
   own : ended.collection ≡ record entered.collection { under_way = ended.collection.under_way; barren = ended.collection.barren }

@@ -19,7 +19,6 @@ use Rattle.pblk_core.specs.Holds.{line_of_slot}
 use Rattle.pblk_core.specs.Stands.{Stands}
 use Rattle.pblk_core.specs.Taken.{entry_of, mark_of, users_in}
 use Rattle.pblk_core.proofs.BarrenLines.{brings_but, lost_elsewhere}
-use Rattle.pblk_core.proofs.SimpleLogs.{its_simple, simple_in}
 use Rattle.pblk_core.proofs.HeldPositions.{held_room, held_another, held_rises}
 use Rattle.pblk_core.proofs.StandsFacts.{users_few, window_taken_is}
 use Rattle.pblk_core.proofs.StandsTaken.{taken_stands, live_inside, live_there, may_take}
@@ -29,7 +28,7 @@ use Rattle.pblk_core.proofs.target_core.Core.take_latest.Goals as goal
 pub returns : goal.returns
 returns c = record {
   stands = λ i w knows mount st. subst (λ (m : Mark). Stands i (after (log_of w) (Take (entry_of c.args.entry) m) knows) c.keep.new.self) (sym mark)
-      (taken_stands i w knows c.args.self.now c.keep.new.self c.args.entry (sector_mark c.args.entry.lba c.args.entry.position) (simple_in i w mount st) st
+      (taken_stands i w knows c.args.self.now c.keep.new.self c.args.entry (sector_mark c.args.entry.lba c.args.entry.position) mount st
       c.requires.can (record {
         kept = record {
           layout = ap (λ s. s.layout) c.keep.ensures.unchanged;
@@ -82,7 +81,7 @@ returns c = record {
         let st = c.requires.standing in
         let each = each_line st.image st.world (log_of st.world) st.legal st.stands in
         subst (λ (s : Shape). line < s.chunks) (sym (ap (λ (x : Core). x.layout) c.keep.ensures.unchanged))
-        (subst (λ n. line < n) each.rows (live_inside st.image st.world c.args.self.now c.args.entry.lba c.get.result line (its_simple st) st.stands c.get.ensures
+        (subst (λ n. line < n) each.rows (live_inside st.image st.world c.args.self.now c.args.entry.lba c.get.result line st.legal st.stands c.get.ensures
         (subst (λ s. c.args.entry.lba < s.capacity) st.stands.layout c.requires.can.lba) is)))
       where
         if_inside : (o : Option ℕ) → ((line : ℕ) → o ≡ Some line → line < c.keep.new.self.layout.chunks)
@@ -101,29 +100,29 @@ get-requires c =
 pub supersede-loser-requires-clause-inside : goal.supersede-loser-requires-clause-inside
 supersede-loser-requires-clause-inside c = λ line is.
     let st = c.requires.standing in
-    live_inside st.image st.world c.args.self.now c.args.entry.lba c.get.result line (its_simple st) st.stands c.get.ensures
+    live_inside st.image st.world c.args.self.now c.args.entry.lba c.get.result line st.legal st.stands c.get.ensures
     (subst (λ s. c.args.entry.lba < s.capacity) st.stands.layout c.requires.can.lba) is
 
 pub supersede-loser-requires-clause-live : goal.supersede-loser-requires-clause-live
 supersede-loser-requires-clause-live c = λ line row is there.
     let st = c.requires.standing in
-    live_there st.image st.world c.args.self.now c.args.entry.lba c.get.result line row (its_simple st) st.stands c.get.ensures
+    live_there st.image st.world c.args.self.now c.args.entry.lba c.get.result line row st.legal st.stands c.get.ensures
     (subst (λ s. c.args.entry.lba < s.capacity) st.stands.layout c.requires.can.lba) is there
 
 pub keep-requires-clause-waits_room : goal.keep-requires-clause-waits_room
 keep-requires-clause-waits_room c =
     let st = c.requires.standing in
-    held_room st.image st.world c.args.self.now (its_simple st) st.stands c.requires.can.room
+    held_room st.image st.world c.args.self.now st.legal st.stands c.requires.can.room
 
 pub keep-requires-clause-another : goal.keep-requires-clause-another
 keep-requires-clause-another c =
     let st = c.requires.standing in
-    held_another st.image st.world c.args.self.now c.args.entry.position (its_simple st) st.stands c.requires.can.next
+    held_another st.image st.world c.args.self.now c.args.entry.position st.legal st.stands c.requires.can.next
 
 pub keep-requires-clause-rises : goal.keep-requires-clause-rises
 keep-requires-clause-rises c =
     let st = c.requires.standing in
-    held_rises st.image st.world c.args.self.now c.args.entry.position (its_simple st) st.stands c.requires.can.next
+    held_rises st.image st.world c.args.self.now c.args.entry.position st.legal st.stands c.requires.can.next
 
 pub overflow_add-self : goal.overflow_add-self
 overflow_add-self c =

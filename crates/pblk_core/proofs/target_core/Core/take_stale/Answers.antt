@@ -15,7 +15,6 @@ use Rattle.pblk_core.specs.declared.target_core.Core.{Core}
 use Rattle.pblk_core.specs.Collecting.{weighed}
 use Rattle.pblk_core.specs.Stands.{Stands}
 use Rattle.pblk_core.specs.Taken.{IsClassed, entry_of, is_latest_from, mark_of, users_in}
-use Rattle.pblk_core.proofs.SimpleLogs.{its_simple, simple_in}
 use Rattle.pblk_core.proofs.HeldPositions.{held_room, held_another, held_rises}
 use Rattle.pblk_core.proofs.StandsFacts.{ring_some}
 use Rattle.pblk_core.proofs.StandsStale.{stale_stands, may_take_stale}
@@ -24,7 +23,7 @@ use Rattle.pblk_core.proofs.target_core.Core.take_stale.Goals as goal
 pub returns : goal.returns
 returns c = record {
   stands = λ i w knows mount st. subst (λ (m : Mark). Stands i (after (log_of w) (Take (entry_of c.args.entry) m) knows) c.keep.new.self) (sym mark)
-      (stale_stands i w knows c.args.self.now c.keep.new.self c.args.entry (simple_in i w mount st) st
+      (stale_stands i w knows c.args.self.now c.keep.new.self c.args.entry mount st
       c.requires.can (record {
         kept = record {
           layout = ap (λ s. s.layout) c.keep.ensures.unchanged;
@@ -84,14 +83,14 @@ keep-requires-clause-holds c =
 pub keep-requires-clause-waits_room : goal.keep-requires-clause-waits_room
 keep-requires-clause-waits_room c =
     let st = c.requires.standing in
-    held_room st.image st.world c.args.self.now (its_simple st) st.stands c.requires.can.room
+    held_room st.image st.world c.args.self.now st.legal st.stands c.requires.can.room
 
 pub keep-requires-clause-another : goal.keep-requires-clause-another
 keep-requires-clause-another c =
     let st = c.requires.standing in
-    held_another st.image st.world c.args.self.now c.args.entry.position (its_simple st) st.stands c.requires.can.next
+    held_another st.image st.world c.args.self.now c.args.entry.position st.legal st.stands c.requires.can.next
 
 pub keep-requires-clause-rises : goal.keep-requires-clause-rises
 keep-requires-clause-rises c =
     let st = c.requires.standing in
-    held_rises st.image st.world c.args.self.now c.args.entry.position (its_simple st) st.stands c.requires.can.next
+    held_rises st.image st.world c.args.self.now c.args.entry.position st.legal st.stands c.requires.can.next
