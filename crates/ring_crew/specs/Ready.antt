@@ -13,7 +13,7 @@ use Rattle.ring_crew.specs.declared.taker.Got.{Got}
 use Rattle.ring_crew.specs.declared.taker.Got.TheVariants as got
 
 -- the pass is the ring's, and the batch has one free frame of the ring's pool, for sectors of at least 16 bytes
-pub record IsReady (ring : Ring) (pass : Pass) (batch : BatchView) : Type 0 where
+pub record HasOneFrame (ring : Ring) (pass : Pass) (batch : BatchView) : Type 0 where
   pub pass_of : IsPassOf ring pass
   pub empty : batch.drafts ≡ []
   pub free : batch.free ≡ 1

@@ -1,7 +1,7 @@
 //! Rows of calls on one thread.
-ghost use Rattle.std.specs.Prelude.{◌≡◌, ◌≢◌, ◌<◌, ◌≤◌, ◌^◌};
+ghost use Rattle.std.specs.Prelude.{◌≡◌, ◌<◌, ◌≤◌, ◌^◌, IsTrue};
 ghost use Rattle.write_ring.specs.Handles.{pass_view, ring_key};
-ghost use Rattle.ring_crew.specs.Ready.{IsReady, IsTaker};
+ghost use Rattle.ring_crew.specs.Ready.{HasOneFrame, IsTaker};
 
 use crate::steps::{SECTOR, Told, put_copy, put_user, took};
 use ring_crew::end;
@@ -50,11 +50,11 @@ fn ask(
 ) -> Told
     requires sectors { 64 ≤ (ring_key ring.now).capacity }
     requires taker { IsTaker ring.now intake.old room }
-    requires ready { IsReady ring.now pass.old batch.old }
+    requires ready { HasOneFrame ring.now pass.old batch.old }
     requires size { batch.old.region.size ≡ 16 }
-    requires copies { (pass_view pass.old).pass.copier ≢ 0 }
+    requires copies { IsTrue (pass_view pass.old).pass.copier }
     ensures taker { IsTaker ring.now intake.new room }
-    ensures ready { IsReady ring.now pass.new batch.new }
+    ensures ready { HasOneFrame ring.now pass.new batch.new }
     ensures region { batch.new.region ≡ batch.old.region }
     ensures shares { (pass_view pass.new).pass.shares ≡ (pass_view pass.old).pass.shares }
     ensures copier { (pass_view pass.new).pass.copier ≡ (pass_view pass.old).pass.copier }
@@ -77,11 +77,11 @@ fn repeat(
 ) -> Option<Row>
     requires sectors { 64 ≤ (ring_key ring.now).capacity }
     requires taker { IsTaker ring.now intake.old room }
-    requires ready { IsReady ring.now pass.old batch.old }
+    requires ready { HasOneFrame ring.now pass.old batch.old }
     requires size { batch.old.region.size ≡ 16 }
-    requires copies { (pass_view pass.old).pass.copier ≢ 0 }
+    requires copies { IsTrue (pass_view pass.old).pass.copier }
     ensures taker { IsTaker ring.now intake.new room }
-    ensures ready { IsReady ring.now pass.new batch.new }
+    ensures ready { HasOneFrame ring.now pass.new batch.new }
     ensures region { batch.new.region ≡ batch.old.region }
     ensures shares { (pass_view pass.new).pass.shares ≡ (pass_view pass.old).pass.shares }
     ensures copier { (pass_view pass.new).pass.copier ≡ (pass_view pass.old).pass.copier }
@@ -107,11 +107,11 @@ fn walk(
 ) -> Option<Row>
     requires sectors { 64 ≤ (ring_key ring.now).capacity }
     requires taker { IsTaker ring.now intake.old room }
-    requires ready { IsReady ring.now pass.old batch.old }
+    requires ready { HasOneFrame ring.now pass.old batch.old }
     requires size { batch.old.region.size ≡ 16 }
-    requires copies { (pass_view pass.old).pass.copier ≢ 0 }
+    requires copies { IsTrue (pass_view pass.old).pass.copier }
     ensures taker { IsTaker ring.now intake.new room }
-    ensures ready { IsReady ring.now pass.new batch.new }
+    ensures ready { HasOneFrame ring.now pass.new batch.new }
     ensures region { batch.new.region ≡ batch.old.region }
     ensures shares { (pass_view pass.new).pass.shares ≡ (pass_view pass.old).pass.shares }
     ensures copier { (pass_view pass.new).pass.copier ≡ (pass_view pass.old).pass.copier }

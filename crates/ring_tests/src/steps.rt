@@ -1,7 +1,7 @@
 //! One sector goes in or comes out, and what the ring told.
-ghost use Rattle.std.specs.Prelude.{◌≡◌, ◌≢◌, ◌<◌};
+ghost use Rattle.std.specs.Prelude.{◌≡◌, ◌<◌, IsTrue};
 ghost use Rattle.write_ring.specs.Handles.{pass_view, ring_key};
-ghost use Rattle.ring_crew.specs.Ready.{IsReady, IsTaker};
+ghost use Rattle.ring_crew.specs.Ready.{HasOneFrame, IsTaker};
 
 use ring_crew::{Got, grant, number, take};
 use sector_pool::{Class, Source};
@@ -59,10 +59,10 @@ fn refused(by: TryPut) -> Told {
 
 /// A user writes a sector.
 pub fn put_user(ring: &Ring, pass: &mut Pass, batch: &mut Batch, lba: u64) -> Told
-    requires ready { IsReady ring.now pass.old batch.old }
+    requires ready { HasOneFrame ring.now pass.old batch.old }
     requires size { batch.old.region.size ≡ 16 }
     requires lba { lba < (ring_key ring.now).capacity }
-    ensures ready { IsReady ring.now pass.new batch.new }
+    ensures ready { HasOneFrame ring.now pass.new batch.new }
     ensures region { batch.new.region ≡ batch.old.region }
     ensures shares { (pass_view pass.new).pass.shares ≡ (pass_view pass.old).pass.shares }
     ensures copier { (pass_view pass.new).pass.copier ≡ (pass_view pass.old).pass.copier }
@@ -79,11 +79,11 @@ pub fn put_user(ring: &Ring, pass: &mut Pass, batch: &mut Batch, lba: u64) -> To
 
 /// A copy of a sector.
 pub fn put_copy(ring: &Ring, pass: &mut Pass, batch: &mut Batch, lba: u64) -> Told
-    requires ready { IsReady ring.now pass.old batch.old }
-    requires copies { (pass_view pass.old).pass.copier ≢ 0 }
+    requires ready { HasOneFrame ring.now pass.old batch.old }
+    requires copies { IsTrue (pass_view pass.old).pass.copier }
     requires size { batch.old.region.size ≡ 16 }
     requires lba { lba < (ring_key ring.now).capacity }
-    ensures ready { IsReady ring.now pass.new batch.new }
+    ensures ready { HasOneFrame ring.now pass.new batch.new }
     ensures region { batch.new.region ≡ batch.old.region }
     ensures shares { (pass_view pass.new).pass.shares ≡ (pass_view pass.old).pass.shares }
     ensures copier { (pass_view pass.new).pass.copier ≡ (pass_view pass.old).pass.copier }

@@ -2,6 +2,7 @@ pub mod Crossing
 pub mod Cutting
 pub mod Emptying
 pub mod Flags
+pub mod Lending
 pub mod OneOwner
 pub mod Params
 pub mod PoolSteps

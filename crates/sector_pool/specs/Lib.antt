@@ -3,3 +3,4 @@ pub mod Places
 pub mod Stack
 pub mod Inside
 pub mod Entry
+pub mod Lending

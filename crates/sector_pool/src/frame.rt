@@ -1,6 +1,8 @@
 //! Frames.
 ghost use Rattle.std.specs.Prelude.{◌≡◌, length};
+ghost use Rattle.std.specs.Borrow.{sem};
 ghost use Rattle.pblk_model.specs.Frames.{AreApart};
+ghost use Rattle.sector_pool.specs.Lending.{LendsBytes};
 
 use crate::memory::{Origin, differ};
 use std::marker::Model;
@@ -40,6 +42,17 @@ impl Frame {
         &self.bytes[..self.size as usize]
     }
 
+    /// The frame's bytes, to be written where they lie: as many as each frame of its pool has. Once
+    /// the slice is given back, the frame has what was written to it.
+    pub fn bytes_mut(&mut self) -> &mut [u8]
+        ensures* writes_back { sem 𝓛 (LendsBytes self.entry result) }
+        ensures bytes { result.now ≡ self.old.bytes }
+        ensures size { length result.now ≡ self.old.region.size }
+    {
+        let size = self.size as usize;
+        self.bytes.slice_mut(..size)
+    }
+
     /// Copies bytes into the frame, which are as many as it has.
     pub fn fill(&mut self, from: &[u8])
         requires size { length from.now ≡ self.old.region.size }
@@ -47,9 +60,7 @@ impl Frame {
         ensures region { self.new.region ≡ self.old.region }
         ensures number { self.new.number ≡ self.old.number }
     {
-        self.bytes
-            .slice_mut(..self.size as usize)
-            .copy_from_slice(from);
+        self.bytes_mut().copy_from_slice(from);
     }
 
     /// Tells contracts that two frames of one pool have no byte in common. It changes nothing.

@@ -1,5 +1,5 @@
 -- The intake gives an empty slot back, takes the slot of the first position that isn't freed, and frees it.
-use Rattle.std.proofs.Common.{◌≡◌, ℕ, ◌+◌, ◌%◌, ◌<◌, List, [], ◌∷◌, set, refl, sym, ap, ◌∙◌, subst, arith}
+use Rattle.std.proofs.Common.{◌≡◌, ℕ, ◌+◌, ◌%◌, ◌<◌, List, [], ◌∷◌, set, false, IsTrue, None, Some, refl, sym, ap, ◌∙◌, subst, arith}
 use Rattle.std.proofs.lemmas.List.{set-get_or}
 use Rattle.std.proofs.Math.Nat.{mod-lt}
 use Rattle.std.specs.Prelude.{slice_index}
@@ -10,17 +10,17 @@ use Rattle.write_ring.specs.declared.view.Key.{Key}
 use Rattle.write_ring.specs.declared.view.Row.{Row}
 use Rattle.write_ring.specs.declared.view.View.{View}
 use Rattle.write_ring.specs.Cells.{slot, turn_at}
-use Rattle.write_ring.specs.Rule.{Each, freed_at}
+use Rattle.write_ring.specs.Rule.{Each, away_number, freed_at}
 use Rattle.write_ring.specs.Stock.{Stock}
 use Rattle.write_ring.specs.Steps.{gave_back, took_free, freed_next}
 use Rattle.write_ring.proofs.Words.{same_words, freed_word, turns_stay}
-use Rattle.write_ring.proofs.SeatMoves.{seats_changed, alone}
+use Rattle.write_ring.proofs.SeatMoves.{never, seats_changed, alone}
 use Rattle.write_ring.proofs.Stocks.{stock_words}
 use Rattle.write_ring.proofs.Takings.{stock_back, stock_out, stock_freed}
 use Rattle.write_ring.proofs.Moves.{Rule, Goods, keys_stay}
 use Rattle.write_ring.proofs.SlotMoves.{looked_turn}
 
-freed_higher : (c f g : ℕ) (u : View) → u.intake.on ≡ 0 → Each c f g u → Each c (f + 1) g u
+freed_higher : (c f g : ℕ) (u : View) → u.intake.on ≡ false → Each c f g u → Each c (f + 1) g u
 freed_higher c f g u off e =
     let saw = e.saw_freed in
     record {
@@ -30,20 +30,20 @@ freed_higher c f g u off e =
       saw_claimed = e.saw_claimed;
       saw_freed = omega arith;
       saw_granted = e.saw_granted;
-      intake = λ yes. absurd (yes off);
+      intake = λ yes. never (sym off ∙ yes);
     }
 
 module _ {S : Type 0} (key : Key) (FreeOf : Key → S → Type 0) (Blank : S → Type 0) (CarriesOf : Key → S → Row → Type 0) (FitsOf : Key → Row → Type 0) where
-  pub gives_back : (by : ℕ) (v : View) (p : ℕ) (x : S) (held : List (ℕ × S)) (slots : ℕ) → slots ≡ key.size → 0 < key.size → v.intake.on ≡ 1
-      → v.intake.away ≡ p + 1 → Blank x
+  pub gives_back : (by : ℕ) (v : View) (p : ℕ) (x : S) (held : List (ℕ × S)) (slots : ℕ) → slots ≡ key.size → 0 < key.size → IsTrue v.intake.on
+      → v.intake.away ≡ Some p → Blank x
       → Allows (Rule key FreeOf Blank CarriesOf FitsOf) slots by (v, (slot key.size p, x) ∷ held) (turn_at key.size p) (λ n. n)
       (λ n m. m ≡ (gave_back v n, held))
   gives_back by v p x held slots all_slots large is_on out blank s h long there small =
       let i = turn_at key.size p in
       let n = slice_index s.words i in
       let w = gave_back v n in
-      let own = (h.stock.entered by v there).desk (λ off. omega arith) in
-      let away_is : h.away ≡ p + 1 = sym own.2 ∙ out in
+      let own = (h.stock.entered by v there).desk is_on in
+      let away_is : h.away ≡ p + 1 = sym own.2 ∙ ap away_number out in
       let only = alone key h.claimed h.freed h.granted s.views by v h.seats there is_on in
       let inside : p % key.size < key.size = mod-lt p large in
       let stock : Goods key FreeOf Blank CarriesOf FitsOf s.words s s.views h.took h.claimed h.taken h.freed (p + 1) =
@@ -73,18 +73,18 @@ module _ {S : Type 0} (key : Key) (FreeOf : Key → S → Type 0) (Blank : S →
       )
 
   -- the slot of the first position that isn't freed is empty
-  pub takes_free : (by : ℕ) (v : View) (slots : ℕ) → slots ≡ key.size → v.intake.on ≡ 1 → v.intake.away ≡ 0 → v.intake.freed < v.intake.taken
+  pub takes_free : (by : ℕ) (v : View) (slots : ℕ) → slots ≡ key.size → IsTrue v.intake.on → v.intake.away ≡ None → v.intake.freed < v.intake.taken
       → Allows (Rule key FreeOf Blank CarriesOf FitsOf) slots by (v, []) (turn_at key.size v.intake.freed) (λ n. n)
       (λ n m. (c : S) × Blank c × (m ≡ (took_free v n, (slot slots v.intake.freed, c) ∷ [])))
   takes_free by v slots all_slots is_on home some_taken s h long there small =
       let i = turn_at key.size v.intake.freed in
       let n = slice_index s.words i in
       let w = took_free v n in
-      let own = (h.stock.entered by v there).desk (λ off. omega arith) in
-      let own_words = (h.seats.each by v there).intake (λ off. omega arith) in
+      let own = (h.stock.entered by v there).desk is_on in
+      let own_words = (h.seats.each by v there).intake is_on in
       let taken_is : v.intake.taken ≡ h.taken = own.1 in
       let freed_is : v.intake.freed ≡ h.freed = own_words.0 in
-      let away_is : h.away ≡ 0 = sym own.2 ∙ home in
+      let away_is : h.away ≡ 0 = sym own.2 ∙ ap away_number home in
       let only = alone key h.claimed h.freed h.granted s.views by v h.seats there is_on in
       let stock : Goods key FreeOf Blank CarriesOf FitsOf s.words s s.views h.took h.claimed h.taken h.freed 0 =
       subst (λ a. Goods key FreeOf Blank CarriesOf FitsOf s.words s s.views h.took h.claimed h.taken h.freed a) away_is h.stock in
@@ -116,19 +116,19 @@ module _ {S : Type 0} (key : Key) (FreeOf : Key → S → Type 0) (Blank : S →
       )
 
   -- the intake stores `freed`, and gives the slot back with a free frame
-  pub frees : (by : ℕ) (v : View) (x : S) (held : List (ℕ × S)) (slots : ℕ) → slots ≡ key.size → 0 < key.size → v.intake.on ≡ 1
-      → v.intake.away ≡ v.intake.freed + 1 → FreeOf v.key x
+  pub frees : (by : ℕ) (v : View) (x : S) (held : List (ℕ × S)) (slots : ℕ) → slots ≡ key.size → 0 < key.size → IsTrue v.intake.on
+      → v.intake.away ≡ Some v.intake.freed → FreeOf v.key x
       → Allows (Rule key FreeOf Blank CarriesOf FitsOf) slots by (v, (slot key.size v.intake.freed, x) ∷ held) freed_at (λ _. v.intake.freed + 1)
       (λ _ m. m ≡ (freed_next v, held))
   frees by v x held slots all_slots large is_on out free s h long there small =
       let f = v.intake.freed in
       let w = freed_next v in
       let mine = h.seats.each by v there in
-      let known = (h.keys by v there).desk (λ off. omega arith) in
-      let own = (h.stock.entered by v there).desk (λ off. omega arith) in
-      let own_words = mine.intake (λ off. omega arith) in
+      let known = (h.keys by v there).desk is_on in
+      let own = (h.stock.entered by v there).desk is_on in
+      let own_words = mine.intake is_on in
       let freed_is : h.freed ≡ f = sym own_words.0 in
-      let away_is : h.away ≡ f + 1 = sym own.2 ∙ out in
+      let away_is : h.away ≡ f + 1 = sym own.2 ∙ ap away_number out in
       let only = alone key h.claimed h.freed h.granted s.views by v h.seats there is_on in
       let inside : f % key.size < key.size = mod-lt f large in
       let stock : Goods key FreeOf Blank CarriesOf FitsOf s.words s s.views h.took h.claimed h.taken f (f + 1) =

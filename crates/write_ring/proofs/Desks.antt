@@ -1,5 +1,5 @@
 -- What the ring keeps of its entries, where a pass fills a position, and where the intake takes an entry and frees a position.
-use Rattle.std.proofs.Common.{◌≡◌, ◌≢◌, ℕ, ◌+◌, ◌-◌, ◌<◌, ◌≤◌, List, [], ◌∷◌, length, set, refl, sym, ap, ◌∙◌, subst, arith}
+use Rattle.std.proofs.Common.{◌≡◌, ◌≢◌, ℕ, ◌+◌, ◌-◌, ◌<◌, ◌≤◌, List, [], ◌∷◌, length, set, IsTrue, refl, sym, ap, ◌∙◌, subst, arith}
 use Rattle.std.proofs.Common.{if◌then◌else◌, Bool, true, false}
 use mathlib.Core.Option.{Option, some}
 use lib.ListN.{get_elem?}
@@ -10,7 +10,7 @@ use Rattle.write_ring.specs.declared.view.Part.{Part}
 use Rattle.write_ring.specs.declared.view.Desk.{Desk}
 use Rattle.write_ring.specs.declared.view.View.{View}
 use Rattle.write_ring.specs.Cells.{slot, turn_at}
-use Rattle.write_ring.specs.Rule.{AllViews}
+use Rattle.write_ring.specs.Rule.{AllViews, away_number}
 use Rattle.write_ring.specs.Stock.{HasOpen, HasPut, IsOpen, IsPut, Begins, Sides, Entered, IsEntry, Stock}
 use Rattle.write_ring.specs.Steps.{put_row}
 use Rattle.write_ring.proofs.Views.{sum_two, each_changed}
@@ -109,7 +109,7 @@ module _ {S : Type 0} (size first : ℕ) (Free Blank : S → Type 0) (Carries : 
                   let lt = open_claimed size first words took claimed taken away views by v x mine there tiles had in
                   let now = turn x (omega (arith, was.0)) (omega arith) (λ e. omega arith) in
                   (was.0, omega (arith, was.1));
-              desk = subst (λ (d : Desk). d.on ≢ 0 → (d.took ≡ took) × (d.taken ≡ taken) × (d.away ≡ away)) (sym same_desk) mine.desk;
+              desk = subst (λ (d : Desk). IsTrue d.on → (d.took ≡ took) × (d.taken ≡ taken) × (away_number d.away ≡ away)) (sym same_desk) mine.desk;
               heard = subst (λ l. Begins l took) (sym same_heard) mine.heard;
             });
         cells = filled size first Free Blank (IsEntry size first Free Blank Carries Fits views) (IsEntry size first Free Blank Carries Fits views')

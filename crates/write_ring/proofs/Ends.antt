@@ -1,5 +1,5 @@
 -- A ring begins with a free frame in each slot. At its end one seat has all claims, and all that was taken is what it put.
-use Rattle.std.proofs.Common.{◌≡◌, ◌≢◌, ◌⊎◌, ℕ, zero, suc, ◌+◌, ◌%◌, ◌^◌, ◌<◌, ◌≤◌, List, [], ◌∷◌, length, Bool, true, false, if◌then◌else◌, refl, sym, ap, ◌∙◌, subst, ⊎_elim, inl, inr, arith}
+use Rattle.std.proofs.Common.{◌≡◌, ◌≢◌, ◌⊎◌, ℕ, zero, suc, ◌+◌, ◌%◌, ◌^◌, ◌<◌, ◌≤◌, List, [], ◌∷◌, length, Bool, true, false, IsTrue, None, if◌then◌else◌, refl, sym, ap, ◌∙◌, subst, ⊎_elim, inl, inr, arith}
 use Rattle.std.proofs.Math.Nat.{mod-lt}
 use Rattle.std.specs.Prelude.{slice_index}
 use Rattle.std.specs.List.{AllByRecursion}
@@ -14,7 +14,7 @@ use Rattle.write_ring.specs.declared.view.Key.{Key}
 use Rattle.write_ring.specs.declared.view.Row.{Row}
 use Rattle.write_ring.specs.declared.view.View.{View}
 use Rattle.write_ring.specs.Cells.{slot, turn_at}
-use Rattle.write_ring.specs.Rule.{Words, Each}
+use Rattle.write_ring.specs.Rule.{Words, Each, away_number}
 use Rattle.write_ring.specs.Stock.{rows_at, copies_at, HasOpen, HasPut, Entered}
 use Rattle.write_ring.specs.Kept.{HasKey}
 use Rattle.write_ring.specs.Steps.{first_view}
@@ -80,8 +80,8 @@ module _ {S : Type 0} (key : Key) (FreeOf : Key → S → Type 0) (Blank : S →
         };
         stock = record {
           entered = λ j u there. alone_there (Entered key.size first ws [] first 0) j u there (record {
-            sides = fresh_sides 128 1;
-            ahead = λ x had. none_ahead 128 1 x had;
+            sides = fresh_sides 128 true;
+            ahead = λ x had. none_ahead 128 true x had;
             desk = λ yes. (refl, refl, refl);
             heard = ([], refl);
           });
@@ -130,18 +130,18 @@ module _ {S : Type 0} (key : Key) (FreeOf : Key → S → Type 0) (Blank : S →
     pub others : (p : ℕ) → v.intake.taken ≤ p → p < v.intake.freed + key.size
         → (x : S) × (get_elem? xs (slot key.size p) ≡ some x) × (FreeOf key x ⊎ ((r : Row) × CarriesOf key x r))
 
-  pub ends : (ws : List ℕ) (xs : List S) (by : ℕ) (v : View) → v.pass.shares ≡ 128 → v.intake.on ≡ 1 → v.intake.away ≡ 0 → v.pass.next ≡ v.pass.until
+  pub ends : (ws : List ℕ) (xs : List S) (by : ℕ) (v : View) → v.pass.shares ≡ 128 → IsTrue v.intake.on → v.intake.away ≡ None → v.pass.next ≡ v.pass.until
       → Final (Seen (Rule key FreeOf Blank CarriesOf FitsOf) by v) ws xs → Ended v xs
   ends ws xs by v all is_on home rest last =
       let s = last.0 in
       let h = last.1.0 in
       let there = last.1.1 in
       let mine = h.stock.entered by v there in
-      let own = mine.desk (λ off. omega arith) in
-      let own_words = (h.seats.each by v there).intake (λ off. omega arith) in
+      let own = mine.desk is_on in
+      let own_words = (h.seats.each by v there).intake is_on in
       let freed_is : v.intake.freed ≡ h.freed = own_words.0 in
       let taken_is : v.intake.taken ≡ h.taken = own.1 in
-      let away_is : h.away ≡ 0 = sym own.2 ∙ home in
+      let away_is : h.away ≡ 0 = sym own.2 ∙ ap away_number home in
       let none_open : (x : ℕ) → between v.pass.next v.pass.until x ≡ 0 = λ x. ap (λ k. between v.pass.next k x) (sym rest) ∙ empty x v.pass.next in
       let others = all_here s h by v there all in
       let cells = h.stock.cells in

@@ -1,5 +1,6 @@
 -- A ring begins, its seats are split and joined, and at the end one seat has all claims.
-use Rattle.std.proofs.Common.{◌≡◌, ◌≢◌, ℕ, ◌+◌, ◌<◌, ◌≤◌, List, [], ◌∷◌, ◌++◌, length, set, Bool, true, false, if◌then◌else◌, refl, sym, ap, ◌∙◌, subst, arith}
+use Rattle.std.proofs.Common.{◌≡◌, ℕ, ◌+◌, ◌<◌, ◌≤◌, List, [], ◌∷◌, ◌++◌, length, set, Bool, true, false, IsTrue, ◌||◌, if◌then◌else◌, refl, sym, ap, ◌∙◌, subst, arith}
+use Rattle.std.proofs.lemmas.Bool.{or_parts}
 use Rattle.std.proofs.lemmas.List.{append-nil}
 use Rattle.std.specs.List.{AllByRecursion}
 use Rattle.lemmas.proofs.Lists.{all_append}
@@ -8,27 +9,27 @@ use lib.ListN.{get_elem?}
 use Rattle.atomic_table.specs.Table.{State, Splits, Joins}
 use Rattle.atomic_table.proofs.Lists.{at_longer, set_else}
 use Rattle.pblk_model.specs.RingState.{between, covers, covers_copy, IsGranted}
-use Rattle.write_ring.specs.declared.view.Found.{Found}
+use Rattle.write_ring.specs.declared.view.LastFound.{LastFound}
 use Rattle.write_ring.specs.declared.view.Key.{Key}
 use Rattle.write_ring.specs.declared.view.Part.{Part}
 use Rattle.write_ring.specs.declared.view.Row.{Row}
 use Rattle.write_ring.specs.declared.view.View.{View}
-use Rattle.write_ring.specs.Rule.{Each, Seats}
+use Rattle.write_ring.specs.Rule.{Each, Seats, away_number, one_if}
 use Rattle.write_ring.specs.Stock.{HasOpen, HasPut, Begins, Sides, Entered}
 use Rattle.write_ring.specs.Kept.{HasKey}
-use Rattle.write_ring.specs.Steps.{fresh_part, joined_pass, less_share, new_pass, no_desk, no_part, note_of, part_of, only_intake, spent, told, with_desk, without_intake}
+use Rattle.write_ring.specs.Steps.{joined_part, joined_pass, less_share, new_pass, no_desk, no_part, note_of, only_intake, spent, told, with_desk, without_intake}
 use Rattle.write_ring.proofs.Views.{sum_changed, sum_more, each_changed, each_more}
 use Rattle.write_ring.proofs.ClaimLists.{covers_both, copies_both, rows_both, copy_rows_both, empty}
 use Rattle.write_ring.proofs.SomeViews.{behind_at}
-use Rattle.write_ring.proofs.SeatMoves.{has, shares, copier, on, idle, nobody}
+use Rattle.write_ring.proofs.SeatMoves.{has, shares, copier, on, never, idle, nobody}
 use Rattle.write_ring.proofs.Stocks.{stock_split, stock_joined}
 use Rattle.write_ring.proofs.Moves.{Rule}
 
-pub fresh_sides : (shares copier : ℕ) → Sides (fresh_part shares copier)
+pub fresh_sides : (shares : ℕ) (copier : Bool) → Sides (record no_part { shares = shares; copier = copier })
 fresh_sides shares copier = record { all = λ x. let none = empty x 0 in omega arith; copies = λ x. refl }
 
 joined_sides : (p q : Part) → Sides p → Sides q → q.next ≡ q.until
-    → Sides (part_of (p.shares + q.shares) (p.copier + q.copier) (p.claims ++ q.claims) (p.puts ++ q.puts) p.next p.until p.copy)
+    → Sides (joined_part p q)
 joined_sides p q h k rest = record {
   all = λ x.
       let claims = covers_both x p.claims q.claims in
@@ -53,15 +54,19 @@ joined_sides p q h k rest = record {
     none_copied true x = none_open x
     none_copied false x = refl
 
-pub none_ahead : (shares copier x : ℕ) {P : Type 0} → HasOpen x (fresh_part shares copier) → P
+pub none_ahead : (shares : ℕ) (copier : Bool) (x : ℕ) {P : Type 0} → HasOpen x (record no_part { shares = shares; copier = copier }) → P
 none_ahead shares copier x has = let high = has.1 in absurd (omega arith)
+
+or_counted : (a b : Bool) → one_if (a || b) ≤ one_if a + one_if b
+or_counted true b = omega arith
+or_counted false b = omega arith
 
 module _ (key : Key) where
   -- a seat is split, with what it is counted by
   seats_split : (c f g : ℕ) (views : List View) (by : ℕ) (v left right : View) → Seats key c f g views → get_elem? views by ≡ some v
       → ((x : ℕ) → covers x left.pass.claims + covers x right.pass.claims ≡ covers x v.pass.claims)
-      → left.pass.shares + right.pass.shares ≡ v.pass.shares → left.pass.copier + right.pass.copier ≡ v.pass.copier
-      → left.intake.on + right.intake.on ≡ v.intake.on → Each c f g left → Each c f g right → Seats key c f g (set views by left ++ right ∷ [])
+      → left.pass.shares + right.pass.shares ≡ v.pass.shares → copier left + copier right ≡ copier v
+      → on left + on right ≡ on v → Each c f g left → Each c f g right → Seats key c f g (set views by left ++ right ∷ [])
   seats_split c f g views by v left right h there claims_add shares_add copiers_add ons_add mine its = record {
     tiles = λ x.
         let more = sum_more (has x) (set views by left) right in
@@ -91,7 +96,7 @@ module _ (key : Key) where
   seats_joined : (c f g : ℕ) (views : List View) (by : ℕ) (v : View) (other : ℕ) (w b : View) → Seats key c f g views → get_elem? views by ≡ some v
       → get_elem? (set views by b) other ≡ some w
       → ((x : ℕ) → covers x b.pass.claims ≡ covers x v.pass.claims + covers x w.pass.claims)
-      → b.pass.shares ≡ v.pass.shares + w.pass.shares → b.pass.copier ≡ v.pass.copier + w.pass.copier → b.intake.on ≡ v.intake.on + w.intake.on
+      → b.pass.shares ≡ v.pass.shares + w.pass.shares → copier b ≤ copier v + copier w → on b ≤ on v + on w
       → Each c f g b → Seats key c f g (set (set views by b) other spent)
   seats_joined c f g views by v other w b h there also claims_add shares_add copiers_add ons_add mine = record {
     tiles = λ x.
@@ -121,9 +126,9 @@ module _ (key : Key) where
 
   spent_entered : (words : List ℕ) (took : List Row) (taken away : ℕ) → Entered key.size key.first words took taken away spent
   spent_entered words took taken away = record {
-    sides = fresh_sides 0 0;
-    ahead = λ x has. none_ahead 0 0 x has;
-    desk = λ yes. absurd (yes refl);
+    sides = fresh_sides 0 false;
+    ahead = λ x has. none_ahead 0 false x has;
+    desk = λ yes. never yes;
     heard = (took, refl);
   }
 
@@ -158,12 +163,12 @@ module _ {S : Type 0} (key : Key) (FreeOf : Key → S → Type 0) (Blank : S →
         stock = stock_split key.size key.first (FreeOf key) Blank (CarriesOf key) (FitsOf key) s.words s.homes s.views by v w (new_pass v.key) h.took
             h.claimed h.taken h.freed h.away h.stock there
             (record { sides = record { all = its.sides.all; copies = its.sides.copies }; ahead = its.ahead; desk = its.desk; heard = its.heard })
-            (record { sides = fresh_sides 1 0; ahead = λ x has. none_ahead 1 0 x has; desk = λ yes. absurd (yes refl); heard = (h.took, refl) })
+            (record { sides = fresh_sides 1 false; ahead = λ x has. none_ahead 1 false x has; desk = λ yes. never yes; heard = (h.took, refl) })
             (λ r is. is) (λ q is. is);
         keys = each_more (HasKey key) (set s.views by w) (new_pass v.key)
             (each_changed (HasKey key) s.views by w (λ j u apart at. h.keys j u at)
             (record { pass = λ some_shares. known.pass (omega arith); desk = known.desk }))
-            (record { pass = λ _. known.pass (omega arith); desk = λ yes. absurd (yes refl) });
+            (record { pass = λ _. known.pass (omega arith); desk = λ yes. never yes });
       }
 
   pub splits_intake : (by : ℕ) (v : View) → Splits (Rule key FreeOf Blank CarriesOf FitsOf) by v (without_intake v) (only_intake v)
@@ -190,7 +195,7 @@ module _ {S : Type 0} (key : Key) (FreeOf : Key → S → Type 0) (Blank : S →
               saw_claimed = mine.saw_claimed;
               saw_freed = mine.saw_freed;
               saw_granted = mine.saw_granted;
-              intake = λ no. absurd (no refl);
+              intake = λ no. never no;
             })
             (record {
               bare = λ e. refl;
@@ -203,20 +208,20 @@ module _ {S : Type 0} (key : Key) (FreeOf : Key → S → Type 0) (Blank : S →
             });
         stock = stock_split key.size key.first (FreeOf key) Blank (CarriesOf key) (FitsOf key) s.words s.homes s.views by v w i h.took
             h.claimed h.taken h.freed h.away h.stock there
-            (record { sides = its.sides; ahead = its.ahead; desk = λ yes. absurd (yes refl); heard = its.heard })
-            (record { sides = fresh_sides 0 0; ahead = λ x has. none_ahead 0 0 x has; desk = its.desk; heard = (h.took, refl) })
+            (record { sides = its.sides; ahead = its.ahead; desk = λ yes. never yes; heard = its.heard })
+            (record { sides = fresh_sides 0 false; ahead = λ x has. none_ahead 0 false x has; desk = its.desk; heard = (h.took, refl) })
             (λ r is. is) (λ q is. is);
         keys = each_more (HasKey key) (set s.views by w) i
-            (each_changed (HasKey key) s.views by w (λ j u apart at. h.keys j u at) (record { pass = known.pass; desk = λ yes. absurd (yes refl) }))
+            (each_changed (HasKey key) s.views by w (λ j u apart at. h.keys j u at) (record { pass = known.pass; desk = λ yes. never yes }))
             (record { pass = λ yes. absurd (yes refl); desk = known.desk });
       }
 
   -- a note of what the intake took
-  pub splits_note : (by : ℕ) (v : View) → v.intake.on ≡ 1 → Splits (Rule key FreeOf Blank CarriesOf FitsOf) by v v (note_of v)
+  pub splits_note : (by : ℕ) (v : View) → IsTrue v.intake.on → Splits (Rule key FreeOf Blank CarriesOf FitsOf) by v v (note_of v)
   splits_note by v is_on s h there =
       let mine = h.seats.each by v there in
       let its = h.stock.entered by v there in
-      let own = its.desk (λ off. omega arith) in
+      let own = its.desk is_on in
       let i = note_of v in
       record {
         claimed = h.claimed;
@@ -235,20 +240,20 @@ module _ {S : Type 0} (key : Key) (FreeOf : Key → S → Type 0) (Blank : S →
               saw_claimed = omega arith;
               saw_freed = omega arith;
               saw_granted = omega arith;
-              intake = λ yes. absurd (yes refl);
+              intake = λ yes. never yes;
             });
         stock = stock_split key.size key.first (FreeOf key) Blank (CarriesOf key) (FitsOf key) s.words s.homes s.views by v v i h.took
             h.claimed h.taken h.freed h.away h.stock there its
             (record {
-              sides = fresh_sides 0 0;
-              ahead = λ x has. none_ahead 0 0 x has;
-              desk = λ yes. absurd (yes refl);
+              sides = fresh_sides 0 false;
+              ahead = λ x has. none_ahead 0 false x has;
+              desk = λ yes. never yes;
               heard =
                   ([], sym own.0 ∙ sym (append-nil v.intake.took));
             })
             (λ r is. is) (λ q is. is);
         keys = each_more (HasKey key) (set s.views by v) i (each_changed (HasKey key) s.views by v (λ j u apart at. h.keys j u at) (h.keys by v there))
-            (record { pass = λ yes. absurd (yes refl); desk = λ yes. absurd (yes refl) });
+            (record { pass = λ yes. absurd (yes refl); desk = λ yes. never yes });
       }
 
   pub joins_pass : (by : ℕ) (v : View) (other : ℕ) (w : View) → 0 < v.pass.shares → w.intake ≡ no_desk → w.pass.next ≡ w.pass.until
@@ -258,7 +263,7 @@ module _ {S : Type 0} (key : Key) (FreeOf : Key → S → Type 0) (Blank : S →
       let mine = h.seats.each by v there in
       let was_there = sym (set_else s.views by other b differ) ∙ also in
       let its = h.seats.each other w was_there in
-      let off : w.intake.on ≡ 0 = ap (λ d. d.on) only in
+      let off : on w ≡ 0 = ap (λ d. one_if d.on) only in
       let my = h.stock.entered by v there in
       let their = h.stock.entered other w was_there in
       let known = h.keys by v there in
@@ -272,14 +277,15 @@ module _ {S : Type 0} (key : Key) (FreeOf : Key → S → Type 0) (Blank : S →
         words = h.words;
         numbers = h.numbers;
         seats = seats_joined key h.claimed h.freed h.granted s.views by v other w b h.seats there also (λ x. covers_both x v.pass.claims w.pass.claims)
-            refl refl (omega arith)
+            refl (or_counted v.pass.copier w.pass.copier) (omega arith)
             (record {
               bare = λ none. absurd (omega arith);
               no_copy = λ none x.
+                  let neither = or_parts v.pass.copier w.pass.copier none in
                   let both : covers_copy x b.pass.claims ≡ covers_copy x v.pass.claims + covers_copy x w.pass.claims =
                   copies_both x v.pass.claims w.pass.claims in
-                  let one = mine.no_copy (omega arith) x in
-                  let two = its.no_copy (omega arith) x in
+                  let one = mine.no_copy neither.0 x in
+                  let two = its.no_copy neither.1 x in
                   omega arith;
               users = all_append (IsGranted h.granted) v.pass.claims w.pass.claims mine.users its.users;
               saw_claimed = mine.saw_claimed;
@@ -297,15 +303,15 @@ module _ {S : Type 0} (key : Key) (FreeOf : Key → S → Type 0) (Blank : S →
         keys = each_changed (HasKey key) (set s.views by b) other spent
             (λ j u _ at. each_changed (HasKey key) s.views by b (λ i x _ here. h.keys i x here)
             (record { pass = λ _. known.pass (omega arith); desk = known.desk }) j u at)
-            (record { pass = λ yes. absurd (yes refl); desk = λ yes. absurd (yes refl) });
+            (record { pass = λ yes. absurd (yes refl); desk = λ yes. never yes });
       }
 
   -- at closing, and where a note is joined: a seat that has claimed nothing goes into a pass
   joins_idle : (by : ℕ) (v : View) (other : ℕ) (w b : View) → 0 < v.pass.shares → w.pass ≡ no_part → b.pass ≡ v.pass → b.found ≡ v.found → b.key ≡ v.key
-      → b.intake.on ≡ v.intake.on + w.intake.on
+      → on b ≤ on v + on w
       → ((s : State S View) (h : Rule key FreeOf Blank CarriesOf FitsOf s) → get_elem? s.views by ≡ some v → get_elem? s.views other ≡ some w
-      → (b.intake.on ≢ 0 → (b.intake.freed ≡ h.freed) × (b.intake.granted ≡ h.granted))
-      × (b.intake.on ≢ 0 → (b.intake.took ≡ h.took) × (b.intake.taken ≡ h.taken) × (b.intake.away ≡ h.away)) × Begins b.heard h.took)
+      → (IsTrue b.intake.on → (b.intake.freed ≡ h.freed) × (b.intake.granted ≡ h.granted))
+      × (IsTrue b.intake.on → (b.intake.took ≡ h.took) × (b.intake.taken ≡ h.taken) × (away_number b.intake.away ≡ h.away)) × Begins b.heard h.took)
       → Joins (Rule key FreeOf Blank CarriesOf FitsOf) by v other w b spent
   joins_idle by v other w b sharing idle_pass same_pass same_found same_key ons says s h there differ also =
       let mine = h.seats.each by v there in
@@ -314,9 +320,8 @@ module _ {S : Type 0} (key : Key) (FreeOf : Key → S → Type 0) (Blank : S →
       let known = h.keys by v there in
       let said = says s h there was_there in
       let no_shares : w.pass.shares ≡ 0 = ap (λ p. p.shares) idle_pass in
-      let no_copier : w.pass.copier ≡ 0 = ap (λ p. p.copier) idle_pass in
       let same_shares : b.pass.shares ≡ v.pass.shares = ap (λ p. p.shares) same_pass in
-      let same_copier : b.pass.copier ≡ v.pass.copier = ap (λ p. p.copier) same_pass in
+      let same_copier : copier b ≡ copier v = ap (λ p. one_if p.copier) same_pass in
       record {
         claimed = h.claimed;
         taken = h.taken;
@@ -334,11 +339,11 @@ module _ {S : Type 0} (key : Key) (FreeOf : Key → S → Type 0) (Blank : S →
             (omega arith) (omega arith) ons
             (record {
               bare = subst (λ (p : Part). p.shares ≡ 0 → p.claims ≡ []) (sym same_pass) mine.bare;
-              no_copy = subst (λ (p : Part). p.copier ≡ 0 → (x : ℕ) → covers_copy x p.claims ≡ 0) (sym same_pass) mine.no_copy;
+              no_copy = subst (λ (p : Part). p.copier ≡ false → (x : ℕ) → covers_copy x p.claims ≡ 0) (sym same_pass) mine.no_copy;
               users = subst (λ (p : Part). AllByRecursion (IsGranted h.granted) p.claims) (sym same_pass) mine.users;
-              saw_claimed = subst (λ (f : Found). f.claimed ≤ h.claimed) (sym same_found) mine.saw_claimed;
-              saw_freed = subst (λ (f : Found). f.freed ≤ h.freed) (sym same_found) mine.saw_freed;
-              saw_granted = subst (λ (f : Found). f.granted ≤ h.granted) (sym same_found) mine.saw_granted;
+              saw_claimed = subst (λ (f : LastFound). f.claimed ≤ h.claimed) (sym same_found) mine.saw_claimed;
+              saw_freed = subst (λ (f : LastFound). f.freed ≤ h.freed) (sym same_found) mine.saw_freed;
+              saw_granted = subst (λ (f : LastFound). f.granted ≤ h.granted) (sym same_found) mine.saw_granted;
               intake = said.0;
             });
         stock = stock_joined key.size key.first (FreeOf key) Blank (CarriesOf key) (FitsOf key) s.words s.homes s.views by v other w b spent h.took
@@ -353,24 +358,19 @@ module _ {S : Type 0} (key : Key) (FreeOf : Key → S → Type 0) (Blank : S →
             (λ r. subst (HasPut r) (sym same_pass))
             (λ r had. absurd (some-ne-none r (sym (ap (λ (p : Part). get_elem? p.puts had.0) (sym idle_pass) ∙ had.1))))
             (λ q. subst (HasOpen q) (sym same_pass))
-            (λ q had. none_ahead 0 0 q (subst (HasOpen q) idle_pass had));
+            (λ q had. none_ahead 0 false q (subst (HasOpen q) idle_pass had));
         keys = each_changed (HasKey key) (set s.views by b) other spent
             (λ j u _ at. each_changed (HasKey key) s.views by b (λ i x _ here. h.keys i x here)
             (record { pass = λ _. same_key ∙ known.pass (omega arith); desk = λ _. same_key ∙ known.pass (omega arith) }) j u at)
-            (record { pass = λ yes. absurd (yes refl); desk = λ yes. absurd (yes refl) });
+            (record { pass = λ yes. absurd (yes refl); desk = λ yes. never yes });
       }
 
-  pub joins_intake : (by : ℕ) (v : View) (other : ℕ) (w : View) → 0 < v.pass.shares → w.pass ≡ no_part → w.intake.on ≡ 1
+  pub joins_intake : (by : ℕ) (v : View) (other : ℕ) (w : View) → 0 < v.pass.shares → w.pass ≡ no_part
       → Joins (Rule key FreeOf Blank CarriesOf FitsOf) by v other w (with_desk v w) spent
-  joins_intake by v other w sharing only is_on = joins_idle by v other w (with_desk v w) sharing only refl refl refl refl
-      (λ s h there also. (
-        (λ _. (h.seats.each other w also).intake (λ off. omega arith)),
-        (λ _. (h.stock.entered other w also).desk (λ off. omega arith)),
-        (h.stock.entered by v there).heard,
-      ))
+  joins_intake by v other w sharing only = joins_idle by v other w (with_desk v w) sharing only refl refl refl (omega arith)
+      (λ s h there also. ((h.seats.each other w also).intake, (h.stock.entered other w also).desk, (h.stock.entered by v there).heard))
 
   pub joins_note : (by : ℕ) (v : View) (other : ℕ) (w : View) → 0 < v.pass.shares → w.pass ≡ no_part → w.intake ≡ no_desk
       → Joins (Rule key FreeOf Blank CarriesOf FitsOf) by v other w (told v w) spent
-  joins_note by v other w sharing only idle_desk = joins_idle by v other w (told v w) sharing only refl refl refl
-      (let off : w.intake.on ≡ 0 = ap (λ d. d.on) idle_desk in omega arith)
+  joins_note by v other w sharing only idle_desk = joins_idle by v other w (told v w) sharing only refl refl refl (omega arith)
       (λ s h there also. ((h.seats.each by v there).intake, (h.stock.entered by v there).desk, (h.stock.entered other w also).heard))

@@ -1,5 +1,5 @@
 -- What lies in the slots of a ring that has ended, all of which are visited, each once.
-use Rattle.std.proofs.Common.{◌≡◌, ℕ, zero, suc, ◌+◌, ◌%◌, ◌<◌, ◌≤◌, Bool, false, List, length, set, sym, ap, ◌∙◌, subst, arith, IsTrue, get_or-set_same, get_or-set_other}
+use Rattle.std.proofs.Common.{◌≡◌, ℕ, zero, suc, ◌+◌, ◌%◌, ◌<◌, ◌≤◌, Bool, false, List, length, set, sym, ap, ◌∙◌, subst, arith, IsTrue, None, get_or-set_same, get_or-set_other}
 use Rattle.std.proofs.Common.{⊎_elim}
 use Rattle.std.proofs.Math.Nat.{add-mod_right, mod-lt, mod-eq_of_lt}
 use Rattle.std.specs.Prelude.{slice_index_or}
@@ -12,7 +12,7 @@ use Rattle.write_ring.specs.declared.view.Key.{Key}
 use Rattle.write_ring.specs.declared.view.View.{View}
 use Rattle.write_ring.specs.Endings.{HasFrame, IsLeft}
 use Rattle.write_ring.specs.Frames.{IsFree, IsBlank, Carries, Fits}
-use Rattle.write_ring.specs.Steps.{no_desk, with_desk}
+use Rattle.write_ring.specs.Steps.{with_desk}
 use Rattle.write_ring.proofs.Ends.{Ended, ends}
 use Rattle.write_ring.proofs.Moves.{Rule}
 use Rattle.write_ring.proofs.Slots.{apart}
@@ -67,9 +67,8 @@ left_of key v xs e = record {
 
 -- the last pass has all shares, and the intake went into it
 pub ends_with : (key : Key) (ws : List ℕ) (xs : List Cell) (by : ℕ) (me : Me Cell View) (v w : View) (held : List (ℕ × Cell)) → me ≡ (with_desk v w, held)
-    → v.intake ≡ no_desk → v.pass.shares ≡ 128 → v.pass.next ≡ v.pass.until → w.intake.on ≡ 1 → w.intake.away ≡ 0
+    → v.pass.shares ≡ 128 → v.pass.next ≡ v.pass.until → IsTrue w.intake.on → w.intake.away ≡ None
     → Final (Seen (Rule key IsFree IsBlank Carries Fits) by me.0) ws xs → Ended key IsFree IsBlank Carries Fits (with_desk v w) xs
-ends_with key ws xs by me v w held is only all none_open is_on home last =
-    let off = ap (λ d. d.on) only in
-    ends key IsFree IsBlank Carries Fits ws xs by (with_desk v w) all (omega (arith, off, is_on)) home none_open
+ends_with key ws xs by me v w held is all none_open is_on home last =
+    ends key IsFree IsBlank Carries Fits ws xs by (with_desk v w) all is_on home none_open
     (subst (λ (m : Me Cell View). Final (Seen (Rule key IsFree IsBlank Carries Fits) by m.0) ws xs) is last)

@@ -1,14 +1,14 @@
 -- Each kind of step keeps the rule, and tells what it says.
-use Rattle.std.proofs.Common.{◌≡◌, ◌≢◌, ℕ, ◌+◌, ◌^◌, ◌<◌, ◌≤◌, List, ◌++◌, set, refl, sym, ap, ◌∙◌, subst, arith}
+use Rattle.std.proofs.Common.{◌≡◌, ◌≢◌, ℕ, ◌+◌, ◌^◌, ◌<◌, ◌≤◌, List, ◌++◌, set, IsTrue, refl, sym, ap, ◌∙◌, subst, arith}
 use Rattle.std.specs.Prelude.{slice_index}
 use mathlib.Core.Option.{some}
 use lib.ListN.{get_elem?}
 use Rattle.atomic_table.specs.Table.{State, Allows, keeps}
-use Rattle.write_ring.specs.declared.view.Found.{Found}
+use Rattle.write_ring.specs.declared.view.LastFound.{LastFound}
 use Rattle.write_ring.specs.declared.view.Key.{Key}
 use Rattle.write_ring.specs.declared.view.Row.{Row}
 use Rattle.write_ring.specs.declared.view.View.{View}
-use Rattle.write_ring.specs.Rule.{AllViews, claimed_at, freed_at, granted_at}
+use Rattle.write_ring.specs.Rule.{AllViews, away_number, claimed_at, freed_at, granted_at}
 use Rattle.write_ring.specs.Stock.{Stock, HasOpen, HasPut, Sides}
 use Rattle.write_ring.specs.Kept.{Kept, HasKey}
 use Rattle.write_ring.specs.Steps.{LieBelow, granted_to, saw_claimed, saw_freed, saw_granted, with_found}
@@ -31,7 +31,7 @@ module _ {S : Type 0} (key : Key) (FreeOf : Key → S → Type 0) (Blank : S →
       let mine = h by v there in
       each_changed (HasKey key) views by w (λ j u apart at. h j u at) (record {
         pass = λ some_shares. same ∙ mine.pass (subst (λ k. k ≢ 0) shares some_shares);
-        desk = λ is_on. same ∙ mine.desk (subst (λ k. k ≢ 0) on is_on);
+        desk = λ is_on. same ∙ mine.desk (sym on ∙ is_on);
       })
 
   -- the goods, where a seat's view changes in nothing that they read, and a word is stored that is no turn word
@@ -47,14 +47,14 @@ module _ {S : Type 0} (key : Key) (FreeOf : Key → S → Type 0) (Blank : S →
       (record {
         sides = subst Sides (sym same_pass) mine.sides;
         ahead = λ x has. mine.ahead x (subst (HasOpen x) same_pass has);
-        desk = λ is_on. let own = mine.desk (subst (λ k. k ≢ 0) same_on is_on) in (same_took ∙ own.0, same_taken ∙ own.1, same_away ∙ own.2);
+        desk = λ is_on. let own = mine.desk (sym same_on ∙ is_on) in (same_took ∙ own.0, same_taken ∙ own.1, ap away_number same_away ∙ own.2);
         heard = subst (λ l. (rest : List Row) × (took ≡ l ++ rest)) (sym same_heard) mine.heard;
       })
       (λ r. subst (HasPut r) (sym same_pass)) (λ q. subst (HasOpen q) (sym same_pass)))
       (λ q. turns_stay key.size s.words i n q low)
 
   -- a load changes only what the seat found
-  pub looks : (by : ℕ) (v : View) (held : List (ℕ × S)) (slots i : ℕ) (found : ℕ → Found) (Tells : ℕ → Type 0) → i < 48
+  pub looks : (by : ℕ) (v : View) (held : List (ℕ × S)) (slots i : ℕ) (found : ℕ → LastFound) (Tells : ℕ → Type 0) → i < 48
       → ((s : State S View) (h : Rule s) → get_elem? s.views by ≡ some v
       → let n = slice_index s.words i in ((found n).claimed ≤ h.claimed) × ((found n).freed ≤ h.freed) × ((found n).granted ≤ h.granted) × Tells n)
       → Allows Rule slots by (v, held) i (λ n. n) (λ n m. (m ≡ (with_found v (found n), held)) × Tells n)
@@ -117,32 +117,32 @@ module _ {S : Type 0} (key : Key) (FreeOf : Key → S → Type 0) (Blank : S →
       let most = h.numbers.most_granted in
       (mine.saw_claimed, mine.saw_freed, omega arith, omega arith))
 
-  pub looks_own : (by : ℕ) (v : View) (held : List (ℕ × S)) (slots : ℕ) → v.intake.on ≡ 1
+  pub looks_own : (by : ℕ) (v : View) (held : List (ℕ × S)) (slots : ℕ) → IsTrue v.intake.on
       → Allows Rule slots by (v, held) granted_at (λ n. n) (λ n m. (m ≡ (saw_granted v n, held)) × (n ≡ v.intake.granted))
   looks_own by v held slots is_on = looks by v held slots 32 (λ n. (saw_granted v n).found) (λ n. n ≡ v.intake.granted) (omega arith)
       (λ s h there.
       let mine = h.seats.each by v there in
       let is = h.words.at_granted in
-      let own = mine.intake (λ off. omega arith) in
+      let own = mine.intake is_on in
       (mine.saw_claimed, mine.saw_freed, omega arith, omega (arith, own.1)))
 
   -- the intake finds in `claimed` at least what it has taken
-  pub looks_past : (by : ℕ) (v : View) (held : List (ℕ × S)) (slots : ℕ) → v.intake.on ≡ 1
+  pub looks_past : (by : ℕ) (v : View) (held : List (ℕ × S)) (slots : ℕ) → IsTrue v.intake.on
       → Allows Rule slots by (v, held) claimed_at (λ n. n) (λ n m. (m ≡ (saw_claimed v n, held)) × (v.intake.taken ≤ n))
   looks_past by v held slots is_on = looks by v held slots 0 (λ n. (saw_claimed v n).found) (λ n. v.intake.taken ≤ n) (omega arith)
       (λ s h there.
       let mine = h.seats.each by v there in
       let is = h.words.at_claimed in
       let below = h.numbers.below in
-      let own = (h.stock.entered by v there).desk (λ off. omega arith) in
+      let own = (h.stock.entered by v there).desk is_on in
       (omega arith, mine.saw_freed, mine.saw_granted, omega (arith, own.1)))
 
-  pub grants : (by : ℕ) (v : View) (held : List (ℕ × S)) (slots to : ℕ) → v.intake.on ≡ 1 → v.intake.granted ≤ to
+  pub grants : (by : ℕ) (v : View) (held : List (ℕ × S)) (slots to : ℕ) → IsTrue v.intake.on → v.intake.granted ≤ to
       → to + key.reserve ≤ v.intake.freed + key.size → to ≤ 2 ^ 62
       → Allows Rule slots by (v, held) granted_at (λ _. to) (λ _ m. m ≡ (granted_to v to, held))
   grants by v held slots to is_on rises room most s h long there small =
       let mine = h.seats.each by v there in
-      let own = mine.intake (λ off. omega arith) in
+      let own = mine.intake is_on in
       let freed = own.0 in
       let granted = own.1 in
       let n = h.numbers in (

@@ -1,5 +1,5 @@
 -- What each step on slots may do, at the numbers that the code has.
-use Rattle.std.proofs.Common.{◌≡◌, ◌≢◌, ℕ, ◌+◌, ◌-◌, ◌*◌, ◌%◌, ◌^◌, ◌<◌, ◌≤◌, eqb, List, [], ◌∷◌, true, false, refl, sym, ap, ◌∙◌, subst, arith}
+use Rattle.std.proofs.Common.{◌≡◌, ℕ, ◌+◌, ◌-◌, ◌*◌, ◌%◌, ◌^◌, ◌<◌, ◌≤◌, eqb, List, [], ◌∷◌, true, false, IsTrue, None, Some, refl, sym, ap, ◌∙◌, subst, arith}
 use Rattle.std.proofs.Math.Nat.{mod-lt}
 use prog.Atomic.{either}
 use Rattle.atomic_table.specs.Table.{State, Me, Allows, rest}
@@ -8,7 +8,7 @@ use Rattle.write_ring.specs.declared.cell.Cell.{Cell}
 use Rattle.write_ring.specs.declared.cell.Cell.TheVariants as cell
 use Rattle.write_ring.specs.declared.view.Key.{Key}
 use Rattle.write_ring.specs.declared.view.View.{View}
-use Rattle.write_ring.specs.Frames.{IsFree, IsBlank, Carries, Fits, row_of, front_row, is_copy}
+use Rattle.write_ring.specs.Frames.{IsFree, IsBlank, Carries, Fits, entry_row, front_row, is_copy}
 use Rattle.write_ring.specs.Rule.{claimed_at, freed_at}
 use Rattle.write_ring.specs.Cells.{slot}
 use Rattle.write_ring.specs.Steps.{Claims, put_next, gave_back, took_free, freed_next}
@@ -47,7 +47,7 @@ module _ (key : Key) where
       (sym at_rest) (claims_user key IsFree IsBlank Carries Fits by me.0 slots old new all_slots sharing none_open saw rises most limit)
 
   pub claims_copy_at : (by : ℕ) (me : Me Cell View) (slots old new : ℕ) → slots ≡ key.size → me.1 ≡ [] → 0 < me.0.pass.shares
-      → me.0.pass.next ≡ me.0.pass.until → me.0.found.claimed ≡ old → old < new → new ≤ 2 ^ 62 → new ≤ me.0.found.freed + key.size → me.0.pass.copier ≢ 0
+      → me.0.pass.next ≡ me.0.pass.until → me.0.found.claimed ≡ old → old < new → new ≤ 2 ^ 62 → new ≤ me.0.found.freed + key.size → IsTrue me.0.pass.copier
       → Allows Kept slots by me claimed_at (λ n. either (eqb n old) new n) (λ n m. Claims true me.0 old new n m.0 × Gains IsFree me.0 slots old new n m.1)
   claims_copy_at by me slots old new all_slots at_rest sharing none_open saw rises most limit copies =
       subst (λ (l : List (ℕ × Cell)). Claiming (me.0, l) slots by old new (λ n m. Claims true me.0 old new n m.0 × Gains IsFree me.0 slots old new n m.1))
@@ -58,12 +58,12 @@ module _ (key : Key) where
 
   pub fills_at : (by : ℕ) (me : Me Cell View) (v : View) (e : Entry) (held : List (ℕ × Cell)) (slots at size first : ℕ) → slots ≡ key.size → key.size ≡ size
       → key.first ≡ first → me ≡ (v, (at % size, cell.Filled e) ∷ held) → at ≡ v.pass.next → 0 < v.pass.shares → at < v.pass.until
-      → e.position ≡ at → is_copy e.class ≡ v.pass.copy → Fits v.key (row_of e) → e.frame.region ≡ v.key.origin.region
+      → e.position ≡ at → is_copy e.class ≡ v.pass.copy → Fits v.key (entry_row e) → e.frame.region ≡ v.key.origin.region
       → Allows Kept slots by me (48 + 16 * (at % size)) (λ _. at - first + 1) (λ _ m. m ≡ (put_next me.0 (front_row me.1), rest me.1))
   fills_at by me v e held slots at size first all_slots is_size is_first is is_at sharing some_open position class fit own =
       let next = v.pass.next in
       let one : Filling slots by v ((next % key.size, cell.Filled e) ∷ held) next key.size key.first =
-      fills key IsFree IsBlank Carries Fits by v (cell.Filled e) (row_of e) held slots all_slots sharing (subst (λ k. k < v.pass.until) is_at some_open)
+      fills key IsFree IsBlank Carries Fits by v (cell.Filled e) (entry_row e) held slots all_slots sharing (subst (λ k. k < v.pass.until) is_at some_open)
       (e, refl, refl, own) (position ∙ is_at) class fit in
       let two : Filling slots by v ((at % key.size, cell.Filled e) ∷ held) at key.size key.first =
       subst (λ k. Filling slots by v ((k % key.size, cell.Filled e) ∷ held) k key.size key.first) (sym is_at) one in
@@ -77,7 +77,7 @@ module _ (key : Key) where
   Loading slots by v l at size then = Allows Kept slots by (v, l) (48 + 16 * (at % size)) (λ n. n) then
 
   pub finds_at : (by : ℕ) (me : Me Cell View) (slots at size : ℕ) → slots ≡ key.size → key.size ≡ size → 0 < size → at ≡ me.0.intake.taken
-      → me.1 ≡ [] → me.0.intake.on ≡ 1 → me.0.intake.away ≡ 0
+      → me.1 ≡ [] → IsTrue me.0.intake.on → me.0.intake.away ≡ None
       → Allows Kept slots by me (48 + 16 * (at % size)) (λ n. n) (Finds Carries Fits me.0 slots)
   finds_at by me slots at size all_slots is_size large is_at at_rest is_on home =
       let v = me.0 in
@@ -90,7 +90,7 @@ module _ (key : Key) where
       subst (λ l. Loading slots by v l at size (Finds Carries Fits v slots)) (sym at_rest) three
 
   pub gives_back_at : (by : ℕ) (me : Me Cell View) (v : View) (held : List (ℕ × Cell)) (slots at size : ℕ) → slots ≡ key.size → key.size ≡ size → 0 < size
-      → me ≡ (v, (at % size, cell.Empty) ∷ held) → v.intake.on ≡ 1 → v.intake.away ≡ at + 1
+      → me ≡ (v, (at % size, cell.Empty) ∷ held) → IsTrue v.intake.on → v.intake.away ≡ Some at
       → Allows Kept slots by me (48 + 16 * (at % size)) (λ n. n) (λ n m. m ≡ (gave_back me.0 n, rest me.1))
   gives_back_at by me v held slots at size all_slots is_size large is is_on out =
       let one : Loading slots by v ((at % key.size, cell.Empty) ∷ held) at key.size (λ n m. m ≡ (gave_back v n, held)) =
@@ -100,7 +100,7 @@ module _ (key : Key) where
       subst (λ (me : Me Cell View). Loading slots by me.0 me.1 at size (λ n m. m ≡ (gave_back me.0 n, rest me.1))) (sym is) two
 
   pub takes_empty_at : (by : ℕ) (me : Me Cell View) (slots at size : ℕ) → slots ≡ key.size → key.size ≡ size → at ≡ me.0.intake.freed
-      → me.1 ≡ [] → me.0.intake.on ≡ 1 → me.0.intake.away ≡ 0 → me.0.intake.freed < me.0.intake.taken
+      → me.1 ≡ [] → IsTrue me.0.intake.on → me.0.intake.away ≡ None → me.0.intake.freed < me.0.intake.taken
       → Allows Kept slots by me (48 + 16 * (at % size)) (λ n. n) (λ n m. m ≡ (took_free me.0 n, (slot slots me.0.intake.freed, cell.Empty) ∷ []))
   takes_empty_at by me slots at size all_slots is_size is_at at_rest is_on home some_taken =
       let v = me.0 in
@@ -115,7 +115,7 @@ module _ (key : Key) where
       subst (λ l. Loading slots by v l at size Told) (sym at_rest) three
 
   pub frees_at : (by : ℕ) (me : Me Cell View) (v : View) (x : Cell) (held : List (ℕ × Cell)) (slots at size : ℕ) → slots ≡ key.size → key.size ≡ size → 0 < size
-      → me ≡ (v, (at % size, x) ∷ held) → at ≡ v.intake.freed → v.intake.on ≡ 1 → v.intake.away ≡ v.intake.freed + 1 → IsFree v.key x
+      → me ≡ (v, (at % size, x) ∷ held) → at ≡ v.intake.freed → IsTrue v.intake.on → v.intake.away ≡ Some v.intake.freed → IsFree v.key x
       → Allows Kept slots by me freed_at (λ _. at + 1) (λ _ m. m ≡ (freed_next me.0, rest me.1))
   frees_at by me v x held slots at size all_slots is_size large is is_at is_on out free =
       let one : Allows Kept slots by (v, (v.intake.freed % key.size, x) ∷ held) freed_at (λ _. v.intake.freed + 1) (λ _ m. m ≡ (freed_next v, held)) =

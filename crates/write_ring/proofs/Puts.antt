@@ -15,7 +15,7 @@ use Rattle.write_ring.specs.Batches.{BatchView, CanPut, IsDraft, put_all, row_at
 use Rattle.write_ring.specs.Cells.{slots_with}
 use Rattle.write_ring.specs.Frames.{Fits, IsFree, is_copy}
 use Rattle.write_ring.specs.Handles.{puts_rows, saw_limit}
-use Rattle.write_ring.specs.Steps.{add_claim, claim_of, claimed_to, met_claimed, part_of, put_next, with_pass}
+use Rattle.write_ring.specs.Steps.{add_claim, claimed_to, met_claimed, put_next, with_pass}
 use Rattle.write_ring.specs.Tells.{HasSlots}
 
 -- what is left to put, and what the seat knows: to put the rest is to put all
@@ -107,21 +107,21 @@ pub put_rows : (c : Class) (v : View) (at : ℕ) (ds : List Draft) → v.pass.un
 put_rows c v at [] all =
     let p = v.pass in
     let none : p.next ≡ p.until = omega (arith, all) in
-    ap (λ k. with_pass v (part_of p.shares p.copier p.claims p.puts k p.until p.copy)) none
-    ∙ ap (λ l. with_pass v (part_of p.shares p.copier p.claims l p.until p.until p.copy)) (sym (append-nil p.puts))
+    ap (λ k. with_pass v (record p { next = k })) none
+    ∙ ap (λ l. with_pass v (record p { puts = l; next = p.until })) (sym (append-nil p.puts))
 put_rows c v at (d ∷ ds) all =
     let p = v.pass in
     put_rows c (put_next v (row_at c at d)) (at + 1) ds (omega (arith, all))
-    ∙ ap (λ l. with_pass v (part_of p.shares p.copier p.claims l p.until p.until p.copy)) (append_assoc p.puts (row_at c at d ∷ []) (rows_from c (at + 1) ds))
+    ∙ ap (λ l. with_pass v (record p { puts = l; next = p.until })) (append_assoc p.puts (row_at c at d ∷ []) (rows_from c (at + 1) ds))
 
 -- What the pass that claimed the place knows, once it has put all drafts there.
 pub placed : (c : Class) (v w : View) (old new : ℕ) (ds : List Draft) (me : Me Cell View) → w ≡ claimed_to v old new (is_copy c) → new ≡ old + length ds
     → me ≡ (with_pass w (puts_rows w.pass (rows_from c old ds)), [])
-    → me.0 ≡ with_pass (met_claimed v old) (puts_rows (add_claim v.pass (claim_of old (length ds) (is_copy c))) (rows_from c old ds))
+    → me.0 ≡ with_pass (met_claimed v old) (puts_rows (add_claim v.pass (record { first = old; count = length ds; copy = is_copy c })) (rows_from c old ds))
 placed c v w old new ds me claimed ends put =
     let count : new - old ≡ length ds = omega (arith, ends) in
     let b = is_copy c in
-    let same = claimed ∙ ap (λ k. with_pass (met_claimed v old) (add_claim v.pass (claim_of old k b))) count in
+    let same = claimed ∙ ap (λ k. with_pass (met_claimed v old) (add_claim v.pass (record { first = old; count = k; copy = b }))) count in
     ap (λ (m : Me Cell View). m.0) put ∙ ap (λ (u : View). with_pass u (puts_rows u.pass (rows_from c old ds))) same
 
 pub limit_pass : (c : Class) (u w : View) → (saw_limit c u w).pass ≡ u.pass

@@ -1,14 +1,14 @@
 -- Each kind of step keeps what the ring keeps of its claims.
-use Rattle.std.proofs.Common.{◌≡◌, ◌≢◌, ℕ, ◌+◌, ◌-◌, ◌<◌, ◌≤◌, List, [], ◌∷◌, set, Bool, false, refl, ap, ◌∙◌, arith, if◌then◌else◌}
+use Rattle.std.proofs.Common.{◌≡◌, ◌≢◌, ℕ, ◌+◌, ◌-◌, ◌<◌, ◌≤◌, List, [], ◌∷◌, set, Bool, true, false, true≢false, IsTrue, refl, sym, ap, ◌∙◌, arith, if◌then◌else◌}
 use mathlib.Core.Option.{some}
 use lib.ListN.{get_elem?}
 use Rattle.lemmas.proofs.Lists.{with_last}
 use Rattle.pblk_model.specs.RingState.{between, covers, covers_copy, Numbers, IsGranted}
-use Rattle.write_ring.specs.declared.view.Found.{Found}
+use Rattle.write_ring.specs.declared.view.LastFound.{LastFound}
 use Rattle.write_ring.specs.declared.view.Key.{Key}
 use Rattle.write_ring.specs.declared.view.View.{View}
-use Rattle.write_ring.specs.Rule.{Each, Seats}
-use Rattle.write_ring.specs.Steps.{LieBelow, claim_of, claimed_to, granted_to, new_pass, spent, with_found}
+use Rattle.write_ring.specs.Rule.{Each, Seats, one_if}
+use Rattle.write_ring.specs.Steps.{LieBelow, claim_to, claimed_to, granted_to, new_pass, spent, with_found}
 use Rattle.write_ring.proofs.Views.{sum_changed, sum_same, sum_one, sum_two, each_changed}
 use Rattle.write_ring.proofs.ClaimLists.{covers_both, copies_both, grown, none_above, granted_more}
 
@@ -20,10 +20,17 @@ abbrev pub shares : View → ℕ
 shares v = v.pass.shares
 
 abbrev pub copier : View → ℕ
-copier v = v.pass.copier
+copier v = one_if v.pass.copier
 
 abbrev pub on : View → ℕ
-on v = v.intake.on
+on v = one_if v.intake.on
+
+pub never : {P : Type 0} → IsTrue false → P
+never is = absurd (true≢false (sym is))
+
+pub none_counted : (b : Bool) → one_if b ≡ 0 → b ≡ false
+none_counted true none = absurd (omega arith)
+none_counted false none = refl
 
 pub idle : (key : Key) (c f g : ℕ) → Each c f g (new_pass key)
 idle key c f g = record {
@@ -33,7 +40,7 @@ idle key c f g = record {
   saw_claimed = omega arith;
   saw_freed = omega arith;
   saw_granted = omega arith;
-  intake = λ no. absurd (no refl);
+  intake = λ no. never no;
 }
 
 pub nobody : (c f g : ℕ) → Each c f g spent
@@ -44,7 +51,7 @@ nobody c f g = record {
   saw_claimed = omega arith;
   saw_freed = omega arith;
   saw_granted = omega arith;
-  intake = λ no. absurd (no refl);
+  intake = λ no. never no;
 }
 
 higher : (c d f g : ℕ) (u : View) → c ≤ d → Each c f g u → Each d f g u
@@ -60,7 +67,7 @@ higher c d f g u le h =
       intake = h.intake;
     }
 
-granted_higher : (c f g h : ℕ) (u : View) → g ≤ h → u.intake.on ≡ 0 → Each c f g u → Each c f h u
+granted_higher : (c f g h : ℕ) (u : View) → g ≤ h → u.intake.on ≡ false → Each c f g u → Each c f h u
 granted_higher c f g h u le off e =
     let saw = e.saw_granted in
     record {
@@ -70,7 +77,7 @@ granted_higher c f g h u le off e =
       saw_claimed = e.saw_claimed;
       saw_freed = e.saw_freed;
       saw_granted = omega arith;
-      intake = λ yes. absurd (yes off);
+      intake = λ yes. never (sym off ∙ yes);
     }
 
 pub at_most : (a b n : ℕ) → a ≡ b → b ≤ n → a ≤ n
@@ -78,7 +85,7 @@ at_most a b n same le = omega arith
 
 module _ (key : Key) where
   -- one seat found something else
-  pub looked : (c f g : ℕ) (views : List View) (by : ℕ) (v : View) (n : Found) → Seats key c f g views → get_elem? views by ≡ some v → n.claimed ≤ c
+  pub looked : (c f g : ℕ) (views : List View) (by : ℕ) (v : View) (n : LastFound) → Seats key c f g views → get_elem? views by ≡ some v → n.claimed ≤ c
       → n.freed ≤ f → n.granted ≤ g
       → Seats key c f g (set views by (with_found v n))
   looked c f g views by v n h there nc nf ng =
@@ -111,10 +118,10 @@ module _ (key : Key) where
   -- a seat claims
   pub claimed_more : (copy : Bool) (old new taken f g : ℕ) (views : List View) (by : ℕ) (v : View) → Seats key old f g views
       → Numbers key.first key.size key.reserve old taken f g → get_elem? views by ≡ some v → 0 < v.pass.shares → old < new
-      → (copy ≡ false → new ≤ g) → (v.pass.copier ≡ 0 → copy ≡ false) → Seats key new f g (set views by (claimed_to v old new copy))
+      → (copy ≡ false → new ≤ g) → (v.pass.copier ≡ false → copy ≡ false) → Seats key new f g (set views by (claimed_to v old new copy))
   claimed_more copy old new taken f g views by v h numbers there sharing rises user may =
       let w = claimed_to v old new copy in
-      let c = claim_of old (new - old) copy in
+      let c = claim_to old new copy in
       let mine = h.each by v there in
       let ends : old + (new - old) ≡ new = omega arith in
       let low = numbers.low in
@@ -147,8 +154,17 @@ module _ (key : Key) where
         });
       }
 
+  -- no other seat is the intake
+  pub alone : (c f g : ℕ) (views : List View) (by : ℕ) (v : View) → Seats key c f g views → get_elem? views by ≡ some v → IsTrue v.intake.on
+      → (j : ℕ) (u : View) → j ≢ by → get_elem? views j ≡ some u → u.intake.on ≡ false
+  alone c f g views by v h there is_on j u apart at =
+      let two = sum_two on views j by u v apart at there in
+      let one = h.one_intake in
+      let mine : on v ≡ 1 = ap one_if is_on in
+      none_counted u.intake.on (omega arith)
+
   -- the intake grants more
-  pub granted_more_seats : (c f g to : ℕ) (views : List View) (by : ℕ) (v : View) → Seats key c f g views → get_elem? views by ≡ some v → v.intake.on ≡ 1
+  pub granted_more_seats : (c f g to : ℕ) (views : List View) (by : ℕ) (v : View) → Seats key c f g views → get_elem? views by ≡ some v → IsTrue v.intake.on
       → g ≤ to → Seats key c f to (set views by (granted_to v to))
   granted_more_seats c f g to views by v h there is_on le =
       let w = granted_to v to in
@@ -160,10 +176,7 @@ module _ (key : Key) where
         one_copier = at_most _ _ _ (sum_same copier views by v w there refl) h.one_copier;
         one_intake = at_most _ _ _ (sum_same on views by v w there refl) h.one_intake;
         each = each_changed (Each c f to) views by w
-            (λ j u apart at.
-            let two = sum_two on views j by u v apart at there in
-            let one = h.one_intake in
-            granted_higher c f g to u le (omega arith) (h.each j u at))
+            (λ j u apart at. granted_higher c f g to u le (alone c f g views by v h there is_on j u apart at) (h.each j u at))
             (record {
               bare = mine.bare;
               no_copy = mine.no_copy;
@@ -182,15 +195,7 @@ module _ (key : Key) where
   seats_changed c f g later views by v w h there same_claims same_shares same_copier same_on others mine = record {
     tiles = λ x. sum_same (has x) views by v w there (ap (covers x) same_claims) ∙ h.tiles x;
     shares = sum_same shares views by v w there same_shares ∙ h.shares;
-    one_copier = at_most _ _ _ (sum_same copier views by v w there same_copier) h.one_copier;
-    one_intake = at_most _ _ _ (sum_same on views by v w there same_on) h.one_intake;
+    one_copier = at_most _ _ _ (sum_same copier views by v w there (ap one_if same_copier)) h.one_copier;
+    one_intake = at_most _ _ _ (sum_same on views by v w there (ap one_if same_on)) h.one_intake;
     each = each_changed (Each c later g) views by w others mine;
   }
-
-  -- no other seat is the intake
-  pub alone : (c f g : ℕ) (views : List View) (by : ℕ) (v : View) → Seats key c f g views → get_elem? views by ≡ some v → v.intake.on ≡ 1
-      → (j : ℕ) (u : View) → j ≢ by → get_elem? views j ≡ some u → u.intake.on ≡ 0
-  alone c f g views by v h there is_on j u apart at =
-      let two = sum_two on views j by u v apart at there in
-      let one = h.one_intake in
-      omega arith

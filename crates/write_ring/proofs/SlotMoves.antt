@@ -1,5 +1,5 @@
 -- Each kind of step on a slot keeps the rule, and tells what it says.
-use Rattle.std.proofs.Common.{◌≡◌, ◌≢◌, ℕ, ◌+◌, ◌-◌, ◌%◌, ◌^◌, ◌<◌, ◌≤◌, eqb, List, [], ◌∷◌, ◌++◌, set, Bool, true, false, true≢false, refl, sym, ap, ◌∙◌, subst, arith}
+use Rattle.std.proofs.Common.{◌≡◌, ◌≢◌, ℕ, ◌+◌, ◌-◌, ◌%◌, ◌^◌, ◌<◌, ◌≤◌, eqb, List, [], ◌∷◌, ◌++◌, set, Bool, true, false, true≢false, IsTrue, None, refl, sym, ap, ◌∙◌, subst, arith}
 use Rattle.std.proofs.Common.{if◌then◌else◌}
 use Rattle.std.proofs.lemmas.List.{set-get_or}
 use Rattle.std.proofs.Math.Nat.{mod-lt}
@@ -19,13 +19,13 @@ use Rattle.write_ring.specs.declared.view.Part.{Part}
 use Rattle.write_ring.specs.declared.view.Row.{Row}
 use Rattle.write_ring.specs.declared.view.View.{View}
 use Rattle.write_ring.specs.Cells.{IsNamed, slot, slots_with, turn_at}
-use Rattle.write_ring.specs.Rule.{Each, Seats, claimed_at}
+use Rattle.write_ring.specs.Rule.{Each, Seats, away_number, claimed_at}
 use Rattle.write_ring.specs.Stock.{Stock, IsOpen, IsEntry, Sides}
-use Rattle.write_ring.specs.Steps.{Claims, add_claim, claim_of, claimed_to, met_claimed, put_next, took_row, saw_turn}
+use Rattle.write_ring.specs.Steps.{Claims, add_claim, claim_to, claimed_to, met_claimed, put_next, took_row, saw_turn}
 use Rattle.write_ring.specs.Tells.{Gains, Finds}
 use Rattle.write_ring.proofs.ClaimLists.{covers_both, copies_both, empty}
 use Rattle.write_ring.proofs.Words.{same_words, claimed_word, turn_word, turns_stay}
-use Rattle.write_ring.proofs.SeatMoves.{looked, own_below, claimed_more, seats_changed, alone}
+use Rattle.write_ring.proofs.SeatMoves.{never, looked, own_below, claimed_more, seats_changed, alone}
 use Rattle.write_ring.proofs.Stocks.{open_claimed, stock_words, stock_changed, stock_claimed}
 use Rattle.write_ring.proofs.Desks.{stock_filled}
 use Rattle.write_ring.proofs.Takings.{stock_taken}
@@ -60,7 +60,7 @@ module _ {S : Type 0} (key : Key) (FreeOf : Key → S → Type 0) (Blank : S →
   claims : (copy : Bool) (by : ℕ) (v : View) (slots old new : ℕ) → slots ≡ key.size → 0 < v.pass.shares → v.pass.next ≡ v.pass.until
       → v.found.claimed ≡ old → old < new → new ≤ 2 ^ 62
       → ((c t f g : ℕ) → Numbers key.first key.size key.reserve c t f g → Each c f g v → (new ≤ f + key.size) × (copy ≡ false → new ≤ g))
-      → (v.pass.copier ≡ 0 → copy ≡ false)
+      → (v.pass.copier ≡ false → copy ≡ false)
       → Allows (Rule key FreeOf Blank CarriesOf FitsOf) slots by (v, []) claimed_at (λ n. either (eqb n old) new n)
       (λ n m. Claims copy v old new n m.0 × Gains FreeOf v slots old new n m.1)
   claims copy by v slots old new all_slots sharing rest saw rises most room may s h long there small =
@@ -110,7 +110,7 @@ module _ {S : Type 0} (key : Key) (FreeOf : Key → S → Type 0) (Blank : S →
               (set s.views by w) h.took new h.taken h.freed h.away
               (stock_claimed key.size key.first (FreeOf key) Blank (CarriesOf key) (FitsOf key) s.words s.homes (homes_after s.homes [] t.act) s.views by v w
               h.took old new h.taken h.freed h.away stock there order below (omega arith) fits
-              (claim_sides v.pass (claim_of old (new - old) copy) its.sides rest) refl ends refl refl refl rest
+              (claim_sides v.pass (claim_to old new copy) its.sides rest) refl ends refl refl refl rest
               (λ k not. t.others k (λ p le lt. not p le (omega arith))))
               (λ q. turns_stay key.size s.words 0 new q (omega arith));
           keys = keys_stay key FreeOf Blank CarriesOf FitsOf s.views by v w h.keys there refl refl refl;
@@ -157,11 +157,11 @@ module _ {S : Type 0} (key : Key) (FreeOf : Key → S → Type 0) (Blank : S →
       (λ c t f g numbers mine. let grants = numbers.grants in let saw = mine.saw_granted in (omega arith, λ _. omega arith)) (λ _. refl)
 
   pub claims_copy : (by : ℕ) (v : View) (slots old new : ℕ) → slots ≡ key.size → 0 < v.pass.shares → v.pass.next ≡ v.pass.until
-      → v.found.claimed ≡ old → old < new → new ≤ 2 ^ 62 → new ≤ v.found.freed + key.size → v.pass.copier ≢ 0
+      → v.found.claimed ≡ old → old < new → new ≤ 2 ^ 62 → new ≤ v.found.freed + key.size → IsTrue v.pass.copier
       → Allows (Rule key FreeOf Blank CarriesOf FitsOf) slots by (v, []) claimed_at (λ n. either (eqb n old) new n)
       (λ n m. Claims true v old new n m.0 × Gains FreeOf v slots old new n m.1)
   claims_copy by v slots old new all_slots sharing rest saw rises most limit copies = claims true by v slots old new all_slots sharing rest saw rises most
-      (λ c t f g numbers mine. let saw = mine.saw_freed in (omega arith, λ no. absurd (true≢false no))) (λ without. absurd (copies without))
+      (λ c t f g numbers mine. let saw = mine.saw_freed in (omega arith, λ no. absurd (true≢false no))) (λ without. never (sym without ∙ copies))
 
   -- a pass stores the turn word of its first open position, and gives its slot back with an entry
   pub fills : (by : ℕ) (v : View) (c : S) (r : Row) (held : List (ℕ × S)) (slots : ℕ) → slots ≡ key.size → 0 < v.pass.shares → v.pass.next < v.pass.until
@@ -225,26 +225,26 @@ module _ {S : Type 0} (key : Key) (FreeOf : Key → S → Type 0) (Blank : S →
       seats_changed key h.claimed h.freed h.granted h.freed s.views by v w h.seats there (ap (λ p. p.claims) same_pass) (ap (λ p. p.shares) same_pass)
       (ap (λ p. p.copier) same_pass) same_on (λ j u apart at. h.seats.each j u at) (record {
         bare = subst (λ (p : Part). p.shares ≡ 0 → p.claims ≡ []) (sym same_pass) mine.bare;
-        no_copy = subst (λ (p : Part). p.copier ≡ 0 → (x : ℕ) → covers_copy x p.claims ≡ 0) (sym same_pass) mine.no_copy;
+        no_copy = subst (λ (p : Part). p.copier ≡ false → (x : ℕ) → covers_copy x p.claims ≡ 0) (sym same_pass) mine.no_copy;
         users = subst (λ (p : Part). AllByRecursion (IsGranted h.granted) p.claims) (sym same_pass) mine.users;
         saw_claimed = omega arith;
         saw_freed = omega arith;
         saw_granted = omega arith;
-        intake = λ is_on. let own = mine.intake (subst (λ k. k ≢ 0) same_on is_on) in (same_own ∙ own.0, same_own_granted ∙ own.1);
+        intake = λ is_on. let own = mine.intake (sym same_on ∙ is_on) in (same_own ∙ own.0, same_own_granted ∙ own.1);
       })
 
-  pub finds : (by : ℕ) (v : View) (slots : ℕ) → slots ≡ key.size → 0 < key.size → v.intake.on ≡ 1 → v.intake.away ≡ 0
+  pub finds : (by : ℕ) (v : View) (slots : ℕ) → slots ≡ key.size → 0 < key.size → IsTrue v.intake.on → v.intake.away ≡ None
       → Allows (Rule key FreeOf Blank CarriesOf FitsOf) slots by (v, []) (turn_at key.size v.intake.taken) (λ n. n) (Finds CarriesOf FitsOf v slots)
   finds by v slots all_slots large is_on home s h long there small =
       let i = turn_at key.size v.intake.taken in
       let n = slice_index s.words i in
       let mine = h.seats.each by v there in
       let its = h.stock.entered by v there in
-      let known = (h.keys by v there).desk (λ off. omega arith) in
-      let own = its.desk (λ off. omega arith) in
-      let own_words = mine.intake (λ off. omega arith) in
+      let known = (h.keys by v there).desk is_on in
+      let own = its.desk is_on in
+      let own_words = mine.intake is_on in
       let taken_is : v.intake.taken ≡ h.taken = own.1 in
-      let away_is : h.away ≡ 0 = sym own.2 ∙ home in
+      let away_is : h.away ≡ 0 = sym own.2 ∙ ap away_number home in
       let freed_is : v.intake.freed ≡ h.freed = own_words.0 in
       let granted_is : v.intake.granted ≡ h.granted = own_words.1 in
       let first_is : v.key.first ≡ key.first = ap (λ k. k.first) known in

@@ -1,5 +1,5 @@
 -- Each kind of step keeps what the ring keeps of its entries.
-use Rattle.std.proofs.Common.{◌≡◌, ◌≢◌, ℕ, ◌+◌, ◌<◌, ◌≤◌, List, [], ◌∷◌, ◌++◌, set, refl, sym, ap, ◌∙◌, subst, arith}
+use Rattle.std.proofs.Common.{◌≡◌, ◌≢◌, ℕ, ◌+◌, ◌<◌, ◌≤◌, List, [], ◌∷◌, ◌++◌, set, IsTrue, refl, sym, ap, ◌∙◌, subst, arith}
 use Rattle.std.proofs.lemmas.List.{append_assoc}
 use Rattle.std.specs.Prelude.{slice_index}
 use mathlib.Core.Option.{Option, some}
@@ -10,7 +10,7 @@ use Rattle.pblk_model.specs.RingState.{between, covers, total}
 use Rattle.write_ring.specs.declared.view.Row.{Row}
 use Rattle.write_ring.specs.declared.view.View.{View}
 use Rattle.write_ring.specs.Cells.{slot, turn_at}
-use Rattle.write_ring.specs.Rule.{AllViews}
+use Rattle.write_ring.specs.Rule.{AllViews, away_number}
 use Rattle.write_ring.specs.Stock.{HasOpen, HasPut, IsOpen, IsPut, Begins, Sides, Entered, IsEntry, IsStory, Stock}
 use Rattle.write_ring.proofs.Views.{sum_one, each_changed, each_more}
 use Rattle.write_ring.proofs.ClaimLists.{none_above, inside}
@@ -152,7 +152,7 @@ module _ {S : Type 0} (size first : ℕ) (Free Blank : S → Type 0) (Carries : 
                     (λ named. let old = h.cells.named_below x (omega arith) (omega arith) named in absurd (omega arith))
                     (λ other. omega arith),
               );
-          desk = subst (λ d. d.on ≢ 0 → (d.took ≡ took) × (d.taken ≡ taken) × (d.away ≡ away)) (sym same_desk) mine.desk;
+          desk = subst (λ d. IsTrue d.on → (d.took ≡ took) × (d.taken ≡ taken) × (away_number d.away ≡ away)) (sym same_desk) mine.desk;
           heard = subst (λ l. Begins l took) (sym same_heard) mine.heard;
         });
         cells = claimed_slots size first Free Blank (IsEntry size first Free Blank Carries Fits views') (IsOpen views') (IsOpen views') words homes homes'

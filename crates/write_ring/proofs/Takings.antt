@@ -1,5 +1,5 @@
 -- What the ring keeps of its entries, where the intake takes an entry, gives its slot back, and frees a position.
-use Rattle.std.proofs.Common.{◌≡◌, ◌≢◌, ℕ, ◌+◌, ◌<◌, ◌≤◌, List, [], ◌∷◌, ◌++◌, length, set, refl, sym, ap, ◌∙◌, subst, ⊎_elim, arith}
+use Rattle.std.proofs.Common.{◌≡◌, ◌≢◌, ℕ, ◌+◌, ◌<◌, ◌≤◌, List, [], ◌∷◌, ◌++◌, length, set, false, refl, sym, ap, ◌∙◌, subst, ⊎_elim, arith}
 use Rattle.std.proofs.lemmas.List.{length-append}
 use Rattle.std.specs.Prelude.{slice_index}
 use mathlib.Core.Option.{Option, some, none}
@@ -9,16 +9,17 @@ use lib.ListN.{get_elem?}
 use Rattle.write_ring.specs.declared.view.Row.{Row}
 use Rattle.write_ring.specs.declared.view.View.{View}
 use Rattle.write_ring.specs.Cells.{Cells, IsNamed, slot, turn_at}
-use Rattle.write_ring.specs.Rule.{AllViews}
+use Rattle.write_ring.specs.Rule.{AllViews, away_number}
 use Rattle.write_ring.specs.Stock.{HasOpen, HasPut, IsOpen, IsPut, Begins, Sides, Entered, IsEntry, Stock}
 use Rattle.write_ring.proofs.Views.{each_changed}
+use Rattle.write_ring.proofs.SeatMoves.{never}
 use Rattle.write_ring.proofs.SomeViews.{last_at, some_changed}
 use Rattle.write_ring.proofs.Slots.{taken_out, given_back, taken_free, freed_next, left_alone}
 use Rattle.write_ring.proofs.Stocks.{begins_longer, entry_grows, story_grows}
 
 -- no other seat is the intake
 abbrev pub IsOnly : ℕ → List View → Type 0
-IsOnly by views = (j : ℕ) (u : View) → j ≢ by → get_elem? views j ≡ some u → u.intake.on ≡ 0
+IsOnly by views = (j : ℕ) (u : View) → j ≢ by → get_elem? views j ≡ some u → u.intake.on ≡ false
 
 -- the intake's view changes in what it has taken and has with it
 pub record Turned (v w : View) (took : List Row) (taken away : ℕ) : Type 0 where
@@ -26,7 +27,7 @@ pub record Turned (v w : View) (took : List Row) (taken away : ℕ) : Type 0 whe
   pub heard : w.heard ≡ v.heard
   pub took_is : w.intake.took ≡ took
   pub taken_is : w.intake.taken ≡ taken
-  pub away_is : w.intake.away ≡ away
+  pub away_is : away_number w.intake.away ≡ away
 
 module _ (size first : ℕ) where
   same_puts : (views : List View) (by : ℕ) (v w : View) → get_elem? views by ≡ some v → w.pass ≡ v.pass → (r : Row) → IsPut views r → IsPut (set views by w) r
@@ -44,7 +45,7 @@ module _ (size first : ℕ) where
       (λ j u apart at. let e = each j u at in record {
         sides = e.sides;
         ahead = e.ahead;
-        desk = λ yes. absurd (yes (only j u apart at));
+        desk = λ yes. never (sym (only j u apart at) ∙ yes);
         heard = e.heard;
       })
       (record {
@@ -90,7 +91,7 @@ module _ {S : Type 0} (size first : ℕ) (Free Blank : S → Type 0) (Carries : 
             (λ j u apart its. let e = h.entered j u its in record {
               sides = e.sides;
               ahead = next u e;
-              desk = λ yes. absurd (yes (only j u apart its));
+              desk = λ yes. never (sym (only j u apart its) ∙ yes);
               heard = begins_longer u.heard took (r ∷ []) e.heard;
             })
             (record {

@@ -1,9 +1,8 @@
 -- A batch, as contracts see it, and the rows of what is put.
-use Rattle.std.specs.Prelude.{◌≡◌, ℕ, ◌+◌, ◌<◌, List, [], ◌∷◌, Option, length}
+use Rattle.std.specs.Prelude.{◌≡◌, ℕ, ◌+◌, ◌<◌, List, [], ◌∷◌, length}
 use Rattle.std.specs.List.{AllByRecursion}
 use Rattle.pblk_model.specs.Frames.{Region, FrameView}
 use Rattle.sector_pool.specs.declared.entry.Class.{Class}
-use Rattle.sector_pool.specs.declared.entry.Source.{Source}
 use Rattle.write_ring.specs.declared.view.Key.{Key}
 use Rattle.write_ring.specs.declared.view.Row.{Row}
 use Rattle.write_ring.specs.declared.view.View.{View}
@@ -24,9 +23,6 @@ IsDraft region d = (d.frame.region ≡ region) × (length d.frame.bytes ≡ regi
 
 abbrev pub AreOwn : Region → List FrameView → Type 0
 AreOwn region frames = AllByRecursion (λ (f : FrameView). f.region ≡ region) frames
-
-abbrev pub draft_of : ℕ → Option Source → FrameView → Draft
-draft_of lba source frame = record { lba = lba; source = source; frame = frame }
 
 -- what a frame may be filled with for an entry of this class
 abbrev pub CanPut : Class → Key → Draft → Type 0

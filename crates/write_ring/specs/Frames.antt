@@ -14,8 +14,8 @@ abbrev pub is_copy : Class → Bool
 is_copy class.User = false
 is_copy class.Copy = true
 
-abbrev pub row_of : Entry → Row
-row_of e = record { position = e.position; copy = is_copy e.class; lba = e.lba; source = e.source; sector = e.frame.bytes }
+abbrev pub entry_row : Entry → Row
+entry_row e = record { position = e.position; copy = is_copy e.class; lba = e.lba; source = e.source; sector = e.frame.bytes }
 
 -- a free frame of this region
 abbrev pub IsFreeOf : Region → Cell → Type 0
@@ -29,7 +29,7 @@ IsBlank x = x ≡ cell.Empty
 
 -- an entry with these parts, in a frame of the ring's region
 abbrev pub Carries : Key → Cell → Row → Type 0
-Carries key x r = (e : Entry) × (x ≡ cell.Filled e) × (row_of e ≡ r) × (e.frame.region ≡ key.origin.region)
+Carries key x r = (e : Entry) × (x ≡ cell.Filled e) × (entry_row e ≡ r) × (e.frame.region ≡ key.origin.region)
 
 -- a copy names the block that it was made from, and a user's write none
 abbrev pub HasSource : Bool → Option Source → Type 0
@@ -43,7 +43,7 @@ Fits key r = (r.lba < key.capacity) × HasSource r.copy r.source × (length r.se
 -- the row of the entry that a slot has
 abbrev pub row_in : Cell → Row
 row_in (cell.Free f) = record { position = 0; copy = false; lba = 0; source = None; sector = [] }
-row_in (cell.Filled e) = row_of e
+row_in (cell.Filled e) = entry_row e
 row_in cell.Empty = record { position = 0; copy = false; lba = 0; source = None; sector = [] }
 
 -- the row of the entry in the slot that a seat took last

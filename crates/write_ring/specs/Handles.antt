@@ -11,14 +11,15 @@ use Rattle.write_ring.specs.declared.draft.Draft.{Draft}
 use Rattle.write_ring.specs.declared.table.Ring.{Ring}
 use Rattle.write_ring.specs.declared.seats.Pass.{Pass}
 use Rattle.write_ring.specs.declared.seats.Intake.{Intake}
+use Rattle.write_ring.specs.declared.seats.Full.{Full}
 use Rattle.write_ring.specs.declared.seats.Place.{Place}
 use Rattle.write_ring.specs.declared.view.Key.{Key}
 use Rattle.write_ring.specs.declared.view.Part.{Part}
 use Rattle.write_ring.specs.declared.view.Row.{Row}
 use Rattle.write_ring.specs.declared.view.View.{View}
 use Rattle.write_ring.specs.Batches.{rows_from}
-use Rattle.write_ring.specs.Frames.{is_copy, row_of, Fits}
-use Rattle.write_ring.specs.Steps.{LieBelow, add_claim, claim_of, part_of, saw_freed, saw_granted}
+use Rattle.write_ring.specs.Frames.{is_copy, entry_row, Fits}
+use Rattle.write_ring.specs.Steps.{LieBelow, saw_freed, saw_granted}
 use Rattle.write_ring.specs.Stock.{HasPut, copies_at, rows_at}
 
 abbrev pub ring_key : Ring → Key
@@ -50,22 +51,28 @@ saw_limit class.Copy v w = saw_freed v w.found.freed
 
 -- so many rows more, with which all open positions are filled
 abbrev pub puts_rows : Part → List Row → Part
-puts_rows p rows = part_of p.shares p.copier p.claims (p.puts ++ rows) p.until p.until p.copy
+puts_rows p rows = record p { puts = p.puts ++ rows; next = p.until }
 
 -- The pass has claimed the place and put these drafts there, in their order.
 -- No claim that it had before has a position of the place.
-abbrev pub HasPlace : Class → List Draft → Place → View → View → Type 0
-HasPlace c drafts place v w = (place.count ≡ length drafts)
-    × (w.pass ≡ puts_rows (add_claim v.pass (claim_of place.first (length drafts) (is_copy c))) (rows_from c place.first drafts))
-    × LieBelow place.first v.pass.claims
+pub record HasPlace (c : Class) (drafts : List Draft) (place : Place) (v w : View) : Type 0 where
+  pub count : place.count ≡ length drafts
+  pub put : w.pass ≡ record v.pass {
+    claims = v.pass.claims ++ record { first = place.first; count = length drafts; copy = is_copy c } ∷ [];
+    puts = v.pass.puts ++ rows_from c place.first drafts;
+    next = place.first + length drafts;
+    until = place.first + length drafts;
+    copy = is_copy c;
+  }
+  pub own : LieBelow place.first v.pass.claims
 
 -- the claim ends by the limit, by numbers that this try read
-abbrev pub HadRoom : Class → Key → ℕ → ℕ → View → Type 0
-HadRoom c key count claimed w = (w.found.claimed ≡ claimed) × (claimed + count ≤ limit_of c key w)
+abbrev pub HadRoom : Class → Key → List Draft → ℕ → View → Type 0
+HadRoom c key drafts claimed w = (w.found.claimed ≡ claimed) × (claimed + length drafts ≤ limit_of c key w)
 
 -- the claim would have ended above the limit, by numbers that this try read
-abbrev pub WasFull : Class → Key → ℕ → ℕ → ℕ → View → Type 0
-WasFull c key count claimed limit w = (limit < claimed + count) × (w.found.claimed ≡ claimed) × (limit ≡ limit_of c key w)
+abbrev pub WasFull : Class → Key → List Draft → Full → View → Type 0
+WasFull c key drafts full w = (full.limit < full.claimed + length drafts) × (w.found.claimed ≡ full.claimed) × (full.limit ≡ limit_of c key w)
 
 -- the exchange found more than was expected, and both were found in this try
 abbrev pub WasRaced : ℕ → ℕ → View → Type 0
@@ -73,12 +80,12 @@ WasRaced expected found w = (expected < found) × (w.found.claimed ≡ expected)
 
 -- the intake has taken the entry of the next position, in a frame of the ring's region
 pub record HasTaken (v : View) (e : Entry) (w : View) : Type 0 where
-  pub took : w.intake.took ≡ v.intake.took ++ row_of e ∷ []
+  pub took : w.intake.took ≡ v.intake.took ++ entry_row e ∷ []
   pub position : e.position ≡ v.intake.taken
   pub next : w.intake.taken ≡ v.intake.taken + 1
   pub freed : w.intake.freed ≡ v.intake.freed
   pub granted : w.intake.granted ≡ v.intake.granted
-  pub fits : Fits v.key (row_of e)
+  pub fits : Fits v.key (entry_row e)
   pub own : e.frame.region ≡ v.key.origin.region
   pub user : e.class ≡ class.User → e.position < v.intake.granted
   pub room : e.position < v.intake.freed + v.key.size

@@ -1,5 +1,5 @@
 -- What a ring keeps at every moment: its words, the claims of all passes, and the entries.
-use Rattle.std.specs.Prelude.{◌≡◌, ◌≢◌, ℕ, List}
+use Rattle.std.specs.Prelude.{◌≡◌, ◌≢◌, ℕ, List, IsTrue}
 use Rattle.atomic_table.specs.Table.{State}
 use Rattle.pblk_model.specs.RingState.{Numbers}
 use Rattle.write_ring.specs.declared.view.Key.{Key}
@@ -11,7 +11,7 @@ use Rattle.write_ring.specs.Stock.{Stock}
 -- a pass and the intake know what the ring was made with
 pub record HasKey (key : Key) (u : View) : Type 0 where
   pub pass : u.pass.shares ≢ 0 → u.key ≡ key
-  pub desk : u.intake.on ≢ 0 → u.key ≡ key
+  pub desk : IsTrue u.intake.on → u.key ≡ key
 
 module _ {S : Type 0} (key : Key) (Free Blank : S → Type 0) (Carries : S → Row → Type 0) (Fits : Row → Type 0) where
   pub record Kept (s : State S View) : Type 0 where

@@ -1,5 +1,5 @@
 -- The state of a ring, as its words and seats tell it.
-use Rattle.std.specs.Prelude.{◌≡◌, ◌≢◌, ℕ, ◌+◌, ◌*◌, map, slice_index}
+use Rattle.std.specs.Prelude.{◌≡◌, ℕ, ◌+◌, ◌*◌, map, slice_index, IsTrue}
 use Rattle.atomic_table.specs.Table.{State}
 use Rattle.pblk_model.specs.RingState.{PassView, RingView, IsRingState}
 use Rattle.write_ring.specs.declared.view.Key.{Key}
@@ -28,4 +28,4 @@ module _ {S : Type 0} (key : Key) (s : State S View) where
 
   -- the words and the seats are in a ring state, and the intake has taken all positions below one
   abbrev pub IsInRingState : Type 0
-  IsInRingState = (taken : ℕ) × IsRingState (ring_of taken) × AllViews (λ u. u.intake.on ≢ 0 → u.intake.taken ≡ taken) s.views
+  IsInRingState = (taken : ℕ) × IsRingState (ring_of taken) × AllViews (λ u. IsTrue u.intake.on → u.intake.taken ≡ taken) s.views

@@ -1,5 +1,5 @@
 -- What a ring keeps of the entries: which position each seat has filled, what the intake took, and what lies in the slots.
-use Rattle.std.specs.Prelude.{◌≡◌, ◌≢◌, ℕ, ◌+◌, ◌<◌, ◌≤◌, List, [], ◌∷◌, ◌++◌, true, length, if◌then◌else◌, slice_index}
+use Rattle.std.specs.Prelude.{◌≡◌, ℕ, ◌+◌, ◌<◌, ◌≤◌, List, [], ◌∷◌, ◌++◌, true, IsTrue, length, if◌then◌else◌, slice_index}
 use mathlib.Core.Option.{Option, some}
 use lib.ListN.{get_elem?}
 use Rattle.pblk_model.specs.RingState.{between, covers, covers_copy}
@@ -7,7 +7,7 @@ use Rattle.write_ring.specs.declared.view.Row.{Row}
 use Rattle.write_ring.specs.declared.view.Part.{Part}
 use Rattle.write_ring.specs.declared.view.View.{View}
 use Rattle.write_ring.specs.Cells.{Cells, turn_at}
-use Rattle.write_ring.specs.Rule.{AllViews}
+use Rattle.write_ring.specs.Rule.{AllViews, away_number}
 
 -- how often these rows have the position x
 abbrev pub rows_at : ℕ → List Row → ℕ
@@ -53,7 +53,7 @@ pub record Sides (part : Part) : Type 0 where
 pub record Entered (size first : ℕ) (words : List ℕ) (took : List Row) (taken away : ℕ) (u : View) : Type 0 where
   pub sides : Sides u.pass
   pub ahead : (x : ℕ) → HasOpen x u.pass → (taken ≤ x) × (slice_index words (turn_at size x) + first ≤ x)
-  pub desk : u.intake.on ≢ 0 → (u.intake.took ≡ took) × (u.intake.taken ≡ taken) × (u.intake.away ≡ away)
+  pub desk : IsTrue u.intake.on → (u.intake.took ≡ took) × (u.intake.taken ≡ taken) × (away_number u.intake.away ≡ away)
   pub heard : Begins u.heard took
 
 module _ {S : Type 0} (size first : ℕ) (Free Blank : S → Type 0) (Carries : S → Row → Type 0) (Fits : Row → Type 0) where

@@ -3,7 +3,7 @@ ghost use Rattle.std.specs.Prelude.{◌≡◌, ◌+◌, ◌<◌, ◌≤◌, [], 
 ghost use Rattle.std.specs.Prelude.{IfOk, IfErr, OnOk, IfSome, IfNone, Some, true, false};
 ghost use Rattle.std.specs.Prelude.{slice_get, slice_set};
 ghost use Rattle.pblk_model.specs.Frames.{FrameView, count_left, count_out};
-ghost use Rattle.write_ring.specs.Batches.{AreOwn, IsDraft, draft_of};
+ghost use Rattle.write_ring.specs.Batches.{AreOwn, IsDraft};
 
 use crate::draft::Draft;
 use sector_pool::{Frame, Origin, Pool, Source};
@@ -87,8 +87,8 @@ impl Batch {
     pub fn fill(&mut self, lba: u64, source: Option<Source>, bytes: &[u8])
         requires some { 0 < self.old.free }
         requires size { length bytes.now ≡ self.old.region.size }
-        ensures filled { (f : FrameView) × (f.bytes ≡ bytes.now)
-            × (self.new.drafts ≡ self.old.drafts ++ draft_of lba source f ∷ []) }
+        ensures filled { (f : FrameView) × (f.bytes ≡ bytes.now) × (self.new.drafts
+            ≡ self.old.drafts ++ record { lba = lba; source = source; frame = f } ∷ []) }
         ensures fewer_free { self.old.free ≡ self.new.free + 1 }
         ensures region { self.new.region ≡ self.old.region }
         ensures count { self.new.count ≡ self.old.count }

@@ -1,9 +1,9 @@
 // The steps of a pass: what it loads, and its claim of positions.
-ghost use Rattle.std.specs.Prelude.{◌≡◌, ◌≢◌, ◌+◌, ◌<◌, ◌≤◌, ◌^◌, []};
+ghost use Rattle.std.specs.Prelude.{◌≡◌, ◌+◌, ◌<◌, ◌≤◌, ◌^◌, [], IsTrue};
 ghost use Rattle.sector_pool.specs.declared.entry.Class.TheVariants as kind;
 ghost use Rattle.write_ring.specs.Frames.{IsFree, is_copy};
 ghost use Rattle.write_ring.specs.Handles.{IsPassOf, limit_of, pass_view, ring_key, saw_limit};
-ghost use Rattle.write_ring.specs.Steps.{Claims, LieBelow, saw_claimed, saw_freed, saw_granted};
+ghost use Rattle.write_ring.specs.Steps.{Claims, LieBelow, saw_freed, saw_granted};
 ghost use Rattle.write_ring.specs.Tells.{Gains};
 
 use crate::cell::Cell;
@@ -22,7 +22,9 @@ impl Ring {
     pub fn claimed(&self, pass: &mut Pass) -> u64
         requires ring { IsPassOf self.now pass.old }
         ensures ring { IsPassOf self.now pass.new }
-        ensures found { pass_view pass.new ≡ saw_claimed (pass_view pass.old) result }
+        ensures found { let old = pass_view pass.old in pass_view pass.new ≡ record old {
+          found = record old.found { steps = old.found.steps + 1; claimed = result };
+        } }
         ensures own_below { LieBelow result (pass_view pass.old).pass.claims }
         ensures low { (ring_key self.now).first ≤ result }
         ensures most { result ≤ 2 ^ 62 }
@@ -79,7 +81,7 @@ impl Ring {
         requires at_rest { seat.old.me.1 ≡ [] }
         requires all_put { seat.old.me.0.pass.next ≡ seat.old.me.0.pass.until }
         requires shares { 0 < seat.old.me.0.pass.shares }
-        requires copier { class ≡ kind.Copy → seat.old.me.0.pass.copier ≢ 0 }
+        requires copier { class ≡ kind.Copy → IsTrue seat.old.me.0.pass.copier }
         requires saw { seat.old.me.0.found.claimed ≡ old }
         requires rises { old < new }
         requires limit { new ≤ limit_of class (ring_key self.now) seat.old.me.0 }

@@ -1,5 +1,5 @@
 // Entries go into the ring.
-ghost use Rattle.std.specs.Prelude.{◌≡◌, ◌≢◌, ◌+◌, ◌<◌, ◌≤◌, ◌%◌, ◌^◌, ℕ, IfOk, IfErr, OnOk, Err};
+ghost use Rattle.std.specs.Prelude.{◌≡◌, ◌+◌, ◌<◌, ◌≤◌, ◌%◌, ◌^◌, ℕ, IfOk, IfErr, OnOk, Err, IsTrue};
 ghost use Rattle.std.specs.Prelude.{[], ◌∷◌, length};
 ghost use Rattle.std.specs.List.{AllByRecursion};
 ghost use Rattle.atomic_table.specs.Table.{rest};
@@ -8,7 +8,7 @@ ghost use Rattle.sector_pool.specs.declared.entry.Class.TheVariants as kind;
 ghost use Rattle.write_ring.specs.declared.cell.Cell.TheVariants as cell;
 ghost use Rattle.write_ring.specs.declared.seats.TryPut.TheVariants as Refused;
 ghost use Rattle.write_ring.specs.Batches.{CanPut, rows_from};
-ghost use Rattle.write_ring.specs.Frames.{Fits, IsFree, is_copy, row_of};
+ghost use Rattle.write_ring.specs.Frames.{Fits, IsFree, is_copy, entry_row};
 ghost use Rattle.write_ring.specs.Handles.{HadRoom, HasPlace, IsPassOf, WasFull, WasRaced};
 ghost use Rattle.write_ring.specs.Handles.{pass_view, puts_rows, ring_key};
 ghost use Rattle.write_ring.specs.Steps.{put_next, with_pass};
@@ -41,11 +41,11 @@ impl Ring {
             × (f.region ≡ (ring_key self.now).origin.region) }
         requires position { entry.position ≡ at }
         requires class { is_copy entry.class ≡ seat.old.me.0.pass.copy }
-        requires fits { Fits (ring_key self.now) (row_of entry) }
+        requires fits { Fits (ring_key self.now) (entry_row entry) }
         requires own { entry.frame.region ≡ (ring_key self.now).origin.region }
         ensures ring { seat.new.table_id ≡ seat.old.table_id }
         ensures put { seat.new.me
-            ≡ (put_next seat.old.me.0 (row_of entry), rest seat.old.me.1) }
+            ≡ (put_next seat.old.me.0 (entry_row entry), rest seat.old.me.1) }
         ensures frame { result.region ≡ (ring_key self.now).origin.region }
     {
         let slot = (at % self.size) as usize;
@@ -111,7 +111,7 @@ impl Ring {
         requires some { 0 < length batch.old.drafts }
         requires fits { AllByRecursion (CanPut class (ring_key self.now)) batch.old.drafts }
         requires own { batch.old.region ≡ (ring_key self.now).origin.region }
-        requires copier { class ≡ kind.Copy → (pass_view pass.old).pass.copier ≢ 0 }
+        requires copier { class ≡ kind.Copy → IsTrue (pass_view pass.old).pass.copier }
         ensures ring { IsPassOf self.now pass.new }
         ensures region { batch.new.region ≡ batch.old.region }
 
@@ -122,7 +122,7 @@ impl Ring {
         ensures free { OnOk result
             (batch.new.free ≡ batch.old.free + length batch.old.drafts) }
         ensures place_room { IfOk result (λ p. HadRoom class (ring_key self.now)
-            (length batch.old.drafts) p.first (pass_view pass.new)) }
+            batch.old.drafts p.first (pass_view pass.new)) }
         ensures place_steps { IfOk result
             (λ _. (pass_view pass.new).found.steps ≡ (pass_view pass.old).found.steps + 3) }
 
@@ -133,14 +133,14 @@ impl Ring {
         ensures same_shares { (pass_view pass.new).pass.shares ≡ (pass_view pass.old).pass.shares }
         ensures same_copier { (pass_view pass.new).pass.copier ≡ (pass_view pass.old).pass.copier }
         ensures full { (claimed limit : ℕ) → result ≡ Err (Refused.Full claimed limit)
-            → WasFull class (ring_key self.now) (length batch.old.drafts) claimed limit
-            (pass_view pass.new) }
+            → WasFull class (ring_key self.now) batch.old.drafts
+            (record { claimed = claimed; limit = limit }) (pass_view pass.new) }
         ensures full_steps { (claimed limit : ℕ) → result ≡ Err (Refused.Full claimed limit)
             → (pass_view pass.new).found.steps ≡ (pass_view pass.old).found.steps + 2 }
         ensures raced { (expected found : ℕ) → result ≡ Err (Refused.Raced expected found)
             → WasRaced expected found (pass_view pass.new) }
         ensures raced_room { (expected found : ℕ) → result ≡ Err (Refused.Raced expected found)
-            → HadRoom class (ring_key self.now) (length batch.old.drafts) expected
+            → HadRoom class (ring_key self.now) batch.old.drafts expected
             (pass_view pass.new) }
         ensures raced_steps { (expected found : ℕ) → result ≡ Err (Refused.Raced expected found)
             → (pass_view pass.new).found.steps ≡ (pass_view pass.old).found.steps + 3 }
@@ -178,13 +178,13 @@ impl Ring {
         requires some { 0 < length batch.old.drafts }
         requires fits { AllByRecursion (CanPut class (ring_key self.now)) batch.old.drafts }
         requires own { batch.old.region ≡ (ring_key self.now).origin.region }
-        requires copier { class ≡ kind.Copy → (pass_view pass.old).pass.copier ≢ 0 }
+        requires copier { class ≡ kind.Copy → IsTrue (pass_view pass.old).pass.copier }
         ensures ring { IsPassOf self.now pass.new }
         ensures region { batch.new.region ≡ batch.old.region }
         ensures place { IfOk result (λ p. HasPlace class batch.old.drafts p (pass_view pass.old)
             (pass_view pass.new)) }
         ensures place_room { IfOk result (λ p. HadRoom class (ring_key self.now)
-            (length batch.old.drafts) p.first (pass_view pass.new)) }
+            batch.old.drafts p.first (pass_view pass.new)) }
         ensures place_steps { IfOk result
             (λ _. (pass_view pass.old).found.steps + 3 ≤ (pass_view pass.new).found.steps) }
         ensures empty { OnOk result (batch.new.drafts ≡ []) }
@@ -196,7 +196,7 @@ impl Ring {
         ensures same_shares { (pass_view pass.new).pass.shares ≡ (pass_view pass.old).pass.shares }
         ensures same_copier { (pass_view pass.new).pass.copier ≡ (pass_view pass.old).pass.copier }
         ensures full { IfErr result (λ e. WasFull class (ring_key self.now)
-            (length batch.old.drafts) e.claimed e.limit (pass_view pass.new)) }
+            batch.old.drafts e (pass_view pass.new)) }
         ensures full_steps { IfErr result
             (λ _. (pass_view pass.old).found.steps + 2 ≤ (pass_view pass.new).found.steps) }
     {

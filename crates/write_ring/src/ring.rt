@@ -1,10 +1,10 @@
 // How a ring begins and ends, and how its seats are split and joined.
-ghost use Rattle.std.specs.Prelude.{◌≡◌, ◌≢◌, ◌+◌, ◌<◌, ◌≤◌, ◌^◌, IfOk, IfErr, OnOk, []};
+ghost use Rattle.std.specs.Prelude.{◌≡◌, ◌+◌, ◌-◌, ◌<◌, ◌≤◌, ◌^◌, ◌++◌, ◌||◌, [], true, IsTrue};
+ghost use Rattle.std.specs.Prelude.{IfOk, IfErr, OnOk};
 ghost use Rattle.pblk_model.specs.Frames.{count_left, count_out};
 ghost use Rattle.write_ring.specs.Handles.{IsAsPut, IsFilled, IsIntakeOf, IsPassOf, IsTiled};
 ghost use Rattle.write_ring.specs.Handles.{intake_view, pass_view, ring_key};
-ghost use Rattle.write_ring.specs.Steps.{desk_of, fresh_part, joined_pass, less_share, new_pass};
-ghost use Rattle.write_ring.specs.Steps.{no_desk, nothing_found, view_of};
+ghost use Rattle.write_ring.specs.Steps.{no_desk, no_part, nothing_found};
 ghost use Rattle.write_ring.specs.Stock.{CopiesArePut};
 
 use crate::closing::give_slots;
@@ -41,10 +41,21 @@ impl Ring {
         ensures capacity { IfOk result (λ r. (ring_key r.0).capacity ≡ capacity) }
         ensures region { IfOk result (λ r. (ring_key r.0).origin.region ≡ pool.old.region) }
         ensures rings { IfOk result (λ r. IsIntakeOf r.0 r.1 × IsPassOf r.0 r.2) }
-        ensures intake { IfOk result
-            (λ r. (intake_view r.1).intake ≡ desk_of 1 [] first 0 first first) }
-        ensures pass { IfOk result (λ r. pass_view r.2
-            ≡ view_of nothing_found (fresh_part 128 1) no_desk [] (ring_key r.0)) }
+        ensures intake { IfOk result (λ r. (intake_view r.1).intake ≡ record {
+          on = true;
+          took = [];
+          taken = first;
+          away = None;
+          freed = first;
+          granted = first;
+        }) }
+        ensures pass { IfOk result (λ r. pass_view r.2 ≡ record {
+          found = nothing_found;
+          pass = record no_part { shares = 128; copier = true };
+          intake = no_desk;
+          heard = [];
+          key = ring_key r.0;
+        }) }
 
         // What goes out of the pool.
         ensures unchanged { IfErr result (λ _. pool.new ≡ pool.old) }
@@ -88,9 +99,16 @@ impl Ring {
         requires ring { IsPassOf self.now pass.old }
         requires shares { 2 ≤ (pass_view pass.old).pass.shares }
         ensures ring { IsPassOf self.now pass.new }
-        ensures less { pass_view pass.new ≡ less_share (pass_view pass.old) }
+        ensures less { let old = pass_view pass.old in pass_view pass.new
+            ≡ record old { pass = record old.pass { shares = old.pass.shares - 1 } } }
         ensures new_ring { IsPassOf self.now result }
-        ensures new { pass_view result ≡ new_pass (ring_key self.now) }
+        ensures new { pass_view result ≡ record {
+          found = nothing_found;
+          pass = record no_part { shares = 1 };
+          intake = no_desk;
+          heard = [];
+          key = ring_key self.now;
+        } }
     {
         Pass {
             seat: self.table.shared.split_seat::<Passes>(&mut pass.seat),
@@ -102,7 +120,15 @@ impl Ring {
         requires ring { IsPassOf self.now pass.old }
         requires other_ring { IsPassOf self.now other }
         ensures ring { IsPassOf self.now pass.new }
-        ensures both { pass_view pass.new ≡ joined_pass (pass_view pass.old) (pass_view other) }
+        ensures both { let old = pass_view pass.old in let its = (pass_view other).pass in
+            pass_view pass.new ≡ record old {
+              pass = record old.pass {
+                shares = old.pass.shares + its.shares;
+                copier = old.pass.copier || its.copier;
+                claims = old.pass.claims ++ its.claims;
+                puts = old.pass.puts ++ its.puts;
+              };
+            } }
     {
         let Pass { seat } = other;
         self.table.shared.join_seat::<Passes>(&mut pass.seat, seat);
@@ -112,7 +138,7 @@ impl Ring {
     pub fn note(&self, pass: &mut Pass, intake: &mut Intake)
         requires ring { IsPassOf self.now pass.old }
         requires intake_ring { IsIntakeOf self.now intake.old }
-        requires copier { (pass_view pass.old).pass.copier ≢ 0 }
+        requires copier { IsTrue (pass_view pass.old).pass.copier }
         ensures ring { IsPassOf self.now pass.new }
         ensures intake_ring { IsIntakeOf self.now intake.new }
         ensures copies { CopiesArePut (intake_view intake.old).intake.took (pass_view pass.new) }

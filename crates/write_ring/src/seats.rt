@@ -1,5 +1,5 @@
 // The two kinds of seat, and what the ring answers.
-ghost use Rattle.std.specs.Prelude.{◌≡◌, ◌<◌, ◌≤◌, ◌^◌, []};
+ghost use Rattle.std.specs.Prelude.{◌≡◌, ◌<◌, ◌≤◌, ◌^◌, IsTrue, None, []};
 ghost use Rattle.write_ring.specs.Steps.{no_desk, no_part};
 
 use crate::cell::Cell;
@@ -27,9 +27,9 @@ pub struct Intake {
     pub(crate) taken: u64,
     pub(crate) freed: u64,
     ghost at_rest: { seat.me.1 ≡ [] },
-    ghost on: { seat.me.0.intake.on ≡ 1 },
+    ghost on: { IsTrue seat.me.0.intake.on },
     ghost only: { seat.me.0.pass ≡ no_part },
-    ghost home: { seat.me.0.intake.away ≡ 0 },
+    ghost home: { seat.me.0.intake.away ≡ None },
     ghost taken_is: { seat.me.0.intake.taken ≡ taken },
     ghost freed_is: { seat.me.0.intake.freed ≡ freed },
     ghost low: { seat.me.0.key.first ≤ freed },

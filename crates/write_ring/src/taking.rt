@@ -1,13 +1,12 @@
 // The steps of the intake: it takes entries, frees their slots, and grants positions to users.
-ghost use Rattle.std.specs.Prelude.{◌≡◌, ◌+◌, ◌<◌, ◌≤◌, ◌%◌, ◌^◌, ℕ, [], ◌∷◌};
+ghost use Rattle.std.specs.Prelude.{◌≡◌, ◌+◌, ◌<◌, ◌≤◌, ◌%◌, ◌^◌, ℕ, [], ◌∷◌, IsTrue};
 ghost use Rattle.sector_pool.specs.declared.entry.Entry.{Entry as EntryOf};
 ghost use Rattle.write_ring.specs.declared.cell.Cell.TheVariants as cell;
-ghost use Rattle.write_ring.specs.declared.seats.Taken.TheVariants as Found;
+ghost use Rattle.write_ring.specs.declared.seats.Taken.TheVariants as answer;
 ghost use Rattle.write_ring.specs.Frames.{Carries, Fits};
 ghost use Rattle.write_ring.specs.Handles.{HasTaken, IsIntakeOf, WasEmpty, WasUnfilled};
 ghost use Rattle.write_ring.specs.Handles.{intake_view, ring_key};
-ghost use Rattle.write_ring.specs.Steps.{desk_of, gave_back, granted_to};
-ghost use Rattle.write_ring.specs.Steps.{saw_claimed, saw_granted};
+ghost use Rattle.write_ring.specs.Steps.{gave_back, saw_claimed};
 ghost use Rattle.write_ring.specs.Tells.{Finds};
 
 use crate::cell::Cell;
@@ -22,8 +21,8 @@ impl Ring {
     // Loads the turn word of the next position, and takes its slot where the word names it.
     fn find(&self, seat: &mut Seat<Cell, View>, at: u64) -> u64
         requires ring { seat.old.table_id ≡ self.now.table.shared.table_id }
-        requires on { seat.old.me.0.intake.on ≡ 1 }
-        requires home { seat.old.me.0.intake.away ≡ 0 }
+        requires on { IsTrue seat.old.me.0.intake.on }
+        requires home { seat.old.me.0.intake.away ≡ None }
         requires at_rest { seat.old.me.1 ≡ [] }
         requires next { at ≡ seat.old.me.0.intake.taken }
         ensures ring { seat.new.table_id ≡ seat.old.table_id }
@@ -37,8 +36,8 @@ impl Ring {
     // Takes the entry out of the slot of a position, and gives the slot back empty.
     fn take_out(&self, seat: &mut Seat<Cell, View>, at: u64) -> Entry
         requires ring { seat.old.table_id ≡ self.now.table.shared.table_id }
-        requires on { seat.old.me.0.intake.on ≡ 1 }
-        requires away { seat.old.me.0.intake.away ≡ at + 1 }
+        requires on { IsTrue seat.old.me.0.intake.on }
+        requires away { seat.old.me.0.intake.away ≡ Some at }
         requires front { (e : EntryOf) × (seat.old.me.1
             ≡ (at % (ring_key self.now).size, cell.Filled e) ∷ []) }
         ensures ring { seat.new.table_id ≡ seat.old.table_id }
@@ -77,11 +76,11 @@ impl Ring {
         ensures ring { IsIntakeOf self.now intake.new }
         ensures steps { (intake_view intake.new).found.steps
             ≡ (intake_view intake.old).found.steps + 2 }
-        ensures entry { (e : EntryOf) → result ≡ Found.Entry e
+        ensures entry { (e : EntryOf) → result ≡ answer.Entry e
             → HasTaken (intake_view intake.old) e (intake_view intake.new) }
-        ensures empty { (claimed : ℕ) → result ≡ Found.Empty claimed
+        ensures empty { (claimed : ℕ) → result ≡ answer.Empty claimed
             → WasEmpty claimed (intake_view intake.old) (intake_view intake.new) }
-        ensures unfilled { (at : ℕ) → result ≡ Found.Unfilled at
+        ensures unfilled { (at : ℕ) → result ≡ answer.Unfilled at
             → WasUnfilled at (intake_view intake.old) (intake_view intake.new) }
     {
         let at = intake.taken;
@@ -106,10 +105,8 @@ impl Ring {
             < (intake_view intake.old).intake.taken }
         requires own { frame.region ≡ (ring_key self.now).origin.region }
         ensures ring { IsIntakeOf self.now intake.new }
-        ensures freed { (intake_view intake.new).intake ≡ desk_of 1
-            (intake_view intake.old).intake.took (intake_view intake.old).intake.taken 0
-            ((intake_view intake.old).intake.freed + 1)
-            (intake_view intake.old).intake.granted }
+        ensures freed { let old = (intake_view intake.old).intake in
+            (intake_view intake.new).intake ≡ record old { freed = old.freed + 1 } }
     {
         let slot = (intake.freed % self.size) as usize;
         let shared = &self.table.shared;
@@ -124,7 +121,9 @@ impl Ring {
     pub fn granted(&self, intake: &mut Intake) -> u64
         requires ring { IsIntakeOf self.now intake.old }
         ensures ring { IsIntakeOf self.now intake.new }
-        ensures found { intake_view intake.new ≡ saw_granted (intake_view intake.old) result }
+        ensures found { let old = intake_view intake.old in intake_view intake.new ≡ record old {
+          found = record old.found { steps = old.found.steps + 1; granted = result };
+        } }
         ensures granted { result ≡ (intake_view intake.old).intake.granted }
     {
         self.table.shared.load::<LookOwn>(&mut intake.seat, GRANTED)
@@ -138,7 +137,8 @@ impl Ring {
             ≤ (intake_view intake.old).intake.freed + (ring_key self.now).size }
         requires most { to ≤ 2 ^ 62 }
         ensures ring { IsIntakeOf self.now intake.new }
-        ensures granted { intake_view intake.new ≡ granted_to (intake_view intake.old) to }
+        ensures granted { let old = intake_view intake.old in intake_view intake.new
+            ≡ record old { intake = record old.intake { granted = to } } }
     {
         self.table
             .shared

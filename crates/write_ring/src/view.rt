@@ -34,7 +34,7 @@ pub struct Row {
 }
 
 /// What a seat's last loads and exchanges found.
-pub struct Found {
+pub struct LastFound {
     /// How many loads and exchanges of words there were.
     pub steps: u64,
     /// What the last load of `claimed` found.
@@ -53,8 +53,8 @@ pub struct Found {
 pub struct Part {
     /// Its shares, of the 128 that all passes have together.
     pub shares: u64,
-    /// 1 where it may claim for copies, and else 0.
-    pub copier: u64,
+    /// Whether it may claim for copies.
+    pub copier: bool,
     /// What it claimed, the oldest first.
     pub claims: LinkedList<Claim>,
     /// What it put, the oldest first.
@@ -69,14 +69,14 @@ pub struct Part {
 
 /// What a seat knows as the intake.
 pub struct Desk {
-    /// 1 where it is the intake, and else 0.
-    pub on: u64,
+    /// Whether it is the intake.
+    pub on: bool,
     /// What it took, the oldest first.
     pub took: LinkedList<Row>,
     /// The next position that it takes.
     pub taken: u64,
-    /// One more than the position whose slot is out with it, and 0 where none is.
-    pub away: u64,
+    /// The position whose slot is out with it, where one is.
+    pub away: Option<u64>,
     /// The word `freed`, which the intake alone stores.
     pub freed: u64,
     /// The word `granted`, which the intake alone stores.
@@ -86,7 +86,7 @@ pub struct Desk {
 /// What a seat knows.
 pub struct View {
     /// What its last loads and exchanges found.
-    pub found: Found,
+    pub found: LastFound,
     /// What it knows as a pass.
     pub pass: Part,
     /// What it knows as the intake.

@@ -93,12 +93,12 @@ impl Pair {
         Told::Done
     }
 
-    fn begin(&mut self, alloc: Global, line: u32, live: u64) -> Result<Told, AllocError> {
-        if !self.plain.can_begin(line, live) {
+    fn begin(&mut self, alloc: Global, line: u32, online: u64) -> Result<Told, AllocError> {
+        if !self.plain.can_begin(line, online) {
             return Ok(Told::Refused);
         }
-        self.plain.begin(alloc, line, live)?;
-        self.fast.begin(line, live);
+        self.plain.begin(alloc, line, online)?;
+        self.fast.begin(line, online);
         Ok(Told::Done)
     }
 
@@ -167,7 +167,7 @@ impl Pair {
             Asked::Wait(position) => self.wait(alloc, position, false),
             Asked::WaitLost(position) => self.wait(alloc, position, true),
             Asked::PadTo(position) => Ok(self.pad_to(position)),
-            Asked::Begin(line, live) => self.begin(alloc, line, live),
+            Asked::Begin(line, online) => self.begin(alloc, line, online),
             Asked::Next(busy) => self.next(alloc, busy),
             Asked::Place(busy) => self.place(alloc, busy),
             Asked::Landed(unit) | Asked::Lost(unit) | Asked::Stopped(unit) => {

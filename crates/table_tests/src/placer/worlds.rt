@@ -163,8 +163,8 @@ impl World {
             }
             4 => {
                 let line = self.draw.below_small(self.lines);
-                let live = self.some_units();
-                self.pair.ask(alloc, Asked::Begin(line, live))?;
+                let online = self.some_units();
+                self.pair.ask(alloc, Asked::Begin(line, online))?;
             }
             5..=9 => {
                 let busy = self.some_units() & self.some_units();

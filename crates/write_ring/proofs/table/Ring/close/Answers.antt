@@ -2,7 +2,7 @@ use Rattle.std.proofs.Common.{sym, subst, arith}
 use Rattle.std.specs.Slots.{slots_items}
 use Rattle.write_ring.specs.Endings.{IsLeft}
 use Rattle.write_ring.specs.Frames.{IsFree, IsBlank, Carries, Fits}
-use Rattle.write_ring.specs.Handles.{intake_view, ring_key}
+use Rattle.write_ring.specs.Handles.{intake_view, pass_view, ring_key}
 use Rattle.write_ring.proofs.Joins.{joins_intake}
 use Rattle.write_ring.proofs.Leaving.{ends_with, left_of}
 use Rattle.write_ring.proofs.table.Ring.close.Goals as goal
@@ -13,14 +13,15 @@ join_seat-requires c = (
   c.requires.intake_ring.0,
   c.args.intake.at_rest,
   omega (arith, c.args.self.words),
-  joins_intake _ IsFree IsBlank Carries Fits _ _ _ _ c.args.pass.some c.args.intake.only c.args.intake.on,
+  joins_intake _ IsFree IsBlank Carries Fits _ _ _ _ c.args.pass.some c.args.intake.only,
 )
 
 pub give_slots-requires-clause-left : goal.give_slots-requires-clause-left
 give_slots-requires-clause-left c =
     let p = c.args.pass in
     let i = c.args.intake in
-    let e = ends_with _ _ _ _ _ _ (intake_view i) _ c.join_seat.ensures.2 p.only c.requires.shares p.all_put i.on i.home c.close_with-closed.ensures.values.2 in
+    let e = ends_with _ _ _ _ _ (pass_view p) (intake_view i) _ c.join_seat.ensures.2 c.requires.shares p.all_put i.on i.home
+    c.close_with-closed.ensures.values.2 in
     let k = ring_key c.args.self in
     let d = (intake_view i).intake in
     let xs = slots_items c.close_with-closed.result.slots in
@@ -34,19 +35,22 @@ pub returns-clause-tiled : goal.returns-clause-tiled
 returns-clause-tiled c =
     let p = c.args.pass in
     let i = c.args.intake in
-    let e = ends_with _ _ _ _ _ _ (intake_view i) _ c.join_seat.ensures.2 p.only c.requires.shares p.all_put i.on i.home c.close_with-closed.ensures.values.2 in
+    let e = ends_with _ _ _ _ _ (pass_view p) (intake_view i) _ c.join_seat.ensures.2 c.requires.shares p.all_put i.on i.home
+    c.close_with-closed.ensures.values.2 in
     (e.claimed, e.tiled)
 
 pub returns-clause-filled : goal.returns-clause-filled
 returns-clause-filled c =
     let p = c.args.pass in
     let i = c.args.intake in
-    let e = ends_with _ _ _ _ _ _ (intake_view i) _ c.join_seat.ensures.2 p.only c.requires.shares p.all_put i.on i.home c.close_with-closed.ensures.values.2 in
+    let e = ends_with _ _ _ _ _ (pass_view p) (intake_view i) _ c.join_seat.ensures.2 c.requires.shares p.all_put i.on i.home
+    c.close_with-closed.ensures.values.2 in
     (e.filled, e.copies)
 
 pub returns-clause-taken : goal.returns-clause-taken
 returns-clause-taken c =
     let p = c.args.pass in
     let i = c.args.intake in
-    let e = ends_with _ _ _ _ _ _ (intake_view i) _ c.join_seat.ensures.2 p.only c.requires.shares p.all_put i.on i.home c.close_with-closed.ensures.values.2 in
+    let e = ends_with _ _ _ _ _ (pass_view p) (intake_view i) _ c.join_seat.ensures.2 c.requires.shares p.all_put i.on i.home
+    c.close_with-closed.ensures.values.2 in
     λ j r at. let was = e.took j r at in (was.0, was.2)

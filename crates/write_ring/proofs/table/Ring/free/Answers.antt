@@ -1,4 +1,4 @@
-use Rattle.std.proofs.Common.{◌+◌, sym, ap, ◌∙◌, refl, arith}
+use Rattle.std.proofs.Common.{Some, sym, ap, ◌∙◌, refl, arith}
 use Rattle.write_ring.proofs.Plays.{takes_empty_at, frees_at, turn_inside}
 use Rattle.write_ring.proofs.table.Ring.free.Goals as goal
 
@@ -21,6 +21,6 @@ store-requires c =
       e.0 ∙ l.0 ∙ c.requires.ring.0,
       omega (arith, r.words),
       frees_at _ _ _ _ _ _ _ _ _ (r.slots ∙ sym r.sized) r.sized r.some e.3 (sym i.freed_is ∙ sym freed) (ap (λ m. m.0.intake.on) l.2 ∙ i.on)
-          (ap (λ m. m.0.intake.away) l.2 ∙ ap (λ k. k + 1) (sym freed))
+          (ap (λ m. m.0.intake.away) l.2 ∙ ap Some (sym freed))
           (c.args.frame, refl, c.requires.own ∙ sym (ap (λ k. k.origin.region) (ap (λ m. m.0.key) l.2 ∙ c.requires.ring.1))),
     )

@@ -1,4 +1,4 @@
-use Rattle.std.proofs.Common.{◌≢◌, arith, sym, ap, ◌∙◌, subst}
+use Rattle.std.proofs.Common.{arith, ap, ◌∙◌}
 use Rattle.write_ring.specs.Frames.{IsFree, IsBlank, Carries, Fits}
 use Rattle.write_ring.proofs.Joins.{splits_note, joins_note}
 use Rattle.write_ring.proofs.Notes.{looks_heard}
@@ -23,5 +23,5 @@ load-requires c =
     let j = c.join_seat.ensures in (
       j.0 ∙ c.requires.ring.0,
       omega (arith, c.args.self.now.words),
-      looks_heard _ IsFree IsBlank Carries Fits _ _ _ _ (subst (λ k. k ≢ 0) (sym (ap (λ m. m.0.pass.copier) j.2)) c.requires.copier),
+      looks_heard _ IsFree IsBlank Carries Fits _ _ _ _ (ap (λ m. m.0.pass.copier) j.2 ∙ c.requires.copier),
     )

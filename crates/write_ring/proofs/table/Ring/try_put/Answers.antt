@@ -4,7 +4,7 @@ use Rattle.write_ring.specs.declared.view.Part.{Part}
 use Rattle.write_ring.specs.Batches.{rows_from}
 use Rattle.write_ring.specs.Frames.{is_copy}
 use Rattle.write_ring.specs.Handles.{puts_rows}
-use Rattle.write_ring.specs.Steps.{add_claim, claim_of}
+use Rattle.write_ring.specs.Steps.{add_claim}
 use Rattle.write_ring.proofs.Puts.{placed, limit_pass, limit_steps}
 use Rattle.write_ring.proofs.table.Ring.try_put.Goals as goal
 
@@ -40,12 +40,14 @@ returns-clause-place c =
     let ends = ap (λ k. at + k) (c.from.ensures ∙ c.filled-count.ensures) in
     let is = placed _ p.seat.me.0 _ at _ _ _ (e.claims.0 c.if-found-claimed.false).0 ends c.put_batch.ensures.put in
     let same = ap (λ (u : View). u.pass) c.limit-limit.ensures.found ∙ limit_pass c.args.class c.claimed-claimed.new.pass.seat.me.0 p.seat.me.0
-    ∙ ap (λ (u : View). u.pass) c.claimed-claimed.ensures.found in (
-      c.filled-count.ensures,
-      ap (λ (u : View). u.pass) is
-          ∙ ap (λ (q : Part). puts_rows (add_claim q (claim_of at (length ds) (is_copy c.args.class))) (rows_from c.args.class at ds)) same,
-      c.claimed-claimed.ensures.own_below,
-    )
+    ∙ ap (λ (u : View). u.pass) c.claimed-claimed.ensures.found in
+    record {
+      count = c.filled-count.ensures;
+      put = ap (λ (u : View). u.pass) is
+          ∙ ap (λ (q : Part). puts_rows (add_claim q (record { first = at; count = length ds; copy = is_copy c.args.class }))
+          (rows_from c.args.class at ds)) same;
+      own = c.claimed-claimed.ensures.own_below;
+    }
 
 pub returns-clause-place_steps : goal.returns-clause-place_steps
 returns-clause-place_steps c =
