@@ -17,7 +17,7 @@ use Rattle.pblk_laws.specs.LineBlocks.{chunk_in}
 use Rattle.pblk_world.specs.Commanding.{has_stopped, is_reset, is_stopped_reset, was_stopped}
 use Rattle.pblk_world.specs.Events.{Maker, Stripe}
 use Rattle.pblk_world.specs.World.{World, log_of, media, unit_events}
-use Rattle.world_laws.specs.LegalMounts.{IsLegalMount}
+use Rattle.pblk_world.specs.LegalMounts.{IsLegalMount}
 use Rattle.core_laws.proofs.Growing.{any_weaker}
 use Rattle.unit_port.specs.Armed.{Armed, IsUnarmed, has_stopped as was_stopped_since, is_stop}
 use Rattle.unit_port.specs.Commands.{with_event}

@@ -10,7 +10,7 @@ use Rattle.pblk_world.specs.Events.{Logged}
 use Rattle.pblk_world.specs.Fronts.{taken}
 use Rattle.pblk_world.specs.World.{log_of}
 use Rattle.step_laws.proofs.UnitSteps.{engine_longer}
-use Rattle.world_laws.specs.Reasons.{WasAsked}
+use Rattle.pblk_world.specs.Reasons.{WasAsked}
 use Rattle.block_target.specs.Heart.{IsHeart, OfItsMount}
 use Rattle.block_target.specs.Mount.{IsMount, IsSound, MountView, engine_log, logs_in, taken_in, with_asked, world_in}
 use Rattle.block_target.specs.declared.heart.Heart.{Heart}

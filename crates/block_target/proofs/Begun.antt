@@ -10,6 +10,7 @@ use Rattle.pblk_model.specs.declared.shape.Shape.{Shape}
 use Rattle.pblk_model.specs.Accepted.{IsAccepted}
 use Rattle.pblk_model.specs.Found.{IsFitFound}
 use Rattle.pblk_model.specs.Image.{Image}
+use Rattle.pblk_model.specs.Shape.{units}
 use Rattle.pblk_model.specs.UnitLog.{UnitEvent}
 use Rattle.unit_port.specs.Armed.{Armed, IsUnarmed}
 use Rattle.unit_port.specs.Unit.{ModelUnit}
@@ -25,12 +26,13 @@ use Rattle.pblk_world.specs.Lines.{found_image}
 use Rattle.pblk_world.specs.Opening.{MayBegin}
 use Rattle.pblk_world.specs.World.{World, Logs, log_of, media, unit_events}
 use Rattle.pblk_world.specs.Space.{room}
-use Rattle.world_laws.specs.LegalMounts.{IsLegalMount}
+use Rattle.pblk_world.specs.LegalMounts.{IsLegalMount}
 use Rattle.world_laws.specs.MountBeginnings.{beginning_of}
-use Rattle.world_laws.specs.Reasons.{AreBegun, AreUrgent}
+use Rattle.pblk_world.specs.Reasons.{AreBegun, AreUrgent}
 use Rattle.world_laws.specs.Finding.{IsFoundOf, NoneOpen}
 use Rattle.world_laws.proofs.MayBegin.{may_begin}
 use Rattle.world_laws.proofs.FoundFits.{found_fits}
+use Rattle.scan_recovery.specs.DriveFaults.{NoDriveFaults}
 use Rattle.step_laws.specs.Opened.{AreArmed, IsArmed, new_events, after_units}
 use Rattle.step_laws.specs.Whole.{knows_all, after_begin}
 use Rattle.step_laws.proofs.Beginning.{mount_begins, begun_is, found_is, known_is, begins_level}
@@ -39,7 +41,7 @@ use Rattle.step_laws.proofs.FreedWorlds.{room_then}
 use Rattle.step_laws.proofs.Worlds.{legal_mount, logs_are, media_are, stops_there, units_quiet}
 use Rattle.pblk_core.specs.Copies.{is_copying}
 use Rattle.pblk_core.specs.Filling.{Filling}
-use Rattle.pblk_core.specs.Landing.{IsResting}
+use Rattle.pblk_core.specs.Landing.{NoneUnderWay}
 use Rattle.pblk_core.specs.Named.{pad_of}
 use Rattle.block_port.specs.Own.{OwnWrite, lines_of}
 use Rattle.block_port.specs.declared.rows.DriveAnswer.{DriveAnswer}
@@ -49,11 +51,12 @@ use Rattle.block_target.specs.Deeds.{Deed, drive_before, drive_found, world_of}
 use Rattle.block_target.specs.Freed.{HaveFreed, freed_deeds}
 use Rattle.block_target.specs.Heart.{Begins, CanBegin, HasBegun, IsBeating}
 use Rattle.block_target.specs.Mount.{MountView, IsMount, IsSound, IsUnitIn, engine_log, logs_in, mount_view}
-use Rattle.world_laws.specs.Orders.{AreInOrder, NoneToFree}
+use Rattle.pblk_world.specs.Orders.{AreInOrder, NoneToFree}
 use Rattle.block_target.specs.Refusals.{AreRefusals}
 use Rattle.block_target.specs.Opened.{AreReadied, IsOpened, first_deeds, readied_world}
-use Rattle.block_target.specs.Serial.{AreNamed, IsSerial}
+use Rattle.block_target.specs.Serial.{AreAllAnswered, AreNamed, IsSerial}
 use Rattle.block_target.specs.declared.heart.Heart.{Heart}
+use Rattle.block_target.proofs.AllAnswered.{answered_first}
 use Rattle.block_target.proofs.FreedMounts.{mount_freed, takes_then, world_freed}
 use Rattle.block_target.proofs.GoingOn.{goes_none}
 use Rattle.block_target.proofs.InOrder.{in_order_decided}
@@ -237,7 +240,7 @@ module _ (s : Shape) (us new : List ModelUnit) (f : Found) (accepted : IsAccepte
     frees : HaveFreed h (first_deeds us new f) end all
     frees = subst (λ (ds : List Deed). HaveFreed h ds end all) done freed
 
-    begun_mount : IsResting h.core → is_copying h.core ≡ false → filling.shape ≡ s
+    begun_mount : NoneUnderWay h.core → is_copying h.core ≡ false → filling.shape ≡ s
         → IsMount (mount_view s (us ∷ new ∷ []) all new wear end.granted (pad_of end.core) 0) end filling
     begun_mount resting idle stripe =
         let sound : IsSound (first_view wear h.granted (pad_of h.core)) = first_sound wear h.granted (pad_of h.core) in
@@ -247,7 +250,7 @@ module _ (s : Shape) (us new : List ModelUnit) (f : Found) (accepted : IsAccepte
         (known_is i before b legal_before.legal none_before) resting idle stripe (omega arith)
 
     -- by the lists that are kept of it
-    pub mount_opens : IsResting h.core → is_copying h.core ≡ false → filling.shape ≡ s
+    pub mount_opens : NoneUnderWay h.core → is_copying h.core ≡ false → filling.shape ≡ s
         → IsMount (mount_view s drives all new wear end.granted (pad_of end.core) 0) end filling
     mount_opens resting idle stripe =
         subst (λ (rs : List (List ModelUnit)). IsMount (mount_view s rs all new wear end.granted (pad_of end.core) 0) end filling) (sym rows)
@@ -310,9 +313,9 @@ none_named v = record {
 
 -- and the port over it is new
 pub new_serial : (s : Shape) (us : List ModelUnit) (v : MountView) (own : List OwnWrite) (faults : List DriveAnswer) (worns : List WornAnswer)
-    → IsOpened s us v → IsSound v → own ≡ [] → faults ≡ [] → worns ≡ []
+    → IsOpened s us v → IsSound v → own ≡ [] → faults ≡ [] → worns ≡ [] → length us ≡ units s → NoDriveFaults us v.units
     → IsSerial (record { mount = v; seen = 0; own = own; faults = faults; worns = worns })
-new_serial s us v own faults worns is sound a c b = record {
+new_serial s us v own faults worns is sound a c b count done = record {
   sound = sound;
   alone =
       ap (λ (ts : List Taken). map (λ (t : Taken). record { position = t.entry.position; write = record { lba = t.entry.lba; sector = t.entry.sector } })
@@ -320,6 +323,8 @@ new_serial s us v own faults worns is sound a c b = record {
       ∙ sym (ap (flat_map lines_of) a);
   small = omega arith;
   faults = subst (AreNamed v) (sym c) (none_named v);
+  answered = subst (AreAllAnswered v) (sym c)
+      (answered_first s us v is sound (count ∙ sym (sound.count ∙ ap (λ (i : Image). units i.shape) is.image)) done);
   worns = subst (λ (ws : List WornAnswer). AreRefusals v.image (logs_in v) 0 ws) (sym b) tt;
   granted = record {
     each = λ k knows entry mark at users. absurd (none_taken (engine_log v) k knows entry mark

@@ -12,8 +12,8 @@ use Rattle.l2p_map.specs.declared.slot.Slot.TheVariants.{Media}
 use Rattle.core_laws.specs.SlotOf.{slot_of}
 use Rattle.core_laws.proofs.LatestSources.{named_is_place}
 use Rattle.step_laws.proofs.UnitSteps.{engine_longer}
-use Rattle.world_laws.specs.Reasons.{WasBegun}
-use Rattle.pblk_core.specs.Collecting.{IsReady}
+use Rattle.pblk_world.specs.Reasons.{WasBegun}
+use Rattle.pblk_core.specs.Collecting.{IsCopyReady}
 use Rattle.pblk_core.specs.Filling.{Filling}
 use Rattle.pblk_core.specs.declared.collecting.CopyJob.{CopyJob}
 use Rattle.pblk_core.proofs.CopiesDue.{copy_by_test, copy_due_is}
@@ -22,7 +22,7 @@ use Rattle.block_target.specs.declared.heart.Heart.{Heart}
 use Rattle.block_target.proofs.EngineLengths.{IsLeft, deeds_left}
 use Rattle.block_target.proofs.Reasoned.{IsBegunIn}
 
-module _ {v : MountView} {h : Heart} {f : Filling} (m : IsMount v h f) (job : CopyJob) (ready : IsReady h.core job) where
+module _ {v : MountView} {h : Heart} {f : Filling} (m : IsMount v h f) (job : CopyJob) (ready : IsCopyReady h.core job) where
   pub inside : job.lba < v.image.shape.capacity
   inside = subst (λ (s : Shape). job.lba < s.capacity) m.heart.stands.layout ready.inside
 

@@ -12,7 +12,7 @@ use Rattle.step_laws.proofs.CopiedBlocks.{block_there}
 use Rattle.step_laws.proofs.SlotBlocks.{on_the_drive}
 use Rattle.unit_port.specs.Unit.{ModelUnit}
 use Rattle.write_window.specs.Window as window
-use Rattle.pblk_core.specs.Collecting.{IsReady}
+use Rattle.pblk_core.specs.Collecting.{IsCopyReady}
 use Rattle.pblk_core.specs.Copies.{is_copying}
 use Rattle.pblk_core.specs.Filling.{Filling}
 use Rattle.pblk_core.specs.Named.{pad_of}
@@ -32,7 +32,7 @@ use Rattle.block_target.proofs.MountLemmas.{same_then}
 use Rattle.block_target.proofs.ReadFetch.{leaves_fetched, media_fetched}
 use Rattle.block_target.proofs.TakenMount.{leaves_copied}
 
-module _ {v : MountView} {h : Heart} {f : Filling} (m : IsMount v h f) (job : CopyJob) (ready : IsReady h.core job) where
+module _ {v : MountView} {h : Heart} {f : Filling} (m : IsMount v h f) (job : CopyJob) (ready : IsCopyReady h.core job) where
   -- its block
   pub job_block : IsBlockOfSlot v.image (logs_in v) job.lba job.line job.at job.position
   job_block = on_the_drive v.image (world_in v) m.sound.beginning job.lba job.line job.at job.position m.sound.legal m.sound.has_begun

@@ -10,7 +10,7 @@ use Rattle.pblk_world.specs.Fronts.{taken, waiting}
 use Rattle.pblk_world.specs.Space.{position_limit}
 use Rattle.pblk_world.specs.Victims.{live, victim}
 use Rattle.pblk_world.specs.World.{World, Logs, log_of}
-use Rattle.world_laws.specs.LegalMounts.{IsLegalMount}
+use Rattle.pblk_world.specs.LegalMounts.{IsLegalMount}
 use Rattle.world_laws.specs.SameTold.{AreSameTold}
 use Rattle.world_laws.proofs.ToldTables.{addresses_told, due_told, live_told, takers_told, victim_told}
 use Rattle.step_laws.specs.Whole.{unit_step}

@@ -1,6 +1,6 @@
 -- The device that a port for one session is: what it learns where no more of a user was taken, and
 -- its fronts.
-use Rattle.std.proofs.Common.{◌≡◌, ℕ, ◌+◌, ◌<◌, ◌≤◌, ◌^◌, nat_lt, suc, Some, Bool, true, false, cond, List, [], ◌∷◌, length, refl, sym, ap, subst, ◌∙◌, arith, le_trans}
+use Rattle.std.proofs.Common.{◌≡◌, ℕ, ◌+◌, ◌<◌, ◌≤◌, ◌^◌, nat_lt, suc, Some, Bool, true, false, cond, List, [], ◌∷◌, ◌++◌, length, refl, sym, ap, subst, ◌∙◌, arith, le_trans}
 use Rattle.std.specs.Prelude.{map, slice_get}
 use Rattle.std.proofs.lemmas.Option.{slice_get_within}
 use Rattle.std.specs.List.{filter, flat_map}
@@ -14,11 +14,13 @@ use Rattle.pblk_core.proofs.SmallCalls.{numbered_in}
 use Rattle.block_port.specs.declared.rows.WornAnswer.{WornAnswer}
 use Rattle.block_port.specs.Own.{PlacedSector, lines_of}
 use Rattle.block_port.specs.Port.{Learns, IsFront, IsSeen, positions}
+use Rattle.scan_recovery.specs.DriveFaults.{IsDriveFaultAt, NoDriveFaults}
 use Rattle.block_target.specs.Mount.{MountView, IsSound, IsSameMount, engine_log, logs_in, world_in, taken_in, synced_in, front_taken, front_synced}
 use Rattle.block_target.specs.Refusals.{AreRefusals}
-use Rattle.block_target.specs.Serial.{SerialView, AreNamed, IsSerial, lines_in, device}
+use Rattle.block_target.specs.Serial.{SerialView, AreAllAnswered, AreNamed, IsSerial, lines_in, device}
+use Rattle.block_target.proofs.AllAnswered.{answered_more, answered_none}
 use Rattle.block_target.proofs.GrantedTakes.{granted_same}
-use Rattle.block_target.proofs.NamedAnswers.{all_named_later}
+use Rattle.block_target.proofs.NamedAnswers.{all_named_later, answer_of, named_with}
 use Rattle.block_target.proofs.Refusals.{refusals_grown}
 use Rattle.block_target.proofs.MountLemmas.{taken_small}
 use Rattle.lemmas.proofs.Tests.{lt_true}
@@ -103,12 +105,28 @@ front_stays old new f same is = record {
 
 -- the session's own writes are the history still, where what it has seen is small
 pub same_serial : (old new : SerialView) → IsSound new.mount → IsSerial old → IsSameMount old.mount new.mount → new.own ≡ old.own
-    → new.faults ≡ old.faults → new.worns ≡ old.worns → new.seen < 2 ^ 63 → IsSerial new
-same_serial old new sound is same own faults worns small = record {
+    → new.faults ≡ old.faults → new.worns ≡ old.worns → new.seen < 2 ^ 63 → NoDriveFaults old.mount.units new.mount.units → IsSerial new
+same_serial old new sound is same own faults worns small done = record {
   sound = sound;
   alone = lines_kept old.mount new.mount same ∙ is.alone ∙ ap (flat_map lines_of) (sym own);
   small = small;
   faults = subst (AreNamed new.mount) (sym faults) (all_named_later old.mount new.mount old.faults is.sound sound same is.faults);
+  answered = subst (AreAllAnswered new.mount) (sym faults) (answered_none old.mount new.mount old.faults is.sound sound same is.answered done);
+  worns = subst (λ (ws : List WornAnswer). AreRefusals new.mount.image (logs_in new.mount) 0 ws) (sym worns)
+      (refusals_grown old.mount new.mount same.more 0 old.worns is.sound same.image same.deeds is.worns);
+  granted = granted_same old.mount new.mount is.sound same is.granted;
+}
+
+-- and so they are where a command was lost, and the call that lost it answered it
+pub lost_serial : (old new : SerialView) (unit event : ℕ) → IsSound new.mount → IsSerial old → IsSameMount old.mount new.mount
+    → IsDriveFaultAt old.mount.units new.mount.units unit event → new.own ≡ old.own → new.faults ≡ old.faults ++ answer_of unit event ∷ []
+    → new.worns ≡ old.worns → new.seen ≡ old.seen → IsSerial new
+lost_serial old new unit event sound is same lost own faults worns seen = record {
+  sound = sound;
+  alone = lines_kept old.mount new.mount same ∙ is.alone ∙ ap (flat_map lines_of) (sym own);
+  small = (let small : old.seen < 2 ^ 63 = is.small in omega arith);
+  faults = subst (AreNamed new.mount) (sym faults) (named_with old.mount new.mount old.faults unit event is.sound sound is.faults same lost);
+  answered = subst (AreAllAnswered new.mount) (sym faults) (answered_more old.mount new.mount old.faults is.sound sound same is.answered unit event lost);
   worns = subst (λ (ws : List WornAnswer). AreRefusals new.mount.image (logs_in new.mount) 0 ws) (sym worns)
       (refusals_grown old.mount new.mount same.more 0 old.worns is.sound same.image same.deeds is.worns);
   granted = granted_same old.mount new.mount is.sound same is.granted;

@@ -14,7 +14,7 @@ use Rattle.pblk_world.specs.World.{World, log_of, known}
 use Rattle.pblk_world.specs.AtRest.{knows_last, logs_at, pad_target, victim_now}
 use Rattle.pblk_world.specs.Space.{room}
 use Rattle.pblk_world.proofs.Growing.{grows}
-use Rattle.world_laws.specs.LegalMounts.{IsLegalMount}
+use Rattle.pblk_world.specs.LegalMounts.{IsLegalMount}
 use Rattle.core_laws.specs.SlotOf.{slot_of}
 use Rattle.core_laws.specs.Spent.{IsSpent}
 use Rattle.step_laws.specs.Whole.{engine_step, unit_step, next_maker, opening_maker}

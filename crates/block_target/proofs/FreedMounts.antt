@@ -4,7 +4,7 @@ use Rattle.std.specs.Prelude.{slice_get}
 use Rattle.pblk_model.specs.declared.shape.Shape.{Shape}
 use Rattle.pblk_core.specs.Copies.{is_copying}
 use Rattle.pblk_core.specs.Filling.{Filling}
-use Rattle.pblk_core.specs.Landing.{IsResting}
+use Rattle.pblk_core.specs.Landing.{NoneUnderWay}
 use Rattle.pblk_core.specs.Named.{pad_of}
 use Rattle.pblk_world.specs.EngineLog.{begun, takes}
 use Rattle.pblk_world.specs.Events.{Free}
@@ -90,10 +90,10 @@ module _ {v : MountView} {w : World} {us : List ModelUnit} (sound : IsSound v) (
     goes_then : GoesOn v (freed_world v.image.shape w frees.lines) us
     goes_then = goes_freed frees.lines might
 
-    rests_still : IsResting h.core → IsResting new.core
+    rests_still : NoneUnderWay h.core → NoneUnderWay new.core
     rests_still rests unit of at = rests unit of (ap (λ (rows : List UnitRow). slice_get rows unit) (sym frees.rows) ∙ at)
 
-    pub mount_freed : IsLevel w → AreResetsNoted (log_of w) → IsKnown v.image w → IsResting h.core → is_copying h.core ≡ false → f.shape ≡ v.image.shape
+    pub mount_freed : IsLevel w → AreResetsNoted (log_of w) → IsKnown v.image w → NoneUnderWay h.core → is_copying h.core ≡ false → f.shape ≡ v.image.shape
         → v.asked ≤ pad_of h.core
         → IsMount (moved_on v after us wear new.granted (pad_of new.core)) new f
     mount_freed level noted known rests idle shape pads =
@@ -102,7 +102,7 @@ module _ {v : MountView} {w : World} {us : List ModelUnit} (sound : IsSound v) (
         (rests_still rests) (frees.copying ∙ idle)
         (frees.none v.image w goes.legal stands) shape (le_trans pads frees.pad)
 
-    pub leaves_freed : (more : List Deed) → deeds ≡ v.deeds ++ more → IsLevel w → AreResetsNoted (log_of w) → IsKnown v.image w → IsResting h.core
+    pub leaves_freed : (more : List Deed) → deeds ≡ v.deeds ++ more → IsLevel w → AreResetsNoted (log_of w) → IsKnown v.image w → NoneUnderWay h.core
         → is_copying h.core ≡ false
         → f.shape ≡ v.image.shape → takes (log_of w 0) ≡ takes (engine_log v) → wear ≡ v.wear → v.granted ≤ h.granted → v.asked ≤ pad_of h.core
         → Leaves v (moved_on v after us wear new.granted (pad_of new.core)) new f

@@ -8,13 +8,13 @@ use Rattle.std.specs.Prelude.{slice_get, slice_set}
 use Rattle.std.proofs.lemmas.List.Elements.{filter_map-append}
 use Rattle.core_laws.proofs.HistorySectors.{set_length}
 use Rattle.core_laws.proofs.SteppingLemmas.{found_kept}
-use Rattle.world_laws.specs.LegalMounts.{IsLegalMount}
+use Rattle.pblk_world.specs.LegalMounts.{IsLegalMount}
 use Rattle.pblk_model.specs.declared.shape.Shape.{Shape}
 use Rattle.pblk_model.specs.Image.{Image}
 use Rattle.pblk_model.specs.UnitLog.{UnitEvent}
 use Rattle.pblk_core.specs.Copies.{is_copying}
 use Rattle.pblk_core.specs.Filling.{Filling}
-use Rattle.pblk_core.specs.Landing.{IsResting}
+use Rattle.pblk_core.specs.Landing.{NoneUnderWay}
 use Rattle.pblk_core.specs.Named.{pad_of}
 use Rattle.pblk_world.proofs.EngineLogLemmas.{takes_more}
 use Rattle.pblk_world.proofs.Growing.{grows}
@@ -31,14 +31,15 @@ use Rattle.step_laws.proofs.UnitSteps.{engine_log as engine_beside, events_elsew
 use Rattle.step_laws.specs.Whole.{IsKnown, IsLevel, engine_step, knows_all, unit_step}
 use Rattle.unit_port.specs.Unit.{ModelUnit}
 use Rattle.world_laws.proofs.Begun.{first_is as first_of}
-use Rattle.world_laws.specs.Reasons.{AreBegun, AreUrgent}
+use Rattle.pblk_world.specs.Reasons.{AreBegun, AreUrgent}
 use Rattle.world_laws.proofs.Fronts.{begun_later, synced_later}
+use Rattle.scan_recovery.specs.DriveFaults.{AreStepsOf}
 use Rattle.block_target.specs.Arm.{IsArm}
 use Rattle.block_target.specs.Deeds.{Deed, world_of}
 use Rattle.block_target.specs.Heart.{IsHeart}
 use Rattle.block_target.specs.declared.heart.Heart.{Heart}
 use Rattle.block_target.specs.Mount.{HaveGrown, IsMount, IsSameMount, IsSound, AreResetsNoted, MountView, engine_log, logs_in, world_in}
-use Rattle.world_laws.specs.Orders.{AreInOrder, IsInOrder, NoneToFree}
+use Rattle.pblk_world.specs.Orders.{AreInOrder, IsInOrder, NoneToFree}
 use Rattle.block_target.proofs.InOrder.{in_order_beside, in_order_decided}
 use Rattle.block_target.proofs.Reasoned.{HasReason, begun_beside, begun_decided, urgent_beside, urgent_decided}
 use Rattle.lemmas.proofs.Parts.{get_set_other, get_set_same, got_within}
@@ -80,6 +81,7 @@ IsUnitAt v w number u = (old : ModelUnit) × (slice_get v.handed number ≡ Some
 pub record GoesOn (v : MountView) (w : World) (us : List ModelUnit) : Type 0 where
   pub later : World
   pub whole : w ≡ later ++ world_in v
+  pub made : AreStepsOf 0 later
   pub legal : IsLegalMount v.image w
   pub found : found_image v.image (log_of w) ≡ found_image v.image (logs_in v)
   pub count : length us ≡ length v.units
@@ -92,6 +94,7 @@ abbrev pub goes_none : (v : MountView) → IsSound v → GoesOn v (world_in v) v
 goes_none v sound = record {
   later = [];
   whole = refl;
+  made = tt;
   legal = sound.legal;
   found = refl;
   count = refl;
@@ -123,6 +126,7 @@ module _ {v : MountView} {w : World} {us : List ModelUnit} (goes : GoesOn v w us
   goes_decided e legal begins reason order = record {
     later = engine_step v.image.shape e w ∷ goes.later;
     whole = ap (λ (x : World). engine_step v.image.shape e w ∷ x) goes.whole;
+    made = (tt, goes.made);
     legal = legal;
     found = ap (found_image v.image) (engine_logs v.image.shape e w)
         ∙ found_kept v.image (log_of w) e (knows_all v.image.shape w) (begins (knows_all v.image.shape w)) ∙ goes.found;
@@ -135,13 +139,14 @@ module _ {v : MountView} {w : World} {us : List ModelUnit} (goes : GoesOn v w us
     in_order = λ were. in_order_decided v.image w goes.legal.legal e order (goes.in_order were);
   }
 
-  pub goes_given : (number : ℕ) (was new : ModelUnit) (e : UnitEvent) (maker : Maker) → (there : slice_get us number ≡ Some was)
+  pub goes_given : (number : ℕ) (was new : ModelUnit) (e : UnitEvent) (maker : Maker) → maker.worker ≡ 0 → (there : slice_get us number ≡ Some was)
       → IsLegalMount v.image (unit_step v.image.shape number e maker w ∷ w)
       → IsArm v.image (log_of (unit_step v.image.shape number e maker w ∷ w)) number (goes.each number was there).0 new
       → GoesOn v (unit_step v.image.shape number e maker w ∷ w) (slice_set us number new)
-  goes_given number was new e maker there legal arm = record {
+  goes_given number was new e maker by there legal arm = record {
     later = unit_step v.image.shape number e maker w ∷ goes.later;
     whole = ap (λ (x : World). unit_step v.image.shape number e maker w ∷ x) goes.whole;
+    made = ((by, omega arith), goes.made);
     legal = legal;
     found = found_stays v.image w number e maker goes.legal.legal ∙ goes.found;
     count = set_length us number new ∙ goes.count;
@@ -272,6 +277,7 @@ module _ {v : MountView} {w : World} {us : List ModelUnit} (sound : IsSound v) (
     wear = same_wear;
     more = more;
     deeds = refl;
+    grew = record { later = goes.later; whole = is ∙ goes.whole; made = goes.made };
     users = ap (λ (x : World). user_takes (log_of x 0)) is ∙ keeps.users;
     taken = subst (λ (x : World). taken (engine_log v) ≤ taken (log_of x 0)) (sym is) keeps.taken;
     synced = subst (λ (x : World). synced v.image.shape (engine_log v) ≤ synced v.image.shape (log_of x 0)) (sym is)
@@ -283,7 +289,7 @@ module _ {v : MountView} {w : World} {us : List ModelUnit} (sound : IsSound v) (
 
   -- with a heart that stands for it
   pub mount_on : (deeds : List Deed) (wear : List (List ℕ)) (h : Heart) (f : Filling) → world_of v.image.shape deeds ≡ w → IsHeart v.image (log_of w) h
-      → IsLevel w → AreResetsNoted (log_of w) → IsKnown v.image w → IsResting h.core → is_copying h.core ≡ false → NoneToFree v.image (log_of w)
+      → IsLevel w → AreResetsNoted (log_of w) → IsKnown v.image w → NoneUnderWay h.core → is_copying h.core ≡ false → NoneToFree v.image (log_of w)
       → f.shape ≡ v.image.shape → v.asked ≤ pad_of h.core → IsMount (moved_on v deeds us wear h.granted (pad_of h.core)) h f
   mount_on deeds wear h f is stands level noted known rests idle settled shape pads = record {
     sound = sound_on deeds wear h.granted (pad_of h.core) is;
@@ -301,7 +307,7 @@ module _ {v : MountView} {w : World} {us : List ModelUnit} (sound : IsSound v) (
   }
 
   pub leaves_on : (deeds more : List Deed) (wear : List (List ℕ)) (h : Heart) (f : Filling) → deeds ≡ v.deeds ++ more → world_of v.image.shape deeds ≡ w
-      → IsHeart v.image (log_of w) h → IsLevel w → AreResetsNoted (log_of w) → IsKnown v.image w → IsResting h.core → is_copying h.core ≡ false
+      → IsHeart v.image (log_of w) h → IsLevel w → AreResetsNoted (log_of w) → IsKnown v.image w → NoneUnderWay h.core → is_copying h.core ≡ false
       → NoneToFree v.image (log_of w)
       → f.shape ≡ v.image.shape → KeepsUsers (engine_log v) (log_of w 0) → wear ≡ v.wear → v.granted ≤ h.granted → v.asked ≤ pad_of h.core
       → Leaves v (moved_on v deeds us wear h.granted (pad_of h.core)) h f

@@ -8,10 +8,10 @@ use Rattle.pblk_world.specs.Space.{room}
 use Rattle.pblk_world.specs.AtRest.{logs_at}
 use Rattle.pblk_world.specs.EngineLog.{Begun, begun}
 use Rattle.pblk_world.proofs.Growing.{grows}
-use Rattle.world_laws.specs.LegalMounts.{IsLegalMount}
+use Rattle.pblk_world.specs.LegalMounts.{IsLegalMount}
 use Rattle.step_laws.proofs.UnitSteps.{engine_longer}
 use Rattle.block_target.specs.Deeds.{Deed, world_of}
-use Rattle.world_laws.specs.Reasons.{WasRoom}
+use Rattle.pblk_world.specs.Reasons.{WasRoom}
 use Rattle.block_target.specs.Mount.{MountView, world_in, logs_in, engine_log}
 use Rattle.block_target.proofs.EngineLengths.{IsLeft, deeds_left, world_grown}
 use Rattle.block_target.proofs.OnceRoom.{room_later, room_less}

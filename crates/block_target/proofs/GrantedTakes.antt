@@ -21,7 +21,7 @@ use Rattle.step_laws.specs.Whole.{knows_all}
 use Rattle.step_laws.proofs.UnitSteps.{engine_longer}
 use Rattle.block_port.specs.Own.{sectors_of}
 use Rattle.block_target.specs.Deeds.{Deed, world_of}
-use Rattle.world_laws.specs.Reasons.{WasRoom, AreGranted}
+use Rattle.pblk_world.specs.Reasons.{WasRoom, AreGranted}
 use Rattle.block_target.specs.Mount.{MountView, IsSound, IsSameMount, world_in, logs_in, engine_log, taken_in, next_entry, with_entry, with_entries, with_pad}
 use Rattle.block_target.specs.Serial.{SerialView, IsSerial}
 use Rattle.block_target.proofs.EngineLengths.{world_grown}

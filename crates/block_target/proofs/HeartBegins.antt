@@ -15,7 +15,7 @@ use Rattle.pblk_world.specs.Lines.{found_image}
 use Rattle.pblk_world.specs.Space.{freed, room}
 use Rattle.pblk_world.specs.World.{World, Logs, log_of}
 use Rattle.world_laws.specs.Finding.{IsFoundOf, NoneOpen}
-use Rattle.world_laws.specs.LegalMounts.{IsLegalMount}
+use Rattle.pblk_world.specs.LegalMounts.{IsLegalMount}
 use Rattle.world_laws.specs.MountBeginnings.{beginning_of}
 use Rattle.core_laws.specs.Stepping.{after}
 use Rattle.core_laws.specs.WindowOf.{HeldSectors, held_of, without_frame}
@@ -29,7 +29,7 @@ use Rattle.pblk_core.specs.declared.target_core.Core.{Core}
 use Rattle.pblk_core.proofs.FoundNotes.{none_found_open}
 use Rattle.pblk_core.proofs.FreedWindow.{unread_at_front}
 use Rattle.pblk_core.proofs.SmallGrant.{ring_kept}
-use Rattle.world_laws.specs.Reasons.{WasRoom}
+use Rattle.pblk_world.specs.Reasons.{WasRoom}
 use Rattle.block_target.specs.Heart.{Begins, CanBegin, HasBegun, IsHeart, decided}
 use Rattle.block_target.proofs.HeartGrants.{grant_kept}
 use Rattle.block_target.proofs.HeartSteps.{log_is, logs_are, was_room}

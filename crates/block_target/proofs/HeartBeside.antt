@@ -9,8 +9,8 @@ use Rattle.pblk_world.specs.World.{World, Logs, log_of}
 use Rattle.step_laws.proofs.UnitStays.{room_stays}
 use Rattle.step_laws.proofs.UnitSteps.{engine_log}
 use Rattle.step_laws.specs.Whole.{unit_step}
-use Rattle.world_laws.specs.LegalMounts.{IsLegalMount}
-use Rattle.world_laws.specs.Reasons.{WasAsked, WasRoom}
+use Rattle.pblk_world.specs.LegalMounts.{IsLegalMount}
+use Rattle.pblk_world.specs.Reasons.{WasAsked, WasRoom}
 use Rattle.pblk_core.specs.Named.{pad_of}
 use Rattle.block_target.specs.Heart.{IsHeart}
 use Rattle.block_target.specs.declared.heart.Heart.{Heart}

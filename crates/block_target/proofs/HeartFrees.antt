@@ -1,12 +1,12 @@
 -- What a heart stands for once its core freed a line, and once it freed one line after another.
 use Rattle.std.proofs.Common.{◌≡◌, ◌≤◌, max, ℕ, None, Some, Option, List, [], ◌∷◌, length, refl, sym, subst, ap, ◌∙◌}
-use Rattle.std.specs.Prelude.{slice_index, IfSome, IfNone}
+use Rattle.std.specs.Prelude.{IfSome, IfNone}
 use Rattle.pblk_model.specs.Image.{Image}
 use Rattle.pblk_world.specs.Events.{Free}
 use Rattle.pblk_world.specs.Freeing.{MayFree}
 use Rattle.pblk_world.specs.World.{World, log_of}
-use Rattle.world_laws.specs.LegalMounts.{IsLegalMount}
-use Rattle.world_laws.specs.Orders.{NoneToFree}
+use Rattle.pblk_world.specs.LegalMounts.{IsLegalMount}
+use Rattle.pblk_world.specs.Orders.{NoneToFree}
 use Rattle.core_laws.specs.Stepping.{after}
 use Rattle.core_laws.proofs.FreedLines.{room_freed}
 use Rattle.core_laws.proofs.FreedLives.{free_is_quiet}
@@ -18,13 +18,13 @@ use Rattle.step_laws.proofs.Knowing.{known_whole}
 use Rattle.write_window.specs.Window as window
 use Rattle.pblk_core.specs.Collecting.{Collects}
 use Rattle.pblk_core.specs.Copies.{is_copying, victim_asks}
-use Rattle.pblk_core.specs.Mounts.{InItsMount}
+use Rattle.pblk_core.specs.Mounts.{CollectsAfterKnowing, InItsMount, StandsAfterKnowing}
 use Rattle.pblk_core.specs.Named.{pad_of}
 use Rattle.pblk_core.specs.Stands.{Stands}
 use Rattle.pblk_core.specs.declared.target_core.Core.{Core}
 use Rattle.block_target.specs.Deeds.{Deed}
 use Rattle.block_target.specs.Freed.{HaveFreed, IsFreedTo, freed_deeds}
-use Rattle.block_target.specs.Heart.{IsBeating, IsHeart, OfItsMount, decided}
+use Rattle.block_target.specs.Heart.{BeatsAfterKnowing, IsBeating, IsHeart, OfItsMount, decided}
 use Rattle.block_target.specs.declared.heart.Heart.{Heart}
 use Rattle.block_target.proofs.HeartSteps.{beats_kept}
 
@@ -58,14 +58,9 @@ frees_none None h none = λ i w mount is. none i w mount is.stands
 frees_none (Some x) h none = tt
 
 pub frees_beats : (line : Option ℕ) (old : Heart) (core : Core) → IfSome line (λ x. InItsMount old.core (λ i w. MayFree i (log_of w) x))
-    → IfSome line (λ x. (i : Image) (w : World) (knows : List ℕ) → IsLegalMount i w → Stands i (log_of w) old.core → slice_index knows 0 ≡ length (log_of w 0)
-    → Stands i (after (log_of w) (Free x) knows) core)
-    → IfSome line (λ x. (i : Image) (w : World) (knows : List ℕ) → IsLegalMount i w → Stands i (log_of w) old.core → Collects i (log_of w) old.core
-    → slice_index knows 0 ≡ length (log_of w 0) → Collects i (after (log_of w) (Free x) knows) core)
+    → IfSome line (λ x. StandsAfterKnowing old.core (Free x) core) → IfSome line (λ x. CollectsAfterKnowing old.core (Free x) core)
     → core.window ≡ old.core.window → pad_of core ≤ max (pad_of old.core) (victim_asks core)
-    → IfSome line (λ x. (i : Image) (w : World) (knows : List ℕ) → IsLegalMount i w → IsHeart i (log_of w) old → slice_index knows 0 ≡ length (log_of w 0)
-    → IsLegalMount i (decided (Free x) knows w)
-    → IsHeart i (log_of (decided (Free x) knows w)) (record { core = core; pool = old.pool; granted = old.granted }))
+    → IfSome line (λ x. BeatsAfterKnowing old (Free x) (record { core = core; pool = old.pool; granted = old.granted }))
 frees_beats None old core may stands collects same pads = tt
 frees_beats (Some x) old core may stands collects same pads = λ i w knows mount was own legal.
     beats_freed i w x knows old core mount was legal (may i w mount was.stands) (stands i w knows mount was.stands own)
@@ -94,8 +89,7 @@ module _ (h mid : Heart) (lines : List ℕ) (freed : OfItsMount h (λ i w. IsFre
   }
 
   pub freed_next : (new : Heart) (line : ℕ) → OfItsMount mid (λ i w. MayFree i (log_of w) line)
-      → ((i : Image) (w : World) (knows : List ℕ) → IsLegalMount i w → IsHeart i (log_of w) mid → slice_index knows 0 ≡ length (log_of w 0)
-      → IsLegalMount i (decided (Free line) knows w) → IsHeart i (log_of (decided (Free line) knows w)) new)
+      → BeatsAfterKnowing mid (Free line) new
       → OfItsMount h (λ i w. IsFreedTo i w (line ∷ lines) new)
   freed_next new line may beats i w mount is =
       let was : IsFreedTo i w lines mid = freed i w mount is in

@@ -18,7 +18,7 @@ use Rattle.pblk_world.specs.Placing.{MayPlace}
 use Rattle.pblk_world.specs.Space.{freed, room}
 use Rattle.pblk_world.specs.World.{World, Logs, log_of, known, prefixes}
 use Rattle.pblk_world.proofs.WorldLemmas.{log_elsewhere, log_here}
-use Rattle.world_laws.specs.LegalMounts.{IsLegalMount}
+use Rattle.pblk_world.specs.LegalMounts.{IsLegalMount}
 use Rattle.world_laws.specs.SameTold.{AreSameNamed}
 use Rattle.world_laws.proofs.ToldSince.{same_told}
 use Rattle.world_laws.proofs.ToldTables.{room_told}
@@ -36,8 +36,8 @@ use Rattle.pblk_core.specs.Named.{pad_of}
 use Rattle.pblk_core.specs.Stands.{Stands, IsStanding}
 use Rattle.pblk_core.specs.declared.target_core.Core.{Core}
 use Rattle.core_laws.proofs.ChunksInRows.{rows_of_chunks}
-use Rattle.world_laws.specs.Reasons.{WasAsked, WasRoom}
-use Rattle.block_target.specs.Heart.{IsBeating, IsHeart, OfItsMount, decided}
+use Rattle.pblk_world.specs.Reasons.{WasAsked, WasRoom}
+use Rattle.block_target.specs.Heart.{IsBeating, IsHeart, IsRenewed, OfItsMount, decided}
 use Rattle.block_target.specs.declared.heart.Heart.{Heart}
 use Rattle.block_target.proofs.CopiesTold.{pads_told}
 use Rattle.block_target.proofs.HeartGrants.{all_granted, grant_kept}
@@ -47,22 +47,11 @@ use Rattle.lemmas.proofs.Lists.{IsAmong, among_contained}
 use Rattle.lemmas.proofs.Numbers.{fun_same}
 use Rattle.lemmas.proofs.Parts.{get_first, get_last, is_in}
 
--- What a heart is once its frames and its grant are renewed: it was this one, with this core.
-pub record IsRenewed (old : Heart) (core : Core) (new : Heart) : Type 0 where
-  pub stands : InItsMount core (λ i w. Stands i (log_of w) new.core)
-  pub collects : (i : Image) (logs : Logs) → Collects i logs core → Collects i logs new.core
-  pub drained : InItsMount core (λ i w. new.core.window.freed ≡ freed i.shape (log_of w 0))
-  pub granted : InItsMount core (λ i w. new.granted ≡ max old.granted (room i (log_of w)))
-  pub own : window.AreOf new.pool.region new.core.window.entries
-  pub out : count_out old.pool.left + length new.core.window.entries ≡ count_out new.pool.left + length core.window.entries
-  pub region : new.pool.region ≡ old.pool.region
-  pub pad : pad_of new.core ≡ pad_of core
-
 out_renewed : (a b x y z : ℕ) → a + x ≡ b + y → a ≡ z → y ≡ z → b ≡ x
 out_renewed a b x y z sum was same = omega arith
 
 -- no grant is taken back
-pub grant_rises : (old : Heart) (core : Core) (new : Heart) → IsStanding core → IsRenewed old core new → old.granted ≤ new.granted
+pub grant_rises : (old : Heart) (core : Core) (new : Heart) → IsStanding core → IsRenewed (record old { core = core }) new → old.granted ≤ new.granted
 grant_rises old core new standing is =
     let now : new.granted ≡ max old.granted (room standing.image (log_of standing.world)) =
     is.granted standing.image standing.world standing.legal standing.stands in
@@ -233,15 +222,16 @@ module _ (i : Image) (w : World) (e : EngineEvent) (knows : List ℕ) where
   -- by a core that stands for the logs with the event, once its frames and its grant are renewed
   pub beats_later : (old : Heart) (core : Core) (new : Heart) → IsLegalMount i w → IsHeart i (log_of w) old → IsLegalMount i later
       → Stands i (after (log_of w) e knows) core → Collects i (after (log_of w) e knows) core
-      → length core.window.entries ≡ length old.core.window.entries → pad_of core ≤ max (pad_of old.core) (victim_asks core) → IsRenewed old core new
+      → length core.window.entries ≡ length old.core.window.entries → pad_of core ≤ max (pad_of old.core) (victim_asks core)
+      → IsRenewed (record old { core = core }) new
       → IsHeart i (log_of later) new
   beats_later old core new mount was legal stands collects count pads is =
-      heart_later old new mount was legal (is.stands i later legal now)
-      (is.collects i (log_of later) collects_now) (is.drained i later legal now)
+      heart_later old new mount was legal (is.frames.stands i later legal now)
+      (is.frames.collects i (log_of later) collects_now) (is.frames.drained i later legal now)
       (freed_later was.stands.beginning was.stands.has_begun mount legal.legal)
-      is.own (out_renewed _ _ _ _ _ is.out was.out count) is.region (is.granted i later legal now)
+      is.frames.own (out_renewed _ _ _ _ _ is.frames.out was.out count) is.frames.region (is.granted i later legal now)
       (let low : victim_asks core ≤ pad_target i (log_of later) 0 = asks_at_most i later core legal now collects_now in
-      let same : pad_of new.core ≡ pad_of core = is.pad in
+      let same : pad_of new.core ≡ pad_of core = ap (λ (x : Core). pad_of x) is.frames.rest in
       omega arith)
     where
       now : Stands i (log_of later) core
@@ -310,17 +300,17 @@ standing_after h e core b may stands =
 -- renewed.
 pub beats_still : (i : Image) (w : World) (old : Heart) (core : Core) (new : Heart) → IsLegalMount i w → IsHeart i (log_of w) old
     → Stands i (log_of w) core → Collects i (log_of w) core → length core.window.entries ≡ length old.core.window.entries
-    → pad_of core ≤ max (pad_of old.core) (victim_asks core) → IsRenewed old core new
+    → pad_of core ≤ max (pad_of old.core) (victim_asks core) → IsRenewed (record old { core = core }) new
     → IsHeart i (log_of w) new
 beats_still i w old core new mount was stands collects count pads is = record {
-  stands = is.stands i w mount stands;
-  collects = is.collects i (log_of w) collects;
-  drained = is.drained i w mount stands;
-  own = is.own;
-  out = out_renewed _ _ _ _ _ is.out was.out count;
-  count = ap (λ r. r.count) is.region ∙ was.count;
-  size = ap (λ r. r.size) is.region ∙ was.size;
-  granted = low _ _ _ _ was.granted granted (is.drained i w mount stands ∙ sym was.drained);
+  stands = is.frames.stands i w mount stands;
+  collects = is.frames.collects i (log_of w) collects;
+  drained = is.frames.drained i w mount stands;
+  own = is.frames.own;
+  out = out_renewed _ _ _ _ _ is.frames.out was.out count;
+  count = ap (λ r. r.count) is.frames.region ∙ was.count;
+  size = ap (λ r. r.size) is.frames.region ∙ was.size;
+  granted = low _ _ _ _ was.granted granted (is.frames.drained i w mount stands ∙ sym was.drained);
   last = subst (λ n. n ≤ max (2 ^ 61 - 2) (first_position (log_of w 0))) (sym granted) was.last;
   room = subst (λ n. room i (log_of w) ≤ n) (sym granted) was.room;
   once = subst (λ g. WasRoom i (log_of w) (length (log_of w 0)) g) (sym granted) was.once;
@@ -335,7 +325,7 @@ beats_still i w old core new mount was stands collects count pads is = record {
     -- the pad target holds already what the victim asks for
     no_further : pad_of new.core ≤ pad_of old.core
     no_further =
-        let same : pad_of new.core ≡ pad_of core = is.pad in
+        let same : pad_of new.core ≡ pad_of core = ap (λ (x : Core). pad_of x) is.frames.rest in
         let asks : victim_asks core ≤ pad_target i (log_of w) 0 = asks_at_most i w core mount stands collects in
         let held : pad_target i (log_of w) 0 ≤ pad_of old.core = was.collects.asked in
         omega arith

@@ -15,7 +15,7 @@ use Rattle.core_laws.specs.StripePrograms.{HasHappened}
 use Rattle.core_laws.proofs.Happened.{happened}
 use Rattle.step_laws.specs.Whole.{engine_step, unit_step}
 use Rattle.lemmas.proofs.Parts.{get_taken, got_within}
-use Rattle.world_laws.specs.Orders.{AreAfterResets, AreInOrder, AreOpenedFull, IsInOrder, NoneToFree, NoneWasLeft}
+use Rattle.pblk_world.specs.Orders.{AreAfterResets, AreInOrder, AreOpenedFull, IsInOrder, NoneToFree, NoneWasLeft}
 use Rattle.block_target.proofs.OnceRoom.{same_lengths}
 use Rattle.block_target.proofs.Reasoned.{added, at_before, none_added}
 

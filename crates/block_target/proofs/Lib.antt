@@ -13,6 +13,7 @@ pub mod GrantedTakes
 pub mod UnitLists
 pub mod Moments
 pub mod NamedAnswers
+pub mod AllAnswered
 pub mod InOrder
 pub mod NotedResets
 pub mod OrderedMounts
@@ -54,3 +55,4 @@ pub mod HeartBeside
 pub mod ArmSteps
 pub mod HeartTakes
 pub mod HeartBegins
+pub mod KeptCores

@@ -13,7 +13,7 @@ use Rattle.pblk_world.specs.EngineLog.{Begun, begun, Placed, placements, is_answ
 use Rattle.pblk_world.specs.Fronts.{taken, synced}
 use Rattle.pblk_world.proofs.EngineLogLemmas.{begun_taken}
 use Rattle.pblk_world.proofs.Growing.{grows}
-use Rattle.world_laws.specs.LegalMounts.{IsLegalMount}
+use Rattle.pblk_world.specs.LegalMounts.{IsLegalMount}
 use Rattle.block_target.specs.Moments.{IsMoment}
 use Rattle.block_target.proofs.EngineLengths.{mount_earlier}
 

@@ -13,7 +13,11 @@ use Rattle.pblk_core.specs.declared.work.Work.{Work}
 use Rattle.pblk_core.proofs.SmallPositions.{taken_bounded}
 use Rattle.pblk_core.proofs.WorkOf.{work_is}
 use Rattle.pblk_model.specs.UnitLog.{UnitEvent}
+use Rattle.pblk_world.specs.Events.{Step}
+use Rattle.pblk_world.specs.World.{World}
+use Rattle.scan_recovery.specs.DriveFaults.{GrewBy, IsGivenBy}
 use Rattle.unit_port.specs.Unit.{ModelUnit}
+use Rattle.lemmas.proofs.Lists.{all_append}
 use Rattle.world_laws.proofs.Begun.{first_is as first_of}
 
 -- ---- mounts of which nothing more was taken
@@ -31,6 +35,14 @@ grown_then a b c x y number w there =
       second.3 ∙ ap (λ (log : List UnitEvent). log ++ second.2) first.3 ∙ append_assoc first.0.log first.2 second.2,
     )
 
+-- one worker made the steps of both
+pub grew_then : {worker : ℕ} (a b c : World) → GrewBy worker a b → GrewBy worker b c → GrewBy worker a c
+grew_then {worker} a b c x y = record {
+  later = y.later ++ x.later;
+  whole = y.whole ∙ ap (λ (w : World). y.later ++ w) x.whole ∙ sym (append_assoc y.later x.later a);
+  made = all_append (λ (step : Step). IsGivenBy worker step.author step.logged.event) y.later x.later y.made x.made;
+}
+
 pub same_mount : (v : MountView) → IsSameMount v v
 same_mount v = record {
   image = refl;
@@ -40,6 +52,7 @@ same_mount v = record {
   wear = refl;
   more = [];
   deeds = sym (append-nil v.deeds);
+  grew = record { later = []; whole = refl; made = tt };
   users = refl;
   taken = le_refl _;
   synced = le_refl _;
@@ -56,6 +69,7 @@ same_then a b c x y = record {
   wear = y.wear ∙ x.wear;
   more = x.more ++ y.more;
   deeds = y.deeds ∙ ap (λ ds. ds ++ y.more) x.deeds ∙ append_assoc a.deeds x.more y.more;
+  grew = grew_then (world_in a) (world_in b) (world_in c) x.grew y.grew;
   users = y.users ∙ x.users;
   taken = le_trans x.taken y.taken;
   synced = le_trans x.synced y.synced;

@@ -9,10 +9,10 @@ use Rattle.pblk_model.specs.Shape.{units}
 use Rattle.pblk_model.specs.UnitLog.{UnitEvent}
 use Rattle.pblk_world.specs.World.{unit_events}
 use Rattle.unit_port.specs.Unit.{ModelUnit}
-use Rattle.scan_recovery.specs.Lost.{IsLostAt}
+use Rattle.scan_recovery.specs.DriveFaults.{IsDriveFaultAt}
 use Rattle.block_port.specs.declared.rows.DriveAnswer.{DriveAnswer}
 use Rattle.block_target.specs.Mount.{MountView, IsSameMount, IsSound, logs_in}
-use Rattle.block_target.specs.Serial.{SerialView, AreNamed, IsLostSince, IsNamed}
+use Rattle.block_target.specs.Serial.{AreNamed, IsNamed}
 use Rattle.lemmas.proofs.Parts.{get_first, get_last, get_more, got_within}
 
 -- ---- as the units' logs grow
@@ -142,7 +142,7 @@ abbrev pub answer_of : ℕ → ℕ → DriveAnswer
 answer_of unit event = record { unit = unit; event = event }
 
 module _ (old new : MountView) (faults : List DriveAnswer) (unit event : ℕ) (was : IsSound old) (is : IsSound new) (named : AreNamed old faults)
-    (same : IsSameMount old new) (lost : IsLostAt old.units new.units unit event) where
+    (same : IsSameMount old new) (lost : IsDriveFaultAt old.units new.units unit event) where
   -- as it was before the call the unit had all that it has but its last event, at most
   long : length lost.last.of.log ≡ length lost.last.front + 1
   long = ap (λ (log : List UnitEvent). length log) lost.last.log ∙ length-append lost.last.front (lost.event ∷ [])
@@ -180,8 +180,3 @@ module _ (old new : MountView) (faults : List DriveAnswer) (unit event : ℕ) (w
   pub named_with : AreNamed new (faults ++ answer_of unit event ∷ [])
   unfolding all_named_later
   named_with = named_more new faults (answer_of unit event) (length lost.last.front) (all_named_later old new faults was is same named) answer_named earlier
-
--- the answers that a port then keeps
-pub named_since : (s : SerialView) (unit event : ℕ) → IsSound s.mount → IsLostSince s unit event
-    → AreNamed s.mount (s.faults ++ answer_of unit event ∷ [])
-named_since s unit event sound since = named_with since.before s.mount s.faults unit event since.sound sound since.named since.same since.lost

@@ -16,7 +16,7 @@ use Rattle.core_laws.specs.StripePrograms.{HasHappened}
 use Rattle.core_laws.proofs.Happened.{happened}
 use Rattle.step_laws.specs.Whole.{unit_step}
 use Rattle.step_laws.proofs.UnitSteps.{engine_log}
-use Rattle.world_laws.specs.Reasons.{WasRoom}
+use Rattle.pblk_world.specs.Reasons.{WasRoom}
 use Rattle.lemmas.proofs.Numbers.{fun_same}
 use Rattle.lemmas.proofs.Parts.{get_first}
 

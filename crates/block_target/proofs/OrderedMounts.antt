@@ -8,7 +8,7 @@ use Rattle.pblk_core.specs.Filling.{Filling}
 use Rattle.pblk_core.specs.declared.work.Work.{Work}
 use Rattle.pblk_core.specs.declared.work.Work.TheVariants as works
 use Rattle.block_target.specs.Mount.{MountView, IsMount, engine_log, logs_in, work_in, world_in}
-use Rattle.world_laws.specs.Orders.{AreReset, LacksAddress, NoneToFree}
+use Rattle.pblk_world.specs.Orders.{AreReset, LacksAddress, NoneToFree}
 use Rattle.block_target.specs.declared.heart.Heart.{Heart}
 use Rattle.block_target.proofs.EngineLengths.{IsLeft, deeds_left}
 use Rattle.block_target.proofs.Resting.{lacks_address, none_to_reset}

@@ -13,8 +13,8 @@ use Rattle.pblk_world.specs.Legal.{IsLegal}
 use Rattle.pblk_world.specs.Space.{is_due}
 use Rattle.pblk_world.specs.Victims.{live, taken_up_to, took_from}
 use Rattle.pblk_world.specs.World.{World, Logs, log_of}
-use Rattle.world_laws.specs.LegalMounts.{IsLegalMount}
-use Rattle.world_laws.specs.Reasons.{WasAsked}
+use Rattle.pblk_world.specs.LegalMounts.{IsLegalMount}
+use Rattle.pblk_world.specs.Reasons.{WasAsked}
 use Rattle.core_laws.specs.RowsOf.{row_of_line, taker_by}
 use Rattle.core_laws.proofs.TakenRows.{taker_is}
 use Rattle.core_laws.proofs.VictimsAtWork.{IsVictim, victim_is_closed}

@@ -15,8 +15,8 @@ use Rattle.pblk_world.specs.World.{World, Logs, log_of}
 use Rattle.pblk_world.proofs.Answered.{answers_fit}
 use Rattle.pblk_world.proofs.Appending.{life_more}
 use Rattle.pblk_world.proofs.EngineLogLemmas.{takes_more}
-use Rattle.world_laws.specs.LegalMounts.{IsLegalMount}
-use Rattle.world_laws.specs.Orders.{NoneToFree}
+use Rattle.pblk_world.specs.LegalMounts.{IsLegalMount}
+use Rattle.pblk_world.specs.Orders.{NoneToFree}
 use Rattle.core_laws.specs.ClosedLines.{IsSpentBy, closed_line, newest_numbers}
 use Rattle.core_laws.specs.Spent.{IsSpent, OpensWhenFull}
 use Rattle.core_laws.specs.Stepping.{after}

@@ -3,7 +3,6 @@ use Rattle.std.proofs.Common.{◌≡◌, ◌≢◌, Bool, ℕ, ◌+◌, ◌-◌,
 use native.Mathlib.Decide.{ℕ_discrete}
 use Rattle.std.specs.Prelude.{slice_get, slice_set}
 use Rattle.pblk_model.specs.ChunkStep.{Done, Write}
-use Rattle.pblk_model.specs.Image.{Image}
 use Rattle.pblk_model.specs.UnitLog.{Answered, Failed, Stopped, UnitEvent, UnitOutcome}
 use Rattle.pblk_world.proofs.Answered.{answers_fit}
 use Rattle.pblk_world.proofs.WorldLemmas.{log_here}
@@ -18,8 +17,8 @@ use Rattle.core_laws.proofs.IdleUnits.{idle_fits}
 use Rattle.core_laws.proofs.Placing.{answers_now, new_placed, placed_on_now, with_place}
 use Rattle.core_laws.proofs.PlacedLines.{get_last as got_end}
 use Rattle.core_laws.specs.PlacerOf.{unanswered_on}
-use Rattle.world_laws.specs.LegalMounts.{IsLegalMount}
-use Rattle.world_laws.specs.Orders.{NoneToFree}
+use Rattle.pblk_world.specs.LegalMounts.{IsLegalMount}
+use Rattle.pblk_world.specs.Orders.{NoneToFree}
 use Rattle.step_laws.proofs.EngineSteps.{engine_next}
 use Rattle.step_laws.proofs.Known.{known_still}
 use Rattle.step_laws.proofs.Levels.{level_by}
@@ -34,15 +33,16 @@ use Rattle.unit_port.specs.Armed.{is_fail, is_stop}
 use Rattle.unit_port.specs.Unit.{ModelUnit}
 use Rattle.pblk_core.specs.Copies.{is_copying}
 use Rattle.pblk_core.specs.Filling.{Filling}
-use Rattle.pblk_core.specs.Landing.{AreKeptBeside, IsIdleOn, IsOfferedOn, IsResting, WasStopped}
+use Rattle.pblk_core.specs.Landing.{AreKeptBeside, IsIdleOn, IsOfferedOn, NoneUnderWay, WasStopped}
+use Rattle.pblk_core.specs.Losing.{IsLossOf}
 use Rattle.pblk_core.specs.Named.{pad_of}
 use Rattle.pblk_core.specs.declared.target_core.Core.{Core}
 use Rattle.pblk_core.specs.declared.work.Work.TheVariants as works
 use Rattle.block_target.specs.Arm.{IsStripeThere, WasGiven, last_of}
 use Rattle.block_target.specs.Deeds.{Decides, Deed, Does, Lands, Loses, Offers, world_of}
 use Rattle.block_target.specs.Freed.{HaveFreed}
-use Rattle.block_target.specs.Heart.{BeatsAfter, IsBeating, IsHeart, OfItsMount, decided}
-use Rattle.scan_recovery.specs.Lost.{IsLostAt, NoneLost, is_fetch}
+use Rattle.block_target.specs.Heart.{BeatsAfter, IsBeating, IsHeart, OfItsMount, BeatsAfterAnswer, CanNote}
+use Rattle.scan_recovery.specs.DriveFaults.{IsDriveFaultAt, NoDriveFaults, is_fetch}
 use Rattle.block_target.specs.Mount.{AreResetsNoted, IsMount, MountView, engine_log, work_in, world_in}
 use Rattle.block_target.specs.declared.heart.Heart.{Heart}
 use Rattle.block_target.proofs.DeedsLemmas.{landed_world, lost_world, stopped_world, world_more}
@@ -65,19 +65,19 @@ use Rattle.lemmas.proofs.Tests.{same_number}
 
 -- ---- no program is under way, but maybe on one unit
 
-rests_by : (old mid new : Core) (unit : ℕ) → IsResting old → AreKeptBeside unit old mid → AreKeptBeside unit mid new
-    → ((of : Program) → slice_get new.placer.units unit ≢ Some (UnderWay of)) → IsResting new
+rests_by : (old mid new : Core) (unit : ℕ) → NoneUnderWay old → AreKeptBeside unit old mid → AreKeptBeside unit mid new
+    → ((of : Program) → slice_get new.placer.units unit ≢ Some (UnderWay of)) → NoneUnderWay new
 rests_by old mid new unit rests first second own other of is = go (ℕ_discrete other unit)
   where
     go : Dec (other ≡ unit) → ⊥
     go (yes same) = own of (ap (slice_get new.placer.units) (sym same) ∙ is)
     go (no apart) = rests other of (sym (first other apart) ∙ sym (second other apart) ∙ is)
 
-pub rests_idle : (old mid new : Core) (unit : ℕ) → IsResting old → AreKeptBeside unit old mid → AreKeptBeside unit mid new → IsIdleOn new unit → IsResting new
+pub rests_idle : (old mid new : Core) (unit : ℕ) → NoneUnderWay old → AreKeptBeside unit old mid → AreKeptBeside unit mid new → IsIdleOn new unit → NoneUnderWay new
 rests_idle old mid new unit rests first second idle = rests_by old mid new unit rests first second (λ of is. absurd cc)
 
-pub rests_offered : (old mid new : Core) (unit : ℕ) → IsResting old → AreKeptBeside unit old mid → AreKeptBeside unit mid new → IsOfferedOn new unit
-    → IsResting new
+pub rests_offered : (old mid new : Core) (unit : ℕ) → NoneUnderWay old → AreKeptBeside unit old mid → AreKeptBeside unit mid new → IsOfferedOn new unit
+    → NoneUnderWay new
 rests_offered old mid new unit rests first second offered =
     let there = offered.1 in
     rests_by old mid new unit rests first second (λ of is. absurd cc)
@@ -255,7 +255,7 @@ module _ {v : MountView} {h : Heart} {f : Filling} (m : IsMount v h f) {mid : He
     can = can_program given ready.placed stripe ready.waits ready.same (ready.level stripe.unit) refl refl
 
     goes : GoesOn v programmed (slice_set v.units stripe.unit new)
-    goes = goes_given ready.goes stripe.unit was new e (next_maker w) there given.legal given.arm
+    goes = goes_given ready.goes stripe.unit was new e (next_maker w) refl there given.legal given.arm
 
     heart_programmed : IsHeart v.image (log_of programmed) mid
     heart_programmed = heart_beside v.image w stripe.unit e (next_maker w) mid ready.goes.legal ready.heart
@@ -289,8 +289,7 @@ module _ {v : MountView} {h : Heart} {f : Filling} (m : IsMount v h f) {mid : He
       landing = may_land v.image w stripe.unit ready.placed e (next_maker w) can ready.goes.legal.legal done
 
       pub beating_landed : (after : Heart)
-          → ((i : Image) (w : World) (event : ℕ) (knows : List ℕ) → IsLegalMount i w → IsHeart i (log_of w) mid → MayLand (log_of w) stripe.unit event
-          → IsLegalMount i (decided (Landed stripe.unit event) knows w) → IsHeart i (log_of (decided (Landed stripe.unit event) knows w)) after)
+          → BeatsAfterAnswer mid (Landed stripe.unit) (λ i logs. MayLand logs stripe.unit) after
           → IsBeating after
       beating_landed after beats = record {
         image = v.image;
@@ -299,8 +298,15 @@ module _ {v : MountView} {h : Heart} {f : Filling} (m : IsMount v h f) {mid : He
         stands = beats v.image programmed its_number (knows_all v.image.shape programmed) given.legal heart_programmed landing landed_legal;
       }
 
-      pub may_be_landed : (i : Image) × (w : World) × IsLegalMount i w × IsHeart i (log_of w) mid × (event : ℕ) × MayLand (log_of w) stripe.unit event
-      may_be_landed = (v.image, programmed, given.legal, heart_programmed, its_number, landing)
+      pub may_be_landed : CanNote mid (λ i logs. MayLand logs stripe.unit)
+      may_be_landed = record {
+        image = v.image;
+        world = programmed;
+        legal = given.legal;
+        stands = heart_programmed;
+        event = its_number;
+        may = landing;
+      }
 
       goes_landed : GoesOn v (noted v.image.shape note programmed) (slice_set v.units stripe.unit new)
       goes_landed = goes_decided goes note landed_legal (λ knows. refl) tt none_programmed
@@ -311,9 +317,8 @@ module _ {v : MountView} {h : Heart} {f : Filling} (m : IsMount v h f) {mid : He
       pub leaves_landed : (last : List Deed) (us : List ModelUnit) (wear : List (List ℕ)) (after : Heart) (into : Filling)
           → (more : List Deed) × (deeds ≡ v.deeds ++ more) → last ≡ with_answer deeds stripe.unit (last_of new) (Lands stripe.unit)
           → us ≡ slice_set v.units stripe.unit new
-          → ((i : Image) (w : World) (event : ℕ) (knows : List ℕ) → IsLegalMount i w → IsHeart i (log_of w) mid → MayLand (log_of w) stripe.unit event
-          → IsLegalMount i (decided (Landed stripe.unit event) knows w) → IsHeart i (log_of (decided (Landed stripe.unit event) knows w)) after)
-          → IsResting after.core → is_copying after.core ≡ is_copying h.core → into.shape ≡ v.image.shape → wear ≡ v.wear → v.granted ≤ after.granted
+          → BeatsAfterAnswer mid (Landed stripe.unit) (λ i logs. MayLand logs stripe.unit) after
+          → NoneUnderWay after.core → is_copying after.core ≡ is_copying h.core → into.shape ≡ v.image.shape → wear ≡ v.wear → v.granted ≤ after.granted
           → pad_of h.core ≤ pad_of after.core
           → (end : Heart) (all : List Deed) → HaveFreed after last end all
           → Leaves v (moved_on v all us wear end.granted (pad_of end.core)) end into
@@ -338,8 +343,8 @@ module _ {v : MountView} {h : Heart} {f : Filling} (m : IsMount v h f) {mid : He
           subst (λ (x : World). length (engine_log v) < length (log_of x 0))
           (sym (ap (world_of v.image.shape) is ∙ landed_world v.image.shape deeds stripe.unit (last_of new) e given.last)) (omega arith)
 
-      pub landed_done : (us : List ModelUnit) → us ≡ slice_set v.units stripe.unit new → NoneLost v.units us
-      landed_done us is = subst (NoneLost v.units) (sym is)
+      pub landed_done : (us : List ModelUnit) → us ≡ slice_set v.units stripe.unit new → NoDriveFaults v.units us
+      landed_done us is = subst (NoDriveFaults v.units) (sym is)
           (none_lost_one v.units stripe.unit was new e there log_more (ap₂ (λ (o : UnitOutcome) b. is_stop o || (b && is_fail o)) done no_fetch))
 
     -- it failed
@@ -359,22 +364,28 @@ module _ {v : MountView} {h : Heart} {f : Filling} (m : IsMount v h f) {mid : He
         failed = failed;
       }
 
+      its_loss : IsLossOf v.image (log_of programmed) stripe.unit its_number kept
+      its_loss = record { may = losing; written = is_kept }
+
       pub beating_lost : (after : Heart)
-          → ((i : Image) (w : World) (event : ℕ) (knows : List ℕ) → IsLegalMount i w → IsHeart i (log_of w) mid
-          → (may : MayLose (log_of w) stripe.unit event)
-          → kept ≡ may.landed_before * i.shape.ws_min
-          → IsLegalMount i (decided (Lost stripe.unit event) knows w) → IsHeart i (log_of (decided (Lost stripe.unit event) knows w)) after)
+          → BeatsAfterAnswer mid (Lost stripe.unit) (λ i logs event. IsLossOf i logs stripe.unit event kept) after
           → IsBeating after
       beating_lost after beats = record {
         image = v.image;
         world = noted v.image.shape loss programmed;
         legal = lost_legal;
-        stands = beats v.image programmed its_number (knows_all v.image.shape programmed) given.legal heart_programmed losing is_kept lost_legal;
+        stands = beats v.image programmed its_number (knows_all v.image.shape programmed) given.legal heart_programmed its_loss lost_legal;
       }
 
-      pub may_be_lost : (i : Image) × (w : World) × IsLegalMount i w × IsHeart i (log_of w) mid × (event : ℕ)
-          × (may : MayLose (log_of w) stripe.unit event) × (kept ≡ may.landed_before * i.shape.ws_min)
-      may_be_lost = (v.image, programmed, given.legal, heart_programmed, its_number, losing, is_kept)
+      pub may_be_lost : CanNote mid (λ i logs event. IsLossOf i logs stripe.unit event kept)
+      may_be_lost = record {
+        image = v.image;
+        world = programmed;
+        legal = given.legal;
+        stands = heart_programmed;
+        event = its_number;
+        may = its_loss;
+      }
 
       goes_lost : GoesOn v (noted v.image.shape loss programmed) (slice_set v.units stripe.unit new)
       goes_lost = goes_decided goes loss lost_legal (λ knows. refl) tt none_programmed
@@ -385,11 +396,8 @@ module _ {v : MountView} {h : Heart} {f : Filling} (m : IsMount v h f) {mid : He
       pub leaves_lost : (last : List Deed) (us : List ModelUnit) (wear : List (List ℕ)) (after : Heart) (into : Filling)
           → (more : List Deed) × (deeds ≡ v.deeds ++ more) → last ≡ with_answer deeds stripe.unit (last_of new) (Loses stripe.unit)
           → us ≡ slice_set v.units stripe.unit new
-          → ((i : Image) (w : World) (event : ℕ) (knows : List ℕ) → IsLegalMount i w → IsHeart i (log_of w) mid
-          → (may : MayLose (log_of w) stripe.unit event)
-          → kept ≡ may.landed_before * i.shape.ws_min
-          → IsLegalMount i (decided (Lost stripe.unit event) knows w) → IsHeart i (log_of (decided (Lost stripe.unit event) knows w)) after)
-          → IsResting after.core → is_copying after.core ≡ is_copying h.core → into.shape ≡ v.image.shape → wear ≡ v.wear → v.granted ≤ after.granted
+          → BeatsAfterAnswer mid (Lost stripe.unit) (λ i logs event. IsLossOf i logs stripe.unit event kept) after
+          → NoneUnderWay after.core → is_copying after.core ≡ is_copying h.core → into.shape ≡ v.image.shape → wear ≡ v.wear → v.granted ≤ after.granted
           → pad_of h.core ≤ pad_of after.core
           → (end : Heart) (all : List Deed) → HaveFreed after last end all
           → Leaves v (moved_on v all us wear end.granted (pad_of end.core)) end into
@@ -398,7 +406,7 @@ module _ {v : MountView} {h : Heart} {f : Filling} (m : IsMount v h f) {mid : He
           subst (λ (xs : List ModelUnit). Leaves v (moved_on v all xs wear end.granted (pad_of end.core)) end into) (sym units_are)
           (leaves_freed m.sound goes_lost last wear after end into all
           (ap (world_of v.image.shape) is ∙ lost_world v.image.shape deeds stripe.unit (last_of new) e given.last)
-          (beats v.image programmed its_number (knows_all v.image.shape programmed) given.legal heart_programmed losing is_kept lost_legal)
+          (beats v.image programmed its_number (knows_all v.image.shape programmed) given.legal heart_programmed its_loss lost_legal)
           frees more.0 (is ∙ more.1)
           (losing_level v.image w stripe.unit ready.placed e (next_maker w) ready.goes.legal can k failed ready.level)
           (noted_decided v.image.shape loss programmed noted_programmed)
@@ -414,8 +422,8 @@ module _ {v : MountView} {h : Heart} {f : Filling} (m : IsMount v h f) {mid : He
           subst (λ (x : World). length (engine_log v) < length (log_of x 0))
           (sym (ap (world_of v.image.shape) is ∙ lost_world v.image.shape deeds stripe.unit (last_of new) e given.last)) (omega arith)
 
-      pub lost_done : (us : List ModelUnit) → us ≡ slice_set v.units stripe.unit new → NoneLost v.units us
-      lost_done us is = subst (NoneLost v.units) (sym is)
+      pub lost_done : (us : List ModelUnit) → us ≡ slice_set v.units stripe.unit new → NoDriveFaults v.units us
+      lost_done us is = subst (NoDriveFaults v.units) (sym is)
           (none_lost_one v.units stripe.unit was new e there log_more (ap₂ (λ (o : UnitOutcome) b. is_stop o || (b && is_fail o)) failed no_fetch))
 
     -- it was stopped
@@ -430,9 +438,7 @@ module _ {v : MountView} {h : Heart} {f : Filling} (m : IsMount v h f) {mid : He
       offer = may_offer_again v.image w stripe.unit ready.placed e (next_maker w) can k ready.goes.legal.legal stops
 
       pub beating_stopped : (after : Heart)
-          → ((i : Image) (w : World) (event : ℕ) (knows : List ℕ) → IsLegalMount i w → IsHeart i (log_of w) mid
-          → MayOfferAgain (log_of w) stripe.unit event
-          → IsLegalMount i (decided (Again stripe.unit event) knows w) → IsHeart i (log_of (decided (Again stripe.unit event) knows w)) after)
+          → BeatsAfterAnswer mid (Again stripe.unit) (λ i logs. MayOfferAgain logs stripe.unit) after
           → IsBeating after
       beating_stopped after beats = record {
         image = v.image;
@@ -450,10 +456,8 @@ module _ {v : MountView} {h : Heart} {f : Filling} (m : IsMount v h f) {mid : He
       pub leaves_stopped : (last : List Deed) (us : List ModelUnit) (wear : List (List ℕ)) (after : Heart) (into : Filling)
           → (more : List Deed) × (deeds ≡ v.deeds ++ more) → last ≡ with_answer deeds stripe.unit (last_of new) (Offers stripe.unit)
           → us ≡ slice_set v.units stripe.unit new
-          → ((i : Image) (w : World) (event : ℕ) (knows : List ℕ) → IsLegalMount i w → IsHeart i (log_of w) mid
-          → MayOfferAgain (log_of w) stripe.unit event
-          → IsLegalMount i (decided (Again stripe.unit event) knows w) → IsHeart i (log_of (decided (Again stripe.unit event) knows w)) after)
-          → IsResting after.core → is_copying after.core ≡ is_copying h.core → into.shape ≡ v.image.shape → wear ≡ v.wear → v.granted ≤ after.granted
+          → BeatsAfterAnswer mid (Again stripe.unit) (λ i logs. MayOfferAgain logs stripe.unit) after
+          → NoneUnderWay after.core → is_copying after.core ≡ is_copying h.core → into.shape ≡ v.image.shape → wear ≡ v.wear → v.granted ≤ after.granted
           → pad_of h.core ≤ pad_of after.core
           → (end : Heart) (all : List Deed) → HaveFreed after last end all
           → Leaves v (moved_on v all us wear end.granted (pad_of end.core)) end into
@@ -479,6 +483,6 @@ module _ {v : MountView} {h : Heart} {f : Filling} (m : IsMount v h f) {mid : He
           (sym (ap (world_of v.image.shape) is ∙ stopped_world v.image.shape deeds stripe.unit (last_of new) e given.last)) (omega arith)
 
       pub stopped_lost : (us : List ModelUnit) (n : ℕ) → us ≡ slice_set v.units stripe.unit new → n ≡ min (length new.log) (2 ^ 64 - 1)
-          → IsLostAt v.units us stripe.unit n
-      stopped_lost us n is number = subst (λ (xs : List ModelUnit). IsLostAt v.units xs stripe.unit n) (sym is)
+          → IsDriveFaultAt v.units us stripe.unit n
+      stopped_lost us n is number = subst (λ (xs : List ModelUnit). IsDriveFaultAt v.units xs stripe.unit n) (sym is)
           (is_lost_one v.units stripe.unit was new e there log_more n (ap₂ (λ (o : UnitOutcome) b. is_stop o || (b && is_fail o)) stops no_fetch) number)

@@ -17,8 +17,8 @@ use Rattle.pblk_world.specs.EngineLog.{takes}
 use Rattle.pblk_world.specs.Events.{EngineEvent, ResetDone}
 use Rattle.pblk_world.specs.Lines.{known_image}
 use Rattle.pblk_world.specs.World.{World, log_of, media, unit_events}
-use Rattle.world_laws.specs.LegalMounts.{IsLegalMount}
-use Rattle.world_laws.specs.Orders.{NoneToFree}
+use Rattle.pblk_world.specs.LegalMounts.{IsLegalMount}
+use Rattle.pblk_world.specs.Orders.{NoneToFree}
 use Rattle.step_laws.proofs.GivenUp.{may_note, noted_known, noted_legal, noted_level, reset_level, reset_stopped}
 use Rattle.step_laws.proofs.Known.{known_as_is, used_or_stopped}
 use Rattle.step_laws.proofs.Readied.{stop_is}
@@ -37,8 +37,8 @@ use Rattle.pblk_core.specs.Resets.{IsResetTo, IsToReset, is_used_state}
 use Rattle.block_target.specs.Arm.{IsGivenUpThere, WasGiven, last_of}
 use Rattle.block_target.specs.Deeds.{Deed, Does, NotesReset, world_of}
 use Rattle.block_target.specs.Freed.{HaveFreed}
-use Rattle.block_target.specs.Heart.{IsBeating, IsHeart, decided}
-use Rattle.scan_recovery.specs.Lost.{IsLostAt, NoneLost, is_fetch}
+use Rattle.block_target.specs.Heart.{IsBeating, IsHeart, BeatsAfterAnswer, CanNote}
+use Rattle.scan_recovery.specs.DriveFaults.{IsDriveFaultAt, NoDriveFaults, is_fetch}
 use Rattle.block_target.specs.Mount.{IsMount, MountView, engine_log, logs_in, world_in}
 use Rattle.block_target.specs.declared.heart.Heart.{Heart}
 use Rattle.block_target.proofs.DeedsLemmas.{given_world, reset_world}
@@ -104,7 +104,7 @@ module _ {v : MountView} {h : Heart} {f : Filling} (m : IsMount v h f) (line uni
     can = can_reset given m.sound.beginning m.sound.has_begun refl
 
     goes : GoesOn v left (slice_set v.units unit new)
-    goes = goes_given (goes_none v m.sound) unit was new e (next_maker w) there given.legal given.arm
+    goes = goes_given (goes_none v m.sound) unit was new e (next_maker w) refl there given.legal given.arm
 
     heart_left : IsHeart i (log_of left) h
     heart_left = heart_beside i w unit e (next_maker w) h m.sound.legal m.heart
@@ -148,8 +148,8 @@ module _ {v : MountView} {h : Heart} {f : Filling} (m : IsMount v h f) (line uni
           m.settled) m.stripe (none_taken m.sound goes takes_left) same_wear low (asked_within m (pad_of h.core) (le_refl (pad_of h.core))))
 
       pub stopped_lost : (us : List ModelUnit) (n : ℕ) → us ≡ slice_set v.units unit new → n ≡ min (length new.log) (2 ^ 64 - 1)
-          → IsLostAt v.units us unit n
-      stopped_lost us n units_are number_is = subst (λ (xs : List ModelUnit). IsLostAt v.units xs unit n) (sym units_are)
+          → IsDriveFaultAt v.units us unit n
+      stopped_lost us n units_are number_is = subst (λ (xs : List ModelUnit). IsDriveFaultAt v.units xs unit n) (sym units_are)
           (is_lost_one v.units unit was new e there log_more n (ap₂ (λ (o : UnitOutcome) b. is_stop o || (b && is_fail o)) stops no_fetch) number_is)
 
     -- ---- it was done, or failed
@@ -180,12 +180,18 @@ module _ {v : MountView} {h : Heart} {f : Filling} (m : IsMount v h f) (line uni
           }
 
       pub may_be_noted : (state : ChunkState) (c : Chunk) → slice_get new.media line ≡ Some c → state ≡ c.state
-          → (i : Image) × (w : World) × IsLegalMount i w × IsHeart i (log_of w) h × (event : ℕ) × IsResetTo i (log_of w) unit event line state
-      may_be_noted state c at is_state = (i, left, given.legal, heart_left, number, is_reset state c at is_state)
+          → CanNote h (λ i logs event. IsResetTo i logs unit event line state)
+      may_be_noted state c at is_state = record {
+        image = i;
+        world = left;
+        legal = given.legal;
+        stands = heart_left;
+        event = number;
+        may = is_reset state c at is_state;
+      }
 
       pub beating_noted : (state : ChunkState) (c : Chunk) (after : Heart) → slice_get new.media line ≡ Some c → state ≡ c.state
-          → ((i : Image) (w : World) (event : ℕ) (knows : List ℕ) → IsLegalMount i w → IsHeart i (log_of w) h → IsResetTo i (log_of w) unit event line state
-          → IsLegalMount i (decided (ResetDone unit event) knows w) → IsHeart i (log_of (decided (ResetDone unit event) knows w)) after)
+          → BeatsAfterAnswer h (ResetDone unit) (λ i logs event. IsResetTo i logs unit event line state) after
           → IsBeating after
       beating_noted state c after at is_state beats = record {
         image = i;
@@ -207,8 +213,7 @@ module _ {v : MountView} {h : Heart} {f : Filling} (m : IsMount v h f) (line uni
 
       pub leaves_reset : (last : List Deed) (us : List ModelUnit) (wear : List (List ℕ)) (after : Heart) (state : ChunkState) (c : Chunk)
           → slice_get new.media line ≡ Some c → state ≡ c.state → last ≡ reset_deeds → us ≡ slice_set v.units unit new
-          → ((i : Image) (w : World) (event : ℕ) (knows : List ℕ) → IsLegalMount i w → IsHeart i (log_of w) h → IsResetTo i (log_of w) unit event line state
-          → IsLegalMount i (decided (ResetDone unit event) knows w) → IsHeart i (log_of (decided (ResetDone unit event) knows w)) after)
+          → BeatsAfterAnswer h (ResetDone unit) (λ i logs event. IsResetTo i logs unit event line state) after
           → after.core.placer.units ≡ h.core.placer.units → is_copying after.core ≡ is_copying h.core → wear ≡ v.wear → v.granted ≤ after.granted
           → pad_of h.core ≤ pad_of after.core
           → (end : Heart) (all : List Deed) → HaveFreed after last end all
@@ -233,6 +238,6 @@ module _ {v : MountView} {h : Heart} {f : Filling} (m : IsMount v h f) (line uni
           subst (λ (x : World). length (engine_log v) < length (log_of x 0))
           (sym (ap (world_of i.shape) lasts ∙ reset_world i.shape v.deeds unit (last_of new) e given.last)) (omega arith)
 
-      pub reset_kept : (us : List ModelUnit) → us ≡ slice_set v.units unit new → NoneLost v.units us
-      reset_kept us units_are = subst (NoneLost v.units) (sym units_are)
+      pub reset_kept : (us : List ModelUnit) → us ≡ slice_set v.units unit new → NoDriveFaults v.units us
+      reset_kept us units_are = subst (NoDriveFaults v.units) (sym units_are)
           (none_lost_one v.units unit was new e there log_more (ap₂ (λ a b. a || (b && is_fail e.outcome)) (sym (stop_is e.outcome) ∙ ends) no_fetch))

@@ -33,7 +33,7 @@ use Rattle.pblk_core.specs.Filling.{Filling}
 use Rattle.pblk_core.specs.Named.{pad_of}
 use Rattle.block_target.specs.Arm.{IsBlockThere, WasGiven, last_of}
 use Rattle.block_target.specs.Deeds.{Deed, Does, world_of}
-use Rattle.scan_recovery.specs.Lost.{IsLostAt, NoneLost, is_fetch}
+use Rattle.scan_recovery.specs.DriveFaults.{IsDriveFaultAt, NoDriveFaults, is_fetch}
 use Rattle.block_target.specs.Fetched.{IsReadableThere, TellsFetch, WasFetched}
 use Rattle.block_target.specs.Mount.{IsFetchable, IsMount, MountView, logs_in, world_in}
 use Rattle.block_target.specs.declared.opening.DriveErr.{DriveErr}
@@ -191,7 +191,7 @@ module _ {v : MountView} {h : Heart} {f : Filling} (m : IsMount v h f) (unit chu
     left = after_unit v.image.shape unit e (next_maker w) w
 
     goes : GoesOn v left (slice_set v.units unit new)
-    goes = goes_given (goes_none v m.sound) unit was new e (next_maker w) fetched.there given.legal given.arm
+    goes = goes_given (goes_none v m.sound) unit was new e (next_maker w) refl fetched.there given.legal given.arm
 
     log_more : new.log ≡ was.log ++ e ∷ []
     log_more = one_more v.image w unit e (next_maker w) (before_of was fetched.there) was new (m.sound.each unit was fetched.there).2 given.arm
@@ -219,21 +219,21 @@ module _ {v : MountView} {h : Heart} {f : Filling} (m : IsMount v h f) (unit chu
     pub media_fetched : media v.image (log_of (world_of v.image.shape last)) ≡ media v.image (logs_in v)
     media_fetched = ap (λ (x : World). media v.image (log_of x)) its_world ∙ media_stays v.image w unit number e (next_maker w) given.command_is
 
-    fetched_lost : (n : ℕ) → (is_stop e.outcome || (true && is_fail e.outcome)) ≡ true → n ≡ min (length new.log) (2 ^ 64 - 1) → IsLostAt v.units us unit n
-    fetched_lost n lost number_is = subst (λ (xs : List ModelUnit). IsLostAt v.units xs unit n) (sym fetched.units)
+    fetched_lost : (n : ℕ) → (is_stop e.outcome || (true && is_fail e.outcome)) ≡ true → n ≡ min (length new.log) (2 ^ 64 - 1) → IsDriveFaultAt v.units us unit n
+    fetched_lost n lost number_is = subst (λ (xs : List ModelUnit). IsDriveFaultAt v.units xs unit n) (sym fetched.units)
         (is_lost_one v.units unit was new e fetched.there log_more n (ap (λ b. is_stop e.outcome || (b && is_fail e.outcome)) a_fetch ∙ lost) number_is)
 
-    pub fetch_lost : IfErr result (λ x. IsLostAt v.units us x.unit x.event)
+    pub fetch_lost : IfErr result (λ x. IsDriveFaultAt v.units us x.unit x.event)
     fetch_lost = go result given.told
       where
-        go : (r : Result (Unit {0}) DriveErr) → TellsFetch unit (length new.log) r e.outcome → IfErr r (λ x. IsLostAt v.units us x.unit x.event)
+        go : (r : Result (Unit {0}) DriveErr) → TellsFetch unit (length new.log) r e.outcome → IfErr r (λ x. IsDriveFaultAt v.units us x.unit x.event)
         go (Ok x) told = tt
-        go (Err x) told = subst (λ n. IsLostAt v.units us n x.event) (sym told.1) (fetched_lost x.event told.0 told.2)
+        go (Err x) told = subst (λ n. IsDriveFaultAt v.units us n x.event) (sym told.1) (fetched_lost x.event told.0 told.2)
 
-    pub fetch_kept : IsOk result → NoneLost v.units us
+    pub fetch_kept : IsOk result → NoDriveFaults v.units us
     fetch_kept ok = go result given.told ok
       where
-        go : (r : Result (Unit {0}) DriveErr) → TellsFetch unit (length new.log) r e.outcome → IsOk r → NoneLost v.units us
-        go (Ok x) told ok = subst (NoneLost v.units) (sym fetched.units)
+        go : (r : Result (Unit {0}) DriveErr) → TellsFetch unit (length new.log) r e.outcome → IsOk r → NoDriveFaults v.units us
+        go (Ok x) told ok = subst (NoDriveFaults v.units) (sym fetched.units)
             (none_lost_one v.units unit was new e fetched.there log_more (ap₂ (λ (o : UnitOutcome) b. is_stop o || (b && is_fail o)) told.1 a_fetch))
         go (Err x) told ok = absurd cc

@@ -12,15 +12,15 @@ use Rattle.pblk_model.specs.Contents.{contents}
 use Rattle.pblk_model.specs.History.{after as after_history}
 use Rattle.pblk_model.specs.LineOrder.{line_order}
 use Rattle.pblk_model.specs.Image.{Image}
-use Rattle.pblk_layout.specs.Live.{units_in}
+use Rattle.pblk_layout.specs.Online.{units_in}
 use Rattle.pblk_world.specs.World.{World, log_of}
 use Rattle.pblk_world.specs.Fronts.{history}
 use Rattle.pblk_world.specs.Lines.{found_image}
 use Rattle.l2p_map.specs.declared.slot.Slot.TheVariants.{Cached}
 use Rattle.write_window.specs.declared.held.Held.{Held}
 use Rattle.write_window.specs.Window.{WindowView, IsHeld, sector_at}
-use Rattle.world_laws.specs.LegalMounts.{IsLegalMount}
-use Rattle.core_laws.specs.OpenedLines.{live_now}
+use Rattle.pblk_world.specs.LegalMounts.{IsLegalMount}
+use Rattle.core_laws.specs.OpenedLines.{online_now}
 use Rattle.core_laws.specs.SlotOf.{slot_of}
 use Rattle.core_laws.proofs.Placing.{not_below}
 use Rattle.step_laws.specs.SlotBlocks.{IsBlockOfSlot}
@@ -76,38 +76,38 @@ module _ (v : MountView) (c : Core) (lba : ℕ) (sound : IsSound v) (st : Stands
 -- ---- the drive
 
 live_at : (i : Image) (w : World) (c : Core) (line : ℕ) → Stands i (log_of w) c → line < i.shape.chunks
-    → slice_get c.live.items line ≡ Some (live_now i (log_of w) line)
+    → slice_get c.online.items line ≡ Some (online_now i (log_of w) line)
 live_at i w c line st range =
-    ap (λ xs. slice_get xs line) st.units ∙ slice_get-map (live_now i (log_of w)) (range_with_len 0 i.shape.chunks) line
-    ∙ ap (option_map (live_now i (log_of w))) (range_get 0 i.shape.chunks line range ∙ ap (λ n. Some n) (zero-add line))
+    ap (λ xs. slice_get xs line) st.units ∙ slice_get-map (online_now i (log_of w)) (range_with_len 0 i.shape.chunks) line
+    ∙ ap (option_map (online_now i (log_of w))) (range_get 0 i.shape.chunks line range ∙ ap (λ n. Some n) (zero-add line))
 
 module _ (v : MountView) (c : Core) (lba line at q : ℕ) (mount : IsLegalMount v.image (world_in v)) (st : Stands v.image (logs_in v) c)
     (is : IsBlockOfSlot v.image (logs_in v) lba line at q) where
-  here : slice_get c.live.items line ≡ Some (live_now v.image (logs_in v) line)
+  here : slice_get c.online.items line ≡ Some (online_now v.image (logs_in v) line)
   here = live_at v.image (world_in v) c line st is.in_range
 
-  its_live : (live : ℕ) → slice_get c.live.items line ≡ Some live → live_now v.image (logs_in v) line ≡ live
-  its_live live there = same_Some (live_now v.image (logs_in v) line) live (sym here ∙ there)
+  its_live : (live : ℕ) → slice_get c.online.items line ≡ Some live → online_now v.image (logs_in v) line ≡ live
+  its_live live there = same_Some (online_now v.image (logs_in v) line) live (sym here ∙ there)
 
-  pub line_inside : line < length c.live.items
-  line_inside = slice_get_within c.live.items line (live_now v.image (logs_in v) line) here
+  pub line_inside : line < length c.online.items
+  line_inside = slice_get_within c.online.items line (online_now v.image (logs_in v) line) here
 
-  pub line_live : (live : ℕ) → slice_get c.live.items line ≡ Some live → live < 2 ^ units c.layout
+  pub line_live : (live : ℕ) → slice_get c.online.items line ≡ Some live → live < 2 ^ units c.layout
   line_live live there =
       subst (λ (s : Shape). live < 2 ^ units s) (sym st.layout)
       (subst (λ n. n < 2 ^ units v.image.shape) (its_live live there) (live_small v.image (world_in v) line mount))
 
-  pub at_inside : (live : ℕ) → slice_get c.live.items line ≡ Some live → at < length (units_in live) * c.layout.clba
+  pub at_inside : (live : ℕ) → slice_get c.online.items line ≡ Some live → at < length (units_in live) * c.layout.clba
   at_inside live there =
       subst (λ (s : Shape). at < length (units_in live) * s.clba) (sym st.layout)
       (subst (λ n. at < length (units_in n) * v.image.shape.clba) (its_live live there) is.within)
 
-  pub fetchable : (r : ℕ × ℕ) → ((live : ℕ) → slice_get c.live.items line ≡ Some live → slice_get (line_order c.layout (units_in live)) at ≡ Some r)
+  pub fetchable : (r : ℕ × ℕ) → ((live : ℕ) → slice_get c.online.items line ≡ Some live → slice_get (line_order c.layout (units_in live)) at ≡ Some r)
       → IsFetchable v r.0 line r.1 is.block
   fetchable r named =
-      let place : slice_get (line_order v.image.shape (units_in (live_now v.image (logs_in v) line))) at ≡ Some r =
-      subst (λ (s : Shape). slice_get (line_order s (units_in (live_now v.image (logs_in v) line))) at ≡ Some r) st.layout
-      (named (live_now v.image (logs_in v) line) here) in
+      let place : slice_get (line_order v.image.shape (units_in (online_now v.image (logs_in v) line))) at ≡ Some r =
+      subst (λ (s : Shape). slice_get (line_order s (units_in (online_now v.image (logs_in v) line))) at ≡ Some r) st.layout
+      (named (online_now v.image (logs_in v) line) here) in
       let same : (is.unit, is.number) ≡ r = same_Some (is.unit, is.number) r (sym is.place ∙ place) in
       record {
         lba = lba;

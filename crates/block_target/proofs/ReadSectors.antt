@@ -12,7 +12,7 @@ use Rattle.pblk_model.specs.Contents.{contents}
 use Rattle.pblk_model.specs.History.{SectorWrite, after as after_history}
 use Rattle.pblk_world.specs.EngineLog.{Taken}
 use Rattle.pblk_world.specs.Fronts.{user_takes}
-use Rattle.scan_recovery.specs.Lost.{NoneLost}
+use Rattle.scan_recovery.specs.DriveFaults.{NoDriveFaults}
 use Rattle.block_port.specs.Own.{PlacedSector, sectors_of}
 use Rattle.block_port.specs.Port.{contents_after, count_in, sectors_at}
 use Rattle.block_target.specs.Mount.{MountView, IsSound, IsSameMount, engine_log, front_taken, latest}
@@ -80,7 +80,7 @@ pub record IsReading (old now : MountView) (lba size count index : ℕ) (out : L
   pub same : IsSameMount old now
   pub asked : now.asked ≡ old.asked
   pub sound : IsSound now
-  pub done : NoneLost old.units now.units
+  pub done : NoDriveFaults old.units now.units
   pub read : sectors_of size index out ≡ slice_range (latest old) lba (lba + index)
 
 pub reading_begins : (v : MountView) (lba size count : ℕ) (out : List ℕ) → IsSound v → IsReading v v lba size count 0 out
@@ -101,7 +101,7 @@ part_inside index count size less =
 
 pub reading_more : (old now new : MountView) (lba size count index n : ℕ) (out sector : List ℕ) → IsReading old now lba size count index out → index < count
     → length out ≡ count * size
-    → IsSameMount now new → new.asked ≡ now.asked → IsSound new → NoneLost now.units new.units → slice_get (latest now) (lba + index) ≡ Some sector
+    → IsSameMount now new → new.asked ≡ now.asked → IsSound new → NoDriveFaults now.units new.units → slice_get (latest now) (lba + index) ≡ Some sector
     → length sector ≡ length (slice_range out (index * size) (index * size + size)) → n ≡ size
     → IsReading old new lba size count (index + 1) (put_mid (index * size) n out sector)
 reading_more old now new lba size count index n out sector is less whole same asked sound done there kept wide =

@@ -22,7 +22,7 @@ use Rattle.pblk_world.proofs.Growing.{grows}
 use Rattle.pblk_world.proofs.WorldLemmas.{log_here}
 use Rattle.step_laws.specs.Whole.{engine_step, unit_step}
 use Rattle.step_laws.proofs.UnitSteps.{engine_log}
-use Rattle.world_laws.specs.Reasons.{AreBegun, AreUrgent, WasBegun, WasUrgent}
+use Rattle.pblk_world.specs.Reasons.{AreBegun, AreUrgent, WasBegun, WasUrgent}
 use Rattle.block_target.proofs.OnceRoom.{room_later, same_lengths}
 use Rattle.block_target.proofs.PadsAsked.{asked_later}
 

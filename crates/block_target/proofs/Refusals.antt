@@ -11,7 +11,7 @@ use Rattle.pblk_world.specs.Space.{room}
 use Rattle.pblk_world.specs.AtRest.{logs_at, IsResting, IsAtRest, IsWornFlush}
 use Rattle.block_port.specs.declared.rows.WornAnswer.{WornAnswer}
 use Rattle.block_target.specs.Deeds.{Deed, Decides, world_of}
-use Rattle.world_laws.specs.Reasons.{WasRoom}
+use Rattle.pblk_world.specs.Reasons.{WasRoom}
 use Rattle.block_target.specs.Refusals.{IsWriteRefusal, IsRefusal, IsRefusedAt, AreRefusals}
 use Rattle.block_target.specs.Mount.{MountView, IsSound, IsStuckAt, logs_in, engine_log, taken_in, synced_in, next_entry, with_entry, with_entries}
 use Rattle.block_target.proofs.EngineLengths.{no_shorter, world_grown}

@@ -23,7 +23,7 @@ use Rattle.stripe_placer.specs.OpenLines.{has_left}
 use Rattle.stripe_placer.specs.Placing.{Placing, Program, UnitRow, is_ready, is_under_way, next_in, next_stripe, offers, stopped_in}
 use Rattle.stripe_placer.specs.Placing.UnitRow.{Idle, Stopped, UnderWay}
 use Rattle.core_laws.specs.OpenedLines.{open_line, open_lines, standing}
-use Rattle.core_laws.specs.PlacerOf.{placing_of, row_of}
+use Rattle.core_laws.specs.PlacerOf.{placing_of, unit_row_in}
 use Rattle.core_laws.specs.RowsOf.{rows_of}
 use Rattle.core_laws.proofs.UnitTurns.{filtered_is}
 use Rattle.core_laws.proofs.NextLine.{none_free}
@@ -44,14 +44,14 @@ use Rattle.pblk_core.proofs.Laws.{reset_empty}
 use Rattle.pblk_core.specs.declared.work.Work.TheVariants as works
 use Rattle.pblk_core.specs.declared.work.Why.{Why}
 use Rattle.block_target.specs.Mount.{AreResetsNoted}
-use Rattle.world_laws.specs.Orders.{AreReset, LacksAddress, NoneToFree}
+use Rattle.pblk_world.specs.Orders.{AreReset, LacksAddress, NoneToFree}
 use Rattle.block_target.proofs.RestingCores.{is_way_on, way_of}
 use Rattle.lemmas.proofs.Lists.{IsAmong}
 use Rattle.lemmas.proofs.Maps.{given_at}
 use Rattle.lemmas.proofs.Options.{none_there}
 use Rattle.lemmas.proofs.Parts.{all_at, get_more, got_within}
 use Rattle.lemmas.proofs.Tests.{both, lt_true, not_both, positive}
-use Rattle.world_laws.specs.LegalMounts.{IsLegalMount}
+use Rattle.pblk_world.specs.LegalMounts.{IsLegalMount}
 
 -- ---- what is chosen
 
@@ -180,7 +180,7 @@ module _ (i : Image) (w : World) (pad : ℕ) (reason : Why) (mount : IsLegalMoun
   none_copied due = not_both (is_copy_due i (log_of w)) (test_of_copy i (log_of w) due) (not_due (is_copy_due i (log_of w)) chosen.2)
 
   abbrev row : ℕ → UnitRow
-  row unit = row_of i (log_of w) [] unit
+  row unit = unit_row_in i (log_of w) [] unit
 
   abbrev offered : Placing
   offered = placing_of i (log_of w) pad []

@@ -1,11 +1,11 @@
 -- A mount that waits until all that was taken is on the drive, at one look: it asks for pads up to
 -- all that was taken, and then does what comes next.
 use Rattle.std.proofs.Common.{◌≡◌, ℕ, ◌<◌, ◌≤◌, IsErrAnd, Err, Result, max, inr, sym, subst, ap, ◌∙◌, arith}
-use Rattle.scan_recovery.specs.Lost.{NoneLost}
-use Rattle.block_target.specs.Mount.{HasAsked, MountView, IsCollectionOver, IsSameMount, IsSpent, IsStuckAt, synced_in, taken_in, with_asked}
+use Rattle.scan_recovery.specs.DriveFaults.{NoDriveFaults}
+use Rattle.block_target.specs.Mount.{HasAsked, MountView, IsCollectionOver, IsSameMount, IsMountAtRest, IsStuckAt, synced_in, taken_in, with_asked}
 use Rattle.block_target.specs.Waiting.{AsksUpTo}
-use Rattle.block_target.specs.declared.opening.WaitErr.{WaitErr}
-use Rattle.block_target.specs.declared.opening.WaitErr.TheVariants.{Drive, Stuck}
+use Rattle.block_target.specs.declared.opening.SettleErr.{SettleErr}
+use Rattle.block_target.specs.declared.opening.SettleErr.TheVariants.{Drive, Worn}
 use Rattle.block_target.proofs.SameMounts.{IsWorked, all_asked, none_stuck, stuck_synced, worked_asked, worked_more}
 
 module _ (a v p : MountView) (position : ℕ) (was : IsWorked a v (taken_in v)) (wants : position ≡ taken_in v)
@@ -24,7 +24,7 @@ module _ (a v p : MountView) (position : ℕ) (was : IsWorked a v (taken_in v)) 
 
   -- what comes next was done
   module _ (new : MountView) (same : IsSameMount p new) (still : new.asked ≡ p.asked) where
-    pub worked_on : NoneLost p.units new.units → IsWorked a new (taken_in new)
+    pub worked_on : NoDriveFaults p.units new.units → IsWorked a new (taken_in new)
     worked_on done = worked_more a p new (taken_in p) (taken_in new) worked_here same still done same.taken
 
     at_least : a.asked ≤ new.asked
@@ -36,11 +36,11 @@ module _ (a v p : MountView) (position : ℕ) (was : IsWorked a v (taken_in v)) 
         let more : taken_in p ≤ taken_in new = same.taken in
         omega arith
 
-    pub asks_lost : {T : Type 0} (r : Result T WaitErr) (unit event : ℕ) → IsErrAnd r (λ w. w ≡ Drive unit event) → AsksUpTo a new (taken_in new) r
+    pub asks_lost : {T : Type 0} (r : Result T SettleErr) (unit event : ℕ) → IsErrAnd r (λ w. w ≡ Drive unit event) → AsksUpTo a new (taken_in new) r
     asks_lost r unit event made = record { at_least = at_least; at_most = at_most; all = none_stuck a new (taken_in new) unit event r made }
 
     -- it was at rest
-    module _ (rest : (new ≡ p) × IsSpent p) where
+    module _ (rest : (new ≡ p) × IsMountAtRest p) where
       taken_still : taken_in new ≡ position
       taken_still = ap taken_in rest.0 ∙ taken_same ∙ sym wants
 
@@ -53,7 +53,7 @@ module _ (a v p : MountView) (position : ℕ) (was : IsWorked a v (taken_in v)) 
       pub over : IsCollectionOver new
       over = subst IsCollectionOver (sym rest.0) (inr (rest.1.at_rest 0 (omega arith)))
 
-      pub asks_stuck : {T : Type 0} (wanted have : ℕ) → AsksUpTo {T = T} a new (taken_in new) (Err (Stuck wanted have))
+      pub asks_stuck : {T : Type 0} (wanted have : ℕ) → AsksUpTo {T = T} a new (taken_in new) (Err (Worn wanted have))
       asks_stuck wanted have = record {
         at_least = at_least;
         at_most = at_most;
@@ -61,7 +61,7 @@ module _ (a v p : MountView) (position : ℕ) (was : IsWorked a v (taken_in v)) 
       }
 
       pub stuck_settled : (have : ℕ) → have ≡ synced_in p → have < position
-          → NoneLost a.units new.units × (position ≡ taken_in new) × (have ≡ synced_in new) × IsStuckAt new (taken_in new) have
+          → NoDriveFaults a.units new.units × (position ≡ taken_in new) × (have ≡ synced_in new) × IsStuckAt new (taken_in new) have
       stuck_settled have at short =
           let stuck = stuck_synced a p new position have (taken_in p) worked_here at short rest in
           (stuck.0, sym taken_still, stuck.2, subst (λ n. IsStuckAt new n have) (sym taken_still) stuck.3)

@@ -9,14 +9,14 @@ use Rattle.pblk_core.specs.Filling.{Filling}
 use Rattle.pblk_core.specs.Named.{pad_of}
 use Rattle.pblk_core.specs.declared.work.Work.TheVariants as works
 use Rattle.pblk_core.specs.declared.work.Why.{Why}
-use Rattle.block_target.specs.Mount.{MountView, AreResetsNoted, IsMount, IsSpent, world_in, logs_in, engine_log, work_in}
+use Rattle.block_target.specs.Mount.{MountView, AreResetsNoted, IsMount, IsMountAtRest, world_in, logs_in, engine_log, work_in}
 use Rattle.block_target.specs.declared.heart.Heart.{Heart}
 use Rattle.block_target.proofs.OrderedMounts.{its_left, none_to_free_then}
 use Rattle.block_target.proofs.Resting.{is_resting, none_copied}
 use Rattle.block_target.proofs.NotedResets.{noted_at}
 use Rattle.block_target.proofs.RestingCores.{is_way_on, none_on_way}
 
-pub spent : {v : MountView} {h : Heart} {f : Filling} (m : IsMount v h f) (reason : Why) → work_in v ≡ works.Nothing reason → IsSpent v
+pub spent : {v : MountView} {h : Heart} {f : Filling} (m : IsMount v h f) (reason : Why) → work_in v ≡ works.Nothing reason → IsMountAtRest v
 spent {v} {h} {f} m reason none = record {
   at_rest = λ asked within. record {
     has_begun = engine_longer (world_in v) m.sound.beginning m.sound.has_begun;

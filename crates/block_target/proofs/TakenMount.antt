@@ -19,8 +19,8 @@ use Rattle.pblk_world.specs.Fronts.{first_position, is_users, user_takes}
 use Rattle.pblk_world.specs.Space.{freed}
 use Rattle.pblk_world.specs.Taking.{MayTake}
 use Rattle.pblk_world.specs.World.{World, log_of}
-use Rattle.world_laws.specs.Orders.{NoneToFree}
-use Rattle.world_laws.specs.LegalMounts.{IsLegalMount}
+use Rattle.pblk_world.specs.Orders.{NoneToFree}
+use Rattle.pblk_world.specs.LegalMounts.{IsLegalMount}
 use Rattle.core_laws.proofs.SpentBy.{taking_spends_none}
 use Rattle.step_laws.proofs.EngineSteps.{engine_next}
 use Rattle.step_laws.proofs.Known.{known_still}

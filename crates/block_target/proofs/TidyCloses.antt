@@ -8,7 +8,7 @@ use Rattle.pblk_world.specs.Fronts.{taken}
 use Rattle.pblk_world.specs.Space.{is_due, position_limit}
 use Rattle.pblk_world.proofs.VictimsLemmas.{whole_prefix}
 use Rattle.step_laws.proofs.UnitSteps.{engine_longer}
-use Rattle.world_laws.specs.Reasons.{AreGranted}
+use Rattle.pblk_world.specs.Reasons.{AreGranted}
 use Rattle.rest_laws.specs.Tidy.{IsTidy}
 use Rattle.rest_laws.specs.TidyMounts.{HasNoFailures, HasNumbersLeft, HasRoom, IsTidyMount}
 use Rattle.rest_laws.proofs.LeftTidy.{found_faultless, heard_faultless, left_tidy}

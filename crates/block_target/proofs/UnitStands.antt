@@ -16,17 +16,17 @@ use Rattle.line_table.specs.Rows.{is_free}
 use Rattle.stripe_placer.specs.Placing.{next_stripe}
 use Rattle.core_laws.specs.ClosedLines.{starts_left}
 use Rattle.core_laws.specs.KnownLogs.{AreKnown}
-use Rattle.core_laws.specs.OpenedLines.{live_now, open_line}
+use Rattle.core_laws.specs.OpenedLines.{online_now, open_line}
 use Rattle.core_laws.proofs.AnsweredTops.{top_same}
 use Rattle.core_laws.proofs.NextVictims.{closed_known, newest_known}
-use Rattle.world_laws.specs.LegalMounts.{IsLegalMount}
+use Rattle.pblk_world.specs.LegalMounts.{IsLegalMount}
 use Rattle.step_laws.specs.Whole.{unit_step}
 use Rattle.step_laws.proofs.UnitSteps.{engine_log}
 use Rattle.step_laws.proofs.UnitStays.{found_stays, known_stays, rows_stay, lines_stay, older_stay, live_stays, line_stays, left_stay, slot_stays, window_stays, placing_stays, addresses_stay}
 use Rattle.pblk_core.specs.Named.{choice, reset_or, work_of}
 use Rattle.pblk_core.specs.Resets.{in_line, resets_of, used_units}
 use Rattle.pblk_core.specs.Stands.{Stands, AreHolds, AreOpenLines, IsOpenLine, left_openings, stripes_left, under_way, answer_counts}
-use Rattle.pblk_core.specs.LineRecords.{AreKept}
+use Rattle.pblk_core.specs.LineRecords.{AreRecordsOf}
 use Rattle.pblk_core.proofs.NotesKept.{notes_kept, used_kept}
 use Rattle.pblk_core.specs.declared.open_lines.OpenLine.{OpenLine}
 use Rattle.pblk_core.specs.declared.open_lines.OpenLines.{OpenLines}
@@ -47,8 +47,8 @@ module _ (i : Image) (w : World) (unit : ℕ) (e : UnitEvent) (maker : Maker) wh
 
   open_beside : (o : Opening) (kept : OpenLine) → IsLegal i w → IsOpenLine i (log_of w) o kept → IsOpenLine i after_ o kept
   open_beside o kept legal is = record {
-    records = subst (λ log. AreKept i.shape log o kept.records) (sym engine) is.records;
-    live = is.live ∙ (λ k. (line_stays_back o legal k).live);
+    records = subst (λ log. AreRecordsOf i.shape log o kept.records) (sym engine) is.records;
+    online = is.online ∙ (λ k. (line_stays_back o legal k).online);
     left = is.left ∙ ap stripes_left (line_stays_back o legal);
   }
 
@@ -79,7 +79,7 @@ module _ (i : Image) (w : World) (unit : ℕ) (e : UnitEvent) (maker : Maker) wh
     capacity = st.capacity;
     slots = λ lba within. st.slots lba within ∙ ap Some (sym (slot_stays i w unit e maker lba mount.legal));
     table = st.table ∙ sym (rows_stay i w unit e maker mount.legal);
-    units = st.units ∙ map_same (live_now i (log_of w)) (live_now i after_) (λ line. sym (live_stays i w unit e maker line mount.legal))
+    units = st.units ∙ map_same (online_now i (log_of w)) (online_now i after_) (λ line. sym (live_stays i w unit e maker line mount.legal))
         (range_with_len 0 i.shape.chunks);
     resets = st.resets ∙ sym (resets_stay mount.legal);
     used_lines = st.used_lines;

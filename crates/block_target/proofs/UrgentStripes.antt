@@ -16,7 +16,7 @@ use Rattle.pblk_world.specs.Events.{Logged, Stripe}
 use Rattle.pblk_world.specs.Placing.{IsData, IsEnd, IsPad, IsStart, end_address, end_blocks, end_record, next_address, record_blocks, start_blocks, stripe_at}
 use Rattle.pblk_world.specs.World.{Logs}
 use Rattle.core_laws.proofs.BorneOnce.{BearsNone, pads_none, records_none}
-use Rattle.world_laws.specs.Reasons.{WasAsked, WasUrgent}
+use Rattle.pblk_world.specs.Reasons.{WasAsked, WasUrgent}
 use Rattle.block_target.proofs.Reasoned.{PlacesFor}
 use Rattle.lemmas.proofs.Lists.{all_replicated}
 use Rattle.lemmas.proofs.Parts.{all_dropped, all_taken}

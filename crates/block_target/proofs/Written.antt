@@ -21,11 +21,12 @@ use Rattle.step_laws.specs.Whole.{knows_all}
 use Rattle.block_port.specs.declared.rows.WornAnswer.{WornAnswer}
 use Rattle.block_port.specs.Own.{PlacedSector, OwnWrite, placed_from, lines_of}
 use Rattle.block_port.specs.Port.{AreSectors, Learns, IsSameTarget, Rise}
-use Rattle.scan_recovery.specs.Lost.{NoneLost}
+use Rattle.scan_recovery.specs.DriveFaults.{NoDriveFaults}
 use Rattle.block_target.specs.Deeds.{Deed}
 use Rattle.block_target.specs.Mount.{MountView, IsSound, IsSameMount, logs_in, world_in, engine_log, taken_in, synced_in, front_taken, next_entry, with_entry, with_entries, with_pad}
 use Rattle.block_target.specs.Refusals.{IsRefusal, IsRefusedAt, AreRefusals}
-use Rattle.block_target.specs.Serial.{SerialView, AreNamed, IsSerial, lines_in, device}
+use Rattle.block_target.specs.Serial.{SerialView, AreAllAnswered, AreNamed, IsSerial, lines_in, device}
+use Rattle.block_target.proofs.AllAnswered.{answered_none, answered_write}
 use Rattle.block_target.proofs.NamedAnswers.{all_named_by, all_named_later}
 use Rattle.block_target.proofs.Refusals.{refusals_grown, entries_more}
 use Rattle.block_target.proofs.TakenSectors.{log_taken, taken_more}
@@ -211,11 +212,19 @@ named_write old new mid lba sectors is serial faults =
     (ap (λ (v : MountView). v.handed) is.mount ∙ handed_all mid lba sectors)
     (all_named_later old.mount mid old.faults is.was is.between is.same serial.faults))
 
+pub answered_write_port : (old new : SerialView) (mid : MountView) (lba : ℕ) (sectors : List (List ℕ)) → IsWrite old new mid lba sectors → IsSerial old
+    → new.faults ≡ old.faults → NoDriveFaults old.mount.units mid.units → AreAllAnswered new.mount new.faults
+answered_write_port old new mid lba sectors is serial faults done =
+    subst (AreAllAnswered new.mount) (sym faults)
+    (subst (λ (v : MountView). AreAllAnswered v old.faults) (sym is.mount)
+    (answered_write mid lba new.mount.pad sectors old.faults (handed_all mid lba sectors)
+    (answered_none old.mount mid old.faults is.was is.between is.same serial.answered done)))
+
 -- none of its commands was lost, since none was while it was claimed
 pub none_lost_write : (old new : SerialView) (mid : MountView) (lba : ℕ) (sectors : List (List ℕ)) → IsWrite old new mid lba sectors
-    → NoneLost old.mount.units mid.units → NoneLost old.mount.units new.mount.units
+    → NoDriveFaults old.mount.units mid.units → NoDriveFaults old.mount.units new.mount.units
 none_lost_write old new mid lba sectors is done =
-    subst (NoneLost old.mount.units) (sym (ap (λ (v : MountView). v.units) is.mount ∙ units_all mid lba sectors)) done
+    subst (NoDriveFaults old.mount.units) (sym (ap (λ (v : MountView). v.units) is.mount ∙ units_all mid lba sectors)) done
 
 -- no pads are asked for
 pub asked_all : (v : MountView) (lba : ℕ) (sectors : List (List ℕ)) → (with_entries v lba sectors).asked ≡ v.asked

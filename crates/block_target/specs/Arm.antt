@@ -16,7 +16,7 @@ use Rattle.pblk_world.specs.World.{World, Logs, log_of, media, unit_events}
 use Rattle.unit_port.specs.Armed.{IsUnarmed}
 use Rattle.unit_port.specs.Unit.{ModelUnit, IsFitUnit, IsStopped}
 use Rattle.core_laws.specs.PlacerOf.{unanswered_on}
-use Rattle.world_laws.specs.LegalMounts.{IsLegalMount}
+use Rattle.pblk_world.specs.LegalMounts.{IsLegalMount}
 use Rattle.step_laws.specs.Whole.{unit_step}
 
 -- A unit is as the world leaves it, since it was handed in like that: its log has grown by the

@@ -3,7 +3,7 @@ use Rattle.std.specs.Prelude.{ℕ, ◌≡◌, ◌≤◌, List, [], ◌∷◌, �
 use Rattle.pblk_model.specs.Image.{Image}
 use Rattle.pblk_world.specs.Events.{Free}
 use Rattle.pblk_world.specs.World.{World, log_of}
-use Rattle.world_laws.specs.Orders.{NoneToFree}
+use Rattle.pblk_world.specs.Orders.{NoneToFree}
 use Rattle.step_laws.specs.FreedWorlds.{MightFree, freed_world}
 use Rattle.pblk_core.specs.Copies.{is_copying}
 use Rattle.pblk_core.specs.Named.{pad_of}

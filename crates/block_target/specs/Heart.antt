@@ -1,10 +1,10 @@
 -- What decides for a target, and what it stands for in a world.
-use Rattle.std.specs.Prelude.{ℕ, ◌+◌, ◌*◌, ◌-◌, ◌^◌, ◌<◌, ◌≤◌, ◌≡◌, ◌≢◌, if◌then◌else◌, List, [], ◌∷◌, length, max, Option, Some, None}
+use Rattle.std.specs.Prelude.{ℕ, ◌+◌, ◌*◌, ◌-◌, ◌^◌, ◌<◌, ◌≤◌, ◌≡◌, ◌≢◌, if◌then◌else◌, true, false, List, [], ◌∷◌, length, max, slice_get, slice_index, slice_set, Option, Some, None}
 use Rattle.std.specs.Option.{option_map}
 use Rattle.pblk_model.specs.declared.chunk.Mark.{Mark}
 use Rattle.pblk_model.specs.declared.found.Found.{Found}
 use Rattle.pblk_model.specs.declared.shape.Shape.{Shape}
-use Rattle.pblk_model.specs.Frames.{count_out}
+use Rattle.pblk_model.specs.Frames.{FrameView, PoolView, count_out}
 use Rattle.pblk_model.specs.Image.{Image}
 use Rattle.pblk_model.specs.Marks.{sector_mark, void_mark}
 use Rattle.pblk_model.specs.Shape.{units}
@@ -13,7 +13,7 @@ use Rattle.pblk_world.specs.Fronts.{first_position}
 use Rattle.pblk_world.specs.Lines.{found_image}
 use Rattle.pblk_world.specs.Space.{freed, room}
 use Rattle.pblk_world.specs.World.{World, Logs, log_of}
-use Rattle.world_laws.specs.LegalMounts.{IsLegalMount}
+use Rattle.pblk_world.specs.LegalMounts.{IsLegalMount}
 use Rattle.world_laws.specs.Finding.{IsFoundOf}
 use Rattle.world_laws.specs.MountBeginnings.{beginning_of}
 use Rattle.l2p_map.specs.declared.slot.Slot.{Slot}
@@ -23,11 +23,13 @@ use Rattle.sector_pool.specs.declared.entry.Class.TheVariants.{User, Copy}
 use Rattle.sector_pool.specs.declared.entry.Source.{Source as EntrySource}
 use Rattle.write_window.specs.Window as window
 use Rattle.pblk_core.specs.Collecting.{Collects}
+use Rattle.pblk_core.specs.Mounts.{CollectsStill, InItsMount}
 use Rattle.pblk_core.specs.Named.{pad_of}
 use Rattle.pblk_core.specs.Stands.{Stands}
 use Rattle.pblk_core.specs.Taken.{is_latest_from}
 use Rattle.pblk_core.specs.declared.collecting.CopyJob.{CopyJob}
-use Rattle.world_laws.specs.Reasons.{WasAsked, WasRoom}
+use Rattle.pblk_core.specs.declared.target_core.Core.{Core}
+use Rattle.pblk_world.specs.Reasons.{WasAsked, WasRoom}
 use Rattle.block_target.specs.declared.heart.Heart.{Heart}
 
 -- The heart stands for the logs of a mount: its core does, and collects what they say. The window
@@ -69,6 +71,58 @@ decided e knows w = record { author = 0; logged = record { event = Decides e; kn
 abbrev pub BeatsAfter : Heart → EngineEvent → Heart → Type 0
 BeatsAfter old e new = (i : Image) (w : World) (knows : List ℕ) → IsLegalMount i w → IsHeart i (log_of w) old
     → IsLegalMount i (decided e knows w) → IsHeart i (log_of (decided e knows w)) new
+
+-- The same, where the event knows all of the engine's own log.
+abbrev pub BeatsAfterKnowing : Heart → EngineEvent → Heart → Type 0
+BeatsAfterKnowing old e new = (i : Image) (w : World) (knows : List ℕ) → IsLegalMount i w → IsHeart i (log_of w) old
+    → slice_index knows 0 ≡ length (log_of w 0)
+    → IsLegalMount i (decided e knows w) → IsHeart i (log_of (decided e knows w)) new
+
+-- The same, where the event notes what a unit answered, by the number of the unit's event, as the
+-- logs allow it.
+abbrev pub BeatsAfterAnswer : Heart → (ℕ → EngineEvent) → (Image → Logs → ℕ → Type 0) → Heart → Type 0
+BeatsAfterAnswer old answer May new = (i : Image) (w : World) (event : ℕ) (knows : List ℕ) → IsLegalMount i w → IsHeart i (log_of w) old
+    → May i (log_of w) event → IsLegalMount i (decided (answer event) knows w) → IsHeart i (log_of (decided (answer event) knows w)) new
+
+-- The heart stands for the logs of some legal mount, and they allow it to note an answer.
+pub record CanNote (h : Heart) (May : Image → Logs → ℕ → Type 0) : Type 0 where
+  pub image : Image
+  pub world : World
+  pub legal : IsLegalMount image world
+  pub stands : IsHeart image (log_of world) h
+  pub event : ℕ
+  pub may : May image (log_of world) event
+
+-- The frames of all entries that can be read on the drive are given back, from the window of a core
+-- to the pool.
+pub record GivesFrames (old new : Core) (before after : PoolView) : Type 0 where
+  -- the core stands for the logs for which it stood, and collects what it collected
+  pub stands : InItsMount old (λ i w. Stands i (log_of w) new)
+  pub collects : CollectsStill old new
+  -- its window begins at the front freed, where nothing can be read, and all else is as it was
+  pub drained : InItsMount old (λ i w. new.window.freed ≡ freed i.shape (log_of w 0))
+  pub unread : window.is_readable_at new.window new.window.freed ≡ false
+  pub rest : new ≡ record old { window = new.window }
+  -- the frames of the window are of the pool, which is of the same frames as before
+  pub own : window.AreOf after.region new.window.entries
+  pub region : after.region ≡ before.region
+  -- and each frame that left the window is in the pool
+  pub out : count_out before.left + length new.window.entries ≡ count_out after.left + length old.window.entries
+
+-- What a heart is once its frames and its grant are renewed.
+pub record IsRenewed (old new : Heart) : Type 0 where
+  pub frames : GivesFrames old.core new.core old.pool new.pool
+  -- no grant is taken back, and what there is room for is granted
+  pub granted : InItsMount old.core (λ i w. new.granted ≡ max old.granted (room i (log_of w)))
+
+-- The pool has lent a frame for an entry: the frame is of the pool, and isn't left there.
+pub record HasLent (pool : PoolView) (frame : FrameView) : Type 0 where
+  pub own : frame.region ≡ pool.region
+  pub out : slice_get pool.left frame.number ≡ Some false
+
+-- the heart once the frame is back in its pool
+abbrev pub regained : Heart → FrameView → Heart
+regained h frame = record h { pool = record h.pool { left = slice_set h.pool.left frame.number true } }
 
 -- An entry, by how a core has its source, and the mark with which it is written, by its sector's
 -- slot: that of its sector where it becomes the latest there, and else Void.

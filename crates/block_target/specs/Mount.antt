@@ -17,21 +17,22 @@ use Rattle.pblk_world.specs.Fronts.{taken, synced, user_takes, history}
 use Rattle.pblk_world.specs.Lines.{found_image}
 use Rattle.pblk_world.specs.Space.{freed, is_due, room}
 use Rattle.pblk_world.specs.AtRest.{IsAtRest, IsCopyDue, IsUnnotedReset, logs_at}
-use Rattle.world_laws.specs.Reasons.{AreBegun, AreUrgent}
-use Rattle.world_laws.specs.LegalMounts.{IsLegalMount}
+use Rattle.pblk_world.specs.Reasons.{AreBegun, AreUrgent}
+use Rattle.pblk_world.specs.LegalMounts.{IsLegalMount}
 use Rattle.core_laws.specs.WindowOf.{users_below}
 use Rattle.step_laws.specs.Whole.{IsLevel, IsKnown}
+use Rattle.scan_recovery.specs.DriveFaults.{GrewBy}
 use Rattle.scan_recovery.specs.Units.{image_of}
 use Rattle.pblk_core.specs.Copies.{is_copying}
 use Rattle.pblk_core.specs.Filling.{Filling}
-use Rattle.pblk_core.specs.Landing.{IsResting}
+use Rattle.pblk_core.specs.Landing.{NoneUnderWay}
 use Rattle.pblk_core.specs.Named.{pad_of, work_of}
 use Rattle.pblk_core.specs.declared.work.Work.{Work}
 use Rattle.block_target.specs.Arm.{IsArm}
 use Rattle.step_laws.specs.SlotBlocks.{IsBlockOfSlot}
 use Rattle.block_target.specs.Deeds.{Deed, Decides, drive_before, drive_found, world_of}
 use Rattle.block_target.specs.Heart.{IsHeart, user_entry}
-use Rattle.world_laws.specs.Orders.{AreInOrder, NoneToFree}
+use Rattle.pblk_world.specs.Orders.{AreInOrder, NoneToFree}
 use Rattle.block_target.specs.declared.heart.Heart.{Heart}
 
 pub record MountView : Type 0 where
@@ -131,15 +132,10 @@ pub record IsMount (v : MountView) (h : Heart) (filling : Filling) : Type 0 wher
   pub level : IsLevel (world_in v)
   pub noted : AreResetsNoted (logs_in v)
   pub known : IsKnown v.image (world_in v)
-  pub resting : IsResting h.core
+  pub resting : NoneUnderWay h.core
   pub idle : is_copying h.core ≡ false
   pub settled : NoneToFree v.image (logs_in v)
   pub stripe : filling.shape ≡ v.image.shape
-
--- It has a buffer for a sector.
-pub record IsKept (v : MountView) (h : Heart) (filling : Filling) (buffer : List ℕ) : Type 0 where
-  pub mount : IsMount v h filling
-  pub buffer_size : length buffer ≡ v.image.shape.sector
 
 -- What calls leave.
 
@@ -150,7 +146,7 @@ HaveGrown old new = (number : ℕ) (v : ModelUnit) → slice_get new number ≡ 
 
 -- No more of a user was taken; copies may have been. What was done stays done, what was on the
 -- drive is still there, no chunk's wear level index has changed, and no grant is taken back. No
--- less is asked for.
+-- less is asked for. Worker 0 made all commands since.
 pub record IsSameMount (old new : MountView) : Type 0 where
   pub image : new.image ≡ old.image
   pub handed : new.handed ≡ old.handed
@@ -159,6 +155,7 @@ pub record IsSameMount (old new : MountView) : Type 0 where
   pub wear : new.wear ≡ old.wear
   pub more : List Deed
   pub deeds : new.deeds ≡ old.deeds ++ more
+  pub grew : GrewBy 0 (world_in old) (world_in new)
   pub users : user_takes (engine_log new) ≡ user_takes (engine_log old)
   pub taken : taken_in old ≤ taken_in new
   pub synced : synced_in old ≤ synced_in new
@@ -222,7 +219,7 @@ IsRingFull v = freed v.image.shape (engine_log v) + v.image.shape.ring ≤ taken
 
 -- It is at rest where as much is asked for as is here, or less, and there is no room that isn't
 -- granted.
-pub record IsSpent (v : MountView) : Type 0 where
+pub record IsMountAtRest (v : MountView) : Type 0 where
   pub at_rest : (asked : ℕ) → asked ≤ v.asked
       → IsAtRest v.image (logs_in v) asked (length (engine_log v))
   pub no_room : room v.image (logs_at (length (engine_log v)) (logs_in v)) ≤ v.granted
@@ -236,7 +233,7 @@ IsCollectionOver v = (is_due v.image (logs_in v) ≡ false)
 
 -- a front that isn't reached, at rest
 pub record IsStuckAt (v : MountView) (wanted have : ℕ) : Type 0 where
-  pub spent : IsSpent v
+  pub spent : IsMountAtRest v
   pub short : have < wanted
 
 -- a block that a sector's slot names, with what stands there

@@ -1,23 +1,24 @@
 -- How a mount is opened on the units of a drive: what these do before it begins, and what is then
 -- found.
 use Rattle.std.specs.Prelude.{ℕ, ◌≡◌, List, [], ◌∷◌, slice_get, Some}
+use Rattle.pblk_model.specs.Accepted.{IsAccepted}
 use Rattle.pblk_model.specs.declared.shape.Shape.{Shape}
 use Rattle.pblk_model.specs.declared.found.Found.{Found}
 use Rattle.pblk_world.specs.Events.{Begin}
 use Rattle.pblk_world.specs.Space.{room}
 use Rattle.pblk_world.specs.World.{World, log_of}
-use Rattle.world_laws.specs.LegalMounts.{IsLegalMount}
+use Rattle.pblk_world.specs.LegalMounts.{IsLegalMount}
 use Rattle.unit_port.specs.Unit.{ModelUnit}
-use Rattle.scan_recovery.specs.Units.{image_of}
+use Rattle.scan_recovery.specs.Units.{AreFit, image_of}
 use Rattle.world_laws.specs.MountBeginnings.{beginning_of}
-use Rattle.world_laws.specs.Orders.{NoneToFree}
-use Rattle.scan_recovery.specs.Readying.{IsFoundAfter}
+use Rattle.pblk_world.specs.Orders.{NoneToFree}
+use Rattle.scan_recovery.specs.Readying.{AreHandedBack, IsFoundAfter}
 use Rattle.scan_recovery.specs.declared.error.ScanErr.{ScanErr}
 use Rattle.scan_recovery.specs.declared.error.ScanErr.TheVariants as scan
-use Rattle.step_laws.specs.Opened.{new_events}
+use Rattle.step_laws.specs.Opened.{AreArmed, new_events}
 use Rattle.block_target.specs.Arm.{IsArm}
 use Rattle.block_target.specs.Deeds.{Deed, Readies, Decides, world_of}
-use Rattle.scan_recovery.specs.Lost.{IsLostAt, NoneLost}
+use Rattle.scan_recovery.specs.DriveFaults.{IsDriveFaultAt, NoDriveFaults}
 use Rattle.block_target.specs.Freed.{freed_deeds}
 use Rattle.block_target.specs.Mount.{MountView, logs_in}
 use Rattle.block_target.specs.declared.opening.OpenErr.{OpenErr}
@@ -28,7 +29,7 @@ use Rattle.block_target.specs.declared.readying.Ready.{Ready}
 abbrev pub first_deeds : List ModelUnit → List ModelUnit → Found → List Deed
 first_deeds old new found = Readies (new_events old new) ∷ Decides (Begin (beginning_of found)) ∷ []
 
-pub record IsReady (s : Shape) (old new : List ModelUnit) (ready : Ready) : Type 0 where
+pub record IsMadeReady (s : Shape) (old new : List ModelUnit) (ready : Ready) : Type 0 where
   pub found : IsFoundAfter s old new ready.found
   pub drives : ready.drives ≡ old ∷ new ∷ []
   pub deeds : ready.deeds ≡ first_deeds old new ready.found
@@ -55,8 +56,27 @@ open_error scan.Memory = Memory
 -- Why no target was opened: the last event of this unit was a stopped command, or a fetch that
 -- failed. Where there wasn't the memory, no command was stopped and no fetch failed.
 abbrev pub OpenCause : OpenErr → List ModelUnit → List ModelUnit → Type 0
-OpenCause (Drive unit event) old new = IsLostAt old new unit event
-OpenCause Memory old new = NoneLost old new
+OpenCause (Drive unit event) old new = IsDriveFaultAt old new unit event
+OpenCause Memory old new = NoDriveFaults old new
+
+-- What opening a target on the units of a drive asks for.
+pub record CanOpen (s : Shape) (us : List ModelUnit) : Type 0 where
+  -- the drive's shape is accepted
+  pub accepted : IsAccepted s
+  -- there are as many units as it has, and each is a unit of it
+  pub fit : AreFit s us
+  -- each unit is armed with nothing, or was armed no later than now
+  pub armed : AreArmed us
+
+-- What an opening that is refused leaves, by the units and their wear before and then, and by why it
+-- was refused.
+pub record IsRefusedOpening (s : Shape) (old : List ModelUnit) (was : List (List ℕ)) (new : List ModelUnit) (now : List (List ℕ)) (why : OpenErr) : Type 0 where
+  -- the units are handed back: what a sealed drive held it holds still
+  pub handed_back : AreHandedBack s old new
+  -- no chunk's wear level index has changed
+  pub wear : now ≡ was
+  -- a command was stopped or a fetch failed, which the error names; or there wasn't the memory
+  pub cause : OpenCause why old new
 
 -- the world of what units did before a mount began
 abbrev pub readied_world : Shape → List ModelUnit → List ModelUnit → World

@@ -6,7 +6,7 @@ use Rattle.pblk_world.specs.World.{Logs}
 use Rattle.pblk_world.specs.Fronts.{taken, user_takes}
 use Rattle.pblk_world.specs.AtRest.{IsWornFlush, IsWornWrite}
 use Rattle.block_port.specs.declared.rows.WornAnswer.{WornAnswer}
-use Rattle.world_laws.specs.Reasons.{WasRoom}
+use Rattle.pblk_world.specs.Reasons.{WasRoom}
 
 -- A refusal of a write of so many sectors there: there is no room for them. What there is was
 -- granted, so it is no more than the room was once. What is wanted is room for the sectors behind

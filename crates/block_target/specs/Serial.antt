@@ -1,5 +1,5 @@
 -- A port for one session: what contracts see of it, and the device that it is.
-use Rattle.std.specs.Prelude.{ℕ, ◌+◌, ◌-◌, ◌^◌, ◌<◌, ◌≤◌, ◌≡◌, ⊤, true, List, [], ◌∷◌, ◌++◌, max, min, map, length, slice_get, Some, Result, Ok, Err}
+use Rattle.std.specs.Prelude.{ℕ, ◌+◌, ◌-◌, ◌^◌, ◌<◌, ◌≤◌, ◌≡◌, ◌≢◌, ⊤, true, List, [], ◌∷◌, ◌++◌, max, min, map, length, slice_get, Some, Result, Ok, Err}
 use Rattle.std.specs.List.{flat_map}
 use Rattle.pblk_model.specs.declared.run.Front.{Front}
 use Rattle.pblk_model.specs.declared.run.Place.{Place}
@@ -7,6 +7,7 @@ use Rattle.pblk_model.specs.Contents.{contents, end}
 use Rattle.pblk_model.specs.Sealed.{IsSealed}
 use Rattle.pblk_world.specs.Fronts.{user_takes}
 use Rattle.pblk_world.specs.AtRest.{IsWornFlush}
+use Rattle.pblk_world.specs.Makers.{opening_worker}
 use Rattle.pblk_world.specs.World.{media}
 use Rattle.block_port.specs.Own.{PlacedSector, OwnWrite, lines_of}
 use Rattle.block_port.specs.Port.{ModelPort}
@@ -20,10 +21,11 @@ use Rattle.block_port.specs.declared.rows.DriveAnswer.{DriveAnswer}
 use Rattle.block_port.specs.declared.rows.WornAnswer.{WornAnswer}
 use Rattle.pblk_model.specs.UnitLog.{UnitEvent}
 use Rattle.unit_port.specs.Unit.{ModelUnit}
-use Rattle.block_target.specs.Mount.{MountView, IsSound, IsSameMount, IsCollectionOver, logs_in, engine_log, taken_in, synced_in}
-use Rattle.world_laws.specs.Reasons.{WasRoom, AreBegun, AreGranted, AreUrgent}
-use Rattle.scan_recovery.specs.Lost.{IsLostAt, NoneLost, was_lost}
-use Rattle.world_laws.specs.Orders.{AreAfterResets, AreOpenedFull, NoneToFree, NoneWasLeft}
+use Rattle.block_target.specs.Mount.{MountView, IsSound, IsSameMount, IsCollectionOver, logs_in, engine_log, taken_in, synced_in, world_in}
+use Rattle.pblk_world.specs.Reasons.{WasRoom, AreBegun, AreGranted, AreUrgent}
+use Rattle.scan_recovery.specs.DriveFaults.{IsDriveFaultAt, NoDriveFaults, drive_faults_of, is_drive_fault}
+use Rattle.scan_recovery.specs.Units.{log_length}
+use Rattle.pblk_world.specs.Orders.{AreAfterResets, AreOpenedFull, NoneToFree, NoneWasLeft}
 use Rattle.pblk_world.specs.Space.{position_limit}
 use Rattle.prefix_law.specs.PlacedAgain.{ArePlacedAgain}
 use Rattle.rest_laws.specs.Tidy.{IsTidy}
@@ -71,7 +73,7 @@ pub record IsNamed (v : MountView) (a : DriveAnswer) (index : ℕ) : Type 0 wher
   pub there : slice_get v.units a.unit ≡ Some unit
   pub event : UnitEvent
   pub at : slice_get unit.log index ≡ Some event
-  pub lost : was_lost event ≡ true
+  pub lost : is_drive_fault event ≡ true
   pub number : a.event ≡ min (index + 1) (2 ^ 64 - 1)
   pub handed : ModelUnit
   pub was : slice_get v.handed a.unit ≡ Some handed
@@ -86,21 +88,31 @@ pub record AreNamed (v : MountView) (faults : List DriveAnswer) : Type 0 where
   pub apart : (j k at later : ℕ) (a b : DriveAnswer) → j < k → slice_get faults j ≡ Some a → slice_get faults k ≡ Some b
       → slice_get indices j ≡ Some at → slice_get indices k ≡ Some later → a.unit ≡ b.unit → at < later
 
--- The last event of this unit was lost, in a call that began after the answers that the port keeps.
-pub record IsLostSince (s : SerialView) (unit event : ℕ) : Type 0 where
-  pub before : MountView
-  pub sound : IsSound before
-  pub named : AreNamed before s.faults
-  pub same : IsSameMount before s.mount
-  pub lost : IsLostAt before.units s.mount.units unit event
+-- the answer that names an event: its place is its unit, and how many events that unit had since it
+-- was handed in
+abbrev pub answer_at : List ModelUnit → ℕ × ℕ → DriveAnswer
+answer_at handed place = record {
+  unit = place.0;
+  event = min (log_length handed place.0 + place.1 + 1) (2 ^ 64 - 1);
+}
+
+-- Each command that was lost has its answer: these name all that worker 0 lost, in the order of the
+-- world's steps. The opening lost none, nor did any other worker.
+pub record AreAllAnswered (v : MountView) (faults : List DriveAnswer) : Type 0 where
+  pub session : faults ≡ map (answer_at v.handed) (drive_faults_of 0 (world_in v))
+  pub opening : drive_faults_of opening_worker (world_in v) ≡ []
+  pub others : (worker : ℕ) → 0 < worker → worker ≢ opening_worker
+      → drive_faults_of worker (world_in v) ≡ []
 
 -- What was done is sound. The history is made of the session's own writes, each of which was
--- granted before. Each Drive names an event of its own, and each Worn had its cause.
+-- granted before. Each Drive names an event of its own, in their order, and none is left out. Each
+-- Worn had its cause.
 pub record IsSerial (s : SerialView) : Type 0 where
   pub sound : IsSound s.mount
   pub alone : lines_in s.mount ≡ flat_map lines_of s.own
   pub small : s.seen < 2 ^ 63
   pub faults : AreNamed s.mount s.faults
+  pub answered : AreAllAnswered s.mount s.faults
   pub worns : AreRefusals s.mount.image (logs_in s.mount) 0 s.worns
   pub granted : AreGranted s.mount.image (logs_in s.mount)
 
@@ -110,28 +122,29 @@ IsGrantedPlace v place =
     WasRoom v.image (logs_in v) (length (engine_log v) - place.count) (place.first + place.count)
 
 -- Why a call answers Drive: a command of it was stopped, or a fetch of it failed, and that is its
--- unit's last event. And only then: where it answers anything else none of its commands was
--- stopped, and none of its fetches failed. A program or a reset that failed is no cause.
+-- unit's last event. The call had no other such command. And only then: where it answers anything
+-- else none of its commands was stopped, and none of its fetches failed. A program or a reset that
+-- failed is no cause.
 
 -- Why a write of so many sectors answers Worn, and why a flush does: at the end of the engine's
 -- log, as the call leaves it, the target is at rest. What a write is told that there is was
 -- granted.
 abbrev pub WriteCause : MountView → MountView → ℕ → Result Place WriteErr → Type 0
-WriteCause old v count (Ok place) = NoneLost old.units v.units
-WriteCause old v count (Err write.Range) = NoneLost old.units v.units
-WriteCause old v count (Err (write.Drive unit event)) = IsLostAt old.units v.units unit event
-WriteCause old v count (Err (write.Worn wanted have)) = NoneLost old.units v.units × (have ≡ v.granted)
+WriteCause old v count (Ok place) = NoDriveFaults old.units v.units
+WriteCause old v count (Err write.Range) = NoDriveFaults old.units v.units
+WriteCause old v count (Err (write.Drive unit event)) = IsDriveFaultAt old.units v.units unit event
+WriteCause old v count (Err (write.Worn wanted have)) = NoDriveFaults old.units v.units × (have ≡ v.granted)
     × IsWriteRefusal v.image (logs_in v) (length (engine_log v)) count wanted have
 
 abbrev pub ReadCause : MountView → MountView → Result Front ReadErr → Type 0
-ReadCause old v (Ok front) = NoneLost old.units v.units
-ReadCause old v (Err read.Range) = NoneLost old.units v.units
-ReadCause old v (Err (read.Drive unit event)) = IsLostAt old.units v.units unit event
+ReadCause old v (Ok front) = NoDriveFaults old.units v.units
+ReadCause old v (Err read.Range) = NoDriveFaults old.units v.units
+ReadCause old v (Err (read.Drive unit event)) = IsDriveFaultAt old.units v.units unit event
 
 abbrev pub FlushCause : MountView → MountView → Result Front FlushErr → Type 0
-FlushCause old v (Ok front) = NoneLost old.units v.units
-FlushCause old v (Err (flush.Drive unit event)) = IsLostAt old.units v.units unit event
-FlushCause old v (Err (flush.Worn wanted have)) = NoneLost old.units v.units
+FlushCause old v (Ok front) = NoDriveFaults old.units v.units
+FlushCause old v (Err (flush.Drive unit event)) = IsDriveFaultAt old.units v.units unit event
+FlushCause old v (Err (flush.Worn wanted have)) = NoDriveFaults old.units v.units
     × IsWornFlush v.image (logs_in v) (length (engine_log v)) wanted have
 
 -- Up to where a flush asks for pads: at most to what was taken before it. Where it answers Worn it
@@ -150,10 +163,10 @@ SettleAsks before wanted asked (Err (settle.Worn upto have)) = asked ≡ max bef
 -- All that was taken is on the drive, and collection isn't due or the target is at rest; or not all
 -- is there, where it is at rest; or a command was stopped, or a fetch failed.
 abbrev pub Settles : MountView → Result Unit SettleErr → MountView → Type 0
-Settles old (Ok x) v = NoneLost old.units v.units × (synced_in v ≡ taken_in v) × IsCollectionOver v
-Settles old (Err (settle.Worn wanted have)) v = NoneLost old.units v.units × (wanted ≡ taken_in v)
+Settles old (Ok x) v = NoDriveFaults old.units v.units × (synced_in v ≡ taken_in v) × IsCollectionOver v
+Settles old (Err (settle.Worn wanted have)) v = NoDriveFaults old.units v.units × (wanted ≡ taken_in v)
     × (have ≡ synced_in v) × IsWornFlush v.image (logs_in v) (length (engine_log v)) wanted have
-Settles old (Err (settle.Drive unit event)) v = IsLostAt old.units v.units unit event
+Settles old (Err (settle.Drive unit event)) v = IsDriveFaultAt old.units v.units unit event
 
 -- Where what is found ends at the front synced: all that was taken is on the drive; or not all is,
 -- and of what waits nothing had been placed before.
@@ -191,6 +204,8 @@ pub record IsClosed (target : SerialView) (settled : Result Unit SettleErr) (v :
   pub none_to_free : NoneToFree v.image (logs_in v)
   -- each Drive names an event of its own, this call's the last of them
   pub faults : AreNamed v (target.faults ++ settle_faults settled)
+  -- and each command that was lost has its answer
+  pub answered : AreAllAnswered v (target.faults ++ settle_faults settled)
   -- each Worn had its cause, this call's the last of them
   pub refusals : AreRefusals v.image (logs_in v) 0
       (target.worns ++ settle_worns (length (flat_map lines_of target.own)) settled)

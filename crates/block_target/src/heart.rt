@@ -1,50 +1,48 @@
 //! What decides for a target: its core, its frames and what is granted.
 
-ghost use Rattle.std.specs.Prelude.{ℕ, List, ◌≡◌, ◌≤◌, ◌<◌, ◌+◌, ◌*◌, ◌^◌, ◌↔◌, true, false, length, max, slice_index, IfOk, IfSome, IfNone, IsTrue, OnSome};
+ghost use Rattle.std.specs.Prelude.{ℕ, ◌≡◌, ◌≤◌, ◌<◌, ◌^◌, ◌↔◌, true, false, length, slice_index, IfOk, IfSome, IfNone, IsNone, OnSome};
 ghost use Rattle.std.specs.FinMap as fin;
 ghost use Rattle.pblk_model.specs.Frames.{count_out};
 ghost use Rattle.pblk_model.specs.Accepted.{IsAccepted};
 ghost use Rattle.pblk_model.specs.Found.{IsFitFound};
-ghost use Rattle.pblk_model.specs.Image.{Image};
 ghost use Rattle.pblk_model.specs.Marks.{sector_mark};
 ghost use Rattle.pblk_world.specs.AtRest.{IsDue};
-ghost use Rattle.pblk_world.specs.Answering.{MayLand, MayLose, MayOfferAgain};
+ghost use Rattle.pblk_world.specs.Answering.{MayLand, MayOfferAgain};
 ghost use Rattle.pblk_world.specs.EngineLog.{Begun, begun};
 ghost use Rattle.pblk_world.specs.Events.{Again, Free, Landed, Lost, Open, Place, ResetDone, Take};
 ghost use Rattle.pblk_world.specs.Freeing.{MayFree};
 ghost use Rattle.pblk_world.specs.Opening.{MayOpen};
 ghost use Rattle.pblk_world.specs.Placing.{MayPlace};
-ghost use Rattle.pblk_world.specs.Space.{freed, room};
+ghost use Rattle.pblk_world.specs.Space.{room};
 ghost use Rattle.pblk_world.specs.Taking.{MayTake};
-ghost use Rattle.pblk_world.specs.World.{World, Logs, log_of};
-ghost use Rattle.world_laws.specs.LegalMounts.{IsLegalMount};
-ghost use Rattle.world_laws.specs.Reasons.{WasAsked};
-ghost use Rattle.world_laws.specs.Orders.{NoneToFree};
-ghost use Rattle.core_laws.specs.Stepping.{after};
+ghost use Rattle.pblk_world.specs.World.{log_of};
+ghost use Rattle.pblk_world.specs.Reasons.{WasAsked};
+ghost use Rattle.pblk_world.specs.Orders.{NoneToFree};
 ghost use Rattle.sector_pool.specs.declared.entry.Class.TheVariants as classes;
 ghost use Rattle.write_window.specs.Window as window;
-ghost use Rattle.pblk_core.specs.Collecting.{Collects, IsReady};
+ghost use Rattle.pblk_core.specs.Keeping.{KeepsStripes, KeepsOtherStripes, KeepsStripesTaking};
+ghost use Rattle.pblk_core.specs.Collecting.{IsCopyReady};
 ghost use Rattle.pblk_core.specs.Copies.{is_copying};
-ghost use Rattle.pblk_core.specs.Losing.{HasItsEntries};
-ghost use Rattle.pblk_core.specs.Landing.{AreKeptBeside, IsResting, IsIdleOn, IsOfferedOn, IsUnderWayOn, WasStopped};
-ghost use Rattle.pblk_core.specs.Mounts.{InItsMount};
-ghost use Rattle.pblk_core.specs.Named.{named, next_start, pad_of};
+ghost use Rattle.pblk_core.specs.Losing.{HasItsEntries, IsLossOf};
+ghost use Rattle.pblk_core.specs.Landing.{NoneUnderWay, IsIdleOn, IsOfferedOn, IsUnderWayOn, WasStopped};
+ghost use Rattle.pblk_core.specs.Named.{named, next_start, pad_of, padded};
 ghost use Rattle.pblk_core.specs.Resets.{IsResetTo};
-ghost use Rattle.pblk_core.specs.Stands.{Stands, IsStanding};
+ghost use Rattle.pblk_core.specs.Stands.{IsStanding};
 ghost use Rattle.pblk_core.specs.Taken.{HasItsSector};
 ghost use Rattle.pblk_core.specs.declared.work.Work.TheVariants as works;
 ghost use Rattle.pblk_core.specs.Freeing.{closed_count};
-ghost use Rattle.block_target.specs.Heart.{IsHeart, IsBeating, IsOfClass, OfItsMount, BeatsAfter, CanBegin, HasBegun, copy_entry, decided, taken_entry, taken_mark, user_entry};
+ghost use Rattle.block_target.specs.Heart.{BeatsAfterAnswer, BeatsAfterKnowing, CanNote, IsHeart, IsBeating, IsOfClass, OfItsMount, BeatsAfter, CanBegin, GivesFrames, HasBegun, HasLent, IsRenewed, copy_entry, regained, taken_entry, taken_mark, user_entry};
 
 use pblk_core::{CopyJob, Core, Stripe};
 use pblk_model::{ChunkState, Found, Shape};
-use sector_pool::{Class, Entry, Pool, Source};
+use sector_pool::{Class, Entry, Frame, Pool, Source};
 use std::alloc::{AllocError, Global};
 
 /// What decides for a target: the core, the pool of frames, and the position below which users may
-/// claim. Each of its steps is one event of the engine, and leaves it standing for the engine's log
-/// with that event behind. What its clauses say of a mount they say of each legal one for which it
-/// stands, so nothing is asked of what units did that the engine wasn't told.
+/// claim. Its tables agree with the log of a mount. Most steps are one event of the engine: after
+/// such a step the tables agree with the log that has this event at its end. After the others they
+/// agree with the same log. A step's clauses hold for each legal mount with whose log the tables
+/// agreed before, whatever its units did that the engine wasn't told.
 pub(crate) struct Heart {
     pub(crate) core: Core,
     pub(crate) pool: Pool,
@@ -55,24 +53,18 @@ pub(crate) struct Heart {
 // log as before, and its window then begins at the front freed.
 fn free_frames(core: &mut Core, pool: &mut Pool)
     requires { window.AreOf pool.old.region core.old.window.entries }
-    ensures stands { (i : Image) (w : World) → IsLegalMount i w → Stands i (log_of w) core.old
-        → Stands i (log_of w) core.new }
-    ensures collects { (i : Image) (logs : Logs)
-        → Collects i logs core.old → Collects i logs core.new }
-    ensures drained { (i : Image) (w : World) → IsLegalMount i w → Stands i (log_of w) core.old
-        → core.new.window.freed ≡ freed i.shape (log_of w 0) }
-    ensures unread { window.is_readable_at core.new.window core.new.window.freed ≡ false }
-    ensures own { window.AreOf pool.new.region core.new.window.entries }
-    ensures out { count_out pool.old.left + length core.new.window.entries
-        ≡ count_out pool.new.left + length core.old.window.entries }
-    ensures region { pool.new.region ≡ pool.old.region }
-    ensures copying { is_copying core.new ≡ is_copying core.old }
-    ensures pad { pad_of core.new ≡ pad_of core.old }
-    ensures rows { core.new.placer.units ≡ core.old.placer.units }
+    ensures { GivesFrames core.old core.new pool.old pool.new }
 {
     while let Some(frame) = core.pop_free() {
         pool.give(frame);
     }
+}
+
+// Each byte of a slice is below 256.
+fn are_bytes(bytes: &[u8])
+    ensures { (k : ℕ) → slice_index bytes.now k < 256 }
+{
+    let _ = bytes;
 }
 
 impl Heart {
@@ -85,7 +77,7 @@ impl Heart {
         requires can { CanBegin shape.now found }
         ensures begun { IfOk result (HasBegun shape.now found) }
         ensures idle { IfOk result (λ heart. is_copying heart.core ≡ false) }
-        ensures resting { IfOk result (λ heart. IsResting heart.core) }
+        ensures resting { IfOk result (λ heart. NoneUnderWay heart.core) }
     {
         let pool = Pool::new(alloc, shape.ring, shape.sector)?;
         match Core::new(alloc, shape, found) {
@@ -109,20 +101,7 @@ impl Heart {
     fn renew(&mut self)
         requires standing { IsStanding self.old.core }
         requires own { window.AreOf self.old.pool.region self.old.core.window.entries }
-        ensures stands { InItsMount self.old.core (λ i w. Stands i (log_of w) self.new.core) }
-        ensures collects { (i : Image) (logs : Logs)
-            → Collects i logs self.old.core → Collects i logs self.new.core }
-        ensures drained { InItsMount self.old.core (λ i w.
-            self.new.core.window.freed ≡ freed i.shape (log_of w 0)) }
-        ensures granted { InItsMount self.old.core (λ i w.
-            self.new.granted ≡ max self.old.granted (room i (log_of w))) }
-        ensures own { window.AreOf self.new.pool.region self.new.core.window.entries }
-        ensures out { count_out self.old.pool.left + length self.new.core.window.entries
-            ≡ count_out self.new.pool.left + length self.old.core.window.entries }
-        ensures region { self.new.pool.region ≡ self.old.pool.region }
-        ensures copying { is_copying self.new.core ≡ is_copying self.old.core }
-        ensures pad { pad_of self.new.core ≡ pad_of self.old.core }
-        ensures rows { self.new.core.placer.units ≡ self.old.core.placer.units }
+        ensures { IsRenewed self.old self.new }
     {
         free_frames(&mut self.core, &mut self.pool);
         self.granted = self.granted.max(self.core.grant());
@@ -132,14 +111,12 @@ impl Heart {
     pub(crate) fn open_line(&mut self)
         requires beating { IsBeating self.old }
         requires named { named self.old.core ≡ works.Open }
-        ensures legal { (i : Image) (w : World) (b : Begun) → IsLegalMount i w
-            → IsHeart i (log_of w) self.old → begun (log_of w 0) ≡ Some b
-            → MayOpen i (log_of w) b (next_start self.old.core).line (next_start self.old.core) }
+        ensures legal { OfItsMount self.old (λ i w. (b : Begun)
+            → begun (log_of w 0) ≡ Some b
+            → MayOpen i (log_of w) b (next_start self.old.core).line (next_start self.old.core)) }
         ensures beats { let start = next_start self.old.core
             in BeatsAfter self.old (Open start.line start) self.new }
-        ensures rows { self.new.core.placer.units ≡ self.old.core.placer.units }
-        ensures copying { is_copying self.new.core ≡ is_copying self.old.core }
-        ensures pad { pad_of self.old.core ≤ pad_of self.new.core }
+        ensures kept { KeepsStripes self.old.core self.new.core }
         ensures granted { self.old.granted ≤ self.new.granted }
     {
         self.core.open_line();
@@ -153,16 +130,10 @@ impl Heart {
         ensures may { IfSome result (λ line.
             OfItsMount self.old (λ i w. MayFree i (log_of w) line)) }
         ensures none { IfNone result (OfItsMount self.old (λ i w. NoneToFree i (log_of w))) }
-        ensures beats { IfSome result (λ line. (i : Image) (w : World) (knows : List ℕ)
-            → IsLegalMount i w → IsHeart i (log_of w) self.old
-            → slice_index knows 0 ≡ length (log_of w 0)
-            → IsLegalMount i (decided (Free line) knows w)
-            → IsHeart i (log_of (decided (Free line) knows w)) self.new) }
+        ensures beats { IfSome result (λ line. BeatsAfterKnowing self.old (Free line) self.new) }
         ensures unchanged { IfNone result (self.new ≡ self.old) }
         ensures fewer { OnSome result (closed_count self.new.core < closed_count self.old.core) }
-        ensures rows { self.new.core.placer.units ≡ self.old.core.placer.units }
-        ensures copying { is_copying self.new.core ≡ is_copying self.old.core }
-        ensures pad { pad_of self.old.core ≤ pad_of self.new.core }
+        ensures kept { KeepsStripes self.old.core self.new.core }
         ensures granted { self.new.granted ≡ self.old.granted }
     {
         self.core.free_line()
@@ -184,11 +155,9 @@ impl Heart {
             WasStopped (log_of w 0) into.new.stripe × IsHeart i (log_of w) self.new) }
         ensures under_way { IsUnderWayOn self.new.core into.new.stripe.unit }
         ensures entries { HasItsEntries self.new.core into.new.stripe }
-        ensures rows { AreKeptBeside into.new.stripe.unit self.old.core self.new.core }
-        ensures copying { is_copying self.new.core ≡ is_copying self.old.core }
-        ensures pad { pad_of self.old.core ≤ pad_of self.new.core }
-        ensures granted { self.old.granted ≤ self.new.granted }
         ensures shape { into.new.shape ≡ into.old.shape }
+        ensures kept { KeepsOtherStripes into.new.stripe.unit self.old.core self.new.core }
+        ensures granted { self.old.granted ≤ self.new.granted }
     {
         self.core.place(into);
         self.renew();
@@ -198,16 +167,11 @@ impl Heart {
     /// before.
     pub(crate) fn landed(&mut self, stripe: &Stripe)
         requires under_way { IsUnderWayOn self.old.core stripe.now.stripe.unit }
-        requires may { (i : Image) × (w : World) × IsLegalMount i w × IsHeart i (log_of w) self.old
-            × (event : ℕ) × MayLand (log_of w) stripe.now.stripe.unit event }
-        ensures beats { (i : Image) (w : World) (event : ℕ) (knows : List ℕ) → IsLegalMount i w
-            → IsHeart i (log_of w) self.old → MayLand (log_of w) stripe.now.stripe.unit event
-            → IsLegalMount i (decided (Landed stripe.now.stripe.unit event) knows w)
-            → IsHeart i (log_of (decided (Landed stripe.now.stripe.unit event) knows w)) self.new }
+        requires may { CanNote self.old (λ i logs. MayLand logs stripe.now.stripe.unit) }
+        ensures beats { BeatsAfterAnswer self.old (Landed stripe.now.stripe.unit)
+            (λ i logs. MayLand logs stripe.now.stripe.unit) self.new }
         ensures idle { IsIdleOn self.new.core stripe.now.stripe.unit }
-        ensures rows { AreKeptBeside stripe.now.stripe.unit self.old.core self.new.core }
-        ensures copying { is_copying self.new.core ≡ is_copying self.old.core }
-        ensures pad { pad_of self.old.core ≤ pad_of self.new.core }
+        ensures kept { KeepsOtherStripes stripe.now.stripe.unit self.old.core self.new.core }
         ensures granted { self.old.granted ≤ self.new.granted }
     {
         self.core.landed(stripe);
@@ -219,19 +183,12 @@ impl Heart {
     pub(crate) fn lost(&mut self, stripe: &Stripe, kept: u32)
         requires under_way { IsUnderWayOn self.old.core stripe.now.stripe.unit }
         requires entries { HasItsEntries self.old.core stripe.now.stripe }
-        requires may { (i : Image) × (w : World) × IsLegalMount i w × IsHeart i (log_of w) self.old
-            × (event : ℕ) × (may : MayLose (log_of w) stripe.now.stripe.unit event)
-            × (kept ≡ may.landed_before * i.shape.ws_min) }
-        ensures beats { (i : Image) (w : World) (event : ℕ) (knows : List ℕ) → IsLegalMount i w
-            → IsHeart i (log_of w) self.old
-            → (may : MayLose (log_of w) stripe.now.stripe.unit event)
-            → kept ≡ may.landed_before * i.shape.ws_min
-            → IsLegalMount i (decided (Lost stripe.now.stripe.unit event) knows w)
-            → IsHeart i (log_of (decided (Lost stripe.now.stripe.unit event) knows w)) self.new }
+        requires may { CanNote self.old
+            (λ i logs event. IsLossOf i logs stripe.now.stripe.unit event kept) }
+        ensures beats { BeatsAfterAnswer self.old (Lost stripe.now.stripe.unit)
+            (λ i logs event. IsLossOf i logs stripe.now.stripe.unit event kept) self.new }
         ensures idle { IsIdleOn self.new.core stripe.now.stripe.unit }
-        ensures rows { AreKeptBeside stripe.now.stripe.unit self.old.core self.new.core }
-        ensures copying { is_copying self.new.core ≡ is_copying self.old.core }
-        ensures pad { pad_of self.old.core ≤ pad_of self.new.core }
+        ensures kept { KeepsOtherStripes stripe.now.stripe.unit self.old.core self.new.core }
         ensures granted { self.old.granted ≤ self.new.granted }
     {
         self.core.lost(stripe, kept);
@@ -243,14 +200,10 @@ impl Heart {
     pub(crate) fn stopped(&mut self, stripe: &Stripe)
         requires beating { IsBeating self.old }
         requires under_way { IsUnderWayOn self.old.core stripe.now.stripe.unit }
-        ensures beats { (i : Image) (w : World) (event : ℕ) (knows : List ℕ) → IsLegalMount i w
-            → IsHeart i (log_of w) self.old → MayOfferAgain (log_of w) stripe.now.stripe.unit event
-            → IsLegalMount i (decided (Again stripe.now.stripe.unit event) knows w)
-            → IsHeart i (log_of (decided (Again stripe.now.stripe.unit event) knows w)) self.new }
+        ensures beats { BeatsAfterAnswer self.old (Again stripe.now.stripe.unit)
+            (λ i logs. MayOfferAgain logs stripe.now.stripe.unit) self.new }
         ensures offered { IsOfferedOn self.new.core stripe.now.stripe.unit }
-        ensures rows { AreKeptBeside stripe.now.stripe.unit self.old.core self.new.core }
-        ensures copying { is_copying self.new.core ≡ is_copying self.old.core }
-        ensures pad { pad_of self.old.core ≤ pad_of self.new.core }
+        ensures kept { KeepsOtherStripes stripe.now.stripe.unit self.old.core self.new.core }
         ensures granted { self.new.granted ≡ self.old.granted }
     {
         self.core.stopped(stripe);
@@ -260,15 +213,10 @@ impl Heart {
     /// state.
     pub(crate) fn reset_done(&mut self, line: u32, unit: u32, state: ChunkState)
         requires named { named self.old.core ≡ works.Reset line unit }
-        requires may { (i : Image) × (w : World) × IsLegalMount i w × IsHeart i (log_of w) self.old
-            × (event : ℕ) × IsResetTo i (log_of w) unit event line state }
-        ensures beats { (i : Image) (w : World) (event : ℕ) (knows : List ℕ) → IsLegalMount i w
-            → IsHeart i (log_of w) self.old → IsResetTo i (log_of w) unit event line state
-            → IsLegalMount i (decided (ResetDone unit event) knows w)
-            → IsHeart i (log_of (decided (ResetDone unit event) knows w)) self.new }
-        ensures rows { self.new.core.placer.units ≡ self.old.core.placer.units }
-        ensures copying { is_copying self.new.core ≡ is_copying self.old.core }
-        ensures pad { pad_of self.old.core ≤ pad_of self.new.core }
+        requires may { CanNote self.old (λ i logs event. IsResetTo i logs unit event line state) }
+        ensures beats { BeatsAfterAnswer self.old (ResetDone unit)
+            (λ i logs event. IsResetTo i logs unit event line state) self.new }
+        ensures kept { KeepsStripes self.old.core self.new.core }
         ensures granted { self.old.granted ≤ self.new.granted }
     {
         self.core.reset_done(line, unit, state);
@@ -288,39 +236,54 @@ impl Heart {
         ensures beats { let position = window.taken self.old.core.window in
             BeatsAfter self.old
             (Take (user_entry position lba sector.now) (sector_mark lba position)) self.new }
-        ensures rows { self.new.core.placer.units ≡ self.old.core.placer.units }
-        ensures copying { is_copying self.new.core ≡ is_copying self.old.core }
-        ensures pad { pad_of self.old.core ≤ pad_of self.new.core }
+        ensures kept { KeepsStripesTaking classes.User self.old.core self.new.core }
         ensures granted { self.new.granted ≡ self.old.granted }
     {
-        self.take_entry(Class::User, lba, None, sector);
+        let mut frame = match self.lend_frame() {
+            Some(frame) => frame,
+            None => unreachable!(),
+        };
+        frame.fill(sector);
+        self.take_entry(Class::User, lba, None, frame);
     }
 
-    /// Whether a frame is left.
-    pub(crate) fn has_frame(&self) -> bool
-        requires beating { IsBeating self.now }
-        ensures { IsTrue result
-            ↔ (length self.now.core.window.entries < self.now.core.window.size) }
-    {
-        0 < self.pool.left()
-    }
-
-    /// Takes a copy of the sector that the core names, at the next position. It has the sector of
-    /// the block that the core names.
-    pub(crate) fn take_copy(&mut self, job: &CopyJob, sector: &[u8])
+    /// Lends a frame of the pool, for the sector of an entry. None exactly where the ring is full;
+    /// then nothing has changed.
+    pub(crate) fn lend_frame(&mut self) -> Option<Frame>
         requires beating { IsBeating self.old }
-        requires ready { IsReady self.old.core job.now }
-        requires size { length sector.now ≡ self.old.pool.region.size }
-        requires room { length self.old.core.window.entries < self.old.core.window.size }
+        ensures full { IsNone result
+            ↔ (self.old.core.window.size ≤ length self.old.core.window.entries) }
+        ensures unchanged { IfNone result (self.new ≡ self.old) }
+        ensures lent { IfSome result (HasLent self.new.pool) }
+        ensures back { IfSome result (λ frame. regained self.new frame ≡ self.old) }
+    {
+        // the frames that are out are as many as the entries
+        self.pool.left();
+        self.pool.take()
+    }
+
+    /// Takes back a frame that it lent, as if it had never lent it.
+    pub(crate) fn regain_frame(&mut self, frame: Frame)
+        requires own { frame.region ≡ self.old.pool.region }
+        ensures { self.new ≡ regained self.old frame }
+    {
+        self.pool.give(frame);
+    }
+
+    /// Takes a copy of the sector that the core names, at the next position. Its frame was lent for
+    /// it, and has the sector of the block that the core names.
+    pub(crate) fn take_copy(&mut self, job: &CopyJob, frame: Frame)
+        requires lent { HasLent self.old.pool frame }
+        requires beating { IsBeating (regained self.old frame) }
+        requires ready { IsCopyReady self.old.core job.now }
         ensures legal { let entry = copy_entry (window.taken self.old.core.window) job.now
-            sector.now in OfItsMount self.old (λ i w. HasItsSector i (log_of w) entry entry.source
+            frame.bytes in OfItsMount (regained self.old frame) (λ i w.
+            HasItsSector i (log_of w) entry entry.source
             → MayTake i (log_of w) entry (sector_mark entry.lba entry.position)) }
         ensures beats { let entry = copy_entry (window.taken self.old.core.window) job.now
-            sector.now in BeatsAfter self.old (Take entry (sector_mark entry.lba entry.position))
-            self.new }
-        ensures rows { self.new.core.placer.units ≡ self.old.core.placer.units }
-        ensures idle { is_copying self.new.core ≡ false }
-        ensures pad { pad_of self.old.core ≤ pad_of self.new.core }
+            frame.bytes in BeatsAfter (regained self.old frame)
+            (Take entry (sector_mark entry.lba entry.position)) self.new }
+        ensures kept { KeepsStripesTaking classes.Copy self.old.core self.new.core }
         ensures granted { self.new.granted ≡ self.old.granted }
     {
         self.core.copy_claimed(job);
@@ -329,40 +292,34 @@ impl Heart {
             at: job.at,
             position: job.position,
         };
-        self.take_entry(Class::Copy, job.lba, Some(source), sector);
+        self.take_entry(Class::Copy, job.lba, Some(source), frame);
     }
 
-    // Takes an entry at the next position. Its sector is copied to a frame of the pool. A user's
-    // entry has no source, and a copy names one that isn't in the buffer.
-    fn take_entry(&mut self, class: Class, lba: u64, source: Option<Source>, sector: &[u8])
-        requires beating { IsBeating self.old }
+    // Takes an entry at the next position, whose sector is in a frame that was lent for it. A
+    // user's entry has no source, and a copy names one that isn't in the buffer.
+    fn take_entry(&mut self, class: Class, lba: u64, source: Option<Source>, frame: Frame)
+        requires lent { HasLent self.old.pool frame }
+        requires beating { IsBeating (regained self.old frame) }
         requires class { IsOfClass (fin.get self.old.core.map lba) class source }
         requires lba { lba < self.old.core.layout.capacity }
-        requires size { length sector.now ≡ self.old.pool.region.size }
-        requires room { length self.old.core.window.entries < self.old.core.window.size }
         requires position { window.taken self.old.core.window < 2 ^ 62 }
         ensures legal { let position = window.taken self.old.core.window in
-            let entry = taken_entry position lba source sector.now in
+            let entry = taken_entry position lba source frame.bytes in
             let mark = taken_mark position lba (fin.get self.old.core.map lba) source in
-            OfItsMount self.old (λ i w. HasItsSector i (log_of w) entry entry.source
-            → MayTake i (log_of w) entry mark) }
+            OfItsMount (regained self.old frame) (λ i w.
+            HasItsSector i (log_of w) entry entry.source → MayTake i (log_of w) entry mark) }
         ensures beats { let position = window.taken self.old.core.window in
-            BeatsAfter self.old (Take (taken_entry position lba source sector.now)
+            BeatsAfter (regained self.old frame)
+            (Take (taken_entry position lba source frame.bytes)
             (taken_mark position lba (fin.get self.old.core.map lba) source)) self.new }
-        ensures rows { self.new.core.placer.units ≡ self.old.core.placer.units }
-        ensures idle { class ≡ classes.Copy → is_copying self.new.core ≡ false }
-        ensures copying { class ≡ classes.User
-            → is_copying self.new.core ≡ is_copying self.old.core }
-        ensures pad { pad_of self.old.core ≤ pad_of self.new.core }
+        ensures kept { KeepsStripesTaking class self.old.core self.new.core }
         ensures granted { self.new.granted ≡ self.old.granted }
     {
-        // a frame is left, since those that are out are fewer than the ring has
+        // there is room for it, since the frames that are out are one more than the entries, and at
+        // most as many as the ring has
         self.pool.left();
-        let mut frame = match self.pool.take() {
-            Some(frame) => frame,
-            None => unreachable!(),
-        };
-        frame.fill(sector);
+        // and its bytes are a sector
+        are_bytes(frame.bytes());
         self.core.take(Entry {
             position: self.core.front().position,
             class,
@@ -376,10 +333,7 @@ impl Heart {
     pub(crate) fn ask_pad(&mut self, to: u64)
         ensures beats { OfItsMount self.old (λ i w.
             WasAsked i (log_of w) (length (log_of w 0)) to → IsHeart i (log_of w) self.new) }
-        ensures rows { self.new.core.placer.units ≡ self.old.core.placer.units }
-        ensures copying { is_copying self.new.core ≡ is_copying self.old.core }
-        ensures pad { pad_of self.new.core ≡ max (pad_of self.old.core) to }
-        ensures granted { self.new.granted ≡ self.old.granted }
+        ensures raised { self.new ≡ record self.old { core = padded self.old.core to } }
     {
         self.core.ask_pad(to);
     }

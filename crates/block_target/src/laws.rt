@@ -2,7 +2,6 @@
 
 ghost use Rattle.std.specs.Prelude.{ℕ, ◌≡◌, ◌+◌, ◌<◌, ◌≤◌, List, take, Some};
 ghost use Rattle.pblk_model.specs.declared.shape.Shape.{Shape};
-ghost use Rattle.pblk_model.specs.Accepted.{IsAccepted};
 ghost use Rattle.pblk_model.specs.Contents.{end};
 ghost use Rattle.pblk_model.specs.Image.{Image};
 ghost use Rattle.pblk_model.specs.Sealed.{IsSealed};
@@ -11,13 +10,11 @@ ghost use Rattle.pblk_world.specs.EngineLog.{Begun, begun};
 ghost use Rattle.pblk_world.specs.Fronts.{taken};
 ghost use Rattle.pblk_world.specs.Space.{room};
 ghost use Rattle.pblk_world.specs.World.{World, Logs, log_of, media};
-ghost use Rattle.world_laws.specs.LegalMounts.{IsLegalMount};
+ghost use Rattle.pblk_world.specs.LegalMounts.{IsLegalMount};
 ghost use Rattle.block_target.specs.Moments.{IsMoment};
 ghost use Rattle.block_target.specs.Refusals.{IsWriteRefusal};
-ghost use Rattle.block_target.specs.Opened.{AreReadied};
+ghost use Rattle.block_target.specs.Opened.{AreReadied, CanOpen};
 ghost use Rattle.scan_recovery.specs.Readying.{AreHandedBack};
-ghost use Rattle.scan_recovery.specs.Units.{AreFit};
-ghost use Rattle.step_laws.specs.Opened.{AreArmed};
 ghost use Rattle.unit_port.specs.Unit.{ModelUnit};
 ghost use Rattle.prefix_law.specs.PlacedAgain.{ArePlacedAgain};
 
@@ -46,6 +43,6 @@ pub fn a_refused_flush_tells_the_end()
 /// What units did that an opening hands back is of a legal world: a legal mount in which the
 /// engine did nothing. The units are as it leaves them.
 pub fn a_refused_opening_is_of_a_legal_world()
-    ensures { (s : Shape) (us new : List ModelUnit) → IsAccepted s → AreFit s us → AreArmed us
-        → AreHandedBack s us new → AreReadied s us new }
+    ensures { (s : Shape) (us new : List ModelUnit) → CanOpen s us → AreHandedBack s us new
+        → AreReadied s us new }
 {}

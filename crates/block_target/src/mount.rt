@@ -6,19 +6,16 @@ ghost use Rattle.pblk_model.specs.Contents.{end};
 ghost use Rattle.pblk_model.specs.Image.{Image};
 ghost use Rattle.pblk_model.specs.Sealed.{IsSealed};
 ghost use Rattle.pblk_world.specs.World.{World, media};
-ghost use Rattle.world_laws.specs.Orders.{NoneToFree};
+ghost use Rattle.pblk_world.specs.Orders.{NoneToFree};
 ghost use Rattle.pblk_core.specs.Resets.{IsToReset};
 ghost use Rattle.pblk_core.specs.declared.work.Work.TheVariants as works;
-ghost use Rattle.scan_recovery.specs.Units.{AreFit};
-ghost use Rattle.scan_recovery.specs.Readying.{AreHandedBack};
-ghost use Rattle.step_laws.specs.Opened.{AreArmed};
-ghost use Rattle.scan_recovery.specs.Lost.{IsLostAt, NoneLost};
+ghost use Rattle.scan_recovery.specs.DriveFaults.{IsDriveFaultAt, NoDriveFaults};
 ghost use Rattle.unit_port.specs.Unit.{ModelUnit};
 ghost use Rattle.block_target.specs.Fetched.{IsReadableThere, WasFetched};
 ghost use Rattle.block_target.specs.Freed.{HaveFreed};
 ghost use Rattle.block_target.specs.Heart.{IsBeating};
-ghost use Rattle.block_target.specs.Mount.{IsSound, IsSameMount, IsSpent, IsRingFull, IsFetchable, HasAsked, engine_log, logs_in, with_asked, with_entry, with_pad, work_in, taken_in, synced_in, front_taken, latest};
-ghost use Rattle.block_target.specs.Opened.{IsOpened, OpenCause};
+ghost use Rattle.block_target.specs.Mount.{IsSound, IsSameMount, IsMountAtRest, IsRingFull, IsFetchable, HasAsked, engine_log, logs_in, with_asked, with_entry, with_pad, work_in, taken_in, synced_in, front_taken, latest};
+ghost use Rattle.block_target.specs.Opened.{CanOpen, IsOpened, IsRefusedOpening};
 
 use crate::arm;
 use crate::deeds::{
@@ -31,7 +28,7 @@ use crate::readying::{Ready, cause_of, ready_drive};
 use l2p_map::Slot;
 use pblk_core::{Stripe, Work};
 use pblk_model::{Front, Got, Shape};
-use std::alloc::{AllocError, Global};
+use std::alloc::Global;
 use std::marker::Model;
 use unit_port::{Log, Unit, UnitErr};
 
@@ -44,8 +41,6 @@ pub(crate) struct Mount<U: Unit> {
     pub(crate) heart: Heart,
     units: Vec<U>,
     stripe: Stripe,
-    // the sector that is copied
-    sector: Vec<u8>,
     // up to which position flushes asked for pads
     asked: u64,
     // the units as they were handed in, and as the mount found them
@@ -56,16 +51,16 @@ pub(crate) struct Mount<U: Unit> {
 impl<U: Unit> Model for Mount<U> {
     ghost use Rattle.std.specs.Prelude.{map};
     ghost use Rattle.pblk_core.specs.Named.{pad_of};
-    ghost use Rattle.block_target.specs.Mount.{MountView, IsKept, mount_view};
+    ghost use Rattle.block_target.specs.Mount.{MountView, IsMount, mount_view};
 
     ghost Value = { MountView };
 
     ghost view = { λ m. mount_view m.shape m.drives m.deeds (map U.model m.units.items)
         (map U.wear m.units.items) m.heart.granted (pad_of m.heart.core) m.asked };
 
-    ghost invariant = { λ m. IsKept (mount_view m.shape m.drives m.deeds
+    ghost invariant = { λ m. IsMount (mount_view m.shape m.drives m.deeds
         (map U.model m.units.items) (map U.wear m.units.items) m.heart.granted
-        (pad_of m.heart.core) m.asked) m.heart m.stripe m.sector.items };
+        (pad_of m.heart.core) m.asked) m.heart m.stripe };
 }
 
 // Frees all lines that may be freed, one after another, and notes that.
@@ -76,24 +71,6 @@ fn free_lines(heart: &mut Heart, deeds: &mut Log<Deed>)
     while let Some(line) = heart.free_line() {
         deeds.add(&Frees { line });
     }
-}
-
-// What a mount fills again and again.
-#[derive(Drop)]
-struct Buffers {
-    stripe: Stripe,
-    sector: Vec<u8>,
-}
-
-fn make_buffers(alloc: Global, shape: &Shape) -> Result<Buffers, AllocError>
-    requires { IsAccepted shape.now }
-    ensures stripe { IfOk result (λ b. b.stripe.shape ≡ shape.now) }
-    ensures sector { IfOk result (λ b. length b.sector.items ≡ shape.now.sector) }
-{
-    Ok(Buffers {
-        stripe: Stripe::new(alloc, shape)?,
-        sector: vec![in alloc; 0u8; shape.sector as usize]?,
-    })
 }
 
 // Has a unit fetch a block, which it can read, and notes that. `Err` names the fetch, which failed
@@ -150,19 +127,14 @@ impl<U: Unit> Mount<U> {
         mut units: Vec<U>,
         shape: &Shape,
     ) -> Result<Mount<U>, Refused<U>>
-        requires accepted { IsAccepted shape.now }
-        requires fit { AreFit shape.now (map U.model units.items) }
-        requires armed { AreArmed (map U.model units.items) }
+        requires opens { CanOpen shape.now (map U.model units.items) }
         ensures opened { IfOk result (IsOpened shape.now (map U.model units.items)) }
         ensures sound { IfOk result IsSound }
-        ensures done { IfOk result (λ m. NoneLost (map U.model units.items) m.units) }
+        ensures done { IfOk result (λ m. NoDriveFaults (map U.model units.items) m.units) }
         ensures wear { IfOk result (λ m. m.wear ≡ map U.wear units.items) }
         ensures refused { IfErr result (λ r.
-            AreHandedBack shape.now (map U.model units.items) (map U.model r.units.items)) }
-        ensures refused_wear { IfErr result (λ r.
-            map U.wear r.units.items ≡ map U.wear units.items) }
-        ensures cause { IfErr result (λ r.
-            OpenCause r.cause (map U.model units.items) (map U.model r.units.items)) }
+            IsRefusedOpening shape.now (map U.model units.items) (map U.wear units.items)
+            (map U.model r.units.items) (map U.wear r.units.items) r.cause) }
     {
         let Ready {
             drives,
@@ -177,7 +149,7 @@ impl<U: Unit> Mount<U> {
                 });
             }
         };
-        let Ok(Buffers { stripe, sector }) = make_buffers(alloc, shape) else {
+        let Ok(stripe) = Stripe::new(alloc, shape) else {
             return Err(Refused {
                 units,
                 cause: OpenErr::Memory,
@@ -195,7 +167,6 @@ impl<U: Unit> Mount<U> {
                     heart,
                     units,
                     stripe,
-                    sector,
                     asked: 0,
                     drives,
                     deeds,
@@ -243,11 +214,13 @@ impl<U: Unit> Mount<U> {
     pub(crate) fn pump(&mut self) -> Result<bool, DriveErr>
         ensures same { IsSameMount self.old self.new }
         ensures asked { self.new.asked ≡ self.old.asked }
-        ensures done { IsOk result → NoneLost self.old.units self.new.units }
-        ensures lost { IfErr result (λ e. IsLostAt self.old.units self.new.units e.unit e.event) }
+        ensures done { IsOk result → NoDriveFaults self.old.units self.new.units }
+        ensures lost { IfErr result (λ e.
+            IsDriveFaultAt self.old.units self.new.units e.unit e.event) }
         ensures more { IfOk result (λ did. did ≡ true
             → (length (engine_log self.old) < length (engine_log self.new)) ⊎ IsRingFull self.old) }
-        ensures rest { IfOk result (λ did. did ≡ false → (self.new ≡ self.old) × IsSpent self.old) }
+        ensures rest { IfOk result (λ did. did ≡ false
+            → (self.new ≡ self.old) × IsMountAtRest self.old) }
     {
         match self.heart.core.next_work() {
             Work::Reset { line, unit } => self.reset(line, unit)?,
@@ -266,8 +239,9 @@ impl<U: Unit> Mount<U> {
         requires given_up { IsToReset self.old.image (logs_in self.old) line unit }
         ensures same { IsSameMount self.old self.new }
         ensures asked { self.new.asked ≡ self.old.asked }
-        ensures done { IsOk result → NoneLost self.old.units self.new.units }
-        ensures lost { IfErr result (λ e. IsLostAt self.old.units self.new.units e.unit e.event) }
+        ensures done { IsOk result → NoDriveFaults self.old.units self.new.units }
+        ensures lost { IfErr result (λ e.
+            IsDriveFaultAt self.old.units self.new.units e.unit e.event) }
         ensures more { IsOk result
             → length (engine_log self.old) < length (engine_log self.new) }
     {
@@ -316,8 +290,9 @@ impl<U: Unit> Mount<U> {
         requires { work_in self.old ≡ works.Program }
         ensures same { IsSameMount self.old self.new }
         ensures asked { self.new.asked ≡ self.old.asked }
-        ensures done { IsOk result → NoneLost self.old.units self.new.units }
-        ensures lost { IfErr result (λ e. IsLostAt self.old.units self.new.units e.unit e.event) }
+        ensures done { IsOk result → NoDriveFaults self.old.units self.new.units }
+        ensures lost { IfErr result (λ e.
+            IsDriveFaultAt self.old.units self.new.units e.unit e.event) }
         ensures more { length (engine_log self.old) < length (engine_log self.new) }
     {
         self.heart.place(&mut self.stripe);
@@ -357,15 +332,16 @@ impl<U: Unit> Mount<U> {
         }
     }
 
-    // Copies the sector that the core names: its block is fetched, and the sector is taken at the
-    // next position. Where no frame is left for it nothing is done. A copy makes no line one that
-    // may be freed.
+    // Copies the sector that the core names: its block is fetched into a frame, and the copy is
+    // taken at the next position. Where no frame is left for it nothing is done. A copy makes no
+    // line one that may be freed.
     fn copy(&mut self) -> Result<(), DriveErr>
         requires named { work_in self.old ≡ works.Copy }
         ensures same { IsSameMount self.old self.new }
         ensures asked { self.new.asked ≡ self.old.asked }
-        ensures done { IsOk result → NoneLost self.old.units self.new.units }
-        ensures lost { IfErr result (λ e. IsLostAt self.old.units self.new.units e.unit e.event) }
+        ensures done { IsOk result → NoDriveFaults self.old.units self.new.units }
+        ensures lost { IfErr result (λ e.
+            IsDriveFaultAt self.old.units self.new.units e.unit e.event) }
         ensures more { IsOk result
             → (length (engine_log self.old) < length (engine_log self.new)) ⊎ IsRingFull self.old }
     {
@@ -373,26 +349,35 @@ impl<U: Unit> Mount<U> {
             Some(job) => job,
             None => unreachable!(),
         };
-        if !self.heart.has_frame() {
-            return Ok(());
-        }
         let (unit, block) = self.heart.core.address(job.line, job.at);
-        let sector = self.sector.as_mut_slice();
-        fetch_block(
+        let mut frame = match self.heart.lend_frame() {
+            Some(frame) => frame,
+            None => return Ok(()),
+        };
+        let sector = frame.bytes_mut();
+        let fetched = fetch_block(
             &mut self.units,
             &mut self.deeds,
             unit,
             job.line,
             block,
             sector,
-        )?;
-        self.deeds.add(&Copies {
-            position: self.heart.core.front().position,
-            job,
-            sector: &self.sector,
-        });
-        self.heart.take_copy(&job, &self.sector);
-        Ok(())
+        );
+        match fetched {
+            Ok(()) => {
+                self.deeds.add(&Copies {
+                    position: self.heart.core.front().position,
+                    job,
+                    sector: frame.bytes(),
+                });
+                self.heart.take_copy(&job, frame);
+                Ok(())
+            }
+            Err(e) => {
+                self.heart.regain_frame(frame);
+                Err(e)
+            }
+        }
     }
 
     /// Asks for pads up to a position below which all was taken, unless a sector is to be copied
@@ -434,8 +419,9 @@ impl<U: Unit> Mount<U> {
         ensures asked { self.new.asked ≡ self.old.asked }
         ensures sound { IsSound self.new }
         ensures size { length out.new ≡ length out.old }
-        ensures done { IsOk result → NoneLost self.old.units self.new.units }
-        ensures lost { IfErr result (λ e. IsLostAt self.old.units self.new.units e.unit e.event) }
+        ensures done { IsOk result → NoDriveFaults self.old.units self.new.units }
+        ensures lost { IfErr result (λ e.
+            IsDriveFaultAt self.old.units self.new.units e.unit e.event) }
         ensures latest { IsOk result → slice_get (latest self.old) lba ≡ Some out.new }
     {
         match self.heart.core.look(lba) {
@@ -460,8 +446,9 @@ impl<U: Unit> Mount<U> {
         ensures asked { self.new.asked ≡ self.old.asked }
         ensures sound { IsSound self.new }
         ensures size { length out.new ≡ length out.old }
-        ensures done { IsOk result → NoneLost self.old.units self.new.units }
-        ensures lost { IfErr result (λ e. IsLostAt self.old.units self.new.units e.unit e.event) }
+        ensures done { IsOk result → NoDriveFaults self.old.units self.new.units }
+        ensures lost { IfErr result (λ e.
+            IsDriveFaultAt self.old.units self.new.units e.unit e.event) }
         ensures sector { IsOk result → (b : Block) → IsFetchable self.old unit chunk block b
             → out.new ≡ b.sector }
     {
@@ -478,7 +465,6 @@ impl<U: Unit> Mount<U> {
             heart,
             units,
             stripe: _,
-            sector: _,
             asked: _,
             drives: _,
             deeds: _,

@@ -1,7 +1,7 @@
 //! Why a target isn't opened, or isn't settled as it closes.
 
 ghost use Rattle.std.specs.Prelude.{◌≡◌};
-ghost use Rattle.block_target.specs.declared.opening.WaitErr.TheVariants.{Drive};
+ghost use Rattle.block_target.specs.declared.opening.SettleErr.TheVariants.{Drive};
 
 use thiserror::Error;
 
@@ -25,26 +25,6 @@ pub(crate) struct DriveErr {
     pub(crate) event: u64,
 }
 
-/// Why a mount doesn't come to what it works for.
-#[derive(Clone, Copy, Debug, PartialEq, Eq)]
-pub(crate) enum WaitErr {
-    /// This event of this unit, made in this call, was a stopped command or a fetch that failed.
-    Drive { unit: u32, event: u64 },
-    /// All below `wanted` is waited for, there is what is below `have`, and the mount is at rest.
-    Stuck { wanted: u64, have: u64 },
-}
-
-impl From<DriveErr> for WaitErr {
-    ghost from_gives = { λ e w. w ≡ Drive e.unit e.event };
-
-    fn from(e: DriveErr) -> Self {
-        WaitErr::Drive {
-            unit: e.unit,
-            event: e.event,
-        }
-    }
-}
-
 /// A target that wasn't opened: its units, and why. A drive that was sealed holds what it held
 /// before.
 pub struct Refused<U> {
@@ -54,15 +34,27 @@ pub struct Refused<U> {
     pub cause: OpenErr,
 }
 
-/// Why not all that was written is on the drive as a target closes.
+/// Why a target doesn't come to what it works for: as it closes, why not all that was written is on
+/// the drive.
 #[derive(Clone, Copy, Debug, PartialEq, Eq, Error)]
 pub enum SettleErr {
     /// This event of this unit, made in this call, was a stopped command or a fetch that failed.
     /// Units are numbered from 0, and the events of a unit's log from 1.
     #[error("event {event} of unit {unit} failed or was stopped")]
     Drive { unit: u32, event: u64 },
-    /// All positions below `wanted` were asked for, those below `have` are on the drive, and the
-    /// target is at rest.
+    /// All positions below `wanted` were asked for, and the target is at rest. Those below `have`
+    /// are on the drive, or are granted where room was asked for.
     #[error("{wanted} is wanted, and there is {have}")]
     Worn { wanted: u64, have: u64 },
+}
+
+impl From<DriveErr> for SettleErr {
+    ghost from_gives = { λ e w. w ≡ Drive e.unit e.event };
+
+    fn from(e: DriveErr) -> Self {
+        SettleErr::Drive {
+            unit: e.unit,
+            event: e.event,
+        }
+    }
 }

@@ -2,12 +2,9 @@
 //! is scanned.
 
 ghost use Rattle.std.specs.Prelude.{◌≡◌, [], map, IfOk, IfErr, IsOk, OnErr};
-ghost use Rattle.pblk_model.specs.Accepted.{IsAccepted};
-ghost use Rattle.scan_recovery.specs.Units.{AreFit};
 ghost use Rattle.scan_recovery.specs.Readying.{AreHandedBack};
-ghost use Rattle.step_laws.specs.Opened.{AreArmed};
-ghost use Rattle.scan_recovery.specs.Lost.{NoneLost};
-ghost use Rattle.block_target.specs.Opened.{IsReady, OpenCause, open_error};
+ghost use Rattle.scan_recovery.specs.DriveFaults.{NoDriveFaults};
+ghost use Rattle.block_target.specs.Opened.{CanOpen, IsMadeReady, OpenCause, open_error};
 
 use crate::deeds::{Begins, Deed, DriveRow, Readies, Stand};
 use crate::opening::OpenErr;
@@ -48,14 +45,12 @@ pub(crate) fn ready_drive<U: Unit>(
     units: &mut [U],
     shape: &Shape,
 ) -> Result<Ready, ScanErr>
-    requires accepted { IsAccepted shape.now }
-    requires fit { AreFit shape.now (map U.model units.old) }
-    requires armed { AreArmed (map U.model units.old) }
+    requires opens { CanOpen shape.now (map U.model units.old) }
     ensures ready { IfOk result
-        (IsReady shape.now (map U.model units.old) (map U.model units.new)) }
+        (IsMadeReady shape.now (map U.model units.old) (map U.model units.new)) }
     ensures handed_back { OnErr result
         (AreHandedBack shape.now (map U.model units.old) (map U.model units.new)) }
-    ensures done { IsOk result → NoneLost (map U.model units.old) (map U.model units.new) }
+    ensures done { IsOk result → NoDriveFaults (map U.model units.old) (map U.model units.new) }
     ensures cause { IfErr result (λ e.
         OpenCause (open_error e) (map U.model units.old) (map U.model units.new)) }
     ensures wear { map U.wear units.new ≡ map U.wear units.old }

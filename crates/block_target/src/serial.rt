@@ -1,21 +1,17 @@
 //! A target for one session.
 ghost use Rattle.std.specs.Prelude.{OnErr, IsErrOf, ◌≡◌, ◌<◌, ◌≤◌, [], ◌∷◌, ◌++◌, map, length, slice_range, ◌↔◌, IsTrue, IfOk, IfErr, IsOk, ◌+◌, ◌*◌, ◌^◌};
 ghost use Rattle.std.specs.List.{flat_map};
-ghost use Rattle.pblk_model.specs.Accepted.{IsAccepted};
 ghost use Rattle.block_port.specs.Own.{lines_of, sectors_of};
 ghost use Rattle.block_port.specs.Port.{AreSectors, IsPastEnd, IsSameTarget, Learns, IsWritten, IsSeen, AreShort, count_in, sectors_at, written_by};
 ghost use Rattle.block_port.specs.Port.{write_faults, write_worns, read_faults, flush_faults, flush_worns};
-ghost use Rattle.scan_recovery.specs.Units.{AreFit};
 ghost use Rattle.block_target.specs.Refusals.{IsRefusal};
-ghost use Rattle.step_laws.specs.Opened.{AreArmed};
-ghost use Rattle.scan_recovery.specs.Lost.{IsLostAt, NoneLost};
-ghost use Rattle.scan_recovery.specs.Readying.{AreHandedBack};
-ghost use Rattle.block_target.specs.Opened.{IsOpened, OpenCause};
+ghost use Rattle.scan_recovery.specs.DriveFaults.{IsDriveFaultAt, NoDriveFaults};
+ghost use Rattle.block_target.specs.Opened.{CanOpen, IsOpened, IsRefusedOpening};
 ghost use Rattle.block_target.specs.Mount.{MountView, IsSameMount, IsSound, engine_log, front_taken, latest, logs_in, taken_in, with_entries, with_pad};
-ghost use Rattle.block_target.specs.Serial.{SerialView, IsClosed, IsLostSince, WriteCause, ReadCause, FlushAsks, FlushCause, IsGrantedPlace, device, lines_in};
+ghost use Rattle.block_target.specs.Serial.{SerialView, IsClosed, WriteCause, ReadCause, FlushAsks, FlushCause, IsGrantedPlace, device, lines_in};
 
 use crate::mount::Mount;
-use crate::opening::{DriveErr, OpenErr, Refused, SettleErr, WaitErr};
+use crate::opening::{DriveErr, OpenErr, Refused, SettleErr};
 use block_port::{
     DriveAnswer, FlushErr, Front, Note, OwnWrite, Place, Port, ReadErr, WornAnswer, WriteErr,
     Written,
@@ -32,7 +28,8 @@ use unit_port::{Log, Unit};
 /// Each call leaves no line that may be freed.
 ///
 /// A command that was stopped, or a fetch that failed, is told by the call that made it, and the
-/// session goes on. The stripe of a stopped program is programmed before all others. A program or a
+/// session goes on. So the calls that answered `Drive` name all of these, in the order in which
+/// they were made. The stripe of a stopped program is programmed before all others. A program or a
 /// reset that failed is no error of any call: the entries of a stripe that failed are placed again.
 ///
 /// Contracts see what was done, in order, as the steps of a legal world. They see what the session
@@ -87,20 +84,15 @@ impl<U: Unit> Serial<U> {
     /// error. `Memory` comes where there isn't the memory. After an error the units are handed
     /// back. What a sealed drive held it holds still, whatever is answered.
     pub fn open(alloc: Global, units: Vec<U>, shape: &Shape) -> Result<Serial<U>, Refused<U>>
-        requires accepted { IsAccepted shape.now }
-        requires fit { AreFit shape.now (map U.model units.items) }
-        requires armed { AreArmed (map U.model units.items) }
+        requires opens { CanOpen shape.now (map U.model units.items) }
         ensures opened { IfOk result (λ s. IsOpened shape.now (map U.model units.items) s.mount) }
-        ensures done { IfOk result (λ s. NoneLost (map U.model units.items) s.mount.units) }
+        ensures done { IfOk result (λ s. NoDriveFaults (map U.model units.items) s.mount.units) }
         ensures wear { IfOk result (λ s. s.mount.wear ≡ map U.wear units.items) }
         ensures new_port { IfOk result (λ s.
             (s.seen ≡ 0) × (s.own ≡ []) × (s.faults ≡ []) × (s.worns ≡ [])) }
         ensures refused { IfErr result (λ r.
-            AreHandedBack shape.now (map U.model units.items) (map U.model r.units.items)) }
-        ensures refused_wear { IfErr result (λ r.
-            map U.wear r.units.items ≡ map U.wear units.items) }
-        ensures cause { IfErr result (λ r.
-            OpenCause r.cause (map U.model units.items) (map U.model r.units.items)) }
+            IsRefusedOpening shape.now (map U.model units.items) (map U.wear units.items)
+            (map U.model r.units.items) (map U.wear r.units.items) r.cause) }
     {
         let Ok(Lists { own, faults, worns }) = make_lists(alloc) else {
             return Err(Refused {
@@ -141,19 +133,16 @@ impl<U: Unit> Serial<U> {
     /// `Drive` comes where a command of this call was stopped, or a fetch failed, and names it.
     /// `Worn` comes where not all of it is there and the target is at rest: there is no work left
     /// that it could do, and nothing is unanswered. `wanted` is then the front taken, and `have` is
-    /// the front synced. Each call that answered `Drive` names an event of its own. Each that
-    /// answered `Worn` had its cause at a length of the engine's log, and these lengths never fall
-    /// from one call to the next.
+    /// the front synced. Each call that answered `Drive` names an event of its own, in the order of
+    /// the commands, and no command that was lost is left out. Each that answered `Worn` had its
+    /// cause at a length of the engine's log, and these lengths never fall from one call to the
+    /// next.
     pub fn close<R: Wait>(mut self, rt: &R) -> (Vec<U>, Result<(), SettleErr>)
         ensures closed { (v : MountView) × IsClosed self result.1 v
             × (map U.model result.0.items ≡ v.units) × (map U.wear result.0.items ≡ v.wear) }
         ensures alone { lines_in self.mount ≡ flat_map lines_of self.own }
     {
-        let settled = match self.mount.settle(rt) {
-            Ok(()) => Ok(()),
-            Err(WaitErr::Drive { unit, event }) => Err(SettleErr::Drive { unit, event }),
-            Err(WaitErr::Stuck { wanted, have }) => Err(SettleErr::Worn { wanted, have }),
-        };
+        let settled = self.mount.settle(rt);
         self.mount.ends_between();
         self.mount.is_settled();
         let Serial {
@@ -190,16 +179,6 @@ impl<U: Unit> Serial<U> {
         }
     }
 
-    // Notes a call that answers Drive.
-    fn add_fault(&mut self, unit: u32, event: u64)
-        requires { IsLostSince self.old unit event }
-        ensures { self.new ≡ record self.old {
-          faults = self.old.faults ++ record { unit = unit; event = event } ∷ [];
-        } }
-    {
-        self.faults.add(&DriveAnswer { unit, event });
-    }
-
     // Notes a call that answers Worn. Its cause stands at the end of the engine's log.
     fn add_worn(&mut self, count: u32, wanted: u64, have: u64)
         requires { let length_now = length (engine_log self.old.mount) in
@@ -221,6 +200,13 @@ impl<U: Unit> Serial<U> {
             have,
         });
     }
+}
+
+// Notes a call that answers Drive.
+fn add_fault(faults: &mut Log<DriveAnswer>, unit: u32, event: u64)
+    ensures { faults.new ≡ faults.old ++ record { unit = unit; event = event } ∷ [] }
+{
+    faults.add(&DriveAnswer { unit, event });
 }
 
 // Takes sectors from `lba` on, one after another.
@@ -257,8 +243,9 @@ fn read_all<U: Unit>(
     ensures same { IsSameMount mount.old mount.new }
     ensures asked { mount.new.asked ≡ mount.old.asked }
     ensures sound { IsSound mount.new }
-    ensures done { IsOk result → NoneLost mount.old.units mount.new.units }
-    ensures lost { IfErr result (λ e. IsLostAt mount.old.units mount.new.units e.unit e.event) }
+    ensures done { IsOk result → NoDriveFaults mount.old.units mount.new.units }
+    ensures lost { IfErr result (λ e.
+        IsDriveFaultAt mount.old.units mount.new.units e.unit e.event) }
     ensures latest { IsOk result → sectors_of size count out.new
         ≡ slice_range (latest mount.old) lba (lba + count) }
 {
@@ -305,11 +292,11 @@ impl<U: Unit> Port for Serial<U> {
         let count = (bytes.len() / size) as u32;
         match self.mount.claim(rt, count) {
             Ok(()) => (),
-            Err(WaitErr::Drive { unit, event }) => {
-                self.add_fault(unit, event);
+            Err(SettleErr::Drive { unit, event }) => {
+                add_fault(&mut self.faults, unit, event);
                 return Err(WriteErr::Drive { unit, event });
             }
-            Err(WaitErr::Stuck { wanted, have }) => {
+            Err(SettleErr::Worn { wanted, have }) => {
                 self.add_worn(count, wanted, have);
                 return Err(WriteErr::Worn { wanted, have });
             }
@@ -360,7 +347,7 @@ impl<U: Unit> Port for Serial<U> {
                 Ok(front)
             }
             Err(DriveErr { unit, event }) => {
-                self.add_fault(unit, event);
+                add_fault(&mut self.faults, unit, event);
                 Err(ReadErr::Drive { unit, event })
             }
         }
@@ -391,11 +378,11 @@ impl<U: Unit> Port for Serial<U> {
                 self.seen = front.position;
                 Ok(front)
             }
-            Err(WaitErr::Drive { unit, event }) => {
-                self.add_fault(unit, event);
+            Err(SettleErr::Drive { unit, event }) => {
+                add_fault(&mut self.faults, unit, event);
                 Err(FlushErr::Drive { unit, event })
             }
-            Err(WaitErr::Stuck { have, .. }) => {
+            Err(SettleErr::Worn { have, .. }) => {
                 self.add_worn(0, wanted, have);
                 Err(FlushErr::Worn { wanted, have })
             }

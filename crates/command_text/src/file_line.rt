@@ -32,7 +32,8 @@ pub fn tell_missing<O: Sink>(out: &mut O, name: &str)
 
 // Writes the line of a file, after what befell it.
 fn tell_file<O: Sink>(out: &mut O, kind: &[u8], name: &str)
-    ensures said { Says (kind.now ++ shown_name name.now ++ newline) (O.view out.old) (O.view out.new) }
+    ensures said { Says (kind.now ++ shown_name name.now ++ newline)
+        (O.view out.old) (O.view out.new) }
     ensures same_told { (O.view out.new).told ≡ (O.view out.old).told }
     ensures never_falls { (O.view out.old).faults ≤ (O.view out.new).faults }
 {
@@ -57,7 +58,8 @@ fn write_file<O: Sink>(out: &mut O, kind: &[u8], name: &str) -> Result<(), SinkE
 // Writes a name: runs of plain bytes as they are, and each control character by itself.
 fn write_name<O: Sink>(out: &mut O, name: &[u8]) -> Result<(), SinkErr>
     ensures took { OnOk result (HasTaken (shown_name name.now) (O.view out.old) (O.view out.new)) }
-    ensures failed { OnErr result (HasFailed (shown_name name.now) (O.view out.old) (O.view out.new)) }
+    ensures failed { OnErr result
+        (HasFailed (shown_name name.now) (O.view out.old) (O.view out.new)) }
 {
     let mut rest = name;
     while let [byte, others @ ..] = rest {

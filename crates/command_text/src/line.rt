@@ -8,7 +8,8 @@ use pblk_outside::{Sink, SinkErr};
 
 /// Writes these pieces, up to the first one that isn't taken.
 pub fn tell<O: Sink>(out: &mut O, pieces: &[&[u8]])
-    ensures said { Says (flat_map (λ piece. piece.now) pieces.now) (O.view out.old) (O.view out.new) }
+    ensures said { Says (flat_map (λ piece. piece.now) pieces.now)
+        (O.view out.old) (O.view out.new) }
     ensures same_told { (O.view out.new).told ≡ (O.view out.old).told }
     ensures never_falls { (O.view out.old).faults ≤ (O.view out.new).faults }
 {

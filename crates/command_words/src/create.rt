@@ -90,10 +90,12 @@ impl<'a> CreateWords<'a> {
     // With an option. None where there is no option of this name, it has a value, or this isn't its number.
     fn with_option(self, name: &'a str, value: &'a str) -> Option<CreateWords<'a>>
         ensures taken { IfSome result (λ next. (items : List model.Item)
-            → HasRead items self.entry → HasRead (items ++ model.Named name.now value.now ∷ []) next) }
+            → HasRead items self.entry
+            → HasRead (items ++ model.Named name.now value.now ∷ []) next) }
         ensures refused { IfNone result ((items more : List model.Item) (image : List ℕ)
             (numbers : text.CreateNumbers) → HasRead items self.entry
-            → ¬ AreItemsOf (items ++ model.Named name.now value.now ∷ more) (model.Create image numbers)) }
+            → ¬ AreItemsOf (items ++ model.Named name.now value.now ∷ more)
+            (model.Create image numbers)) }
     {
         let option = CreateOption::by_name(name)?;
         let place = option.place();

@@ -43,7 +43,8 @@ impl CreateOption {
 
     /// The greatest number that the option may have.
     pub(crate) fn most(self) -> u64
-        ensures { slice_get (map (λ o. o.below) create_options) (place_of self) ≡ Some (result + 1) }
+        ensures { slice_get (map (λ o. o.below) create_options) (place_of self)
+            ≡ Some (result + 1) }
     {
         match self {
             CreateOption::Groups | CreateOption::Units => u64::from(u16::MAX),

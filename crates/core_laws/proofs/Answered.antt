@@ -16,7 +16,7 @@ use Rattle.stripe_placer.specs.Placing.{Program}
 use Rattle.stripe_placer.specs.Inside.{IsProgramOf, IsUnanswered}
 use Rattle.stripe_placer.proofs.Agreeing.{in_line_same, in_line_other}
 use Rattle.stripe_placer.proofs.Steps.{unanswered_left}
-use Rattle.pblk_layout.specs.Live.{units_in}
+use Rattle.pblk_layout.specs.Online.{units_in}
 use Rattle.core_laws.specs.Stepping.{after}
 use Rattle.core_laws.specs.OpenedLines.{as_opened, by_answer, became, placed_as, is_stripe_at, outcome, with_outcomes, open_line, standing, open_lines}
 use Rattle.core_laws.specs.PlacerOf.{unanswered_on}
@@ -127,8 +127,8 @@ answered_at i logs of is one =
     none_past (answers log of.unit) (turn log q) (ap (λ u. slice_get (answers log u) (turn log q)) (sym unit) ∙ some.2) in
     let soon : turn log q < length (placed_on log of.unit) =
     slice_get_within (placed_on log of.unit) (turn log q) q (ap (λ u. slice_get (placed_on log u) (turn log q)) (sym unit) ∙ stands_at_turn log q among) in
-    let count : length l0.stripes ≡ length (units_in l0.live) * (s.clba / s.ws_opt) =
-    length_replicate (length (units_in l0.live) * (s.clba / s.ws_opt)) Unplaced in (
+    let count : length l0.stripes ≡ length (units_in l0.online) * (s.clba / s.ws_opt) =
+    length_replicate (length (units_in l0.online) * (s.clba / s.ws_opt)) Unplaced in (
       o,
       q,
       record {
@@ -136,7 +136,7 @@ answered_at i logs of is one =
         line = ap (λ (l : OpenLine). l.line) from.2 ∙ is.line.2;
         first = record { among = among; of_unit = unit; turn_is = omega (arith, late, soon, one) };
         inside = at.0;
-        wide = some_units (length (units_in l0.live)) (s.clba / s.ws_opt) j (subst (λ n. j < n) count at.0);
+        wide = some_units (length (units_in l0.online)) (s.clba / s.ws_opt) j (subst (λ n. j < n) count at.0);
         here = found.0;
         is = some.1;
         waits = both.0;

@@ -14,7 +14,7 @@ use Rattle.pblk_model.specs.UnitLog.{UnitEvent, after_event, after_log, after_ou
 use Rattle.pblk_model.specs.Image.{Image}
 use Rattle.pblk_model.specs.StartRecord.{StartRecord}
 use Rattle.pblk_laws.specs.LineBlocks.{chunk_in}
-use Rattle.pblk_layout.specs.Live.{is_live}
+use Rattle.pblk_layout.specs.Online.{is_online}
 use Rattle.pblk_world.specs.Answering.{IsNew, IsOfStripe, MayLand, MayLose, MayNoteReset}
 use Rattle.pblk_world.specs.EngineLog.{Begun, begun, begun_by, life_of, Opened, Opening, Placed, placed_on, placements, answers}
 use Rattle.pblk_world.specs.Events.{Decides, EngineEvent, Landed, Logged, Lost, Open, ResetDone}
@@ -27,7 +27,7 @@ use Rattle.lemmas.proofs.Maps.{from_filter, given_at}
 use Rattle.lemmas.proofs.Options.{map_some, split_then}
 use Rattle.lemmas.proofs.Parts.{all_at, all_by_get, contained_among}
 use Rattle.lemmas.proofs.Tests.{both, not_both, other_number, same_number}
-use Rattle.world_laws.specs.LegalMounts.{IsLegalMount}
+use Rattle.pblk_world.specs.LegalMounts.{IsLegalMount}
 use Rattle.world_laws.specs.UnitPrograms.{IsProgramOfStripe}
 use Rattle.world_laws.proofs.FoundEmpty.{all_pass}
 use Rattle.world_laws.proofs.KnownPrefixes.{known_prefix}
@@ -265,7 +265,7 @@ waiting_chunk : (i : Image) (w : World) (unit : ℕ) (p : Placed) → IsLegalMou
 waiting_chunk i w unit p mount waits =
     go (chunk_in (known_image i (log_of w)) p.stripe.line unit) refl
     (sym (live_chunk (known_image i (log_of w)) p.stripe.line unit)
-    ∙ subst (λ u. is_live (known_image i (log_of w)) p.stripe.line u ≡ true) on
+    ∙ subst (λ u. is_online (known_image i (log_of w)) p.stripe.line u ≡ true) on
     (still_online i w p mount (contained_among (placements (log_of w 0)) p (first_unanswered (log_of w 0) unit p waits).among)
     (ap is_some (one_more (log_of w 0) unit 0 [] p waits).before)))
   where

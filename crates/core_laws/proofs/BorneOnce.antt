@@ -19,7 +19,7 @@ use Rattle.pblk_world.specs.EngineLog.{Taken, takes, Opening, Placed, placements
 use Rattle.pblk_world.specs.Fronts.{first_position, waits, was_placed, waiting}
 use Rattle.pblk_world.specs.Placing.{next_address, end_address, end_record, MayPlace, data_blocks, record_blocks}
 use Rattle.pblk_world.specs.Victims.{engine_prefix}
-use Rattle.world_laws.specs.LegalMounts.{IsLegalMount}
+use Rattle.pblk_world.specs.LegalMounts.{IsLegalMount}
 use Rattle.world_laws.proofs.LineStripes.{IsKind}
 use Rattle.world_laws.proofs.Made.{IsMade, made, own_then}
 use Rattle.world_laws.proofs.Openings.{placed_at}
@@ -109,17 +109,6 @@ one_numbered q a (t ∷ ts) is marked = go (nat_eq t.mark.position q) refl (one_
             let high : a + 1 ≤ u.entry.position = above.0 in
             let own : u.mark.position ≡ u.entry.position = marks.0 in
             (other_number u.mark.position q (λ e. absurd (omega arith)), later us above.1 marks.1 is)
-
-pub fewer_filtered : {X : Type 0} (f g : X → Bool) (xs : List X) → length (filter f (filter g xs)) ≤ length (filter f xs)
-fewer_filtered f g [] = omega arith
-fewer_filtered {X} f g (x ∷ xs) = go (g x) (f x) refl (fewer_filtered f g xs)
-  where
-    go : (b c : Bool) → f x ≡ c → length (filter f (filter g xs)) ≤ length (filter f xs)
-        → length (filter f (cond b (x ∷ filter g xs) (filter g xs))) ≤ length (cond c (x ∷ filter f xs) (filter f xs))
-    go true true e rest = subst (λ d. length (cond d (x ∷ filter f (filter g xs)) (filter f (filter g xs))) ≤ suc (length (filter f xs))) (sym e) (omega arith)
-    go true false e rest = subst (λ d. length (cond d (x ∷ filter f (filter g xs)) (filter f (filter g xs))) ≤ length (filter f xs)) (sym e) rest
-    go false true e rest = omega arith
-    go false false e rest = rest
 
 -- what passes either of two tests that no element passes both of, one after another
 either_or : {X : Type 0} (f g h : X → Bool) (xs : List X)

@@ -1,6 +1,5 @@
 -- Which lines may be collected, by what a target keeps of them.
 use Rattle.std.proofs.Common.{◌≡◌, ◌⊎◌, inl, inr, ℕ, ◌+◌, ◌/◌, ◌<◌, ◌≤◌, ◌==◌, ◌&&◌, max, nat_lt, nat_le, Bool, true, false, Some, None, Option, List, [], ◌∷◌, refl, sym, ap, ◌∙◌, arith, if◌then◌else◌}
-use Rattle.std.specs.Prelude.{◌↔◌}
 use Rattle.std.specs.List.{list_all}
 use Rattle.std.specs.Option.{is_none, is_some, option_and_then, option_map, option_map_or}
 use Rattle.std.proofs.lemmas.Bool.{cases_lt, ltb-true}
@@ -14,7 +13,6 @@ use Rattle.pblk_world.specs.Placing.{line_end}
 use Rattle.pblk_world.specs.Starts.{have_landed, newest_start, seq_of}
 use Rattle.pblk_world.specs.Victims.{Candidate, candidate, is_failed, is_failed_in, live, positions_in}
 use Rattle.pblk_world.specs.World.{Logs}
-use Rattle.line_table.specs.declared.row.LineState.{LineState}
 use Rattle.line_table.specs.declared.row.LineState.TheVariants as states
 use Rattle.core_laws.specs.CandidateLines.{IsCandidate, candidate_by, is_failed_state, may_be_collected_by}
 use Rattle.core_laws.specs.ClosedLines.{ClosedLine, StartNumbers, closed_line, closed_with, newest_numbers, top_of}
@@ -103,20 +101,6 @@ failed_is i logs line = by_life (life_of (logs 0) line)
     by_life AsFound = by_start (start_of (found_image i logs) line)
     by_life (Opened o) = opened (has_failed (logs 0) o) (have_landed (logs 0) o (line_end i.shape o / i.shape.ws_opt))
     by_life (Freed was knows) = given_up_holds i logs line
-
-failed_state : (state : LineState) → is_failed_state state ≡ true → state ≡ states.Failed
-failed_state states.Free e = absurd cc
-failed_state states.Open e = absurd cc
-failed_state states.Full e = absurd cc
-failed_state states.Failed e = refl
-failed_state states.Freed e = absurd cc
-failed_state states.Dead e = absurd cc
-
-pub failed_by_row : (i : Image) (logs : Logs) (line : ℕ) → (is_failed i logs line ≡ true) ↔ (state_of i logs line ≡ states.Failed)
-failed_by_row i logs line = (
-  λ e. failed_state (state_of i logs line) (sym (failed_is i logs line) ∙ e),
-  λ e. failed_is i logs line ∙ ap is_failed_state e,
-)
 
 -- by its row
 pub candidate_by_row : (i : Image) (logs : Logs) (line : ℕ)

@@ -9,7 +9,7 @@ use Rattle.pblk_model.specs.Image.{Image}
 use Rattle.pblk_world.specs.Events.{Logged}
 use Rattle.pblk_world.specs.World.{World, log_of}
 use Rattle.pblk_world.specs.EngineLog.{Opened, Opening, openings, Placed, placements, stripes_of, stripes_on, life_of, is_life}
-use Rattle.world_laws.specs.LegalMounts.{IsLegalMount}
+use Rattle.pblk_world.specs.LegalMounts.{IsLegalMount}
 use Rattle.world_laws.proofs.Lives.{IsFreedLife, standing_or_freed}
 use Rattle.world_laws.proofs.Made.{IsMade, made, own_then}
 use Rattle.world_laws.proofs.StripePlaces.{kth_place}

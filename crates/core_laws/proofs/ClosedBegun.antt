@@ -20,7 +20,7 @@ use Rattle.pblk_world.specs.Victims.{positions_in}
 use Rattle.pblk_world.specs.World.{World, Logs, log_of}
 use Rattle.world_laws.specs.Finding as finding
 use Rattle.world_laws.specs.Finding.{IsFoundOf, NoneOpen}
-use Rattle.world_laws.specs.LegalMounts.{IsLegalMount}
+use Rattle.pblk_world.specs.LegalMounts.{IsLegalMount}
 use Rattle.world_laws.specs.MountBeginnings.{beginning_of}
 use Rattle.world_laws.proofs.FoundRows.{row_is}
 use Rattle.core_laws.specs.ClosedLines.{closed_line, top_of}

@@ -1,6 +1,6 @@
 -- Which lines are closed, after each event of the engine that lands no stripe of them.
 use Rattle.std.proofs.Common.{◌≡◌, ◌≢◌, ℕ, ◌<◌, ◌==◌, ◌&&◌, not, nat_eq, nat_lt, Bool, true, false, cond, Some, None, Option, List, [], ◌∷◌, length, refl, sym, subst, ap, ◌∙◌, arith, if◌then◌else◌}
-use Rattle.std.specs.Prelude.{map, slice_get}
+use Rattle.std.specs.Prelude.{map}
 use Rattle.std.specs.List.{filter, filter_map, flat_map, list_all}
 use Rattle.std.specs.Option.{is_some, option_and_then, option_map}
 use Rattle.std.proofs.lemmas.Bool.{eqb-true, eqb-false}
@@ -14,9 +14,9 @@ use Rattle.pblk_model.specs.UnitLog.{UnitEvent}
 use Rattle.pblk_model.specs.Image.{Image, is_online_in, width}
 use Rattle.pblk_model.specs.Records.{Record}
 use Rattle.pblk_model.specs.StartRecord.{StartRecord, start_of}
-use Rattle.pblk_world.specs.Answering.{MayLand, MayNoteReset}
-use Rattle.pblk_world.specs.EngineLog.{answers, AsFound, Begun, begun, begun_by, Freed, LineLife, is_as_found, Opened, Placed, placed_on, life_of}
-use Rattle.pblk_world.specs.Events.{Again, Decides, EngineEvent, Entry, Free, Landed, Logged, Open, Place, ResetDone, Stripe, Take}
+use Rattle.pblk_world.specs.Answering.{MayNoteReset}
+use Rattle.pblk_world.specs.EngineLog.{AsFound, Begun, begun, begun_by, Freed, LineLife, is_as_found, Opened, life_of}
+use Rattle.pblk_world.specs.Events.{Again, Decides, EngineEvent, Entry, Free, Logged, Open, Place, ResetDone, Stripe, Take}
 use Rattle.pblk_world.specs.Lines.{are_empty, chunks_of, found_image, has_number, is_empty_state, is_given_up, is_over_state, known_image, line_data, told_by}
 use Rattle.pblk_world.specs.Opening.{MayOpen}
 use Rattle.pblk_world.specs.Starts.{seq_in, seq_of}
@@ -24,12 +24,8 @@ use Rattle.pblk_world.specs.Victims.{position_in, positions_in}
 use Rattle.pblk_world.specs.World.{World, Logs, log_of, unit_event_at, unit_event_of}
 use Rattle.pblk_world.proofs.Appending.{life_more}
 use Rattle.lemmas.proofs.Tests.{both, first_of, not_both, second_of}
-use Rattle.world_laws.specs.LegalMounts.{IsLegalMount}
-use Rattle.world_laws.specs.UnitPrograms.{IsProgramOfStripe}
-use Rattle.world_laws.proofs.NextLives.{placed_in}
-use Rattle.world_laws.proofs.Programs.{program_of_stripe}
+use Rattle.pblk_world.specs.LegalMounts.{IsLegalMount}
 use Rattle.core_laws.specs.ClosedLines.{ClosedLine, closed_line, top_of}
-use Rattle.core_laws.specs.PlacerOf.{unanswered_on}
 use Rattle.core_laws.specs.Stepping.{after}
 use Rattle.core_laws.proofs.FreedLives.{life_beside, life_freed}
 use Rattle.core_laws.proofs.FreedWidths.{not_given_up}
@@ -224,25 +220,3 @@ closed_reset i w b unit event knows line mount begins may given = go (nat_eq lin
         (chunks_beside i (log_of w) (ResetDone unit event) knows line refl
         (λ u x told same. eqb-false line may.reset.chunk e
         (same ∙ ap (λ (y : UnitEvent). y.chunk) (one_told (log_of w) unit event u x may.reset at told))))
-
--- a stripe of another line has landed
-pub closed_others : (i : Image) (w : World) (unit event : ℕ) (knows : List ℕ) (p : Placed) (line : ℕ) → IsLegalMount i w
-    → MayLand (log_of w) unit event → unanswered_on (log_of w 0) unit ≡ Some p → line ≢ p.stripe.line
-    → closed_line i (after (log_of w) (Landed unit event) knows) line ≡ closed_line i (log_of w) line
-closed_others i w unit event knows p line mount may waits apart =
-    closed_same i (after (log_of w) (Landed unit event) knows) (log_of w) line
-    (life_more (log_of w 0) (record { event = Decides (Landed unit event); knows = knows }) line)
-    (found_kept i (log_of w) (Landed unit event) knows refl)
-    (chunks_beside i (log_of w) (Landed unit event) knows line refl (λ u x told same. apart (same ∙ its_line u x told)))
-  where
-    its_line : (u : ℕ) (x : UnitEvent) → told_by (log_of w) u (Decides (Landed unit event)) ≡ Some x → x.chunk ≡ p.stripe.line
-    its_line u x told =
-        let at : unit_event_at (log_of w) unit event ≡ Some may.program =
-        ap (option_and_then (λ (l : Logged). unit_event_of l.event)) may.new.is_known ∙ may.new.event in
-        let s : IsProgramOfStripe (log_of w) unit event may.stripe.logged may.program =
-        program_of_stripe i w unit event may.stripe.logged may.program mount.legal may.stripe.is_logged
-        (ap (λ (l : Logged). unit_event_of l.event) (same_Some may.stripe.logged may.new.logged (sym may.stripe.is_logged ∙ may.new.is_known)) ∙ may.new.event)
-        may.stripe.program may.stripe.after_begin in
-        let it : s.placed ≡ p = same_Some s.placed p (sym s.in_order ∙ ap (slice_get (placed_on (log_of w 0) unit)) may.stripe.its_turn ∙ waits) in
-        ap (λ (y : UnitEvent). y.chunk) (one_told (log_of w) unit event u x may.program at told) ∙ s.chunk ∙ ap (λ (q : Placed). q.stripe.chunk) it
-        ∙ (placed_in i w mount.legal unit (length (answers (log_of w 0) unit)) p waits).chunk

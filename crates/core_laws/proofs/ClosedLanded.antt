@@ -1,30 +1,26 @@
--- An opened line is closed once no stripe of it is left, where it isn't Failed once all its stripes
--- have landed.
-use Rattle.std.proofs.Common.{◌≡◌, ◌≢◌, ℕ, ◌/◌, ◌<◌, not, Bool, true, false, Some, None, Option, List, [], ◌∷◌, ◌++◌, length, refl, sym, ap, ◌∙◌, if◌then◌else◌}
+-- An opened line is closed once no stripe of it is left.
+use Rattle.std.proofs.Common.{◌≡◌, ◌≢◌, ℕ, ◌<◌, not, Bool, true, false, Some, None, Option, List, [], ◌∷◌, ◌++◌, length, refl, sym, ap, ◌∙◌, if◌then◌else◌}
 use Rattle.std.specs.Prelude.{map, slice_get}
-use Rattle.std.specs.List.{enumerate_from, filter_map, list_all}
+use Rattle.std.specs.List.{enumerate_from, filter_map}
 use Rattle.std.specs.Option.{is_some, option_map}
 use Rattle.std.proofs.lemmas.List.Elements.{filter_map-append}
 use Rattle.pblk_model.specs.Chunk.{Chunk}
 use Rattle.pblk_model.specs.UnitLog.{UnitEvent, after_log}
 use Rattle.pblk_model.specs.Image.{Image}
-use Rattle.pblk_world.specs.Answering.{MayLand, MayLose}
-use Rattle.pblk_world.specs.EngineLog.{answers, begun_by, has_failed, is_answered, is_as_found, is_life, LineLife, Opened, Opening, Placed, placements, stripes_of, life_of, turned_by}
-use Rattle.pblk_world.specs.Events.{Decides, EngineEvent, Landed, Logged, Lost}
+use Rattle.pblk_world.specs.EngineLog.{Answer, answers, begun_by, is_answered, is_life, LineLife, Opened, Opening, Placed, placements, stripes_of, life_of, turned_by}
+use Rattle.pblk_world.specs.Events.{Decides, EngineEvent, Logged}
 use Rattle.pblk_world.specs.Legal.{IsAllowed}
-use Rattle.pblk_world.specs.Lines.{are_over, chunks_of, found_image, is_over_state, known_image, told_by, told_events}
-use Rattle.pblk_world.specs.Placing.{line_end}
-use Rattle.pblk_world.specs.Starts.{have_landed, seq_in, seq_of}
+use Rattle.pblk_world.specs.Lines.{are_over, chunks_of, found_image, known_image, told_by, told_events}
+use Rattle.pblk_world.specs.Starts.{seq_in, seq_of}
 use Rattle.pblk_world.specs.Victims.{positions_in}
 use Rattle.pblk_world.specs.World.{World, Logs, log_of}
-use Rattle.pblk_world.proofs.Appending.{life_more, placements_more}
-use Rattle.pblk_world.proofs.EngineLogLemmas.{answers_more}
+use Rattle.pblk_world.proofs.Appending.{life_more}
 use Rattle.lemmas.proofs.Lists.{IsAmong}
 use Rattle.lemmas.proofs.Maps.{in_filter, map_same}
 use Rattle.lemmas.proofs.Numbers.{fun_same}
 use Rattle.lemmas.proofs.Parts.{contained_among}
 use Rattle.lemmas.proofs.Tests.{not_both, same_number}
-use Rattle.world_laws.specs.LegalMounts.{IsLegalMount}
+use Rattle.pblk_world.specs.LegalMounts.{IsLegalMount}
 use Rattle.world_laws.proofs.LifePlaces.{began}
 use Rattle.stripe_placer.specs.OpenLines.{OpenLine, has_left, numbers}
 use Rattle.core_laws.specs.ClosedLines.{ClosedLine, answered_top, closed_line, closed_with, top_of}
@@ -34,12 +30,10 @@ use Rattle.core_laws.specs.Stepping.{after}
 use Rattle.core_laws.proofs.Answered.{first_unanswered}
 use Rattle.core_laws.proofs.AnsweredUnits.{first_answer}
 use Rattle.core_laws.proofs.AnsweredTops.{IsOfPlaced, of_placed, top_same}
-use Rattle.core_laws.proofs.ClosedKept.{closed_in, closed_same, one_told}
-use Rattle.core_laws.proofs.KeptStripes.{have_landed_alike, stripes_kept}
-use Rattle.core_laws.proofs.LandedOver.{over_is}
+use Rattle.core_laws.proofs.ClosedKept.{closed_same, one_told}
 use Rattle.core_laws.proofs.LandedRows.{chunks_beside}
+use Rattle.core_laws.proofs.NotedAnswers.{IsNoted, MayNote, allowed_note, answers_noted, lives_noted, none_begun, none_turned, noted, noting, number_in, placements_noted, tells_it, with_answer}
 use Rattle.core_laws.proofs.NextWorlds.{lengths_of, next_legal, next_logs, next_step}
-use Rattle.core_laws.proofs.OpenAddresses.{failed_kept}
 use Rattle.core_laws.proofs.OverAnswered.{over_answered}
 use Rattle.core_laws.proofs.OpenWhileLeft.{over_is as over_by_left}
 use Rattle.core_laws.proofs.OpeningNumbers.{life_at}
@@ -62,16 +56,6 @@ module _ (i : Image) (w : World) (mount : IsLegalMount i w) (o : Opening) (is_op
         top = top_of (positions_in i (log_of w) l o.line);
       }) (seq_in i (log_of w) l o.line) else None) is_open
       ∙ ap (λ t. closed_if t (closed_as i (log_of w) o)) (over_by_left i w mount o is_open)
-
-  -- where all have landed, if it isn't Failed
-  pub closed_now : has_failed (log_of w 0) o ≡ false
-      → closed_line i (log_of w) o.line ≡ closed_if (have_landed (log_of w 0) o (line_end i.shape o / i.shape.ws_opt)) (closed_as i (log_of w) o)
-  closed_now kept =
-      ap (λ (l : LineLife). closed_in i (log_of w) l o.line) is_open
-      ∙ ap (λ t. closed_if t (closed_as i (log_of w) o)) (sym open_over ∙ over_is i w mount o is_open kept)
-    where
-      open_over : are_over i (log_of w) o.line ≡ list_all (λ (c : Chunk). is_over_state false c.state) (chunks_of (known_image i (log_of w)) o.line)
-      open_over = ap (λ (l : LineLife). list_all (λ (c : Chunk). is_over_state (is_as_found l) c.state) (chunks_of (known_image i (log_of w)) o.line)) is_open
 
 -- it isn't where a stripe of it waits for its answer
 pub waiting_unclosed : (i : Image) (w : World) (unit : ℕ) (p : Placed) (o : Opening) → IsLegalMount i w → unanswered_on (log_of w 0) unit ≡ Some p
@@ -143,9 +127,6 @@ module _ (i : Image) (logs : Logs) (e : EngineEvent) (begins : (ks : List ℕ) �
       (outcome_same i.shape (after logs e ns 0) (after logs e ks 0) (alike ns ks) o (as_opened i logs o)) (numbers (as_opened i logs o)))
       ∙ ap (with_outcomes i.shape (after logs e ns 0) o) (sym (as_opened_same i logs e ns o before))
 
-  landed_alike : (o : Opening) (n : ℕ) → have_landed (after logs e ks 0) o n ≡ have_landed (after logs e ns 0) o n
-  landed_alike o n = have_landed_alike (after logs e ns 0) (after logs e ks 0) (alike ns ks) o n
-
 -- ---- once a stripe is answered
 
 module _ (i : Image) (w : World) (e : EngineEvent) (line : ℕ) (o : Opening) (mount : IsLegalMount i w)
@@ -189,73 +170,31 @@ module _ (i : Image) (w : World) (e : EngineEvent) (line : ℕ) (o : Opening) (m
       ∙ ap (λ top. closed_if (not (has_left (open_line i (after (log_of w) e knows) o))) (record { seq = o.start.seq; top = top }))
       (top_alike i (log_of w) e begins turns alike (lengths_of i w) knows o)
 
-  closed_full : (knows : List ℕ) → has_failed (log_of (next_step i w e ∷ w) 0) o ≡ false → closed_line i (after (log_of w) e knows) line
-      ≡ closed_if (have_landed (after (log_of w) e knows 0) o (line_end i.shape o / i.shape.ws_opt)) (closed_as i (after (log_of w) e knows) o)
-  closed_full knows kept =
-      to_here knows (closed_if (have_landed (log_of later 0) o (line_end i.shape o / i.shape.ws_opt)) (closed_as i (log_of later) o))
-      (closed_now i later later_mount o later_life kept)
-      ∙ ap (λ (logs : Logs). closed_if (have_landed (logs 0) o (line_end i.shape o / i.shape.ws_opt)) (closed_as i logs o)) logs_are
-      ∙ ap (λ t. closed_if t (closed_as i here o))
-      (landed_alike i (log_of w) e begins turns alike (lengths_of i w) knows o (line_end i.shape o / i.shape.ws_opt))
-      ∙ ap (λ top. closed_if (have_landed (after (log_of w) e knows 0) o (line_end i.shape o / i.shape.ws_opt)) (record { seq = o.start.seq; top = top }))
-      (top_alike i (log_of w) e begins turns alike (lengths_of i w) knows o)
-
--- once one has landed
-abbrev landing : ℕ → ℕ → List ℕ → Logged
-landing unit event knows = record { event = Decides (Landed unit event); knows = knows }
-
-landed_says : (log : List Logged) (unit event : ℕ) → SaysAlike log (Landed unit event)
-landed_says log unit event ks ns = record {
-  placements = placements_more log (landing unit event ns) ∙ sym (placements_more log (landing unit event ks));
-  answers = fun_same (answers (log ++ landing unit event ns ∷ [])) (answers (log ++ landing unit event ks ∷ [])) (λ u.
-      answers_more log (landing unit event ns) u ∙ sym (answers_more log (landing unit event ks) u));
+says_alike : (log : List Logged) (unit : ℕ) (a : Answer) → SaysAlike log (noting unit a)
+says_alike log unit a ks ns = record {
+  placements = placements_noted log unit ns a ∙ sym (placements_noted log unit ks a);
+  answers = fun_same (answers (with_answer log unit ns a)) (answers (with_answer log unit ks a)) (λ u.
+      answers_noted log unit ns a u ∙ sym (answers_noted log unit ks a u));
 }
 
-pub closed_left_landed : (i : Image) (w : World) (unit event : ℕ) (knows : List ℕ) (line : ℕ) (o : Opening) → IsLegalMount i w
-    → MayLand (log_of w) unit event → life_of (log_of w 0) line ≡ Opened o
-    → closed_line i (after (log_of w) (Landed unit event) knows) line
-    ≡ closed_if (not (has_left (open_line i (after (log_of w) (Landed unit event) knows) o))) (closed_as i (after (log_of w) (Landed unit event) knows) o)
-closed_left_landed i w unit event knows line o mount may stands =
+pub closed_left : (i : Image) (w : World) (unit : ℕ) (a : Answer) (knows : List ℕ) (line : ℕ) (o : Opening) → IsLegalMount i w
+    → MayNote (log_of w) unit a → life_of (log_of w 0) line ≡ Opened o
+    → closed_line i (after (log_of w) (noting unit a) knows) line
+    ≡ closed_if (not (has_left (open_line i (after (log_of w) (noting unit a) knows) o))) (closed_as i (after (log_of w) (noting unit a) knows) o)
+closed_left i w unit a knows line o mount may stands =
     let b = began i w line o mount.legal stands in
-    closed_after i w (Landed unit event) line o mount (b.0, b.1, may) (λ ks. refl) (λ m number ks life. refl) (landed_says (log_of w 0) unit event) stands knows
-
-pub closed_landed : (i : Image) (w : World) (unit event : ℕ) (knows : List ℕ) (line : ℕ) (o : Opening) → IsLegalMount i w
-    → has_failed (log_of w 0) o ≡ false → MayLand (log_of w) unit event → life_of (log_of w 0) line ≡ Opened o
-    → closed_line i (after (log_of w) (Landed unit event) knows) line
-    ≡ closed_if (have_landed (after (log_of w) (Landed unit event) knows 0) o (line_end i.shape o / i.shape.ws_opt))
-    (closed_as i (after (log_of w) (Landed unit event) knows) o)
-closed_landed i w unit event knows line o mount kept may stands =
-    let b = began i w line o mount.legal stands in
-    closed_full i w (Landed unit event) line o mount (b.0, b.1, may) (λ ks. refl) (λ m number ks life. refl) (landed_says (log_of w 0) unit event) stands knows
-    (failed_kept (log_of w 0) (log_of w 0 ++ landing unit event (lengths_of i w) ∷ []) (stripes_kept (log_of w 0) (Landed unit event) (lengths_of i w) refl) o
-    ∙ kept)
-
--- and once one was lost
-abbrev losing : ℕ → ℕ → List ℕ → Logged
-losing unit event knows = record { event = Decides (Lost unit event); knows = knows }
-
-lost_says : (log : List Logged) (unit event : ℕ) → SaysAlike log (Lost unit event)
-lost_says log unit event ks ns = record {
-  placements = placements_more log (losing unit event ns) ∙ sym (placements_more log (losing unit event ks));
-  answers = fun_same (answers (log ++ losing unit event ns ∷ [])) (answers (log ++ losing unit event ks ∷ [])) (λ u.
-      answers_more log (losing unit event ns) u ∙ sym (answers_more log (losing unit event ks) u));
-}
-
-pub closed_left_lost : (i : Image) (w : World) (unit event : ℕ) (knows : List ℕ) (line : ℕ) (o : Opening) → IsLegalMount i w
-    → MayLose (log_of w) unit event → life_of (log_of w 0) line ≡ Opened o
-    → closed_line i (after (log_of w) (Lost unit event) knows) line
-    ≡ closed_if (not (has_left (open_line i (after (log_of w) (Lost unit event) knows) o))) (closed_as i (after (log_of w) (Lost unit event) knows) o)
-closed_left_lost i w unit event knows line o mount may stands =
-    let b = began i w line o mount.legal stands in
-    closed_after i w (Lost unit event) line o mount (b.0, b.1, may) (λ ks. refl) (λ m number ks life. refl) (lost_says (log_of w 0) unit event) stands knows
+    closed_after i w (noting unit a) line o mount (allowed_note i (log_of w) unit a b.0 b.1 may) (λ ks. none_begun unit ks a)
+    (λ m number ks life. none_turned unit ks m number life a) (says_alike (log_of w 0) unit a) stands knows
 
 -- other lines are closed as they were
-pub closed_others_lost : (i : Image) (w : World) (unit event : ℕ) (knows : List ℕ) (p : Placed) (line : ℕ) → IsLegalMount i w
-    → MayLose (log_of w) unit event → unanswered_on (log_of w 0) unit ≡ Some p → line ≢ p.stripe.line
-    → closed_line i (after (log_of w) (Lost unit event) knows) line ≡ closed_line i (log_of w) line
-closed_others_lost i w unit event knows p line mount may waits apart =
-    let its : IsOfPlaced (log_of w) unit event may.program p = of_placed i w unit event may.program p mount may.new may.stripe waits in
-    closed_same i (after (log_of w) (Lost unit event) knows) (log_of w) line (life_more (log_of w 0) (losing unit event knows) line)
-    (found_kept i (log_of w) (Lost unit event) knows refl)
-    (chunks_beside i (log_of w) (Lost unit event) knows line refl (λ u x told same.
-    apart (same ∙ ap (λ (y : UnitEvent). y.chunk) (one_told (log_of w) unit event u x may.program its.is_event told) ∙ its.chunk)))
+pub closed_others : (i : Image) (w : World) (unit : ℕ) (a : Answer) (knows : List ℕ) (p : Placed) (line : ℕ) → IsLegalMount i w
+    → MayNote (log_of w) unit a → unanswered_on (log_of w 0) unit ≡ Some p → line ≢ p.stripe.line
+    → closed_line i (after (log_of w) (noting unit a) knows) line ≡ closed_line i (log_of w) line
+closed_others i w unit a knows p line mount may_be waits apart =
+    let may : IsNoted (log_of w) unit a = noted (log_of w) unit a may_be in
+    let its : IsOfPlaced (log_of w) unit (number_in a) may.program p = of_placed i w unit (number_in a) may.program p mount may.new may.stripe waits in
+    closed_same i (after (log_of w) (noting unit a) knows) (log_of w) line (lives_noted (log_of w) unit knows a line)
+    (found_kept i (log_of w) (noting unit a) knows (none_begun unit knows a))
+    (chunks_beside i (log_of w) (noting unit a) knows line (none_begun unit knows a) (λ u x told same.
+    apart (same ∙ ap (λ (y : UnitEvent). y.chunk)
+    (one_told (log_of w) unit (number_in a) u x may.program its.is_event (sym (tells_it (log_of w) unit u a) ∙ told)) ∙ its.chunk)))

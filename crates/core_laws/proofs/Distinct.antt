@@ -1,11 +1,11 @@
 -- Lists of numbers in which none stands twice.
-use Rattle.std.proofs.Common.{◌≡◌, ◌≢◌, ◌⊎◌, inl, inr, ℕ, ◌+◌, ◌<◌, ◌≤◌, ◌==◌, ◌&&◌, ◌||◌, zero, suc, not, nat_eq, nat_lt, nat_le, Bool, true, false, cond, Some, List, [], ◌∷◌, ◌++◌, length, refl, sym, subst, ap, ◌∙◌, arith}
+use Rattle.std.proofs.Common.{◌≡◌, ◌≢◌, ◌⊎◌, inl, inr, ℕ, ◌+◌, ◌<◌, ◌≤◌, ◌==◌, ◌||◌, zero, suc, not, nat_eq, Bool, true, false, cond, Some, List, [], ◌∷◌, ◌++◌, length, refl, sym, subst, ap, ◌∙◌, arith}
 use Rattle.std.specs.Prelude.{slice_get, ⊤}
 use Rattle.std.specs.List.{filter, flat_map, list_any, range_with_len}
 use Rattle.std.proofs.lemmas.Bool.{eqb-true}
 use Rattle.std.proofs.lemmas.Option.{same_Some, none-some}
 use Rattle.std.proofs.lemmas.List.Folds.{list_any-append}
-use Rattle.core_laws.proofs.Placed.{is_in_list, in_range}
+use Rattle.core_laws.proofs.Placed.{is_in_list}
 use Rattle.lemmas.proofs.Lists.{IsAmong, later}
 use Rattle.lemmas.proofs.Tests.{either, no_both, or_left, or_right, same_number}
 
@@ -90,28 +90,10 @@ distinct_apart (x ∷ xs) ys d q a b = elim (either (x == q) (is_in_list xs q) a
   | inr there ↦ distinct_apart xs ys d.1 q there b
 ]
 
-pub distinct_range : (a n : ℕ) → Distinct (range_with_len a n)
-distinct_range a zero = tt
-distinct_range a (suc n) = (in_range (a + 1) n a ∙ beneath a (nat_lt a (a + 1 + n)), distinct_range (a + 1) n)
-  where
-    beneath : (a : ℕ) (b : Bool) → (nat_le (a + 1) a && b) ≡ false
-    beneath a b = grind arith
-
 pub distinct_made : {X : Type 0} (f : X → List ℕ) (xs : List X) (x : X) (k : ℕ) → slice_get xs k ≡ Some x → Distinct (flat_map f xs) → Distinct (f x)
 distinct_made f [] x k e d = absurd (none-some x e)
 distinct_made f (y ∷ ys) x zero e d = subst (λ z. Distinct (f z)) (same_Some y x e) (distinct_first (f y) (flat_map f ys) d)
 distinct_made f (y ∷ ys) x (suc k) e d = distinct_made f ys x k e (distinct_second (f y) (flat_map f ys) d)
-
--- a number is made of one element
-pub one_maker : {X : Type 0} (f : X → List ℕ) (xs : List X) (x y : X) (j k q : ℕ) → slice_get xs j ≡ Some x → slice_get xs k ≡ Some y → Distinct (flat_map f xs)
-    → IsIn (f x) q → IsIn (f y) q → x ≡ y
-one_maker f [] x y j k q a b d p r = absurd (none-some x a)
-one_maker f (z ∷ zs) x y zero zero q a b d p r = sym (same_Some z x a) ∙ same_Some z y b
-one_maker f (z ∷ zs) x y zero (suc k) q a b d p r =
-    absurd (distinct_apart (f z) (flat_map f zs) d q (subst (λ v. IsIn (f v) q) (sym (same_Some z x a)) p) (in_made f zs y k q b r))
-one_maker f (z ∷ zs) x y (suc j) zero q a b d p r =
-    absurd (distinct_apart (f z) (flat_map f zs) d q (subst (λ v. IsIn (f v) q) (sym (same_Some z y b)) r) (in_made f zs x j q a p))
-one_maker f (z ∷ zs) x y (suc j) (suc k) q a b d p r = one_maker f zs x y j k q a b (distinct_second (f z) (flat_map f zs) d) p r
 
 pub distinct_rows : (f : ℕ → List ℕ) (a n : ℕ) → ((u : ℕ) → Distinct (f u)) → ((u v q : ℕ) → IsIn (f u) q → IsIn (f v) q → u ≡ v)
     → Distinct (flat_map f (range_with_len a n))

@@ -17,7 +17,7 @@ use Rattle.pblk_model.specs.Chunk.{Chunk}
 use Rattle.pblk_model.specs.Image.{Image, is_online_in, line_chunks, line_units, width}
 use Rattle.pblk_model.specs.LineOrder.{block_of, column_of, data_len, end_len, start_len}
 use Rattle.pblk_model.proofs.LineOrderLemmas.{whole_line}
-use Rattle.pblk_layout.specs.Live.{units_in}
+use Rattle.pblk_layout.specs.Online.{units_in}
 use Rattle.pblk_laws.specs.LineBlocks.{chunk_in}
 use Rattle.pblk_laws.proofs.LineUnits.{line_units_chunks, line_units_count}
 use Rattle.pblk_world.specs.Events.{Logged}
@@ -40,7 +40,7 @@ use Rattle.lemmas.proofs.Maps.{all_mapped, all_passed, any_fail, any_found, any_
 use Rattle.lemmas.proofs.Options.{some_value, split_then}
 use Rattle.lemmas.proofs.Parts.{all_at, contained_among, get_below, get_whole_within, got_within}
 use Rattle.lemmas.proofs.Tests.{and_false, both, le_true, lt_true, not_both, same_number}
-use Rattle.world_laws.specs.LegalMounts.{IsLegalMount}
+use Rattle.pblk_world.specs.LegalMounts.{IsLegalMount}
 use Rattle.world_laws.proofs.LifePlaces.{began, units_now}
 use Rattle.world_laws.proofs.LifeUnits.{chunk_known}
 use Rattle.world_laws.proofs.LineBlocks.{IsLineOf, one_address, opened_line}
@@ -88,7 +88,7 @@ module _ (i : Image) (w : World) (mount : IsLegalMount i w) (o : Opening) (is_op
   abbrev bare : OpenLine
   bare = as_opened i (log_of w) o
 
-  pub units_are : units_in (as_opened i (log_of w) o).live ≡ line_units (known_image i (log_of w)) o.line
+  pub units_are : units_in (as_opened i (log_of w) o).online ≡ line_units (known_image i (log_of w)) o.line
   units_are =
       ap (λ xs. units_in (bits_of xs)) (sym (keeps_units i w o.line o mount is_open))
       ∙ bits_back known o.line (few_units i w (log_of w) mount)

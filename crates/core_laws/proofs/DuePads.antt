@@ -17,7 +17,7 @@ use Rattle.stripe_placer.specs.declared.placement.StripeKind.TheVariants as kind
 use Rattle.stripe_placer.specs.Entries.{Entries}
 use Rattle.stripe_placer.specs.OpenLines.{OpenLine, has_left, is_to_place, is_unanswered, kind_of, next_of, numbers}
 use Rattle.stripe_placer.specs.Placing.{Program, allowed_at, allows, next_in, next_positions, program_of}
-use Rattle.world_laws.specs.LegalMounts.{IsLegalMount}
+use Rattle.pblk_world.specs.LegalMounts.{IsLegalMount}
 use Rattle.core_laws.specs.OpenedLines.{open_line, open_lines, standing}
 use Rattle.core_laws.proofs.ChunksInRows.{rows_of_chunks}
 use Rattle.core_laws.proofs.DoneLines.{is_done, none_unanswered}

@@ -1,5 +1,5 @@
 -- What an event changes of the later entry of a sector, and of the line of an entry's stripe.
-use Rattle.std.proofs.Common.{◌≡◌, ℕ, ◌+◌, ◌<◌, ◌≤◌, ◌==◌, ◌&&◌, ◌||◌, nat_lt, nat_le, Bool, true, false, cond, Some, None, Option, List, [], ◌∷◌, ◌++◌, length, refl, sym, ap, ap₂, ◌∙◌, arith, append-nil, le_of_lt}
+use Rattle.std.proofs.Common.{◌≡◌, ℕ, ◌+◌, ◌<◌, ◌≤◌, ◌==◌, ◌&&◌, ◌||◌, nat_lt, Bool, true, false, cond, Some, None, Option, List, [], ◌∷◌, ◌++◌, length, refl, sym, ap, ap₂, ◌∙◌, arith, append-nil, le_of_lt}
 use Rattle.std.specs.Prelude.{is_some, not}
 use Rattle.std.specs.List.{find, list_any}
 use Rattle.std.specs.Option.{option_map, option_to_list}
@@ -8,7 +8,6 @@ use Rattle.pblk_model.specs.declared.chunk.Mark.{Mark}
 use Rattle.pblk_world.specs.Events.{Entry, Stripe, Take, Decides, Logged}
 use Rattle.pblk_world.specs.EngineLog.{Taken, taken_by, takes, Opening, Placed, placements, was_lost, is_loss, holds_position, bears_position}
 use Rattle.pblk_world.specs.Fronts.{first_position, taken, waits}
-use Rattle.pblk_world.specs.Space.{placed_front}
 use Rattle.core_laws.specs.Positions.{AreNumbered}
 use Rattle.core_laws.proofs.Engine.{placements_before}
 use Rattle.core_laws.proofs.Placing.{not_below, with_place, new_placed, IsPlacing, placements_now, answer_now, new_unanswered}
@@ -17,13 +16,11 @@ use Rattle.core_laws.proofs.StripesByPlace.{find_last, find_fails_last}
 use Rattle.core_laws.proofs.PlacedPositions.{numbered_below}
 use Rattle.stripe_placer.proofs.Rows.{find_first as found_stays}
 use Rattle.core_laws.specs.EntryHolds.{later_take, placed_line}
-use Rattle.core_laws.specs.PlainLogs.{NoStripeLost}
 use Rattle.core_laws.proofs.HeldOnce.{HeldOnce}
 use Rattle.core_laws.proofs.PlacedAnew.{holders_lost}
-use Rattle.core_laws.proofs.PlacedInOrder.{IsOrdered, some_hold_below}
 use Rattle.lemmas.proofs.Lists.{IsAmong, all_imply}
 use Rattle.lemmas.proofs.Maps.{any_member, find_agree, find_none, found_passes}
-use Rattle.lemmas.proofs.Options.{none_of_map, some_mapped}
+use Rattle.lemmas.proofs.Options.{none_of_map}
 use Rattle.lemmas.proofs.Tests.{and_false, first_of, lt_true, not_both, not_first, not_true, same_number, second_of}
 use Rattle.pblk_world.proofs.EngineLogLemmas.{takes_more}
 
@@ -150,18 +147,3 @@ line_of_holder s log q p once among holds kept = go (find (IsFor s log q) (place
         ap (λ (x : Placed). Some x.stripe.line) same
 
 -- ---- where nothing was lost
-
-pub line_unlost : (s : Shape) (log : List Logged) (q : ℕ) → NoStripeLost log
-    → placed_line s log q ≡ option_map (λ (p : Placed). p.stripe.line) (find (holds_position s q) (placements log))
-line_unlost s log q none = ap (option_map (λ (p : Placed). p.stripe.line))
-    (find_same (IsFor s log q) (holds_position s q) (λ p. ap (λ b. holds_position s q p && not b) (none p) ∙ and_true (holds_position s q p)) (placements log))
-  where
-    and_true : (b : Bool) → (b && true) ≡ b
-    and_true true = refl
-    and_true false = refl
-
-pub line_below_front : (s : Shape) (log : List Logged) (q : ℕ) → NoStripeLost log → IsOrdered s log
-    → is_some (placed_line s log q) ≡ (nat_le (first_position log) q && nat_lt q (placed_front s log))
-line_below_front s log q none is = ap is_some (line_unlost s log q none)
-    ∙ some_mapped (λ (p : Placed). p.stripe.line) (find (holds_position s q) (placements log)) ∙ found_any (holds_position s q) (placements log)
-    ∙ some_hold_below s log is q

@@ -15,7 +15,7 @@ use Rattle.lemmas.proofs.Maps.{any_found, any_member, found_passes, map_at, rang
 use Rattle.lemmas.proofs.Options.{some_value}
 use Rattle.stripe_placer.specs.OpenLines as lines
 use Rattle.stripe_placer.specs.OpenLines.{OpenLine, is_lost, numbers}
-use Rattle.world_laws.specs.LegalMounts.{IsLegalMount}
+use Rattle.pblk_world.specs.LegalMounts.{IsLegalMount}
 use Rattle.core_laws.specs.OpenedLines.{as_opened, bits_of, became, is_stripe_at, open_line, outcome, placed_as}
 use Rattle.core_laws.proofs.DoneLines.{count}
 use Rattle.core_laws.proofs.GivenBack.{none_at}

@@ -5,7 +5,7 @@ use Rattle.pblk_laws.proofs.LineUnits.{line_units_count}
 use Rattle.pblk_world.specs.World.{World, Logs, log_of}
 use Rattle.pblk_world.specs.EngineLog.{is_opened, life_of}
 use Rattle.pblk_world.specs.Lines.{known_image}
-use Rattle.world_laws.specs.LegalMounts.{IsLegalMount}
+use Rattle.pblk_world.specs.LegalMounts.{IsLegalMount}
 
 -- each line that is opened has these units
 pub record IsFollowed (i : Image) (us : ℕ → List ℕ) (w : World) : Type 0 where

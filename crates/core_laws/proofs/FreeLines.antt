@@ -21,7 +21,7 @@ use Rattle.lemmas.proofs.Lists.{IsAmong, among_contained}
 use Rattle.lemmas.proofs.Maps.{in_filter, map_at}
 use Rattle.lemmas.proofs.Parts.{all_at, contained_among}
 use Rattle.lemmas.proofs.Tests.{and_both, below_of, first_of, lt_true, not_both, same, same_number, second_of}
-use Rattle.world_laws.specs.LegalMounts.{IsLegalMount}
+use Rattle.pblk_world.specs.LegalMounts.{IsLegalMount}
 use Rattle.world_laws.proofs.Begun.{IsBegunWith, begun_with}
 use Rattle.world_laws.proofs.FoundCounts.{counted_below}
 use Rattle.world_laws.proofs.Fronts.{synced_from}

@@ -17,10 +17,10 @@ use Rattle.pblk_world.specs.Lines.{are_empty, are_over, found_image, has_number,
 use Rattle.pblk_world.specs.Space.{free_addresses, freed, full_data, is_due, open_addresses, placed_front, room, unplaced_in}
 use Rattle.pblk_world.specs.Starts.{seq_in, seq_of}
 use Rattle.stripe_placer.specs.OpenLines.{has_left}
-use Rattle.world_laws.specs.LegalMounts.{IsLegalMount}
+use Rattle.pblk_world.specs.LegalMounts.{IsLegalMount}
 use Rattle.core_laws.specs.LeftOpenings.{left_openings}
 use Rattle.core_laws.specs.OpenedLines.{open_line, open_lines}
-use Rattle.core_laws.specs.PlacerOf.{contains_unit, entries_of, placing_of, row_of}
+use Rattle.core_laws.specs.PlacerOf.{contains_unit, entries_of, placing_of, unit_row_in}
 use Rattle.core_laws.specs.Stepping.{after}
 use Rattle.core_laws.proofs.DoneLines.{none_left, none_unplaced}
 use Rattle.core_laws.proofs.Engine.{openings_before, stopped_more}
@@ -110,10 +110,10 @@ module _ (i : Image) (w : World) (mount : IsLegalMount i w) (line : ℕ) (knows 
   pub placing_freed : (pad : ℕ) (again : List ℕ) → placing_of i (after (log_of w) (Free line) knows) pad again ≡ placing_of i (log_of w) pad again
   placing_freed pad again =
       same_placing i.shape (entries_of i.shape (new 0) pad) (entries_of i.shape log pad)
-      (map (row_of i new again) (range_with_len 0 (units i.shape))) (map (row_of i (log_of w) again) (range_with_len 0 (units i.shape)))
+      (map (unit_row_in i new again) (range_with_len 0 (units i.shape))) (map (unit_row_in i (log_of w) again) (range_with_len 0 (units i.shape)))
       (open_lines i new) (open_lines i (log_of w))
       (entries_same i.shape log (new 0) pad alike (quiet_takes log (Free line) knows (free_is_quiet log line knows)))
-      (map_same (row_of i new again) (row_of i (log_of w) again)
+      (map_same (unit_row_in i new again) (unit_row_in i (log_of w) again)
       (λ u. row_same i (log_of w) (Free line) knows again again u (ap₂ (λ ps ns. unanswered_in ps ns u) alike.placements alike.answers)
       (ap (λ b. b && not (contains_unit again u)) (stopped_more log (record { event = Decides (Free line); knows = knows }) u)))
       (range_with_len 0 (units i.shape))) lines_freed

@@ -11,8 +11,8 @@ use Rattle.pblk_world.specs.EngineLog.{LineLife, AsFound, Opened, Freed, Opening
 use Rattle.pblk_world.specs.Lines.{known_image}
 use Rattle.pblk_world.specs.Victims.{is_in_force}
 use Rattle.pblk_world.proofs.Appending.{life_more, openings_more}
-use Rattle.core_laws.specs.OpenedLines.{bits_of, live_now}
-use Rattle.core_laws.specs.PlainLogs.{FreedBefore}
+use Rattle.core_laws.specs.OpenedLines.{bits_of, online_now}
+use Rattle.core_laws.specs.InOrder.{FreedBefore}
 use Rattle.core_laws.specs.SlotOf.{slot_of}
 use Rattle.core_laws.specs.Stepping.{after}
 use Rattle.core_laws.specs.WindowOf.{window_from}
@@ -99,6 +99,6 @@ window_freed s logs line knows from = quiet_window s logs (Free line) knows from
 pub known_freed : (i : Image) (logs : Logs) (line : ℕ) (knows : List ℕ) → known_image i (after logs (Free line) knows) ≡ known_image i logs
 known_freed i logs line knows = known_kept i logs (Free line) knows refl (λ unit. refl)
 
-pub units_freed : (i : Image) (logs : Logs) (line : ℕ) (knows : List ℕ) (other : ℕ) → live_now i (after logs (Free line) knows) other ≡ live_now i logs other
+pub units_freed : (i : Image) (logs : Logs) (line : ℕ) (knows : List ℕ) (other : ℕ) → online_now i (after logs (Free line) knows) other ≡ online_now i logs other
 units_freed i logs line knows other =
     ap (λ (j : Image). bits_of (line_units j other)) (known_freed i logs line knows)

@@ -6,7 +6,7 @@ use Rattle.pblk_world.specs.EngineLog.{life_of}
 use Rattle.pblk_world.specs.Events.{Logged}
 use Rattle.pblk_world.specs.Legal.{IsLegal}
 use Rattle.pblk_world.specs.World.{World, known, log_of}
-use Rattle.core_laws.specs.PlainLogs.{FreedBefore}
+use Rattle.core_laws.specs.InOrder.{FreedBefore}
 use Rattle.std.proofs.Math.Seq.{take-length}
 use Rattle.world_laws.proofs.KeptChunks.{IsFreedSince, freed_since}
 use Rattle.world_laws.proofs.NamedPrefixes.{IsByPrefixes, was_made}

@@ -16,7 +16,7 @@ use Rattle.pblk_world.specs.Starts.{seq_in, seq_of}
 use Rattle.pblk_world.specs.Victims.{engine_prefix, live}
 use Rattle.line_table.specs.declared.row.LineState.TheVariants as states
 use Rattle.line_table.specs.Rows.{turned}
-use Rattle.world_laws.specs.LegalMounts.{IsLegalMount}
+use Rattle.pblk_world.specs.LegalMounts.{IsLegalMount}
 use Rattle.core_laws.specs.ChangedTables.{with_row}
 use Rattle.core_laws.specs.RowsOf.{logs_then, row_of_line, rows_of, state_found, state_in, taker_by, taker_in, width_in}
 use Rattle.core_laws.specs.Spent.{IsSpent}

@@ -13,7 +13,7 @@ use Rattle.pblk_world.specs.EngineLog.{LineLife, has_landed, holds_position, is_
 use Rattle.pblk_world.specs.Fronts.{last_take}
 use Rattle.pblk_world.specs.Lines.{found_image}
 use Rattle.pblk_world.specs.Victims.{is_in_force, is_live_in, landed_line_of, line_of, line_of_winner, live, take_before, took_from}
-use Rattle.world_laws.specs.LegalMounts.{IsLegalMount}
+use Rattle.pblk_world.specs.LegalMounts.{IsLegalMount}
 use Rattle.core_laws.specs.RowsOf.{taker_by}
 use Rattle.core_laws.specs.Stepping.{after}
 use Rattle.core_laws.proofs.FreedLives.{force_freed, free_is_quiet, life_beside, life_freed}
@@ -209,16 +209,16 @@ module _ (i : Image) (w : World) (mount : IsLegalMount i w) (line : ℕ) (knows 
 
   -- ---- live sectors and takers
 
-  live_now : (lba m : ℕ) → is_live_in i (after (log_of w) (Free line) knows) m lba
+  online_now : (lba m : ℕ) → is_live_in i (after (log_of w) (Free line) knows) m lba
       ≡ is_of m (unless line (line_of i (log_of w) lba (last_take (log_of w 0) lba)))
-  live_now lba m =
+  online_now lba m =
       ap (λ (ts : List Taken). is_of m (line_of i new lba (last_or None (filter (λ (t : Taken). t.mark.lba == lba) ts)))) same_takes
       ∙ ap (is_of m) (line_freed lba (last_take log lba))
 
   -- of another line nothing changes
   pub live_beside : (m : ℕ) → m ≢ line → live i (after (log_of w) (Free line) knows) m ≡ live i (log_of w) m
   live_beside m apart = live_same i (log_of w) new m
-      (λ lba. live_now lba m ∙ of_unless m line (line_of i (log_of w) lba (last_take log lba)) apart)
+      (λ lba. online_now lba m ∙ of_unless m line (line_of i (log_of w) lba (last_take log lba)) apart)
 
   pub taker_beside : (m : ℕ) → m ≢ line → taker_by i (after (log_of w) (Free line) knows) m ≡ taker_by i (log_of w) m
   taker_beside m apart =
@@ -237,4 +237,4 @@ module _ (i : Image) (w : World) (mount : IsLegalMount i w) (line : ℕ) (knows 
   pub none_live : live i (after (log_of w) (Free line) knows) line ≡ 0
   none_live = ap length (filter_none (is_live_in i new line) (range_with_len 0 i.shape.capacity)
       (all_of (λ lba. is_live_in i new line lba ≡ false)
-      (λ lba. live_now lba line ∙ none_unless line (line_of i (log_of w) lba (last_take log lba))) (range_with_len 0 i.shape.capacity)))
+      (λ lba. online_now lba line ∙ none_unless line (line_of i (log_of w) lba (last_take log lba))) (range_with_len 0 i.shape.capacity)))

@@ -29,7 +29,7 @@ use Rattle.lemmas.proofs.Maps.{all_passed, any_fail}
 use Rattle.lemmas.proofs.Options.{map_some, split_then}
 use Rattle.lemmas.proofs.Parts.{none_past}
 use Rattle.lemmas.proofs.Tests.{first_of, no_both, not_true, same, second_of}
-use Rattle.world_laws.specs.LegalMounts.{IsLegalMount}
+use Rattle.pblk_world.specs.LegalMounts.{IsLegalMount}
 use Rattle.world_laws.specs.SameImages.{IsSameLine}
 use Rattle.world_laws.specs.UnitChunks.{chunk_after}
 use Rattle.world_laws.proofs.FoundImages.{found_strays}

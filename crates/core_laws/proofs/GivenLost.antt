@@ -5,10 +5,9 @@ use Rattle.std.specs.List.{AllByRecursion, filter, list_any, enumerate_from}
 use Rattle.std.proofs.lemmas.Bool.{eqb-false}
 use Rattle.pblk_model.specs.declared.shape.Shape.{Shape}
 use Rattle.pblk_model.specs.Chunk.{Block}
-use Rattle.pblk_model.specs.Contents.{least_missing}
 use Rattle.pblk_world.specs.Events.{Logged, Lost, Decides}
 use Rattle.pblk_world.specs.EngineLog.{LineLife, AsFound, Opened, Freed, is_life, Opening, Taken, takes, Placed, placements, stripes_on, answer_of, is_loss, has_landed, was_lost, bears_position, holds_position}
-use Rattle.pblk_world.specs.Fronts.{first_position, has_landed_at, is_users, synced}
+use Rattle.pblk_world.specs.Fronts.{first_position, has_landed_at, is_users}
 use Rattle.pblk_world.specs.Space.{landed_blocks, is_readable_in, gives_back}
 use Rattle.core_laws.specs.AdvancedEntries.{advanced_sector, advanced_window}
 use Rattle.core_laws.specs.ChunkBlocks.{has_landed_in}
@@ -187,13 +186,3 @@ window_by_given s log unit event knows p reads from waits given = same_window fr
     each (t ∷ ts) = ap₂ (λ (h : HeldSector) hs. h ∷ hs) (held t) (each ts)
 
 -- ---- the front synced
-
-pub synced_lost : (s : Shape) (log : List Logged) (unit event : ℕ) (knows : List ℕ) (p : Placed) → unanswered_on log unit ≡ Some p
-    → synced s (with_event log (Lost unit event) knows) ≡ synced s log
-synced_lost s log unit event knows p waits =
-    let new : List Logged = with_event log (Lost unit event) knows in
-    let same : takes new ≡ takes log =
-    takes_more log (record { event = Decides (Lost unit event); knows = knows }) ∙ append-nil (takes log) in
-    ap₂ (λ (ts : List Taken) n. least_missing (has_landed_at s new) (length ts) n) same (first_kept log (Lost unit event) knows refl)
-    ∙ ap (λ (test : ℕ → Bool). least_missing test (length (takes log)) (first_position log))
-    (λ k q. landed_at_same s log new p q (one_lost log unit event knows p waits) k)

@@ -8,7 +8,7 @@ use Rattle.pblk_model.specs.Chunk.{Chunk}
 use Rattle.pblk_model.specs.ChunkStep.{ChunkCommand, Write, Read, Reset}
 use Rattle.pblk_model.specs.UnitLog.{UnitEvent}
 use Rattle.pblk_model.specs.Image.{Image}
-use Rattle.pblk_world.specs.Events.{Landed, Event, Decides, Does, Logged}
+use Rattle.pblk_world.specs.Events.{Event, Decides, Does, Logged}
 use Rattle.pblk_world.specs.World.{World, Logs, log_of, known, prefixes, unit_event_of}
 use Rattle.pblk_world.specs.EngineLog.{Begun, begun, Placed, placed_on, answers}
 use Rattle.pblk_world.specs.Commanding.{is_program, ended_stripes, IsCommand, MayDo}
@@ -90,11 +90,3 @@ landed_at i w legal k unit n l b is begins may =
         done = may.done;
       },
     )
-
-pub landed_its_stripe : (i : Image) (w : World) (k unit n : ℕ) (l : Logged) → IsLegal i w → slice_get (log_of w 0) k ≡ Some l
-    → l.event ≡ Decides (Landed unit n)
-    → (p : Placed) × (slice_get (placed_on (log_of w 0) unit) (length (answers (take k (log_of w 0)) unit)) ≡ Some p) × IsProgramDone (log_of w) unit n p
-landed_its_stripe i w k unit n l legal there is =
-    let made : HasHappened i (log_of w) 0 k l = happened i w 0 legal k l there in
-    let allowed : IsAllowed i 0 (Decides (Landed unit n)) (prefixes l (log_of w)) = subst (λ e. IsAllowed i 0 e (prefixes l (log_of w))) is made.allowed in
-    landed_at i w legal k unit n l allowed.0 made allowed.1 allowed.2

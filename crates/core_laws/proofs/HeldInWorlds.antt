@@ -7,7 +7,7 @@ use Rattle.pblk_world.specs.EngineLog.{Opened, Opening, takes, Placed, placement
 use Rattle.pblk_world.specs.Fronts.{first_position, taken, has_landed_at}
 use Rattle.pblk_world.specs.Space.{freed}
 use Rattle.core_laws.specs.PlacerOf.{unanswered_on}
-use Rattle.world_laws.specs.LegalMounts.{IsLegalMount}
+use Rattle.pblk_world.specs.LegalMounts.{IsLegalMount}
 use Rattle.core_laws.specs.WindowOf.{is_given_back}
 use Rattle.core_laws.proofs.Answered.{first_unanswered}
 use Rattle.core_laws.specs.ChunkBlocks.{newly_readable, chunk_blocks, AreInRows}

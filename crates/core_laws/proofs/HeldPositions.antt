@@ -17,7 +17,7 @@ use Rattle.pblk_world.specs.Space.{is_readable_in, gives_back, freed, placed_fro
 use Rattle.pblk_world.proofs.SyncedFront.{synced_is}
 use Rattle.stripe_placer.specs.Placing.{Program, positions_in, held}
 use Rattle.stripe_placer.specs.Placing.UnitRow.{Idle}
-use Rattle.core_laws.specs.PlacerOf.{positions_of, positions_in_stripe, fresh_entries, waits_again, program_of_placed, row_of_program, row_in, row_of, unanswered_on, placing_of}
+use Rattle.core_laws.specs.PlacerOf.{positions_of, positions_in_stripe, fresh_entries, waits_again, program_of_placed, row_of_program, row_in, unit_row_in, unanswered_on, placing_of}
 use Rattle.world_laws.proofs.UnitTurns.{unit_is as its_unit}
 use Rattle.core_laws.specs.Placed.{IsInWindow}
 use Rattle.core_laws.specs.Positions.{AreNumbered}
@@ -49,8 +49,8 @@ row_positions i logs stopped (Opened o) p = inr (program_positions stopped (prog
 row_positions i logs stopped (Freed past knows) p = inl refl
 
 awaited_is : (i : Image) (logs : Logs) (again : List ℕ) (unit : ℕ)
-    → (positions_in (row_of i logs again unit) ≡ [])
-    ⊎ ((p : Placed) × (unanswered_on (logs 0) unit ≡ Some p) × (positions_in (row_of i logs again unit) ≡ positions_in_stripe i.shape p.stripe))
+    → (positions_in (unit_row_in i logs again unit) ≡ [])
+    ⊎ ((p : Placed) × (unanswered_on (logs 0) unit ≡ Some p) × (positions_in (unit_row_in i logs again unit) ≡ positions_in_stripe i.shape p.stripe))
 awaited_is i logs again unit = go (unanswered_on (logs 0) unit) refl
   where
     by_row : (p : Placed) → unanswered_on (logs 0) unit ≡ Some p
@@ -71,12 +71,12 @@ awaited_is i logs again unit = go (unanswered_on (logs 0) unit) refl
     go (Some p) e = by_row p e (row_positions i logs (waits_again (logs 0) again unit) p.life p)
 
 -- a position in a row is in the stripe of its unit
-in_row : (i : Image) (logs : Logs) (again : List ℕ) (unit q : ℕ) → IsIn (positions_in (row_of i logs again unit)) q
+in_row : (i : Image) (logs : Logs) (again : List ℕ) (unit q : ℕ) → IsIn (positions_in (unit_row_in i logs again unit)) q
     → (p : Placed) × (unanswered_on (logs 0) unit ≡ Some p) × IsIn (positions_in_stripe i.shape p.stripe) q
 in_row i logs again unit q is = go (awaited_is i logs again unit)
   where
-    go : (positions_in (row_of i logs again unit) ≡ [])
-        ⊎ ((p : Placed) × (unanswered_on (logs 0) unit ≡ Some p) × (positions_in (row_of i logs again unit) ≡ positions_in_stripe i.shape p.stripe))
+    go : (positions_in (unit_row_in i logs again unit) ≡ [])
+        ⊎ ((p : Placed) × (unanswered_on (logs 0) unit ≡ Some p) × (positions_in (unit_row_in i logs again unit) ≡ positions_in_stripe i.shape p.stripe))
         → (p : Placed) × (unanswered_on (logs 0) unit ≡ Some p) × IsIn (positions_in_stripe i.shape p.stripe) q
     go (inl none) = let never : IsIn [] q = subst (λ xs. IsIn xs q) none is in absurd cc
     go (inr at) = (at.0, at.1, subst (λ xs. IsIn xs q) at.2 is)
@@ -105,12 +105,12 @@ entry_of ts q is =
     any_mapped [] = refl
     any_mapped (u ∷ us) = ap (λ b. (u.entry.position == q) || b) (any_mapped us)
 
-row_distinct : (i : Image) (logs : Logs) (again : List ℕ) → IsOrdered i.shape (logs 0) → (unit : ℕ) → Distinct (positions_in (row_of i logs again unit))
+row_distinct : (i : Image) (logs : Logs) (again : List ℕ) → IsOrdered i.shape (logs 0) → (unit : ℕ) → Distinct (positions_in (unit_row_in i logs again unit))
 row_distinct i logs again is unit = go (awaited_is i logs again unit)
   where
-    go : (positions_in (row_of i logs again unit) ≡ [])
-        ⊎ ((p : Placed) × (unanswered_on (logs 0) unit ≡ Some p) × (positions_in (row_of i logs again unit) ≡ positions_in_stripe i.shape p.stripe))
-        → Distinct (positions_in (row_of i logs again unit))
+    go : (positions_in (unit_row_in i logs again unit) ≡ [])
+        ⊎ ((p : Placed) × (unanswered_on (logs 0) unit ≡ Some p) × (positions_in (unit_row_in i logs again unit) ≡ positions_in_stripe i.shape p.stripe))
+        → Distinct (positions_in (unit_row_in i logs again unit))
     go (inl none) = subst Distinct (sym none) tt
     go (inr at) =
         let there : IsAmong (placements (logs 0)) at.0 = among (logs 0) unit at.0 at.1 in
@@ -118,8 +118,8 @@ row_distinct i logs again is unit = go (awaited_is i logs again unit)
         all_at (λ (p : Placed). HasEntries i.shape (logs 0) p.stripe) (placements (logs 0)) there.0 at.0 there.1 is.entries in
         subst Distinct (sym (at.2 ∙ its.positions)) (distinct_rising its.entries its.rising)
 
-one_row : (i : Image) (logs : Logs) (again : List ℕ) → IsOrdered i.shape (logs 0) → (u v q : ℕ) → IsIn (positions_in (row_of i logs again u)) q
-    → IsIn (positions_in (row_of i logs again v)) q → u ≡ v
+one_row : (i : Image) (logs : Logs) (again : List ℕ) → IsOrdered i.shape (logs 0) → (u v q : ℕ) → IsIn (positions_in (unit_row_in i logs again u)) q
+    → IsIn (positions_in (unit_row_in i logs again v)) q → u ≡ v
 one_row i logs again is u v q a b =
     let p = in_row i logs again u q a in
     let r = in_row i logs again v q b in
@@ -137,9 +137,9 @@ made_mapped f g (x ∷ xs) = ap (λ ys. g (f x) ++ ys) (made_mapped f g xs)
 
 pub held_is : (i : Image) (logs : Logs) (pad : ℕ) (again : List ℕ)
     → held (placing_of i logs pad again) ≡ positions_of (waiting i.shape (logs 0))
-    ++ flat_map (λ unit. positions_in (row_of i logs again unit)) (range_with_len 0 (units i.shape))
+    ++ flat_map (λ unit. positions_in (unit_row_in i logs again unit)) (range_with_len 0 (units i.shape))
 held_is i logs pad again = ap₂ (λ (a b : List ℕ). a ++ b) (waiting_alike i.shape (logs 0) pad)
-    (made_mapped (row_of i logs again) positions_in (range_with_len 0 (units i.shape)))
+    (made_mapped (unit_row_in i logs again) positions_in (range_with_len 0 (units i.shape)))
 
 -- an entry that waits is in no stripe but lost ones
 waiting_at : (s : Shape) (log : List Logged) (q : ℕ) → IsIn (positions_of (waiting s log)) q
@@ -158,11 +158,11 @@ waiting_at s log q is =
 pub held_distinct : (i : Image) (logs : Logs) (pad : ℕ) (again : List ℕ) → IsOrdered i.shape (logs 0) → Distinct (held (placing_of i logs pad again))
 held_distinct i logs pad again is = subst Distinct (sym (held_is i logs pad again))
     (distinct_joined (positions_of (waiting i.shape (logs 0)))
-    (flat_map (λ unit. positions_in (row_of i logs again unit)) (range_with_len 0 (units i.shape)))
+    (flat_map (λ unit. positions_in (unit_row_in i logs again unit)) (range_with_len 0 (units i.shape)))
     (distinct_rising (waiting i.shape (logs 0)) (waiting_rises i.shape (logs 0) is.numbered is.order))
-    (distinct_rows (λ unit. positions_in (row_of i logs again unit)) 0 (units i.shape) (row_distinct i logs again is) (one_row i logs again is))
+    (distinct_rows (λ unit. positions_in (unit_row_in i logs again unit)) 0 (units i.shape) (row_distinct i logs again is) (one_row i logs again is))
     (λ q waits placed.
-    let row = made_of (λ unit. positions_in (row_of i logs again unit)) 0 (units i.shape) q placed in
+    let row = made_of (λ unit. positions_in (unit_row_in i logs again unit)) 0 (units i.shape) q placed in
     let p = in_row i logs again row.0 q row.3 in
     not_both (was_lost (logs 0) p.0)
     ((waiting_at i.shape (logs 0) q waits).3 p.0 (among (logs 0) row.0 p.0 p.1) (stripe_holds i.shape q p.0 ∙ p.2))
@@ -209,7 +209,7 @@ waiting_held s log is q waits =
       not_landed = no_land s log q (λ p there landed holds. not_both (was_lost log p) (at.3 p there holds) (landed_not_lost log p landed));
     }
 
-row_held : (i : Image) (logs : Logs) (again : List ℕ) → IsOrdered i.shape (logs 0) → (unit q : ℕ) → IsIn (positions_in (row_of i logs again unit)) q
+row_held : (i : Image) (logs : Logs) (again : List ℕ) → IsOrdered i.shape (logs 0) → (unit q : ℕ) → IsIn (positions_in (unit_row_in i logs again unit)) q
     → IsHeld i.shape (logs 0) q
 row_held i logs again is unit q e =
     let p = in_row i logs again unit q e in
@@ -230,14 +230,14 @@ row_held i logs again is unit q e =
 pub held_at : (i : Image) (logs : Logs) (pad : ℕ) (again : List ℕ) → IsOrdered i.shape (logs 0) → (q : ℕ) → IsIn (held (placing_of i logs pad again)) q
     → IsHeld i.shape (logs 0) q
 held_at i logs pad again is q e =
-    go (in_joined (positions_of (waiting i.shape (logs 0))) (flat_map (λ unit. positions_in (row_of i logs again unit)) (range_with_len 0 (units i.shape))) q
+    go (in_joined (positions_of (waiting i.shape (logs 0))) (flat_map (λ unit. positions_in (unit_row_in i logs again unit)) (range_with_len 0 (units i.shape))) q
     (subst (λ xs. IsIn xs q) (held_is i logs pad again) e))
   where
     go : IsIn (positions_of (waiting i.shape (logs 0))) q
-        ⊎ IsIn (flat_map (λ unit. positions_in (row_of i logs again unit)) (range_with_len 0 (units i.shape))) q → IsHeld i.shape (logs 0) q
+        ⊎ IsIn (flat_map (λ unit. positions_in (unit_row_in i logs again unit)) (range_with_len 0 (units i.shape))) q → IsHeld i.shape (logs 0) q
     go (inl waits) = waiting_held i.shape (logs 0) is q waits
     go (inr placed) =
-        let row = made_of (λ unit. positions_in (row_of i logs again unit)) 0 (units i.shape) q placed in
+        let row = made_of (λ unit. positions_in (unit_row_in i logs again unit)) 0 (units i.shape) q placed in
         row_held i logs again is row.0 q row.3
 
 -- ---- fronts below

@@ -13,7 +13,7 @@ use Rattle.pblk_world.specs.World.{World, log_of}
 use Rattle.pblk_world.specs.EngineLog.{begun, Taken, takes}
 use Rattle.pblk_world.specs.Fronts.{first_position, taken, is_users, user_takes, history, user_positions, last_take}
 use Rattle.pblk_world.specs.Lines.{found_image}
-use Rattle.world_laws.specs.LegalMounts.{IsLegalMount, NoneCopied}
+use Rattle.pblk_world.specs.LegalMounts.{IsLegalMount, NoneCopied}
 use Rattle.world_laws.proofs.Copies.{entries_follow}
 use Rattle.world_laws.proofs.HeldSectors.{all_pass, fold_holds, held_by}
 use Rattle.world_laws.proofs.SectorValues.{found_capacity}

@@ -1,4 +1,4 @@
--- The rows of a placer in a simple mount: a unit's row is idle exactly where its stripes are
+-- The rows of a placer in a mount: a unit's row is idle exactly where its stripes are
 -- answered.
 use Rattle.std.proofs.Common.{◌≡◌, ℕ, ◌+◌, ◌<◌, ◌≤◌, ◌==◌, zero, suc, Bool, true, false, Some, None, Option, List, [], ◌∷◌, map, length, refl, sym, subst, ap, ◌∙◌, arith}
 use Rattle.std.specs.Prelude.{slice_get}
@@ -14,7 +14,7 @@ use Rattle.pblk_world.proofs.Answered.{answers_fit}
 use Rattle.stripe_placer.specs.Placing.{Program, stopped_in, is_under_way}
 use Rattle.stripe_placer.specs.Placing.UnitRow.{Idle}
 use Rattle.stripe_placer.proofs.Numbered.{get_mapped}
-use Rattle.core_laws.specs.PlacerOf.{program_of_placed, waits_again, row_in, row_of, unanswered_on}
+use Rattle.core_laws.specs.PlacerOf.{program_of_placed, waits_again, row_in, unit_row_in, unanswered_on}
 use Rattle.world_laws.proofs.Stripes.{life_of_stripe}
 use Rattle.world_laws.proofs.UnitTurns.{unit_is as its_unit}
 use Rattle.core_laws.proofs.UnitTurns.{stands_at_turn}
@@ -34,8 +34,8 @@ row_busy i logs b (Freed past knows) p opened none = absurd cc
 
 -- a row that is neither under way nor stopped is of no stripe that isn't answered, and the other
 -- way round
-pub is_idle : (i : Image) (us : ℕ → List ℕ) (w : World) (again : List ℕ) (unit : ℕ) → IsFollowed i us w → is_under_way (row_of i (log_of w) again unit) ≡ false
-    → stopped_in (row_of i (log_of w) again unit) ≡ None
+pub is_idle : (i : Image) (us : ℕ → List ℕ) (w : World) (again : List ℕ) (unit : ℕ) → IsFollowed i us w → is_under_way (unit_row_in i (log_of w) again unit) ≡ false
+    → stopped_in (unit_row_in i (log_of w) again unit) ≡ None
     → length (answers (log_of w 0) unit) ≡ length (placed_on (log_of w 0) unit)
 is_idle i us w again unit is idle none = go (unanswered_on (log_of w 0) unit) refl idle none
   where
@@ -63,9 +63,9 @@ is_idle i us w again unit is idle none = go (unanswered_on (log_of w 0) unit) re
         absurd cc
 
 pub row_there : (i : Image) (logs : Logs) (again : List ℕ) (unit : ℕ) → unit < units i.shape
-    → slice_get (map (row_of i logs again) (range_with_len 0 (units i.shape))) unit ≡ Some (row_of i logs again unit)
-row_there i logs again unit inside = let from : 0 + unit ≡ unit = omega arith in get_mapped (row_of i logs again) 0 (units i.shape) unit inside
-    ∙ ap (λ u. Some (row_of i logs again u)) from
+    → slice_get (map (unit_row_in i logs again) (range_with_len 0 (units i.shape))) unit ≡ Some (unit_row_in i logs again unit)
+row_there i logs again unit inside = let from : 0 + unit ≡ unit = omega arith in get_mapped (unit_row_in i logs again) 0 (units i.shape) unit inside
+    ∙ ap (λ u. Some (unit_row_in i logs again u)) from
 
 -- ---- stopped stripes
 
@@ -81,23 +81,23 @@ stopped_unit i logs b (Some p) unit of own e = go b p.life e
     go b AsFound e = absurd cc
     go b (Freed past knows) e = absurd cc
 
-pub its_row : (i : Image) (logs : Logs) (again : List ℕ) (unit : ℕ) (of : Program) → stopped_in (row_of i logs again unit) ≡ Some of → of.unit ≡ unit
+pub its_row : (i : Image) (logs : Logs) (again : List ℕ) (unit : ℕ) (of : Program) → stopped_in (unit_row_in i logs again unit) ≡ Some of → of.unit ≡ unit
 its_row i logs again unit of e = stopped_unit i logs (waits_again (logs 0) again unit) (unanswered_on (logs 0) unit) unit of
     (λ p there. its_unit (logs 0) unit (length (answers (logs 0) unit)) p there) e
 
 -- where its unit has no stopped stripe, a program isn't one that is offered again
-pub not_again : (i : Image) (logs : Logs) (again : List ℕ) (a n k : ℕ) (of : Program) → stopped_in (row_of i logs again of.unit) ≡ None
-    → slice_get (filter_map stopped_in (map (row_of i logs again) (range_with_len a n))) k ≡ Some of → ⊥
+pub not_again : (i : Image) (logs : Logs) (again : List ℕ) (a n k : ℕ) (of : Program) → stopped_in (unit_row_in i logs again of.unit) ≡ None
+    → slice_get (filter_map stopped_in (map (unit_row_in i logs again) (range_with_len a n))) k ≡ Some of → ⊥
 not_again i logs again a zero k of none there = absurd (none-some of there)
-not_again i logs again a (suc n) k of none there = go (stopped_in (row_of i logs again a)) refl k there (λ m h. not_again i logs again (a + 1) n m of none h)
+not_again i logs again a (suc n) k of none there = go (stopped_in (unit_row_in i logs again a)) refl k there (λ m h. not_again i logs again (a + 1) n m of none h)
   where
-    go : (o : Option Program) → stopped_in (row_of i logs again a) ≡ o → (k : ℕ)
-        → slice_get (cons_option o (filter_map stopped_in (map (row_of i logs again) (range_with_len (a + 1) n)))) k ≡ Some of
-        → ((m : ℕ) → slice_get (filter_map stopped_in (map (row_of i logs again) (range_with_len (a + 1) n))) m ≡ Some of → ⊥) → ⊥
+    go : (o : Option Program) → stopped_in (unit_row_in i logs again a) ≡ o → (k : ℕ)
+        → slice_get (cons_option o (filter_map stopped_in (map (unit_row_in i logs again) (range_with_len (a + 1) n)))) k ≡ Some of
+        → ((m : ℕ) → slice_get (filter_map stopped_in (map (unit_row_in i logs again) (range_with_len (a + 1) n))) m ≡ Some of → ⊥) → ⊥
     go None e k there rest = rest k there
     go (Some x) e zero there rest =
         let own : of.unit ≡ a = its_row i logs again a of (e ∙ there) in
-        none-some of (sym none ∙ ap (λ u. stopped_in (row_of i logs again u)) own ∙ e ∙ there)
+        none-some of (sym none ∙ ap (λ u. stopped_in (unit_row_in i logs again u)) own ∙ e ∙ there)
     go (Some x) e (suc k) there rest = rest k there
 
 -- ---- answers

@@ -7,7 +7,7 @@ use Rattle.pblk_model.specs.LineOrder.{column_of, block_of}
 use Rattle.pblk_model.specs.Shape.{units}
 use Rattle.pblk_model.specs.Chunk.{Chunk}
 use Rattle.pblk_model.specs.Image.{Image, is_online_in, line_units, width}
-use Rattle.pblk_layout.specs.Live.{is_live}
+use Rattle.pblk_layout.specs.Online.{is_online}
 use Rattle.pblk_world.specs.Events.{Stripe, Logged}
 use Rattle.pblk_world.specs.World.{World, Logs, log_of}
 use Rattle.pblk_world.specs.EngineLog.{Opening, Opened, is_answered, life_of, Placed, placements}
@@ -15,7 +15,7 @@ use Rattle.pblk_world.specs.Legal.{IsLegal}
 use Rattle.pblk_world.specs.Lines.{known_image, place_of}
 use Rattle.pblk_world.specs.Placing.{next_address, IsStart, IsData, IsEnd, IsPad, MayPlace}
 use Rattle.pblk_world.specs.Victims.{engine_prefix}
-use Rattle.world_laws.specs.LegalMounts.{IsLegalMount}
+use Rattle.pblk_world.specs.LegalMounts.{IsLegalMount}
 use Rattle.world_laws.proofs.Later.{placed_within}
 use Rattle.world_laws.proofs.Openings.{placed_at}
 use Rattle.world_laws.proofs.Stripes.{IsPlaced, life_of_stripe, opening_then, placed_is}
@@ -41,13 +41,13 @@ few_units i w ls is =
     let few = is.accepted.drive.few_units in
     omega arith
 
-pub unit_live : (j : Image) (line k unit : ℕ) → length j.units ≤ 64 → slice_get (line_units j line) k ≡ Some unit → is_live j line unit ≡ true
+pub unit_live : (j : Image) (line k unit : ℕ) → length j.units ≤ 64 → slice_get (line_units j line) k ≡ Some unit → is_online j line unit ≡ true
 unit_live j line k unit few e =
-    filtered_is (is_live j line) (range_with_len 0 64) k unit
-    (ap (λ (us : List ℕ). slice_get us k) (sym (units_are j line (is_live j line) few (λ u. refl))) ∙ e)
+    filtered_is (is_online j line) (range_with_len 0 64) k unit
+    (ap (λ (us : List ℕ). slice_get us k) (sym (units_are j line (is_online j line) few (λ u. refl))) ∙ e)
 
 -- a unit of which a line has such a chunk is one of the image
-pub live_inside : (j : Image) (line unit : ℕ) → is_live j line unit ≡ true → unit < length j.units
+pub live_inside : (j : Image) (line unit : ℕ) → is_online j line unit ≡ true → unit < length j.units
 live_inside j line unit live =
     there (λ (chunks : List Chunk). option_map_or (λ (c : Chunk). is_online_in c.state) (slice_get chunks line) false) j.units unit live
   where
@@ -56,10 +56,10 @@ live_inside j line unit live =
     there test (x ∷ xs) zero e = omega arith
     there test (x ∷ xs) (suc k) e = let rest : k < length xs = there test xs k e in omega arith
 
-pub same_units : (j k : Image) (line : ℕ) → length j.units ≤ 64 → length k.units ≤ 64 → ((unit : ℕ) → is_live j line unit ≡ is_live k line unit)
+pub same_units : (j k : Image) (line : ℕ) → length j.units ≤ 64 → length k.units ≤ 64 → ((unit : ℕ) → is_online j line unit ≡ is_online k line unit)
     → line_units j line ≡ line_units k line
-same_units j k line few many same = units_are j line (is_live k line) few (λ unit. sym (same unit))
-    ∙ sym (units_are k line (is_live k line) many (λ unit. refl))
+same_units j k line few many same = units_are j line (is_online k line) few (λ unit. sym (same unit))
+    ∙ sym (units_are k line (is_online k line) many (λ unit. refl))
 
 -- ---- an opened line keeps its units
 
@@ -119,7 +119,7 @@ on_drive i w p is there =
 
 -- while it isn't answered the chunk isn't Offline
 pub still_online : (i : Image) (w : World) (p : Placed) → IsLegalMount i w → Contains (placements (log_of w 0)) p → is_answered (log_of w 0) p ≡ false
-    → is_live (known_image i (log_of w)) p.stripe.line p.stripe.unit ≡ true
+    → is_online (known_image i (log_of w)) p.stripe.line p.stripe.unit ≡ true
 still_online i w p is there waits =
     let log : List Logged = log_of w 0 in
     let life = life_of_stripe i w p is.legal there in

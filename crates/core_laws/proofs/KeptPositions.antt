@@ -17,7 +17,7 @@ use Rattle.pblk_world.specs.Fronts.{first_position, taken}
 use Rattle.pblk_world.specs.Legal.{IsDecision}
 use Rattle.pblk_world.specs.Taking.{IsMarked}
 use Rattle.pblk_world.proofs.Appending.{placements_more}
-use Rattle.core_laws.specs.PlacedEntries.{AreNamed}
+use Rattle.core_laws.specs.PlacedEntries.{AreSectorsOrVoid}
 use Rattle.core_laws.specs.Positions.{AreNumbered, AreMarked, AreTaken}
 use Rattle.core_laws.proofs.TakenNumbers.{first_stays}
 use Rattle.core_laws.proofs.PlacedPositions.{placed_taken}
@@ -58,7 +58,7 @@ mark_names i known entry mark (Some source) low (inr stale) =
     ap (λ (m : Mark). is_some (named i.shape m)) stale.names_none ∙ void_names i.shape entry.position
 
 pub named_after : (i : Image) (known : Logs) (log : List Logged) (beginning : Begun) (e : EngineEvent) (knows : List ℕ) → IsDecision i known beginning e
-    → AreNamed i.shape log → AreNamed i.shape (log ++ record { event = Decides e; knows = knows } ∷ [])
+    → AreSectorsOrVoid i.shape log → AreSectorsOrVoid i.shape (log ++ record { event = Decides e; knows = knows } ∷ [])
 named_after i known log beginning (Take entry mark) knows may is =
     let l : Logged = record { event = Decides (Take entry mark); knows = knows } in
     subst (AllByRecursion (λ (t : Taken). is_some (named i.shape t.mark) ≡ true)) (sym (takes_more log l))

@@ -21,7 +21,7 @@ use Rattle.line_table.specs.declared.row.LineState.TheVariants.{Free, Full, Fail
 use Rattle.line_table.specs.declared.row.LineState.TheVariants as states
 use Rattle.line_table.specs.declared.row.Row.{Row}
 use Rattle.core_laws.specs.Stepping.{after}
-use Rattle.core_laws.specs.PlainLogs.{FreedBefore}
+use Rattle.core_laws.specs.InOrder.{FreedBefore}
 use Rattle.core_laws.specs.RowsOf.{logs_then, state_found, state_in, width_in, taker_by, taker_in, row_of_line}
 use Rattle.core_laws.proofs.Engine.{prefix_same}
 use Rattle.core_laws.proofs.KeptStripes.{with_event}

@@ -9,7 +9,7 @@ use Rattle.pblk_model.specs.declared.shape.Shape.{Shape}
 use Rattle.pblk_model.specs.Chunk.{Chunk}
 use Rattle.pblk_model.specs.UnitLog.{UnitEvent, after_outcome, after_event, after_log}
 use Rattle.pblk_model.specs.Image.{Image, is_online_in}
-use Rattle.pblk_layout.specs.Live.{is_live}
+use Rattle.pblk_layout.specs.Online.{is_online}
 use Rattle.pblk_world.specs.Events.{Landed, Lost, ResetDone, Event, Decides, Logged}
 use Rattle.pblk_world.specs.World.{Logs}
 use Rattle.pblk_world.specs.EngineLog.{Begun, begun}
@@ -101,7 +101,7 @@ chunk_in i u line = option_and_then (λ (cs : List Chunk). slice_get cs line) (s
 abbrev pub is_on : Option Chunk → Bool
 is_on o = option_map_or (λ (c : Chunk). is_online_in c.state) o false
 
-pub live_chunk : (i : Image) (line u : ℕ) → is_live i line u ≡ is_on (chunk_in i u line)
+pub live_chunk : (i : Image) (line u : ℕ) → is_online i line u ≡ is_on (chunk_in i u line)
 live_chunk i line u = go (slice_get i.units u)
   where
     go : (o : Option (List Chunk))

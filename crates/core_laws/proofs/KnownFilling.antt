@@ -29,7 +29,7 @@ use Rattle.lemmas.proofs.Maps.{any_found, any_member, filter_both, found_passes,
 use Rattle.lemmas.proofs.Options.{some_value}
 use Rattle.lemmas.proofs.Parts.{contained_among, get_below, get_last, get_more, get_past, get_whole_within, got_within, take_and_drop, take_next}
 use Rattle.lemmas.proofs.Tests.{lt_true, not_both, same_number}
-use Rattle.world_laws.specs.LegalMounts.{IsLegalMount}
+use Rattle.pblk_world.specs.LegalMounts.{IsLegalMount}
 use Rattle.world_laws.specs.UnitChunks.{first_events}
 use Rattle.world_laws.specs.UnitPrograms.{IsProgramOfStripe}
 use Rattle.world_laws.proofs.FoundEmpty.{known_is_empty}

@@ -1,36 +1,28 @@
 -- A line has landed whole where as many of its stripes have as it has.
-use Rattle.std.proofs.Common.{◌≡◌, ◌≢◌, ◌⊎◌, inl, inr, ℕ, ◌+◌, ◌/◌, ◌<◌, ◌≤◌, ◌==◌, ◌&&◌, zero, suc, nat_le, Bool, true, false, cond, Some, None, List, [], ◌∷◌, ◌++◌, length, take, refl, sym, subst, ap, ap₂, ◌∙◌, arith, take_all, length-append, append-nil, le_refl, le_of_lt}
+use Rattle.std.proofs.Common.{◌≡◌, ◌≢◌, ◌⊎◌, inl, inr, ℕ, ◌+◌, ◌/◌, ◌<◌, ◌≤◌, ◌==◌, ◌&&◌, zero, suc, nat_le, Bool, true, false, cond, Some, List, [], ◌∷◌, ◌++◌, length, take, refl, sym, subst, ap, ap₂, ◌∙◌, arith, take_all, length-append}
 use Rattle.std.specs.Prelude.{slice_get}
 use Rattle.std.specs.List.{AllByRecursion, filter, list_all}
 use Rattle.std.proofs.lemmas.List.Elements.{filter-append}
 use Rattle.std.proofs.lemmas.Option.{same_Some, none-some}
 use Rattle.pblk_model.specs.declared.shape.Shape.{Shape}
-use Rattle.pblk_world.specs.Events.{EngineEvent, Stripe, Open, Place, Landed, Lost, Decides, Logged}
-use Rattle.pblk_world.specs.EngineLog.{Opened, is_life, Opening, Placed, placements, stripes_of, DidLand, answer_by, answer_of, is_land, has_landed}
+use Rattle.pblk_world.specs.Events.{EngineEvent, Place, Landed, Lost, Logged}
+use Rattle.pblk_world.specs.EngineLog.{is_life, Opening, Placed, placements, stripes_of, DidLand, answer_of, is_land, has_landed}
 use Rattle.pblk_world.specs.Starts.{have_landed}
 use Rattle.pblk_world.specs.Placing.{line_end}
 use Rattle.core_laws.specs.PlacerOf.{unanswered_on}
 use Rattle.core_laws.specs.Stepping.{after}
-use Rattle.pblk_model.specs.StartRecord.{StartRecord}
 use Rattle.core_laws.proofs.Answered.{IsAnswer, IsFirst, its_answer, others_answer, first_unanswered}
-use Rattle.core_laws.proofs.Engine.{placements_before}
-use Rattle.core_laws.proofs.Opening.{placed_before}
-use Rattle.core_laws.proofs.Placing.{with_place, new_placed, IsPlacing, answer_now, new_unanswered, stripes_now}
-use Rattle.core_laws.proofs.Steady.{AreAlike}
-use Rattle.core_laws.proofs.Taking.{filter_last}
-use Rattle.core_laws.proofs.TakenSlots.{landed_same}
 use Rattle.world_laws.proofs.UnitTurns.{Rises, rise_all, some_rise}
 use Rattle.core_laws.proofs.Removing.{all_first as all_left, all_second as all_right}
-use Rattle.core_laws.specs.InOrder.{HasRoom}
+use Rattle.core_laws.specs.InOrder.{FitsItsLine}
 use Rattle.core_laws.specs.LandedStripes.{landed_count, keeps_landed}
 use Rattle.core_laws.specs.OpenAddresses.{keeps_stripes}
-use Rattle.core_laws.proofs.FirstAnswers.{passed, its_landing}
+use Rattle.core_laws.proofs.FirstAnswers.{its_landing}
 use Rattle.core_laws.proofs.AnsweredUnits.{first_answer}
-use Rattle.core_laws.proofs.KeptStripes.{with_event, placements_kept, alike_kept}
+use Rattle.core_laws.proofs.KeptStripes.{with_event}
 use Rattle.core_laws.proofs.LineRoom.{few_stripes}
-use Rattle.core_laws.proofs.OpenedRows.{new_opening}
 use Rattle.lemmas.proofs.Lists.{IsAmong, among_all, zipped}
-use Rattle.lemmas.proofs.Maps.{all_filter, filter_agree, filter_none, filter_same, filter_short, in_filter}
+use Rattle.lemmas.proofs.Maps.{all_filter, filter_agree, filter_short, in_filter}
 use Rattle.lemmas.proofs.Tests.{other_number, same_number}
 
 -- ---- lists all of which pass
@@ -78,7 +70,7 @@ whole_by {X} f xs n within =
         let below : length xs < n = grind arith in
         absurd (omega (arith, few))))
 
-pub landed_whole : (s : Shape) (log : List Logged) (o : Opening) → 0 < s.ws_opt → HasRoom s log o
+pub landed_whole : (s : Shape) (log : List Logged) (o : Opening) → 0 < s.ws_opt → FitsItsLine s log o
     → have_landed log o (line_end s o / s.ws_opt) ≡ (landed_count log o == line_end s o / s.ws_opt)
 landed_whole s log o some room =
     whole_by (has_landed log) (stripes_of log o) (line_end s o / s.ws_opt) (few_stripes (length (stripes_of log o)) (line_end s o) s.ws_opt some room.within)
@@ -164,70 +156,8 @@ one_landed log unit event knows p o first its =
 
 -- ---- the other events
 
-landed_none : (unit : ℕ) (e : EngineEvent) → keeps_landed e ≡ true → answer_by unit (Decides e) ≡ None
-landed_none unit (Landed other event) keeps = absurd cc
-landed_none unit (Lost other event) keeps = absurd cc
-landed_none unit e keeps = refl
-
 also_stripes : (e : EngineEvent) → keeps_landed e ≡ true → keeps_stripes e ≡ true
 also_stripes (Place stripe) keeps = absurd cc
 also_stripes (Landed other event) keeps = refl
 also_stripes (Lost other event) keeps = absurd cc
 also_stripes e keeps = refl
-
-pub count_kept : (log : List Logged) (e : EngineEvent) (knows : List ℕ) (o : Opening) → keeps_landed e ≡ true
-    → landed_count (with_event log e knows) o ≡ landed_count log o
-count_kept log e knows o keeps =
-    let same : AreAlike log (with_event log e knows) = alike_kept log e knows (also_stripes e keeps) (λ unit. landed_none unit e keeps) in
-    ap length (filter_same (has_landed (with_event log e knows)) (has_landed log) (landed_same log (with_event log e knows) same)
-    (stripes_of (with_event log e knows) o)
-    ∙ ap (λ ps. filter (has_landed log) (filter (λ (p : Placed). is_life o.number p.life) ps)) same.placements)
-
--- a line that is opened has none
-pub count_opened : (log : List Logged) (line : ℕ) (start : StartRecord) (knows : List ℕ)
-    → landed_count (with_event log (Open line start) knows) (new_opening log line start knows) ≡ 0
-count_opened log line start knows =
-    ap (λ ps. length (filter (has_landed (with_event log (Open line start) knows)) ps))
-    (ap (filter (λ (p : Placed). is_life (length log) p.life)) (placements_kept log (Open line start) knows refl)
-    ∙ filter_none (λ (p : Placed). is_life (length log) p.life) (placements log) (placed_before log (length log) (le_refl (length log))))
-
--- a stripe that is placed hasn't landed
-pub count_placed : (log : List Logged) (stripe : Stripe) (knows : List ℕ) (o other : Opening) → IsPlacing log stripe o
-    → landed_count (with_event log (Place stripe) knows) other ≡ landed_count log other
-count_placed log stripe knows o other is = go (is_life other.number (Opened o)) refl
-  where
-    old : filter (has_landed (with_place log stripe knows)) (stripes_of log other) ≡ filter (has_landed log) (stripes_of log other)
-    old = filter_agree (λ (p : Placed). p.number < length log) (has_landed (with_place log stripe knows)) (has_landed log)
-        (λ p before. ap is_land (answer_now log stripe knows o p is.opened (le_of_lt before))) (stripes_of log other)
-        (all_filter (λ (p : Placed). p.number < length log) (λ (p : Placed). is_life other.number p.life) (placements log) (placements_before log))
-
-    go : (b : Bool) → is_life other.number (Opened o) ≡ b → landed_count (with_place log stripe knows) other ≡ landed_count log other
-    go true e =
-        ap (λ ps. length (filter (has_landed (with_place log stripe knows)) ps)) (stripes_now log stripe knows o other true is.opened e)
-        ∙ ap length (filter_last (has_landed (with_place log stripe knows)) (stripes_of log other) (new_placed log stripe o) false
-        (ap is_land (new_unanswered log stripe knows o is))
-        ∙ append-nil (filter (has_landed (with_place log stripe knows)) (stripes_of log other)) ∙ old)
-    go false e =
-        ap (λ ps. length (filter (has_landed (with_place log stripe knows)) ps))
-        (stripes_now log stripe knows o other false is.opened e ∙ append-nil (stripes_of log other))
-        ∙ ap length old
-
--- nor does a stripe of another opening land here
-pub count_beside : (log : List Logged) (unit event : ℕ) (knows : List ℕ) (p : Placed) (o : Opening) → unanswered_on log unit ≡ Some p
-    → is_life o.number p.life ≡ false
-    → landed_count (with_event log (Landed unit event) knows) o ≡ landed_count log o
-count_beside log unit event knows p o first apart =
-    let is : IsAnswer log (with_event log (Landed unit event) knows) unit (DidLand event) = its_landing log unit event knows in
-    ap (λ ps. length (filter (has_landed (with_event log (Landed unit event) knows)) (filter (λ (q : Placed). is_life o.number q.life) ps))) is.placements
-    ∙ ap length (filter_agree (λ (q : Placed). IsAmong (placements log) q × (is_life o.number q.life ≡ true))
-    (has_landed (with_event log (Landed unit event) knows)) (has_landed log)
-    (λ q its. same q (others_answer log (with_event log (Landed unit event) knows) unit (DidLand event) p q is (first_unanswered log unit p first) its.0) its.1)
-    (stripes_of log o)
-    (passed (λ (q : Placed). is_life o.number q.life) (placements log) (placements log) (among_all (placements log))))
-  where
-    same : (q : Placed) → (q ≡ p) ⊎ (answer_of (with_event log (Landed unit event) knows) q ≡ answer_of log q) → is_life o.number q.life ≡ true
-        → has_landed (with_event log (Landed unit event) knows) q ≡ has_landed log q
-    same q (inl e) its =
-        let not_its : is_life o.number q.life ≡ false = ap (λ (r : Placed). is_life o.number r.life) e ∙ apart in
-        absurd (cc (sym its ∙ not_its))
-    same q (inr e) its = ap is_land e

@@ -25,8 +25,8 @@ use Rattle.core_laws.proofs.Answered.{first_unanswered, its_answer, others_answe
 use Rattle.core_laws.proofs.SteppingLemmas.{found_kept}
 use Rattle.core_laws.specs.ChangedTables.{with_row, full_if}
 use Rattle.core_laws.specs.PlacedEntries.{note_entries}
-use Rattle.core_laws.specs.PlainLogs.{FreedBefore}
-use Rattle.core_laws.specs.InOrder.{HasRoom}
+use Rattle.core_laws.specs.InOrder.{FreedBefore}
+use Rattle.core_laws.specs.InOrder.{FitsItsLine}
 use Rattle.core_laws.proofs.LineRoom.{failed_not_landed}
 use Rattle.core_laws.proofs.KeptStripes.{with_event, KeepsStripes, stripes_kept, lives_kept}
 use Rattle.core_laws.proofs.KeptRows.{KeepsChunks, live_by, state_same, width_same, row_parts, same_row, KeepsThen, then_kept}
@@ -161,7 +161,7 @@ state_now false false true fine stays wide sectors taker = refl
 state_now false false false fine stays wide sectors taker = refl
 
 pub rows_landed : (i : Image) (logs : Logs) (unit event : ℕ) (knows : List ℕ) (p : Placed) (o : Opening) (ts : List Taken) → FreedBefore (logs 0)
-    → 0 < i.shape.ws_opt → HasRoom i.shape (logs 0) o → unanswered_on (logs 0) unit ≡ Some p → p.life ≡ Opened o
+    → 0 < i.shape.ws_opt → FitsItsLine i.shape (logs 0) o → unanswered_on (logs 0) unit ≡ Some p → p.life ≡ Opened o
     → life_of (logs 0) p.stripe.line ≡ Opened o → ((e : UnitEvent) → unit_event_at logs unit event ≡ Some e → e.chunk ≡ p.stripe.line)
     → IsRising (takes (logs 0)) → AreItsEntries i logs p ts
     → rows_of i (after logs (Landed unit event) knows)

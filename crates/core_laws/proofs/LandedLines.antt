@@ -1,24 +1,11 @@
 -- A line of which no stripe was lost has one left until all of them have landed.
-use Rattle.std.proofs.Common.{◌≡◌, ℕ, ◌+◌, ◌/◌, ◌&&◌, ◌||◌, zero, suc, not, nat_eq, Bool, true, false, Some, None, Option, List, [], ◌∷◌, length, refl, ap, ◌∙◌, arith}
-use Rattle.std.specs.Prelude.{slice_get, slice_set, map, if◌then◌else◌}
-use Rattle.std.specs.List.{AllByRecursion, filter, list_any, list_all, range_with_len}
+use Rattle.std.proofs.Common.{◌≡◌, ℕ, ◌+◌, ◌&&◌, ◌||◌, zero, suc, not, Bool, true, false, List, [], ◌∷◌, length, refl, ap, ◌∙◌, arith}
+use Rattle.std.specs.Prelude.{slice_get, slice_set, map}
+use Rattle.std.specs.List.{AllByRecursion, list_any, list_all, range_with_len}
 use Rattle.std.specs.Option.{option_map_or}
-use Rattle.pblk_model.specs.Image.{Image}
-use Rattle.pblk_world.specs.Events.{Landed, Logged}
-use Rattle.pblk_world.specs.World.{World, Logs, log_of}
-use Rattle.pblk_world.specs.EngineLog.{Opening, Placed, Answer, DidLand, WasLost, answer_of, is_loss}
-use Rattle.stripe_placer.specs.OpenLines.{Stripe, OpenLine, numbers, is_lost, is_landed, is_unplaced, is_unanswered, stripe_is, is_closed, is_to_place, has_left, in_line, with_stripe}
+use Rattle.stripe_placer.specs.OpenLines.{Stripe, OpenLine, numbers, is_lost, is_landed, is_unplaced, is_unanswered, stripe_is, is_closed, is_to_place, has_left}
 use Rattle.stripe_placer.specs.OpenLines.Stripe.{Unplaced, Unanswered, Landed as HasLanded, Lost as WasIt}
-use Rattle.stripe_placer.specs.Placing.{Program}
-use Rattle.core_laws.specs.Stepping.{after}
-use Rattle.world_laws.specs.LegalMounts.{IsLegalMount}
-use Rattle.core_laws.specs.OpenedLines.{as_opened, by_answer, became, placed_as, outcome, open_line}
-use Rattle.core_laws.specs.PlacerOf.{IsAwaited}
 use Rattle.core_laws.proofs.TakenSlots.{any_same}
-use Rattle.core_laws.specs.LeftOpenings.{left_openings}
-use Rattle.core_laws.specs.PlainLogs.{NoStripeLost}
-use Rattle.core_laws.proofs.LeftLines.{left_landed}
-use Rattle.lemmas.proofs.Maps.{filter_same}
 use Rattle.stripe_placer.proofs.OpenLinesLemmas.{no_chunk_closed}
 
 -- ---- tests by number
@@ -63,50 +50,12 @@ left_by_landing l all =
 
 -- ---- where no stripe was lost
 
-answer_not_lost : (a : Option Answer) → is_loss a ≡ false → is_lost (by_answer a) ≡ false
-answer_not_lost None e = refl
-answer_not_lost (Some (DidLand k)) e = refl
-answer_not_lost (Some (WasLost k)) e = absurd cc
-
-became_not_lost : (log : List Logged) → NoStripeLost log → (x : Option Placed) → is_lost (became log x) ≡ false
-became_not_lost log none None = refl
-became_not_lost log none (Some p) = answer_not_lost (answer_of log p) (none p)
-
 all_mapped : {X Y : Type 0} (P : Y → Type 0) (f : X → Y) → ((x : X) → P (f x)) → (xs : List X) → AllByRecursion P (map f xs)
 all_mapped P f says [] = tt
 all_mapped P f says (x ∷ xs) = (says x, all_mapped P f says xs)
-
-pub none_lost_in : (i : Image) (logs : Logs) → NoStripeLost (logs 0) → (o : Opening) → AllByRecursion (λ x. is_lost x ≡ false) (open_line i logs o).stripes
-none_lost_in i logs none o = all_mapped (λ x. is_lost x ≡ false) (outcome i.shape (logs 0) o (as_opened i logs o))
-    (λ j. became_not_lost (logs 0) none (placed_as i.shape (logs 0) o (as_opened i logs o) j)) (numbers (as_opened i logs o))
 
 none_lost_set : (xs : List Stripe) (j : ℕ) (x : Stripe) → is_lost x ≡ false → AllByRecursion (λ x. is_lost x ≡ false) xs
     → AllByRecursion (λ x. is_lost x ≡ false) (slice_set xs j x)
 none_lost_set [] j x e all = tt
 none_lost_set (y ∷ ys) zero x e all = (e, all.1)
 none_lost_set (y ∷ ys) (suc j) x e all = (all.0, none_lost_set ys j x e all.1)
-
-none_lost_line : (l : OpenLine) (line j : ℕ) → AllByRecursion (λ x. is_lost x ≡ false) l.stripes
-    → AllByRecursion (λ x. is_lost x ≡ false) (in_line line j HasLanded l).stripes
-none_lost_line l line j all = go (nat_eq l.line line)
-  where
-    go : (b : Bool) → AllByRecursion (λ x. is_lost x ≡ false) (if b then with_stripe l j HasLanded else l).stripes
-    go true = none_lost_set l.stripes j HasLanded refl all
-    go false = all
-
-pub left_until_landed : (i : Image) (w : World) (o : Opening) → NoStripeLost (log_of w 0)
-    → has_left (open_line i (log_of w) o) ≡ not (list_all is_landed (open_line i (log_of w) o).stripes)
-left_until_landed i w o none = left_by_landing (open_line i (log_of w) o) (none_lost_in i (log_of w) none o)
-
-pub left_after_landing : (i : Image) (w : World) (event : ℕ) (knows : List ℕ) (pad : ℕ) (again : List ℕ) (of : Program) → IsLegalMount i w
-    → NoStripeLost (log_of w 0)
-    → IsAwaited i (log_of w) pad again of
-    → left_openings i (after (log_of w) (Landed of.unit event) knows) ≡ filter
-    (λ o. not (list_all is_landed (in_line of.line (of.at / i.shape.ws_opt) HasLanded (open_line i (log_of w) o)).stripes)) (left_openings i (log_of w))
-left_after_landing i w event knows pad again of mount none awaited =
-    left_landed i (log_of w) event knows pad again of mount.accepted.drive.ws_opt awaited
-    ∙ filter_same (λ o. has_left (in_line of.line (of.at / i.shape.ws_opt) HasLanded (open_line i (log_of w) o)))
-    (λ o. not (list_all is_landed (in_line of.line (of.at / i.shape.ws_opt) HasLanded (open_line i (log_of w) o)).stripes))
-    (λ o. left_by_landing (in_line of.line (of.at / i.shape.ws_opt) HasLanded (open_line i (log_of w) o))
-    (none_lost_line (open_line i (log_of w) o) of.line (of.at / i.shape.ws_opt) (none_lost_in i (log_of w) none o)))
-    (left_openings i (log_of w))

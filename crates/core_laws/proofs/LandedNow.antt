@@ -23,7 +23,7 @@ use Rattle.lemmas.proofs.Maps.{all_filter, all_mapped, any_member, in_filter}
 use Rattle.lemmas.proofs.Options.{map_some}
 use Rattle.lemmas.proofs.Parts.{all_by_get, contained_among}
 use Rattle.lemmas.proofs.Tests.{and_both, same_number}
-use Rattle.world_laws.specs.LegalMounts.{IsLegalMount}
+use Rattle.pblk_world.specs.LegalMounts.{IsLegalMount}
 use Rattle.world_laws.proofs.Begun.{IsBegunWith, begun_with}
 use Rattle.world_laws.proofs.FoundCounts.{counted_below}
 use Rattle.world_laws.proofs.LandedRecords.{IsBlockAt, block_at_position}

@@ -26,7 +26,7 @@ use Rattle.lemmas.proofs.Maps.{in_filter}
 use Rattle.lemmas.proofs.Options.{mapped_some, split_then}
 use Rattle.lemmas.proofs.Parts.{all_by_get, contained_among, get_below}
 use Rattle.lemmas.proofs.Tests.{not_both}
-use Rattle.world_laws.specs.LegalMounts.{IsLegalMount}
+use Rattle.pblk_world.specs.LegalMounts.{IsLegalMount}
 use Rattle.world_laws.proofs.LifePlaces.{units_now}
 use Rattle.world_laws.proofs.LineBlocks.{IsLineOf, opened_line}
 use Rattle.world_laws.proofs.LineStarts.{in_order_at, landed_of}

@@ -1,19 +1,17 @@
 -- A stripe has landed: which positions have.
-use Rattle.std.proofs.Common.{◌≡◌, ◌⊎◌, inl, inr, ℕ, ◌&&◌, ◌||◌, zero, suc, Bool, true, false, Some, None, List, [], ◌∷◌, ◌++◌, length, refl, sym, ap, ◌∙◌, arith, append-nil}
-use Rattle.std.specs.Prelude.{slice_get, if◌then◌else◌}
+use Rattle.std.proofs.Common.{◌≡◌, ◌⊎◌, inl, inr, ℕ, ◌&&◌, ◌||◌, zero, suc, Bool, true, false, Some, None, List, [], ◌∷◌, ◌++◌, refl, sym, ap, ◌∙◌}
+use Rattle.std.specs.Prelude.{slice_get}
 use Rattle.std.specs.List.{AllByRecursion, list_any}
-use Rattle.std.specs.Option.{option_to_list}
-use Rattle.std.proofs.lemmas.Option.{same_Some, none-some, slice_get_past}
+use Rattle.std.proofs.lemmas.Option.{same_Some, none-some}
 use Rattle.pblk_model.specs.declared.shape.Shape.{Shape}
 use Rattle.pblk_world.specs.Events.{Landed, Decides, Logged}
-use Rattle.pblk_world.specs.EngineLog.{Placed, placements, DidLand, answers, answer_of, is_land, is_loss, has_landed, was_lost, holds_position}
+use Rattle.pblk_world.specs.EngineLog.{Placed, placements, DidLand, answer_of, is_land, is_loss, has_landed, was_lost, holds_position}
 use Rattle.pblk_world.specs.Fronts.{has_landed_at}
-use Rattle.pblk_world.proofs.Appending.{placements_more}
 use Rattle.core_laws.specs.PlacerOf.{unanswered_on}
-use Rattle.core_laws.proofs.Answered.{IsAnswer, IsFirst, its_answer, others_answer, first_unanswered}
-use Rattle.lemmas.proofs.Lists.{IsAmong, all_imply, among_all}
-use Rattle.lemmas.proofs.Tests.{or_no, or_true, other_number, same_number}
-use Rattle.pblk_world.proofs.EngineLogLemmas.{answers_more}
+use Rattle.core_laws.proofs.Answered.{IsAnswer}
+use Rattle.core_laws.proofs.NotedAnswers.{answer_is, one_answered}
+use Rattle.lemmas.proofs.Lists.{IsAmong, all_imply}
+use Rattle.lemmas.proofs.Tests.{or_no, or_true}
 
 abbrev pub with_landing : List Logged → ℕ → ℕ → List ℕ → List Logged
 with_landing log unit event knows = log ++ record { event = Decides (Landed unit event); knows = knows } ∷ []
@@ -28,33 +26,13 @@ pub record IsOneMore (log new : List Logged) (p : Placed) : Type 0 where
   pub others : AllByRecursion (λ r. (r ≡ p) ⊎ (answer_of new r ≡ answer_of log r)) (placements log)
 
 pub is_answer : (log : List Logged) (unit event : ℕ) (knows : List ℕ) → IsAnswer log (with_landing log unit event knows) unit (DidLand event)
-is_answer log unit event knows =
-    let l : Logged = record { event = Decides (Landed unit event); knows = knows } in
-    record {
-      placements = placements_more log l ∙ append-nil (placements log);
-      here = answers_more log l unit ∙ ap (λ b. answers log unit ++ option_to_list (if b then Some (DidLand event) else None)) (same_number unit);
-      elsewhere = λ v other. answers_more log l v
-          ∙ ap (λ b. answers log v ++ option_to_list (if b then Some (DidLand event) else None)) (other_number unit v (λ e. other (sym e)))
-          ∙ append-nil (answers log v);
-    }
+is_answer log unit event knows = answer_is log unit knows (DidLand event)
 
 pub one_more : (log : List Logged) (unit event : ℕ) (knows : List ℕ) (p : Placed) → unanswered_on log unit ≡ Some p
     → IsOneMore log (with_landing log unit event knows) p
 one_more log unit event knows p waits =
-    let new : List Logged = with_landing log unit event knows in
-    let is : IsAnswer log (with_landing log unit event knows) unit (DidLand event) = is_answer log unit event knows in
-    let first : IsFirst log unit p = first_unanswered log unit p waits in
-    let answer : answer_of (with_landing log unit event knows) p ≡ Some (DidLand event) = its_answer log new unit (DidLand event) p is first in
-    record {
-      stripes = is.placements;
-      among = first.among;
-      before = ap (λ n. slice_get (answers log p.stripe.unit) n) (first.turn_is ∙ ap (λ u. length (answers log u)) (sym first.of_unit))
-          ∙ slice_get_past (answers log p.stripe.unit) (length (answers log p.stripe.unit)) (omega arith);
-      now = ap is_land answer;
-      not_lost = ap is_loss answer;
-      others = all_imply (IsAmong (placements log)) (λ (r : Placed). (r ≡ p) ⊎ (answer_of new r ≡ answer_of log r))
-          (λ r among. others_answer log new unit (DidLand event) p r is first among) (placements log) (among_all (placements log));
-    }
+    let one = one_answered log unit (DidLand event) knows p waits in
+    record { stripes = one.stripes; among = one.among; before = one.before; now = ap is_land one.now; not_lost = ap is_loss one.now; others = one.others }
 
 -- ---- a test that one more element passes
 

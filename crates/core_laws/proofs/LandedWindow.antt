@@ -10,7 +10,7 @@ use Rattle.pblk_world.specs.EngineLog.{Opened, Opening, Taken, takes, Placed, pl
 use Rattle.pblk_world.specs.Fronts.{first_position, has_landed_at, is_users}
 use Rattle.write_window.specs.declared.held.Progress.{Progress}
 use Rattle.core_laws.specs.PlacerOf.{unanswered_on}
-use Rattle.world_laws.specs.LegalMounts.{IsLegalMount}
+use Rattle.pblk_world.specs.LegalMounts.{IsLegalMount}
 use Rattle.core_laws.specs.WindowOf.{HeldSector, class_of, source_of, is_given_back, progress_by, held_of, users_below, window_from}
 use Rattle.core_laws.proofs.Answered.{first_unanswered}
 use Rattle.core_laws.specs.ChunkBlocks.{NoneLostIn, can_be_read, AreInRows}

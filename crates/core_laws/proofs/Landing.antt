@@ -1,33 +1,31 @@
 -- What a stripe that has landed, or was lost, changes of a placer.
-use Rattle.std.proofs.Common.{◌≡◌, inl, inr, ℕ, ◌+◌, ◌/◌, ◌<◌, ◌≤◌, ◌==◌, ◌&&◌, not, nat_lt, Bool, true, false, cond, Some, None, List, [], ◌∷◌, ◌++◌, length, refl, sym, ap, ap₂, ◌∙◌, arith, append-nil, length-append}
-use Rattle.std.specs.Prelude.{map, slice_get, slice_set, if◌then◌else◌}
+use Rattle.std.proofs.Common.{◌≡◌, inl, inr, ℕ, ◌+◌, ◌/◌, ◌<◌, ◌≤◌, ◌==◌, ◌&&◌, not, nat_lt, Bool, true, false, cond, Some, None, List, [], ◌∷◌, length, refl, sym, ap, ap₂, ◌∙◌, arith, length-append}
+use Rattle.std.specs.Prelude.{map, slice_get, slice_set}
 use Rattle.std.specs.List.{AllByRecursion, filter, range_with_len}
-use Rattle.std.specs.Option.{option_map_or, option_to_list}
+use Rattle.std.specs.Option.{option_map_or}
 use Rattle.std.proofs.lemmas.Option.{slice_get_past}
 use Rattle.pblk_model.specs.declared.shape.Shape.{Shape}
 use Rattle.pblk_model.specs.Shape.{units}
 use Rattle.pblk_model.specs.Image.{Image}
 use Rattle.pblk_world.specs.Events.{EngineEvent, Landed, Lost, Decides, Logged}
 use Rattle.pblk_world.specs.World.{Logs}
-use Rattle.pblk_world.specs.EngineLog.{Opening, openings, Taken, takes, Placed, placements, placed_on, Answer, DidLand, WasLost, answers, answer_of, was_lost, is_loss, holds_position}
+use Rattle.pblk_world.specs.EngineLog.{Opening, Taken, takes, Placed, placements, placed_on, Answer, DidLand, WasLost, answers, answer_of, was_lost, is_loss, holds_position}
 use Rattle.pblk_world.specs.Fronts.{times_placed, times_lost, was_placed, waits}
-use Rattle.pblk_world.proofs.Appending.{life_more, openings_more, placements_more}
 use Rattle.stripe_placer.specs.Entries.{Entries}
 use Rattle.stripe_placer.specs.OpenLines.{has_left, in_line}
 use Rattle.stripe_placer.specs.Placing.{Program, answered, landed, lost}
 use Rattle.stripe_placer.specs.Placing.UnitRow.{Idle, UnderWay}
 use Rattle.core_laws.specs.Stepping.{after}
 use Rattle.core_laws.specs.OpenedLines.{by_answer, open_line, standing, open_lines}
-use Rattle.core_laws.specs.PlacerOf.{IsAwaited, positions_of, lost_entries, fresh_entries, entries_of, was_stopped_on, contains_unit, waits_again, row_in, row_of, placing_of}
+use Rattle.core_laws.specs.PlacerOf.{IsAwaited, positions_of, lost_entries, fresh_entries, entries_of, was_stopped_on, contains_unit, waits_again, row_in, unit_row_in, placing_of}
 use Rattle.core_laws.proofs.Engine.{stopped_more}
+use Rattle.core_laws.proofs.NotedAnswers.{answer_is, lives_noted, noting, openings_noted, takes_noted}
 use Rattle.core_laws.proofs.Steady.{standing_same, row_same}
 use Rattle.core_laws.proofs.Taking.{same_placing, same_entries}
 use Rattle.core_laws.proofs.PlacedLines.{IsStanding, all_standing}
 use Rattle.core_laws.proofs.Answered.{IsAnswer, IsFirst, IsAnsweredAt, answered_at, its_answer, others_answer, line_answered, none_left}
 use Rattle.lemmas.proofs.Lists.{IsAmong, among_all, all_imply}
 use Rattle.lemmas.proofs.Maps.{filter_agree, filter_same, map_agree, row_at, rows_set}
-use Rattle.lemmas.proofs.Tests.{other_number, same_number}
-use Rattle.pblk_world.proofs.EngineLogLemmas.{answers_more, takes_more}
 
 commute : {O X : Type 0} (test : X → Bool) (g : X → X) (f : O → X) (xs : List O) → AllByRecursion (λ x. test (f x) ≡ false → test (g (f x)) ≡ false) xs
     → filter test (map (λ x. g (f x)) xs) ≡ filter test (map g (filter test (map f xs)))
@@ -62,7 +60,7 @@ lines_answered i logs e knows o of a q some is at =
     (λ other stands none. none_left i logs o of q (by_answer (Some a)) at other stands none) (standing (logs 0)) (all_standing (logs 0)))
 
 row_of_it : (i : Image) (logs : Logs) (e : EngineEvent) (knows again : List ℕ) (unit : ℕ) (a : Answer) → IsAnswer (logs 0) (after logs e knows 0) unit a
-    → length (placed_on (logs 0) unit) ≡ length (answers (logs 0) unit) + 1 → row_of i (after logs e knows) again unit ≡ Idle
+    → length (placed_on (logs 0) unit) ≡ length (answers (logs 0) unit) + 1 → unit_row_in i (after logs e knows) again unit ≡ Idle
 row_of_it i logs e knows again unit a is one =
     let new : Logs = after logs e knows in
     let count : length (answers (new 0) unit) ≡ length (answers (logs 0) unit) + 1 = ap length is.here ∙ length-append (answers (logs 0) unit) (a ∷ []) in
@@ -79,14 +77,14 @@ pub placing_answered : (i : Image) (logs : Logs) (e : EngineEvent) (knows : List
 placing_answered i logs e knows pad again of a some awaited is =
     let new : Logs = after logs e knows in
     let at : (o : Opening) × (q : Placed) × IsAnsweredAt i logs o of q = answered_at i logs of awaited.stripe awaited.one in
-    let row = row_at (row_of i logs again) (units i.shape) 0 of.unit (UnderWay of) awaited.under_way in
+    let row = row_at (unit_row_in i logs again) (units i.shape) 0 of.unit (UnderWay of) awaited.under_way in
     let from : 0 + of.unit ≡ of.unit = omega arith in
     same_placing i.shape (entries_of i.shape (new 0) pad) (entries_of i.shape (new 0) pad)
-    (map (row_of i new again) (range_with_len 0 (units i.shape))) (slice_set (map (row_of i logs again) (range_with_len 0 (units i.shape))) of.unit Idle)
+    (map (unit_row_in i new again) (range_with_len 0 (units i.shape))) (slice_set (map (unit_row_in i logs again) (range_with_len 0 (units i.shape))) of.unit Idle)
     (open_lines i new) (filter has_left (map (in_line of.line (of.at / i.shape.ws_opt) (by_answer (Some a))) (open_lines i logs)))
     refl
-    (rows_set (row_of i logs again) (row_of i new again) (units i.shape) 0 of.unit Idle row.0
-    (ap (row_of i new again) from ∙ row_of_it i logs e knows again of.unit a is.answer awaited.one)
+    (rows_set (unit_row_in i logs again) (unit_row_in i new again) (units i.shape) 0 of.unit Idle row.0
+    (ap (unit_row_in i new again) from ∙ row_of_it i logs e knows again of.unit a is.answer awaited.one)
     (λ m other. row_same i logs e knows again again m
     (ap₂ (λ ps (xs : List Answer). slice_get (filter (λ (p : Placed). p.stripe.unit == m) ps) (length xs)) is.answer.placements
     (is.answer.elsewhere m (λ f. other (f ∙ sym from))))
@@ -131,48 +129,26 @@ entries_landed s log new pad unit event q is same first =
     (λ t. ap (λ m. not (nat_lt 0 m)) (times_same s log new t is.placements)) (takes new)
     ∙ ap (filter (λ t. not (was_placed s log t))) same))
 
--- ---- the two events
+-- ---- the event
 
-landing : (logs : Logs) (unit event : ℕ) (knows : List ℕ) → IsAnswerOnly (logs 0) (after logs (Landed unit event) knows 0) unit (DidLand event)
-landing logs unit event knows =
-    let l : Logged = record { event = Decides (Landed unit event); knows = knows } in
-    let log : List Logged = logs 0 in
-    record {
-      answer = record {
-        placements = placements_more log l ∙ append-nil (placements log);
-        here = answers_more log l unit ∙ ap (λ b. answers log unit ++ option_to_list (if b then Some (DidLand event) else None)) (same_number unit);
-        elsewhere = λ v other. answers_more log l v
-            ∙ ap (λ b. answers log v ++ option_to_list (if b then Some (DidLand event) else None)) (other_number unit v (λ e. other (sym e)))
-            ∙ append-nil (answers log v);
-      };
-      standing = standing_same log (after logs (Landed unit event) knows 0) (openings_more log l ∙ append-nil (openings log)) (λ line. life_more log l line);
-      takes = takes_more log l ∙ append-nil (takes log);
-      stopped = λ v. stopped_more log l v;
-    }
-
-losing : (logs : Logs) (unit event : ℕ) (knows : List ℕ) → IsAnswerOnly (logs 0) (after logs (Lost unit event) knows 0) unit (WasLost event)
-losing logs unit event knows =
-    let l : Logged = record { event = Decides (Lost unit event); knows = knows } in
-    let log : List Logged = logs 0 in
-    record {
-      answer = record {
-        placements = placements_more log l ∙ append-nil (placements log);
-        here = answers_more log l unit ∙ ap (λ b. answers log unit ++ option_to_list (if b then Some (WasLost event) else None)) (same_number unit);
-        elsewhere = λ v other. answers_more log l v
-            ∙ ap (λ b. answers log v ++ option_to_list (if b then Some (WasLost event) else None)) (other_number unit v (λ e. other (sym e)))
-            ∙ append-nil (answers log v);
-      };
-      standing = standing_same log (after logs (Lost unit event) knows 0) (openings_more log l ∙ append-nil (openings log)) (λ line. life_more log l line);
-      takes = takes_more log l ∙ append-nil (takes log);
-      stopped = λ v. stopped_more log l v;
-    }
+noted_only : (logs : Logs) (unit : ℕ) (a : Answer) (knows : List ℕ) → IsAnswerOnly (logs 0) (after logs (noting unit a) knows 0) unit a
+noted_only logs unit a knows = record {
+  answer = answer_is (logs 0) unit knows a;
+  standing = standing_same (logs 0) (after logs (noting unit a) knows 0) (openings_noted logs unit knows a) (lives_noted logs unit knows a);
+  takes = takes_noted logs unit knows a;
+  stopped = stops_none a;
+}
+  where
+    stops_none : (b : Answer) (v : ℕ) → was_stopped_on (after logs (noting unit b) knows 0) v ≡ was_stopped_on (logs 0) v
+    stops_none (DidLand event) v = stopped_more (logs 0) (record { event = Decides (Landed unit event); knows = knows }) v
+    stops_none (WasLost event) v = stopped_more (logs 0) (record { event = Decides (Lost unit event); knows = knows }) v
 
 pub placing_landed : (i : Image) (logs : Logs) (event : ℕ) (knows : List ℕ) (pad : ℕ) (again : List ℕ) (of : Program) → 0 < i.shape.ws_opt
     → IsAwaited i logs pad again of
     → placing_of i (after logs (Landed of.unit event) knows) pad again ≡ landed (placing_of i logs pad again) of
 placing_landed i logs event knows pad again of some awaited =
     let at : (o : Opening) × (q : Placed) × IsAnsweredAt i logs o of q = answered_at i logs of awaited.stripe awaited.one in
-    let is : IsAnswerOnly (logs 0) (after logs (Landed of.unit event) knows 0) of.unit (DidLand event) = landing logs of.unit event knows in
+    let is : IsAnswerOnly (logs 0) (after logs (Landed of.unit event) knows 0) of.unit (DidLand event) = noted_only logs of.unit (DidLand event) knows in
     placing_answered i logs (Landed of.unit event) knows pad again of (DidLand event) some awaited is
     ∙ ap (λ (es : Entries). record (landed (placing_of i logs pad again) of) { entries = es })
     (entries_landed i.shape (logs 0) (after logs (Landed of.unit event) knows 0) pad of.unit event at.1 is.answer is.takes at.2.first)
@@ -182,4 +158,4 @@ pub placing_lost : (i : Image) (logs : Logs) (event : ℕ) (knows : List ℕ) (p
     → placing_of i (after logs (Lost of.unit event) knows) pad again ≡ record
     (lost (placing_of i logs pad again) of) { entries = entries_of i.shape (after logs (Lost of.unit event) knows 0) pad }
 placing_lost i logs event knows pad again of some awaited =
-    placing_answered i logs (Lost of.unit event) knows pad again of (WasLost event) some awaited (losing logs of.unit event knows)
+    placing_answered i logs (Lost of.unit event) knows pad again of (WasLost event) some awaited (noted_only logs of.unit (WasLost event) knows)

@@ -20,7 +20,7 @@ use Rattle.pblk_world.proofs.EngineLogLemmas.{opened_same}
 use Rattle.lemmas.proofs.Lists.{IsAmong, among_contained}
 use Rattle.lemmas.proofs.Maps.{range_get}
 use Rattle.lemmas.proofs.Tests.{not_both, same, same_number}
-use Rattle.world_laws.specs.LegalMounts.{IsLegalMount}
+use Rattle.pblk_world.specs.LegalMounts.{IsLegalMount}
 use Rattle.world_laws.proofs.FoundEmpty.{all_pass}
 use Rattle.world_laws.proofs.Later.{placed_within}
 use Rattle.world_laws.proofs.LineStripes.{IsSplit, data_behind_start, failed_later, stripes_split}

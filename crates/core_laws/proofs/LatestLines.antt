@@ -14,7 +14,7 @@ use Rattle.lemmas.proofs.Lists.{among_contained}
 use Rattle.lemmas.proofs.Maps.{in_filter}
 use Rattle.lemmas.proofs.Parts.{contained_among}
 use Rattle.lemmas.proofs.Tests.{same_number}
-use Rattle.world_laws.specs.LegalMounts.{IsLegalMount}
+use Rattle.pblk_world.specs.LegalMounts.{IsLegalMount}
 use Rattle.world_laws.proofs.KeptEntries.{latest_kept, winner_kept}
 use Rattle.world_laws.proofs.LandedRecords.{freed_below_front}
 use Rattle.world_laws.proofs.LifePlaces.{have_places}

@@ -20,7 +20,7 @@ use Rattle.pblk_world.specs.Fronts.{last_take}
 use Rattle.pblk_world.specs.Lines.{found_image, known_image, place_of}
 use Rattle.pblk_world.specs.Taking.{IsPlaceOf, IsPlaceOfLatest}
 use Rattle.l2p_map.specs.declared.slot.Slot.TheVariants.{Media}
-use Rattle.world_laws.specs.LegalMounts.{IsLegalMount}
+use Rattle.pblk_world.specs.LegalMounts.{IsLegalMount}
 use Rattle.world_laws.proofs.LifePlaces.{place_of_block, units_now}
 use Rattle.world_laws.proofs.LineBlocks.{one_address}
 use Rattle.world_laws.proofs.LineStripes.{stripe_count}

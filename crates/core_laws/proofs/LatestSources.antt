@@ -27,7 +27,7 @@ use Rattle.lemmas.proofs.Lists.{IsAmong, among_contained}
 use Rattle.lemmas.proofs.Maps.{in_filter}
 use Rattle.lemmas.proofs.Parts.{all_at, contained_among, get_below}
 use Rattle.lemmas.proofs.Tests.{both, not_both, same_number}
-use Rattle.world_laws.specs.LegalMounts.{IsLegalMount}
+use Rattle.pblk_world.specs.LegalMounts.{IsLegalMount}
 use Rattle.world_laws.proofs.Entries.{IsEntryOrNone, entries_of_stripe, marks_bear}
 use Rattle.world_laws.proofs.KeptEntries.{winner_kept}
 use Rattle.world_laws.proofs.Latest.{one_entry}

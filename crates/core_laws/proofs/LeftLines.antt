@@ -1,39 +1,35 @@
 -- The lines that have a stripe left, by their openings.
-use Rattle.std.proofs.Common.{◌≡◌, ◌≢◌, ℕ, ◌/◌, ◌<◌, nat_eq, Bool, true, false, cond, Some, Option, List, [], ◌∷◌, ◌++◌, length, refl, sym, subst, ap, ap₂, ◌∙◌, arith, append-nil}
+use Rattle.std.proofs.Common.{◌≡◌, ℕ, ◌/◌, ◌<◌, nat_eq, Bool, true, false, cond, Some, Option, List, [], ◌∷◌, ◌++◌, length, refl, sym, subst, ap, ap₂, ◌∙◌}
 use Rattle.std.specs.Prelude.{slice_get, map, if◌then◌else◌}
 use Rattle.std.specs.List.{AllByRecursion, filter, filter_map, cons_option}
 use Rattle.std.proofs.lemmas.Bool.{eqb-true}
 use Rattle.std.proofs.lemmas.List.Elements.{filter_map-append}
 use Rattle.std.proofs.lemmas.Option.{same_Some}
-use Rattle.pblk_model.specs.declared.chunk.Mark.{Mark}
 use Rattle.pblk_model.specs.Image.{Image}
 use Rattle.pblk_model.specs.StartRecord.{StartRecord}
-use Rattle.pblk_world.specs.Events.{Entry, Stripe, Take, Open, Place, Landed, Lost, ResetDone, Decides, Logged}
+use Rattle.pblk_world.specs.Events.{Stripe, Open, Place, Landed, Lost, Decides, Logged}
 use Rattle.pblk_world.specs.World.{Logs}
-use Rattle.pblk_world.specs.EngineLog.{Opened, is_opened, life_of, Opening, openings, placements, answers}
-use Rattle.pblk_world.proofs.Appending.{life_more, openings_more, placements_more}
+use Rattle.pblk_world.specs.EngineLog.{Opened, is_opened, life_of, Opening}
+use Rattle.pblk_world.proofs.Appending.{life_more}
 use Rattle.stripe_placer.specs.OpenLines as outcomes
 use Rattle.stripe_placer.proofs.Agreeing.{in_line_keeps}
 use Rattle.stripe_placer.specs.OpenLines.{OpenLine, opened, has_left, in_line}
 use Rattle.stripe_placer.specs.OpenLines.Stripe.{Unanswered, Landed as HasLanded, Lost as WasIt}
 use Rattle.stripe_placer.specs.Placing.{Program, Placing}
-use Rattle.stripe_placer.specs.Inside.{AreApart}
 use Rattle.core_laws.specs.Stepping.{after}
-use Rattle.core_laws.specs.OpenedLines.{open_line, standing, open_lines, live_now}
+use Rattle.core_laws.specs.OpenedLines.{open_line, standing, open_lines, online_now}
 use Rattle.core_laws.specs.PlacerOf.{IsStripeOf, IsAwaited}
-use Rattle.core_laws.proofs.Steady.{AreAlike, standing_before, standing_same, lines_same}
+use Rattle.core_laws.proofs.Steady.{standing_before}
 use Rattle.core_laws.proofs.Placing.{IsPlacing}
 use Rattle.core_laws.proofs.PlacedLines.{IsPlacedAt, placed_at, lines_placed}
 use Rattle.core_laws.proofs.Opening.{placing_opened}
 use Rattle.core_laws.proofs.Landing.{placing_landed, placing_lost}
 use Rattle.core_laws.specs.LeftOpenings.{left_openings, opened_as}
-use Rattle.core_laws.proofs.StandingOpenings.{NumbersRise, standing_opened, standing_rise, rise_filtered, one_place}
+use Rattle.core_laws.proofs.StandingOpenings.{standing_opened, standing_rise, rise_filtered, one_place}
 use Rattle.lemmas.proofs.Lists.{all_imply}
 use Rattle.lemmas.proofs.Maps.{all_filter, all_mapped}
-use Rattle.lemmas.proofs.Numbers.{fun_same}
 use Rattle.lemmas.proofs.Parts.{all_at}
 use Rattle.lemmas.proofs.Tests.{same_number}
-use Rattle.pblk_world.proofs.EngineLogLemmas.{answers_more}
 
 filter_mapped : {X Y : Type 0} (f : Y → Bool) (g : X → Y) (xs : List X) → filter f (map g xs) ≡ map g (filter (λ x. f (g x)) xs)
 filter_mapped f g [] = refl
@@ -92,34 +88,11 @@ made_in_line log line j to [] = refl
 made_in_line log line j to (l ∷ ls) =
     ap₂ (λ o ys. cons_option o ys) (ap (λ n. opened_as (life_of log n)) (in_line_keeps l line j to).0) (made_in_line log line j to ls)
 
-alike_by : (log : List Logged) (l : Logged) → placements (log ++ l ∷ []) ≡ placements log → ((unit : ℕ) → answers (log ++ l ∷ []) unit ≡ answers log unit)
-    → AreAlike log (log ++ l ∷ [])
-alike_by log l same each = record { placements = same; answers = fun_same (answers (log ++ l ∷ [])) (answers log) each }
-
 left_same : (i : Image) (logs new : Logs) → ((line : ℕ) → life_of (new 0) line ≡ life_of (logs 0) line) → open_lines i new ≡ open_lines i logs
     → left_openings i new ≡ left_openings i logs
 left_same i logs new life same =
     sym (left_by_lines i new) ∙ made_same (logs 0) (new 0) (open_lines i new) life
     ∙ ap (filter_map (λ (l : OpenLine). opened_as (life_of (logs 0) l.line))) same ∙ left_by_lines i logs
-
-pub left_taken : (i : Image) (logs : Logs) (entry : Entry) (mark : Mark) (knows : List ℕ)
-    → left_openings i (after logs (Take entry mark) knows) ≡ left_openings i logs
-left_taken i logs entry mark knows =
-    let l : Logged = record { event = Decides (Take entry mark); knows = knows } in
-    let log : List Logged = logs 0 in
-    left_same i logs (after logs (Take entry mark) knows) (λ line. life_more log l line)
-    (lines_same i logs (Take entry mark) knows
-    (alike_by log l (placements_more log l ∙ append-nil (placements log)) (λ unit. answers_more log l unit ∙ append-nil (answers log unit)))
-    (standing_same log (log ++ l ∷ []) (openings_more log l ∙ append-nil (openings log)) (λ line. life_more log l line)))
-
-pub left_reset : (i : Image) (logs : Logs) (unit event : ℕ) (knows : List ℕ) → left_openings i (after logs (ResetDone unit event) knows) ≡ left_openings i logs
-left_reset i logs unit event knows =
-    let l : Logged = record { event = Decides (ResetDone unit event); knows = knows } in
-    let log : List Logged = logs 0 in
-    left_same i logs (after logs (ResetDone unit event) knows) (λ line. life_more log l line)
-    (lines_same i logs (ResetDone unit event) knows
-    (alike_by log l (placements_more log l ∙ append-nil (placements log)) (λ v. answers_more log l v ∙ append-nil (answers log v)))
-    (standing_same log (log ++ l ∷ []) (openings_more log l ∙ append-nil (openings log)) (λ line. life_more log l line)))
 
 pub left_placed : (i : Image) (logs : Logs) (knows : List ℕ) (pad : ℕ) (o : Opening) (stripe : Stripe) (of : Program) → 0 < i.shape.ws_opt
     → IsStripeOf i logs pad o stripe of
@@ -154,7 +127,7 @@ made_agree log new [] same = refl
 made_agree log new (l ∷ ls) same = ap₂ (λ o ys. cons_option o ys) (ap opened_as same.0) (made_agree log new ls same.1)
 
 pub left_more : (i : Image) (logs : Logs) (line : ℕ) (start : StartRecord) (knows : List ℕ) → is_opened (life_of (logs 0) line) ≡ false
-    → 0 < length (opened i.shape line (live_now i logs line)).stripes
+    → 0 < length (opened i.shape line (online_now i logs line)).stripes
     → left_openings i (after logs (Open line start) knows) ≡ left_openings i logs
     ++ record { number = length (logs 0); line = line; start = start; knows = knows } ∷ []
 left_more i logs line start knows closed some =
@@ -171,7 +144,7 @@ left_more i logs line start knows closed some =
     sym (left_by_lines i new)
     ∙ ap (filter_map (λ (l : OpenLine). opened_as (life_of (new 0) l.line)))
     (ap (λ (p : Placing). p.lines) (placing_opened i logs line start knows 0 [] closed some))
-    ∙ filter_map-append (λ (l : OpenLine). opened_as (life_of (new 0) l.line)) (open_lines i logs) (opened i.shape line (live_now i logs line) ∷ [])
+    ∙ filter_map-append (λ (l : OpenLine). opened_as (life_of (new 0) l.line)) (open_lines i logs) (opened i.shape line (online_now i logs line) ∷ [])
     ∙ ap₂ (λ (xs ys : List Opening). xs ++ ys) (made_agree (logs 0) (new 0) (open_lines i logs) lives ∙ left_by_lines i logs)
     (ap (λ life. cons_option (opened_as life) []) now)
 
@@ -220,26 +193,3 @@ left_lost i logs event knows pad again of some is =
     ∙ ap (λ ls. filter has_left (map (in_line of.line (of.at / i.shape.ws_opt) WasIt) ls)) (lines_of_left i logs))
     ∙ made_filtered (logs 0) i logs (in_line of.line (of.at / i.shape.ws_opt) WasIt) (left_openings i logs)
     (λ l. (in_line_keeps l of.line (of.at / i.shape.ws_opt) WasIt).0) (left_opened i logs)
-
-apart_lines : (i : Image) (logs : Logs) (os : List Opening) → NumbersRise os → AllByRecursion (λ (o : Opening). life_of (logs 0) o.line ≡ Opened o) os
-    → AreApart (map (open_line i logs) os)
-apart_lines i logs [] rise all = tt
-apart_lines i logs (o ∷ os) rise all = (others os rise.0 all.1, apart_lines i logs os rise.1 all.1)
-  where
-    others : (ps : List Opening) → AllByRecursion (λ (p : Opening). o.number < p.number) ps
-        → AllByRecursion (λ (p : Opening). life_of (logs 0) p.line ≡ Opened p) ps
-        → AllByRecursion (λ (m : OpenLine). m.line ≢ o.line) (map (open_line i logs) ps)
-    others [] above lives = tt
-    others (p ∷ ps) above lives = (
-      (λ e.
-          let same : opened_as (Opened p) ≡ opened_as (Opened o) = ap opened_as (sym lives.0 ∙ ap (life_of (logs 0)) e ∙ all.0) in
-          let number : p.number ≡ o.number = ap (λ (x : Opening). x.number) (same_Some p o same) in
-          let below : o.number < p.number = above.0 in
-          absurd (omega arith)),
-      others ps above.1 lives.1,
-    )
-
-pub open_lines_apart : (i : Image) (logs : Logs) → AreApart (open_lines i logs)
-open_lines_apart i logs = subst AreApart (sym (lines_of_left i logs))
-    (apart_lines i logs (left_openings i logs) (rise_filtered (λ o. has_left (open_line i logs o)) (standing (logs 0)) (standing_rise (logs 0)))
-    (left_opened i logs))

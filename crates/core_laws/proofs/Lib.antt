@@ -13,6 +13,8 @@ pub mod PlacedLines
 pub mod TakenSlots
 pub mod UnitTurns
 pub mod Answered
+pub mod NotedAnswers
+pub mod AnsweredChunks
 pub mod Landing
 pub mod TakenWindow
 pub mod WaitingEntries
@@ -20,9 +22,7 @@ pub mod TakenNumbers
 pub mod PlacedPositions
 pub mod KeptPositions
 pub mod PoppedWindow
-pub mod PlainEventsLemmas
-pub mod SimpleMounts
-pub mod FaultlessMounts
+pub mod LosslessMounts
 pub mod PlacerOfLemmas
 pub mod SteppingLemmas
 pub mod WindowOfLemmas
@@ -84,7 +84,6 @@ pub mod FirstLanded
 pub mod LostSlots
 pub mod PaddedLines
 pub mod PadsPlaced
-pub mod LostProgram
 pub mod LineNumbers
 pub mod ChunksInRows
 pub mod WholePlaces
@@ -121,14 +120,11 @@ pub mod PlainStripes
 pub mod GivenBack
 pub mod GivenNow
 pub mod LandedWindow
-pub mod BlocksNow
 pub mod HeldOnce
 pub mod FindingInLists
 pub mod StripeLines
 pub mod LandedSlots
 pub mod SlotsInWorlds
-pub mod WholeStripes
-pub mod ChunkRows
 pub mod FreedFront
 pub mod WindowSteps
 pub mod NewlyRead
@@ -140,7 +136,6 @@ pub mod FirstPositions
 pub mod HeldInWorlds
 pub mod WaitingChunks
 pub mod LostBlocks
-pub mod PlacedBlocks
 pub mod MadeLists
 pub mod BegunImages
 pub mod FoundLines

@@ -9,7 +9,7 @@ use Rattle.std.proofs.Math.Nat.{div-add-mod', mul-le-mul_right}
 use Rattle.pblk_model.specs.LineOrder.{column_of, block_of, line_order}
 use Rattle.pblk_model.specs.Image.{Image}
 use Rattle.pblk_model.proofs.OrderedBlocks.{order_exactly}
-use Rattle.pblk_layout.specs.Live.{units_in}
+use Rattle.pblk_layout.specs.Online.{units_in}
 use Rattle.pblk_world.specs.World.{Logs}
 use Rattle.pblk_world.specs.EngineLog.{Opening, Placed}
 use Rattle.stripe_placer.specs.OpenLines.{OpenLine, width, unit_of}
@@ -20,7 +20,7 @@ use Rattle.core_laws.specs.StripeTurns.{IsAtTurn}
 use Rattle.lemmas.proofs.Lists.{length_replicate}
 
 module _ (i : Image) (logs : Logs) (o : Opening) (us : List ℕ) (line j : ℕ) (p : Placed) (some : 0 < i.shape.ws_opt) (whole : i.shape.clba % i.shape.ws_opt ≡ 0)
-    (live : units_in (as_opened i logs o).live ≡ us) (is : IsAtTurn i.shape us line j p) where
+    (live : units_in (as_opened i logs o).online ≡ us) (is : IsAtTurn i.shape us line j p) where
   column : j % length us < length us
   column = slice_get_within us (j % length us) p.stripe.unit is.unit
 

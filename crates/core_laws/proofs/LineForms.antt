@@ -5,7 +5,7 @@ use Rattle.std.specs.Prelude.{slice_get}
 use Rattle.std.specs.List.{find, range_with_len, slice_index_or}
 use Rattle.std.proofs.lemmas.Option.{same_Some, none-some, slice_get_within, get_or_from_slice_get}
 use Rattle.pblk_model.specs.Image.{Image}
-use Rattle.pblk_layout.specs.Live.{units_in}
+use Rattle.pblk_layout.specs.Online.{units_in}
 use Rattle.pblk_world.specs.Events.{Logged}
 use Rattle.pblk_world.specs.World.{World, log_of}
 use Rattle.pblk_world.specs.Lines.{known_image}
@@ -63,14 +63,14 @@ found_at test (y ∷ ys) (suc j) x e passes others =
 -- ---- the units of an opened line
 
 pub units_back : (i : Image) (us : ℕ → List ℕ) (w : World) (o : Opening) → IsFollowed i us w → life_of (log_of w 0) o.line ≡ Opened o
-    → units_in (as_opened i (log_of w) o).live ≡ us o.line
+    → units_in (as_opened i (log_of w) o).online ≡ us o.line
 units_back i us w o is life =
     ap (λ xs. units_in (bits_of xs)) (sym (keeps_units i w o.line o is.mount life))
     ∙ bits_back (known_image i (log_of w)) o.line (few_units i w (log_of w) is.mount) ∙ is.keeps o.line (ap is_opened life)
 
 -- the line without stripes
 pub record IsLineOf (i : Image) (us : ℕ → List ℕ) (w : World) (o : Opening) : Type 0 where
-  pub units : units_in (as_opened i (log_of w) o).live ≡ us o.line
+  pub units : units_in (as_opened i (log_of w) o).online ≡ us o.line
   pub wide_is : width (as_opened i (log_of w) o) ≡ wide us o.line
   pub count : length (as_opened i (log_of w) o).stripes ≡ stripe_count i us o.line
   pub well : IsOpenedLine i us o.line o
@@ -80,7 +80,7 @@ pub record IsLineOf (i : Image) (us : ℕ → List ℕ) (w : World) (o : Opening
 pub line_of : (i : Image) (us : ℕ → List ℕ) (w : World) (o : Opening) → IsFollowed i us w → life_of (log_of w 0) o.line ≡ Opened o
     → has_failed (log_of w 0) o ≡ false → IsLineOf i us w o
 line_of i us w o is life whole =
-    let units : units_in (as_opened i (log_of w) o).live ≡ us o.line = units_back i us w o is life in
+    let units : units_in (as_opened i (log_of w) o).online ≡ us o.line = units_back i us w o is life in
     let wide_is : width (as_opened i (log_of w) o) ≡ wide us o.line = ap (λ (us : List ℕ). length us) units in
     let well : IsOpenedLine i us o.line o = opened_lines i us w is o.line o life in
     record {

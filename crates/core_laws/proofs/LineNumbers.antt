@@ -23,7 +23,7 @@ use Rattle.lemmas.proofs.Parts.{all_at, contained_among, get_below}
 use Rattle.lemmas.proofs.Tests.{both}
 use Rattle.stripe_placer.specs.OpenLines.{OpenLine, numbers, unit_of}
 use Rattle.stripe_placer.specs.OpenLines as lines
-use Rattle.world_laws.specs.LegalMounts.{IsLegalMount}
+use Rattle.pblk_world.specs.LegalMounts.{IsLegalMount}
 use Rattle.world_laws.proofs.LifePlaces.{HasPlace, has_place, units_now}
 use Rattle.world_laws.proofs.LineBlocks.{IsLineOf, opened_line}
 use Rattle.world_laws.proofs.StripePlaces.{kth_place}

@@ -15,8 +15,8 @@ use Rattle.pblk_world.specs.Placing.{line_end}
 use Rattle.line_table.specs.declared.row.LineState.TheVariants as states
 use Rattle.core_laws.specs.PlacerOf.{unanswered_on}
 use Rattle.core_laws.specs.RowsOf.{state_in, row_of_line}
-use Rattle.world_laws.specs.LegalMounts.{IsLegalMount}
-use Rattle.core_laws.specs.InOrder.{HasRoom}
+use Rattle.pblk_world.specs.LegalMounts.{IsLegalMount}
+use Rattle.core_laws.specs.InOrder.{FitsItsLine}
 use Rattle.pblk_model.specs.declared.shape.Shape.{Shape}
 use Rattle.pblk_world.specs.Events.{Logged}
 use Rattle.lemmas.proofs.Options.{some_value}
@@ -31,7 +31,7 @@ use Rattle.core_laws.proofs.StripesInOrder.{its_stripes}
 use Rattle.core_laws.proofs.LineNumbers as numbers
 use Rattle.lemmas.proofs.Lists.{IsAmong}
 
-pub has_room : (i : Image) (w : World) (line : ℕ) (o : Opening) → IsLegalMount i w → life_of (log_of w 0) line ≡ Opened o → HasRoom i.shape (log_of w 0) o
+pub has_room : (i : Image) (w : World) (line : ℕ) (o : Opening) → IsLegalMount i w → life_of (log_of w 0) line ≡ Opened o → FitsItsLine i.shape (log_of w 0) o
 has_room i w line o mount opened =
     let us : ℕ → List ℕ = line_units (known_image i (log_of w)) in
     let is : IsFollowed i us w = follow i w mount in
@@ -74,7 +74,7 @@ few_stripes n m w some within = go (nat_le n (m / w)) refl
         absurd (omega arith)
 
 not_landed : (i : Image) (logs : Logs) (unit : ℕ) (p : Placed) (o : Opening) → 0 < i.shape.ws_opt → unanswered_on (logs 0) unit ≡ Some p → p.life ≡ Opened o
-    → HasRoom i.shape (logs 0) o
+    → FitsItsLine i.shape (logs 0) o
     → have_landed (logs 0) o (line_end i.shape o / i.shape.ws_opt) ≡ false
 not_landed i logs unit p o some first life room =
     let few : length (stripes_of (logs 0) o) ≤ line_end i.shape o / i.shape.ws_opt =
@@ -92,7 +92,7 @@ not_landed i logs unit p o some first life room =
     not_second false b e = refl
 
 -- a line of which a stripe was lost never lands whole
-pub failed_not_landed : (s : Shape) (log : List Logged) (o : Opening) → 0 < s.ws_opt → HasRoom s log o → has_failed log o ≡ true
+pub failed_not_landed : (s : Shape) (log : List Logged) (o : Opening) → 0 < s.ws_opt → FitsItsLine s log o → has_failed log o ≡ true
     → have_landed log o (line_end s o / s.ws_opt) ≡ false
 failed_not_landed s log o some room failed =
     let few : length (stripes_of log o) ≤ line_end s o / s.ws_opt = few_stripes (length (stripes_of log o)) (line_end s o) s.ws_opt some room.within in
@@ -110,7 +110,7 @@ failed_not_landed s log o some room failed =
 
 pub state_open : (i : Image) (logs : Logs) (unit : ℕ) (p : Placed) (o : Opening) → 0 < i.shape.ws_opt
     → has_failed (logs 0) o ≡ false → unanswered_on (logs 0) unit ≡ Some p → p.life ≡ Opened o
-    → life_of (logs 0) p.stripe.line ≡ Opened o → HasRoom i.shape (logs 0) o → (row_of_line i logs p.stripe.line).state ≡ states.Open
+    → life_of (logs 0) p.stripe.line ≡ Opened o → FitsItsLine i.shape (logs 0) o → (row_of_line i logs p.stripe.line).state ≡ states.Open
 state_open i logs unit p o some whole first life opened room =
     ap (state_in i logs p.stripe.line) opened
     ∙ ap₂ (λ a b. if a then states.Failed else if b then states.Full else states.Open) whole (not_landed i logs unit p o some first life room)

@@ -26,7 +26,7 @@ use Rattle.lemmas.proofs.Maps.{all_filter, all_mapped, any_found, any_member, en
 use Rattle.lemmas.proofs.Options.{mapped_some, some_value}
 use Rattle.lemmas.proofs.Parts.{all_by_get, contained_among, get_below, got_within}
 use Rattle.lemmas.proofs.Tests.{and_both, both, not_both, or_left, or_right, same, same_number}
-use Rattle.world_laws.specs.LegalMounts.{IsLegalMount}
+use Rattle.pblk_world.specs.LegalMounts.{IsLegalMount}
 use Rattle.world_laws.proofs.Begun.{IsBegunWith, begun_with}
 use Rattle.world_laws.proofs.FoundCounts.{front_low}
 use Rattle.world_laws.proofs.Fronts.{synced_from}

@@ -12,8 +12,8 @@ use Rattle.pblk_world.specs.Victims.{engine_prefix}
 use Rattle.pblk_world.proofs.Answered.{answers_fit}
 use Rattle.world_laws.proofs.Openings.{placed_at}
 use Rattle.world_laws.proofs.Stripes.{IsPlaced, placed_is}
-use Rattle.world_laws.specs.LegalMounts.{IsLegalMount}
-use Rattle.core_laws.specs.InOrder.{IsInPlace, IsInOrder}
+use Rattle.pblk_world.specs.LegalMounts.{IsLegalMount}
+use Rattle.core_laws.specs.InOrder.{IsInPlace, AreSoundLogs}
 use Rattle.core_laws.proofs.FreedMoments.{freed_before}
 use Rattle.core_laws.proofs.UnansweredLines.{still_open}
 use Rattle.core_laws.proofs.UsersEntries.{AreInOrder, in_order as entries_in_order}
@@ -36,7 +36,7 @@ in_place i w p legal there =
 pub small_capacity : (i : Image) → IsAccepted i.shape → i.shape.capacity ≤ meta_lba
 small_capacity i accepted = let few : i.shape.capacity < 2 ^ 40 = accepted.target.capacity_number in omega arith
 
-pub in_order : (i : Image) (w : World) → IsLegalMount i w → IsInOrder i (log_of w)
+pub in_order : (i : Image) (w : World) → IsLegalMount i w → AreSoundLogs i (log_of w)
 in_order i w mount =
     let small : i.shape.capacity ≤ meta_lba = small_capacity i mount.accepted in
     let now : AreInOrder i.shape (log_of w 0) = entries_in_order i w small mount.legal in

@@ -25,7 +25,7 @@ use Rattle.core_laws.specs.PlacerOf.{unanswered_on, positions_of}
 use Rattle.core_laws.specs.RowsOf.{state_in, state_of, width_in, taker_in, row_of_line, rows_of}
 use Rattle.core_laws.specs.ChangedTables.{with_row, failed}
 use Rattle.core_laws.specs.PlacedEntries.{place_entries, lower_entries}
-use Rattle.core_laws.specs.PlainLogs.{FreedBefore}
+use Rattle.core_laws.specs.InOrder.{FreedBefore}
 use Rattle.core_laws.proofs.Answered.{first_unanswered}
 use Rattle.core_laws.proofs.ChangedTables.{table_changes, table_of}
 use Rattle.core_laws.proofs.EntryRows.{Places, live_with, taker_with, IsNowhere}
@@ -34,7 +34,8 @@ use Rattle.core_laws.proofs.HeldOnce.{HeldOnce}
 use Rattle.core_laws.proofs.KeptRows.{KeepsChunks, KeepsThen, then_kept, state_same, width_same, same_row}
 use Rattle.core_laws.proofs.LandedRows.{force_kept, winner_kept, none_taken, keeps_chunks}
 use Rattle.core_laws.proofs.LoweredTables.{counted, placed_back, placed_live}
-use Rattle.core_laws.proofs.LostStripe.{IsOneLost, one_lost, its_loss, landed_line_same, position_lost}
+use Rattle.core_laws.proofs.LostStripe.{IsOneLost, one_lost, landed_line_same, position_lost}
+use Rattle.core_laws.proofs.NotedAnswers.{answer_is}
 use Rattle.core_laws.proofs.NextTakes.{IsRising, is_at}
 use Rattle.core_laws.proofs.OpeningNumbers.{opens_at, life_at}
 use Rattle.core_laws.proofs.Placed.{is_in_list, stripe_holds}
@@ -236,7 +237,7 @@ module _ (i : Image) (logs : Logs) (unit event : ℕ) (knows : List ℕ) (p : Pl
       (sym (life_at (logs 0) m q at).0 ∙ ap (opens_at (logs 0)) (sym same) ∙ (life_at (logs 0) p.stripe.line o opened).0))) in
       ap₂ (λ a b. if a then states.Failed else if b then states.Full else states.Open)
       (fails_beside (logs 0) (after logs (Lost unit event) knows 0) p q is apart)
-      (have_landed_beside (logs 0) (new 0) unit (WasLost event) p q (line_end i.shape q / i.shape.ws_opt) (its_loss (logs 0) unit event knows)
+      (have_landed_beside (logs 0) (new 0) unit (WasLost event) p q (line_end i.shape q / i.shape.ws_opt) (answer_is (logs 0) unit knows (WasLost event))
       (first_unanswered (logs 0) unit p waits) apart)))
       (ap (width_in i new m) (lives m) ∙ width_same i logs new m (life_of (logs 0) m) chunks (then_ m))
       (live_is m) (taker_now m)

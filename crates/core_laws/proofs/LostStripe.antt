@@ -1,25 +1,21 @@
 -- A stripe was lost: its entries are in no line, and wait again.
-use Rattle.std.proofs.Common.{◌≡◌, ◌⊎◌, inl, inr, ℕ, ◌&&◌, not, Bool, true, false, Some, None, List, ◌++◌, length, refl, sym, ap, ap₂, ◌∙◌, arith, append-nil}
-use Rattle.std.specs.Prelude.{slice_get, if◌then◌else◌}
+use Rattle.std.proofs.Common.{◌≡◌, ◌⊎◌, inl, inr, ℕ, ◌&&◌, not, Bool, true, false, Some, None, List, refl, sym, ap, ap₂, ◌∙◌}
+use Rattle.std.specs.Prelude.{if◌then◌else◌}
 use Rattle.std.specs.List.{AllByRecursion, find, list_any}
-use Rattle.std.specs.Option.{option_map, option_to_list}
-use Rattle.std.proofs.lemmas.Option.{slice_get_past}
+use Rattle.std.specs.Option.{option_map}
 use Rattle.pblk_model.specs.declared.shape.Shape.{Shape}
-use Rattle.pblk_world.specs.Events.{Lost, Decides, Logged}
-use Rattle.pblk_world.specs.EngineLog.{Placed, placements, WasLost, answers, answer_of, is_land, is_loss, has_landed, was_lost, holds_position}
+use Rattle.pblk_world.specs.Events.{Lost, Logged}
+use Rattle.pblk_world.specs.EngineLog.{Placed, placements, WasLost, answer_of, is_land, is_loss, has_landed, was_lost, holds_position}
 use Rattle.pblk_world.specs.Fronts.{has_landed_at}
 use Rattle.pblk_world.specs.Victims.{is_in_force, line_of_position, landed_line}
-use Rattle.pblk_world.proofs.Appending.{placements_more}
 use Rattle.core_laws.specs.PlacerOf.{unanswered_on}
 use Rattle.core_laws.specs.EntryHolds.{placed_line}
-use Rattle.core_laws.proofs.Answered.{IsAnswer, IsFirst, its_answer, others_answer, first_unanswered}
 use Rattle.core_laws.proofs.HeldOnce.{HeldOnce}
 use Rattle.core_laws.proofs.KeptStripes.{with_event}
+use Rattle.core_laws.proofs.NotedAnswers.{one_answered}
 use Rattle.lemmas.proofs.Lists.{IsAmong, all_imply, among_all}
 use Rattle.lemmas.proofs.Maps.{any_agree, find_agree, find_none}
 use Rattle.lemmas.proofs.Parts.{all_at}
-use Rattle.lemmas.proofs.Tests.{other_number, same_number}
-use Rattle.pblk_world.proofs.EngineLogLemmas.{answers_more}
 
 -- a stripe was lost, and what became of the others is as it was
 pub record IsOneLost (log new : List Logged) (p : Placed) : Type 0 where
@@ -30,34 +26,11 @@ pub record IsOneLost (log new : List Logged) (p : Placed) : Type 0 where
   pub not_landed : has_landed new p ≡ false
   pub others : AllByRecursion (λ r. (r ≡ p) ⊎ (answer_of new r ≡ answer_of log r)) (placements log)
 
-pub its_loss : (log : List Logged) (unit event : ℕ) (knows : List ℕ) → IsAnswer log (with_event log (Lost unit event) knows) unit (WasLost event)
-its_loss log unit event knows =
-    let l : Logged = record { event = Decides (Lost unit event); knows = knows } in
-    record {
-      placements = placements_more log l ∙ append-nil (placements log);
-      here = answers_more log l unit ∙ ap (λ b. answers log unit ++ option_to_list (if b then Some (WasLost event) else None)) (same_number unit);
-      elsewhere = λ v other. answers_more log l v
-          ∙ ap (λ b. answers log v ++ option_to_list (if b then Some (WasLost event) else None)) (other_number unit v (λ e. other (sym e)))
-          ∙ append-nil (answers log v);
-    }
-
 pub one_lost : (log : List Logged) (unit event : ℕ) (knows : List ℕ) (p : Placed) → unanswered_on log unit ≡ Some p
     → IsOneLost log (with_event log (Lost unit event) knows) p
 one_lost log unit event knows p waiting =
-    let new : List Logged = with_event log (Lost unit event) knows in
-    let is : IsAnswer log (with_event log (Lost unit event) knows) unit (WasLost event) = its_loss log unit event knows in
-    let first : IsFirst log unit p = first_unanswered log unit p waiting in
-    let answer : answer_of (with_event log (Lost unit event) knows) p ≡ Some (WasLost event) = its_answer log new unit (WasLost event) p is first in
-    record {
-      stripes = is.placements;
-      among = first.among;
-      before = ap (λ n. slice_get (answers log p.stripe.unit) n) (first.turn_is ∙ ap (λ u. length (answers log u)) (sym first.of_unit))
-          ∙ slice_get_past (answers log p.stripe.unit) (length (answers log p.stripe.unit)) (omega arith);
-      lost = ap is_loss answer;
-      not_landed = ap is_land answer;
-      others = all_imply (IsAmong (placements log)) (λ (r : Placed). (r ≡ p) ⊎ (answer_of new r ≡ answer_of log r))
-          (λ r among. others_answer log new unit (WasLost event) p r is first among) (placements log) (among_all (placements log));
-    }
+    let one = one_answered log unit (WasLost event) knows p waiting in
+    record { stripes = one.stripes; among = one.among; before = one.before; lost = ap is_loss one.now; not_landed = ap is_land one.now; others = one.others }
 
 -- what became of one of the stripes
 other : (log new : List Logged) (p r : Placed) → IsOneLost log new p → IsAmong (placements log) r → (r ≡ p) ⊎ (answer_of new r ≡ answer_of log r)

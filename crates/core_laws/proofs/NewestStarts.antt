@@ -24,7 +24,7 @@ use Rattle.pblk_world.proofs.Answered.{answers_fit}
 use Rattle.pblk_world.proofs.Appending.{openings_more}
 use Rattle.pblk_world.proofs.EngineLogLemmas.{begun_stays, opened_same}
 use Rattle.world_laws.specs.Finding.{IsFoundOf, line_row}
-use Rattle.world_laws.specs.LegalMounts.{IsLegalMount}
+use Rattle.pblk_world.specs.LegalMounts.{IsLegalMount}
 use Rattle.world_laws.specs.MountBeginnings.{beginning_of}
 use Rattle.world_laws.proofs.Begun.{begun_with}
 use Rattle.world_laws.proofs.FoundEmpty.{all_pass}

@@ -1,20 +1,17 @@
 -- The victim at work after one more event of the engine, and by what the engine knows of the logs.
-use Rattle.std.proofs.Common.{◌≡◌, ℕ, ◌*◌, ◌≤◌, ◌==◌, zero, suc, nat_le, false, Some, None, Option, List, [], ◌∷◌, length, refl, sym, ap, ap₂, ◌∙◌, arith, le_refl, length-append, if◌then◌else◌}
+use Rattle.std.proofs.Common.{◌≡◌, ℕ, ◌≤◌, zero, suc, false, None, List, [], ◌∷◌, length, refl, sym, ap, ap₂, ◌∙◌, arith, le_refl, length-append}
 use Rattle.std.specs.Prelude.{map}
-use Rattle.std.specs.List.{filter, filter_map, flat_map, fold, last_or, range_with_len}
+use Rattle.std.specs.List.{filter, fold, last_or, range_with_len}
 use Rattle.std.specs.Option.{is_none, option_map, option_map_or}
-use Rattle.pblk_model.specs.Chunk.{Chunk}
-use Rattle.pblk_model.specs.Contents.{counted, head}
+use Rattle.pblk_model.specs.Contents.{head}
 use Rattle.pblk_model.specs.EndRecord.{end_of}
 use Rattle.pblk_model.specs.Image.{Image}
-use Rattle.pblk_model.specs.Records.{Record}
 use Rattle.pblk_model.specs.StartRecord.{start_of}
 use Rattle.pblk_world.specs.EngineLog.{AsFound, Freed, LineLife, life_of, Opened, Opening, has_failed, openings}
 use Rattle.pblk_world.specs.Events.{EngineEvent, Decides, Logged}
-use Rattle.pblk_world.specs.Lines.{chunks_of, found_image, is_free_line, known_image, line_data}
-use Rattle.pblk_world.specs.Space.{free_addresses, full_data, is_due}
+use Rattle.pblk_world.specs.Lines.{chunks_of, found_image, known_image, line_data}
 use Rattle.pblk_world.specs.Starts.{has_landed_start, newest_start}
-use Rattle.pblk_world.specs.Victims.{Candidate, better, candidate, comes_to_work, engine_prefix, is_failed, is_failed_in, is_freed, next_victim, position_in, positions_in, stays_at_work, victim}
+use Rattle.pblk_world.specs.Victims.{Candidate, better, candidate, engine_prefix, is_failed, is_failed_in, next_victim, stays_at_work, victim}
 use Rattle.pblk_world.specs.World.{Logs}
 use Rattle.core_laws.specs.CandidateLines.{candidate_by}
 use Rattle.core_laws.specs.ClosedLines.{closed_line}
@@ -24,9 +21,8 @@ use Rattle.core_laws.proofs.CandidateLines.{candidate_is}
 use Rattle.core_laws.proofs.ClosedKept.{closed_same}
 use Rattle.core_laws.proofs.Engine.{prefix_same, whole_at}
 use Rattle.core_laws.proofs.KeptRows.{live_kept}
-use Rattle.core_laws.proofs.KnownLines.{free_len_known, lines_known}
+use Rattle.core_laws.proofs.KnownLines.{lines_known}
 use Rattle.core_laws.proofs.LatestStarts.{numbers_of}
-use Rattle.core_laws.proofs.RangeSums.{sum_same}
 use Rattle.lemmas.proofs.Maps.{made_same}
 use Rattle.lemmas.proofs.Numbers.{fun_same}
 
@@ -59,12 +55,6 @@ module _ (i : Image) (logs more : Logs) (is : AreKnown i logs more) where
       → f (more 0) (found_image i more) (known_image i more) ≡ f (logs 0) (found_image i logs) (known_image i logs)
   by_three f = λ k. f (is.own k) (is.found k) (is.image k)
 
-  positions_known : (life : LineLife) (line : ℕ) → positions_in i more life line ≡ positions_in i logs life line
-  positions_known AsFound line = ap (λ (f : Image). map (λ (r : Record). r.position) (filter (λ (r : Record). r.line == line) (counted f))) is.found
-  positions_known (Opened o) line =
-      ap (λ (j : Image). filter_map (position_in i.shape) (flat_map (λ (c : Chunk). c.blocks) (chunks_of j line))) is.image
-  positions_known (Freed was knows) line = refl
-
   failed_known : (life : LineLife) (line : ℕ) → is_failed_in i more life line ≡ is_failed_in i logs life line
   failed_known AsFound line = ap (λ (f : Image). option_map_or (λ start. is_none (end_of f line start)) (start_of f line) false) is.found
   failed_known (Opened o) line = ap (λ (log : List Logged). has_failed log o) is.own
@@ -90,30 +80,3 @@ module _ (i : Image) (logs more : Logs) (is : AreKnown i logs more) where
   pub next_known : next_victim i more ≡ next_victim i logs
   next_known = ap (λ cs. option_map (λ (c : Candidate). c.line) (fold better None cs))
       (made_same (candidate i more) (candidate i logs) candidate_known (range_with_len 0 i.shape.chunks))
-
-  pub free_addresses_known : free_addresses i more ≡ free_addresses i logs
-  free_addresses_known = sum_same (λ line. if is_free_line i more line then line_data (known_image i more) line else 0)
-      (λ line. if is_free_line i logs line then line_data (known_image i logs) line else 0)
-      (free_len_known i logs more is) (range_with_len 0 i.shape.chunks)
-
-  pub due_known : is_due i more ≡ is_due i logs
-  due_known = ap (λ n. nat_le n (3 * full_data i.shape)) free_addresses_known
-
-  pub stays_known : (was : Option ℕ) → stays_at_work i more was ≡ stays_at_work i logs was
-  stays_known was = go was
-    where
-      comes : comes_to_work i more ≡ comes_to_work i logs
-      comes = ap₂ (λ due (next : Option ℕ). if due then next else None) due_known next_known
-
-      go : (was : Option ℕ) → stays_at_work i more was ≡ stays_at_work i logs was
-      go None = comes
-      go (Some line) = ap₂ (λ (log : List Logged) (next : Option ℕ). if is_freed (life_of log line) then next else Some line) is.own comes
-
--- The victim is by what the engine knew at each length of its log.
-pub victim_known : (i : Image) (logs more : Logs) → ((n : ℕ) → AreKnown i (engine_prefix n logs) (engine_prefix n more))
-    → (n : ℕ) → victim i more n ≡ victim i logs n
-unfolding victim
-victim_known i logs more is zero = refl
-victim_known i logs more is (suc n) =
-    stays_known i (engine_prefix (suc n) logs) (engine_prefix (suc n) more) (is (suc n)) (victim i more n)
-    ∙ ap (stays_at_work i (engine_prefix (suc n) logs)) (victim_known i logs more is n)

@@ -22,7 +22,7 @@ use Rattle.stripe_placer.specs.OpenLines.{OpenLine, unit_of, numbers, is_to_plac
 use Rattle.stripe_placer.specs.Placing.{Program, UnitRow, stopped_in, is_under_way, is_ready, allows, next_positions, program_of, allowed_at, next_in, next_stripe}
 use Rattle.stripe_placer.specs.Placing.UnitRow.{Idle}
 use Rattle.core_laws.specs.OpenedLines.{open_line, standing, open_lines}
-use Rattle.core_laws.specs.PlacerOf.{positions_of, entries_of, row_of, placing_of}
+use Rattle.core_laws.specs.PlacerOf.{positions_of, entries_of, unit_row_in, placing_of}
 use Rattle.core_laws.proofs.Placing.{not_below}
 use Rattle.world_laws.proofs.UnitTurns.{unit_is as unit_at, turn_is as turn_at}
 use Rattle.core_laws.proofs.WaitingEntries.{waiting_alike}
@@ -220,9 +220,9 @@ offered_next i us w pad o kind is whole life line next =
     given_at (next_in s e) (open_lines i (log_of w)) l (program_of s l k kind (next_positions s e kind)) at.0 at.1 given
 
 ready_unit : (i : Image) (us : ℕ → List ℕ) (w : World) (again : List ℕ) (unit : ℕ) → IsFollowed i us w → AreAnswered (log_of w 0) → unit < units i.shape
-    → is_ready (map (row_of i (log_of w) again) (range_with_len 0 (units i.shape))) 0 unit ≡ true
+    → is_ready (map (unit_row_in i (log_of w) again) (range_with_len 0 (units i.shape))) 0 unit ≡ true
 ready_unit i us w again unit is all inside =
-    let idle : slice_get (map (row_of i (log_of w) again) (range_with_len 0 (units i.shape))) unit ≡ Some Idle =
+    let idle : slice_get (map (unit_row_in i (log_of w) again) (range_with_len 0 (units i.shape))) unit ≡ Some Idle =
     row_there i (log_of w) again unit inside ∙ ap (λ (r : UnitRow). Some r) (row_before i (log_of w) again unit (idle_unit i us w unit is all)) in
     ap₂ (λ b (r : Option UnitRow). not (nat_eq b 1) && not (option_map_or is_under_way r false)) (bit_at-zero unit) idle
 
@@ -256,7 +256,7 @@ module _ (i : Image) (us : ℕ → List ℕ) (w : World) (pad : ℕ) (again : Li
   o = due.opening
 
   abbrev rows : List UnitRow
-  rows = map (row_of i (log_of w) again) (range_with_len 0 (units i.shape))
+  rows = map (unit_row_in i (log_of w) again) (range_with_len 0 (units i.shape))
 
   abbrev given : List Program
   given = filter_map (next_in i.shape (entries_of i.shape (log_of w 0) pad)) (open_lines i (log_of w))
@@ -314,7 +314,7 @@ idle_answered i us w pad again p is idle there =
     let log : List Logged = log_of w 0 in
     let among : IsAmong (placements log) p = (there.0, slice_get-get_or (placements log) there.0 p there.1 ∙ ap (λ (q : Placed). Some q) there.2) in
     let inside : p.stripe.unit < units i.shape = on_drive i w p is.mount there in
-    let row : row_of i (log_of w) again p.stripe.unit ≡ Idle =
-    same_Some (row_of i (log_of w) again p.stripe.unit) Idle (sym (row_there i (log_of w) again p.stripe.unit inside) ∙ idle p.stripe.unit inside) in
+    let row : unit_row_in i (log_of w) again p.stripe.unit ≡ Idle =
+    same_Some (unit_row_in i (log_of w) again p.stripe.unit) Idle (sym (row_there i (log_of w) again p.stripe.unit inside) ∙ idle p.stripe.unit inside) in
     all_answered log p.stripe.unit p (is_idle i us w again p.stripe.unit is (ap is_under_way row) (ap stopped_in row))
     (in_filter (λ (q : Placed). q.stripe.unit == p.stripe.unit) (placements log) p among (same_number p.stripe.unit)) refl

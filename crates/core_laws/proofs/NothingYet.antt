@@ -10,7 +10,7 @@ use Rattle.pblk_model.specs.Image.{Image}
 use Rattle.pblk_model.specs.Contents.{least_missing}
 use Rattle.pblk_world.specs.Events.{Logged}
 use Rattle.pblk_world.specs.World.{Logs}
-use Rattle.pblk_world.specs.EngineLog.{takes, openings, placements, Opening, Placed, life_of}
+use Rattle.pblk_world.specs.EngineLog.{takes, openings, Opening, Placed, life_of}
 use Rattle.pblk_world.specs.Fronts.{first_position, taken, synced, user_takes, waiting}
 use Rattle.pblk_world.specs.Lines.{strays_of, is_given_up}
 use Rattle.pblk_world.specs.Space.{freed, placed_front, unplaced_in, open_addresses}
@@ -18,7 +18,7 @@ use Rattle.stripe_placer.specs.OpenLines.{has_left}
 use Rattle.stripe_placer.specs.Placing.{UnitRow, nothing_placed}
 use Rattle.stripe_placer.specs.Placing.UnitRow.{Idle}
 use Rattle.core_laws.specs.OpenedLines.{open_line, open_lines, standing}
-use Rattle.core_laws.specs.PlacerOf.{placing_of, entries_of, row_of, row_in, waits_again, unanswered_on}
+use Rattle.core_laws.specs.PlacerOf.{placing_of, entries_of, unit_row_in, row_in, waits_again, unanswered_on}
 use Rattle.core_laws.specs.WindowOf.{window_from}
 use Rattle.core_laws.proofs.Taking.{same_placing}
 use Rattle.core_laws.specs.JustBegun.{HasJustBegun}
@@ -59,9 +59,6 @@ no_openings i f logs is = ap openings is.log
 pub none_stands : (i : Image) (f : Found) (logs : Logs) → HasJustBegun i f logs → standing (logs 0) ≡ []
 none_stands i f logs is = ap standing is.log
 
-pub no_placements : (i : Image) (f : Found) (logs : Logs) → HasJustBegun i f logs → placements (logs 0) ≡ []
-no_placements i f logs is = ap placements is.log
-
 pub none_unanswered : (i : Image) (f : Found) (logs : Logs) (unit : ℕ) → HasJustBegun i f logs → unanswered_on (logs 0) unit ≡ None
 none_unanswered i f logs unit is = ap (λ (xs : List Logged). unanswered_on xs unit) is.log
 
@@ -93,7 +90,7 @@ window_is i f logs from is =
 
 -- ---- the placer
 
-idle : (i : Image) (f : Found) (logs : Logs) (again : List ℕ) (unit : ℕ) → HasJustBegun i f logs → row_of i logs again unit ≡ Idle
+idle : (i : Image) (f : Found) (logs : Logs) (again : List ℕ) (unit : ℕ) → HasJustBegun i f logs → unit_row_in i logs again unit ≡ Idle
 idle i f logs again unit is = ap (λ (o : Option Placed). option_map_or (λ (p : Placed). row_in i logs (waits_again (logs 0) again unit) p.life p) o Idle)
     (none_unanswered i f logs unit is)
 
@@ -105,6 +102,6 @@ pub placing_is : (i : Image) (f : Found) (logs : Logs) (pad : ℕ) (again : List
     → placing_of i logs pad again ≡ record (nothing_placed i.shape) { entries = record { lost = []; fresh = []; pad = pad } }
 placing_is i f logs pad again is =
     same_placing i.shape (entries_of i.shape (logs 0) pad) (record { lost = []; fresh = []; pad = pad })
-    (map (row_of i logs again) (range_with_len 0 (units i.shape))) (replicate (units i.shape) Idle) (open_lines i logs) []
-    (ap (λ (xs : List Logged). entries_of i.shape xs pad) is.log) (idle_rows (row_of i logs again) (λ unit. idle i f logs again unit is) 0 (units i.shape))
+    (map (unit_row_in i logs again) (range_with_len 0 (units i.shape))) (replicate (units i.shape) Idle) (open_lines i logs) []
+    (ap (λ (xs : List Logged). entries_of i.shape xs pad) is.log) (idle_rows (unit_row_in i logs again) (λ unit. idle i f logs again unit is) 0 (units i.shape))
     (no_lines i f logs is)

@@ -1,4 +1,4 @@
--- What the placer of a simple mount offers beside stopped stripes: the next stripe of an opened
+-- What the placer of a mount offers beside stopped stripes: the next stripe of an opened
 -- line, on an idle unit.
 use Rattle.std.proofs.Common.{◌≡◌, ℕ, ◌-◌, ◌*◌, ◌/◌, ◌%◌, ◌<◌, ◌≤◌, ◌&&◌, not, nat_lt, Bool, true, false, Some, None, Option, List, ◌++◌, map, length, refl, sym, ap, ap₂, ◌∙◌, arith, mod-lt}
 use Rattle.std.specs.Prelude.{slice_get}
@@ -8,7 +8,7 @@ use Rattle.std.proofs.lemmas.Option.{same_Some, none-some, slice_get-get_or}
 use Rattle.pblk_model.specs.declared.shape.Shape.{Shape}
 use Rattle.pblk_model.specs.Shape.{units}
 use Rattle.pblk_model.specs.Image.{Image}
-use Rattle.pblk_layout.specs.Live.{is_in, is_live, units_in}
+use Rattle.pblk_layout.specs.Online.{is_in, is_online, units_in}
 use Rattle.pblk_world.specs.Events.{Logged}
 use Rattle.pblk_world.specs.World.{World, log_of}
 use Rattle.pblk_world.specs.Lines.{known_image}
@@ -19,7 +19,7 @@ use Rattle.stripe_placer.specs.Placing.{Program, UnitRow, stopped_in, is_under_w
 use Rattle.stripe_placer.proofs.Named.{IsProgramIn, its_program}
 use Rattle.stripe_placer.proofs.Chunks.{lt_of as is_below}
 use Rattle.core_laws.specs.OpenedLines.{open_line, standing, open_lines}
-use Rattle.core_laws.specs.PlacerOf.{entries_of, row_of, placing_of}
+use Rattle.core_laws.specs.PlacerOf.{entries_of, unit_row_in, placing_of}
 use Rattle.core_laws.proofs.Followed.{IsFollowed}
 use Rattle.core_laws.proofs.StandingOpenings.{standing_opened}
 use Rattle.core_laws.proofs.KeptLines.{few_units, live_inside, unit_live}
@@ -59,7 +59,7 @@ pub unit_within : (i : Image) (us : ℕ → List ℕ) (w : World) (line k unit :
 unit_within i us w line k unit is opened e =
     let j : Image = known_image i (log_of w) in
     let few : length (known_image i (log_of w)).units ≤ 64 = few_units i w (log_of w) is.mount in
-    let live : is_live (known_image i (log_of w)) line unit ≡ true =
+    let live : is_online (known_image i (log_of w)) line unit ≡ true =
     unit_live (known_image i (log_of w)) line k unit few (ap (λ (xs : List ℕ). slice_get xs k) (is.keeps line opened) ∙ e) in
     let inside : unit < length (known_image i (log_of w)).units =
     live_inside (known_image i (log_of w)) line unit live in
@@ -116,18 +116,18 @@ not_true false false e = refl
 
 -- its unit is idle
 pub unit_idle : (i : Image) (us : ℕ → List ℕ) (w : World) (again : List ℕ) (busy : ℕ) (of : Program) → IsFollowed i us w → of.unit < units i.shape
-    → is_ready (map (row_of i (log_of w) again) (range_with_len 0 (units i.shape))) busy of.unit ≡ true → stopped_in (row_of i (log_of w) again of.unit) ≡ None
+    → is_ready (map (unit_row_in i (log_of w) again) (range_with_len 0 (units i.shape))) busy of.unit ≡ true → stopped_in (unit_row_in i (log_of w) again of.unit) ≡ None
     → length (answers (log_of w 0) of.unit) ≡ length (placed_on (log_of w 0) of.unit)
 unit_idle i us w again busy of is within ready none =
     is_idle i us w again of.unit is
     (ap (λ (r : Option UnitRow). option_map_or is_under_way r false) (sym (row_there i (log_of w) again of.unit within))
     ∙ not_true (is_in busy of.unit)
-    (option_map_or is_under_way (slice_get (map (row_of i (log_of w) again) (range_with_len 0 (units i.shape))) of.unit) false) ready)
+    (option_map_or is_under_way (slice_get (map (unit_row_in i (log_of w) again) (range_with_len 0 (units i.shape))) of.unit) false) ready)
     none
 
 pub offered : (i : Image) (us : ℕ → List ℕ) (w : World) (pad : ℕ) (again : List ℕ) (busy : ℕ) (of : Program) (o : Opening) → IsFollowed i us w
     → has_failed (log_of w 0) o ≡ false → IsOfferedBy i us w pad of o
-    → is_ready (map (row_of i (log_of w) again) (range_with_len 0 (units i.shape))) busy of.unit ≡ true → stopped_in (row_of i (log_of w) again of.unit) ≡ None
+    → is_ready (map (unit_row_in i (log_of w) again) (range_with_len 0 (units i.shape))) busy of.unit ≡ true → stopped_in (unit_row_in i (log_of w) again of.unit) ≡ None
     → IsOffered i us w pad of o
 offered i us w pad again busy of o is whole by ready none =
     let s : Shape = i.shape in
@@ -142,7 +142,7 @@ offered i us w pad again busy of o is whole by ready none =
     let made : Program = program_of s l j (kind_of l j) (next_positions s e (kind_of l j)) in
     let same : made ≡ of = its.1.is in
     let kind : kind_of l j ≡ of.kind = ap (λ (x : Program). x.kind) same in
-    let unit : slice_index_or (units_in l.live) (j % width l) 0 ≡ of.unit = ap (λ (x : Program). x.unit) same in
+    let unit : slice_index_or (units_in l.online) (j % width l) 0 ≡ of.unit = ap (λ (x : Program). x.unit) same in
     let g : width l ≡ wide us o.line = line.wide_is in
     let inside : k % wide us o.line < wide us o.line = mod-lt k {m = wide us o.line} line.striped.wide in
     let unit_here : slice_get (us o.line) (k % wide us o.line) ≡ Some of.unit =
@@ -181,10 +181,10 @@ new_only test stopped given of never next = go (find test stopped) refl
 
 -- the line of the program, whose unit is ready
 pub offered_line : (i : Image) (us : ℕ → List ℕ) (w : World) (pad : ℕ) (again : List ℕ) (busy : ℕ) (of : Program) → IsFollowed i us w
-    → next_stripe (placing_of i (log_of w) pad again) busy ≡ Some of → stopped_in (row_of i (log_of w) again of.unit) ≡ None
-    → (o : Opening) × IsOfferedBy i us w pad of o × (is_ready (map (row_of i (log_of w) again) (range_with_len 0 (units i.shape))) busy of.unit ≡ true)
+    → next_stripe (placing_of i (log_of w) pad again) busy ≡ Some of → stopped_in (unit_row_in i (log_of w) again of.unit) ≡ None
+    → (o : Opening) × IsOfferedBy i us w pad of o × (is_ready (map (unit_row_in i (log_of w) again) (range_with_len 0 (units i.shape))) busy of.unit ≡ true)
 offered_line i us w pad again busy of is next none =
-    let rows : List UnitRow = map (row_of i (log_of w) again) (range_with_len 0 (units i.shape)) in
+    let rows : List UnitRow = map (unit_row_in i (log_of w) again) (range_with_len 0 (units i.shape)) in
     let given : List Program = filter_map (next_in i.shape (entries_of i.shape (log_of w 0) pad)) (open_lines i (log_of w)) in
     let only : find (λ (x : Program). is_ready rows busy x.unit) given ≡ Some of =
     new_only (λ (x : Program). is_ready rows busy x.unit) (filter_map stopped_in rows) given of

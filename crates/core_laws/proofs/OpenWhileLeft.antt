@@ -12,12 +12,12 @@ use Rattle.pblk_model.specs.declared.chunk.ChunkState.{ChunkState}
 use Rattle.pblk_model.specs.declared.chunk.ChunkState.TheVariants as states
 use Rattle.pblk_model.specs.Chunk.{Chunk}
 use Rattle.pblk_model.specs.Image.{Image, is_online_in, line_units}
-use Rattle.pblk_layout.specs.Live.{is_live}
+use Rattle.pblk_layout.specs.Online.{is_online}
 use Rattle.pblk_world.specs.Events.{Logged}
 use Rattle.pblk_world.specs.World.{World, log_of}
 use Rattle.pblk_world.specs.EngineLog.{LineLife, AsFound, Opened, Freed, is_opened, is_as_found, Opening, life_of, Placed, stripes_of, stripes_on, Answer, DidLand, WasLost, answer_of, is_loss, has_landed, was_lost}
 use Rattle.pblk_world.specs.Lines.{known_image, is_over_state, are_over, has_stripe_left}
-use Rattle.world_laws.specs.LegalMounts.{IsLegalMount}
+use Rattle.pblk_world.specs.LegalMounts.{IsLegalMount}
 use Rattle.world_laws.proofs.LineStripes.{stripe_count}
 use Rattle.stripe_placer.specs.OpenLines.{OpenLine, numbers, in_one_chunk, is_closed, is_lost, is_unplaced, is_unanswered, is_to_place, has_left, stripe_is, unit_of}
 use Rattle.stripe_placer.specs.OpenLines as lines
@@ -243,18 +243,18 @@ module _ (i : Image) (w : World) (mount : IsLegalMount i w) (o : Opening) (is_op
 
     -- ---- its chunks
 
-    in_units : (unit : ℕ) → unit < 64 → is_live (known_image i (log_of w)) o.line unit ≡ true → IsAmong (line_units (known_image i (log_of w)) o.line) unit
+    in_units : (unit : ℕ) → unit < 64 → is_online (known_image i (log_of w)) o.line unit ≡ true → IsAmong (line_units (known_image i (log_of w)) o.line) unit
     in_units unit inside live =
         let from : 0 + unit ≡ unit = omega arith in
-        subst (λ xs. IsAmong xs unit) (sym (units_by_bits (known_image i (log_of w)) o.line (is_live (known_image i (log_of w)) o.line)
+        subst (λ xs. IsAmong xs unit) (sym (units_by_bits (known_image i (log_of w)) o.line (is_online (known_image i (log_of w)) o.line)
         (few_units i w (log_of w) mount) (λ u. refl)))
-        (in_filter (is_live (known_image i (log_of w)) o.line) (range_with_len 0 64) unit (unit, range_get 0 64 unit inside ∙ ap (λ m. Some m) from) live)
+        (in_filter (is_online (known_image i (log_of w)) o.line) (range_with_len 0 64) unit (unit, range_get 0 64 unit inside ∙ ap (λ m. Some m) from) live)
 
     chunk_over : (b : Bool) (unit : ℕ) (chunks : List Chunk) (c : Chunk) → slice_get (known_image i (log_of w)).units unit ≡ Some chunks
         → slice_get chunks o.line ≡ Some c → is_over_state b c.state ≡ true
     chunk_over b unit chunks c at there = go (is_online_in c.state) refl
       where
-        live : is_live (known_image i (log_of w)) o.line unit ≡ is_online_in c.state
+        live : is_online (known_image i (log_of w)) o.line unit ≡ is_online_in c.state
         live = ap (λ (o2 : Option (List Chunk)). option_map_or (λ chunks. option_map_or (λ (c : Chunk). is_online_in c.state)
             (slice_get chunks o.line) false) o2 false) at
             ∙ ap (λ (o2 : Option Chunk). option_map_or (λ (c : Chunk). is_online_in c.state) o2 false) there

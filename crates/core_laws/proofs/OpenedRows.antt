@@ -27,7 +27,7 @@ use Rattle.core_laws.specs.Stepping.{after}
 use Rattle.core_laws.specs.RowsOf.{state_in, width_in, taker_by, taker_in, row_of_line, rows_of}
 use Rattle.core_laws.proofs.Opening.{placed_before}
 use Rattle.core_laws.specs.ChangedTables.{with_row}
-use Rattle.core_laws.specs.PlainLogs.{FreedBefore}
+use Rattle.core_laws.specs.InOrder.{FreedBefore}
 use Rattle.core_laws.proofs.TakenSlots.{landed_same}
 use Rattle.core_laws.proofs.KeptStripes.{with_event, KeepsStripes, stripes_kept, placements_kept, alike_kept, have_landed_alike}
 use Rattle.core_laws.proofs.KeptRows.{known_kept, KeepsLines, live_kept, same_row, row_kept, then_kept}

@@ -4,13 +4,13 @@ use Rattle.lemmas.proofs.Lists.{IsAmong}
 use Rattle.std.proofs.Common.{◌≡◌, ℕ, ◌*◌, ◌/◌, ◌≤◌, ◌&&◌, zero, suc, not, Bool, true, false, List, length, refl, subst, ap₂, ◌∙◌, arith, ◌<◌, ap}
 use Rattle.std.proofs.lemmas.List.{take-take as cut_cut}
 use Rattle.pblk_model.specs.Image.{Image, line_units}
-use Rattle.pblk_layout.specs.Live.{units_in}
+use Rattle.pblk_layout.specs.Online.{units_in}
 use Rattle.pblk_world.specs.World.{World, Logs, log_of}
 use Rattle.pblk_world.specs.EngineLog.{LineLife, Opened, is_opened, life_of, Opening, Placed, stripes_of}
 use Rattle.pblk_world.specs.Lines.{are_over, has_stripe_left, known_image}
 use Rattle.pblk_world.specs.Victims.{engine_prefix}
 use Rattle.stripe_placer.specs.OpenLines.{has_left}
-use Rattle.world_laws.specs.LegalMounts.{IsLegalMount}
+use Rattle.pblk_world.specs.LegalMounts.{IsLegalMount}
 use Rattle.world_laws.proofs.Stripes.{stripe_is}
 use Rattle.core_laws.specs.OpenedLines.{bits_of, opened_units, open_line}
 use Rattle.core_laws.specs.StripeTurns.{IsAtTurn}

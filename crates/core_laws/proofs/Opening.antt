@@ -19,7 +19,7 @@ use Rattle.stripe_placer.specs.OpenLines.Stripe.{Unplaced}
 use Rattle.stripe_placer.specs.Placing.{begun}
 use Rattle.core_laws.specs.Stepping.{after}
 use Rattle.core_laws.specs.OpenedLines.{bits_of, became, is_stripe_at, outcome, with_outcomes, open_line, standing, open_lines}
-use Rattle.core_laws.specs.PlacerOf.{entries_of, contains_unit, row_of, placing_of}
+use Rattle.core_laws.specs.PlacerOf.{entries_of, contains_unit, unit_row_in, placing_of}
 use Rattle.core_laws.proofs.Engine.{prefix_whole, openings_before, stopped_more}
 use Rattle.core_laws.proofs.Steady.{AreAlike, open_line_same, standing_before, row_same, unanswered_in}
 use Rattle.core_laws.proofs.Taking.{same_placing, filter_last}
@@ -168,28 +168,28 @@ standing_more log line start knows closed =
     (filter_agree (λ (o : Opening). o.number < length log) (λ (o : Opening). is_life o.number (life_of new o.line))
     (λ (o : Opening). is_life o.number (life_of log o.line)) (stays log line start knows closed) (openings log) (openings_before log))
 
-abbrev live_now : Image → Logs → ℕ → ℕ
-live_now i logs line = bits_of (line_units (known_image i logs) line)
+abbrev online_now : Image → Logs → ℕ → ℕ
+online_now i logs line = bits_of (line_units (known_image i logs) line)
 
 pub new_line : (i : Image) (logs : Logs) (line : ℕ) (start : StartRecord) (knows : List ℕ)
-    → open_line i (after logs (Open line start) knows) (new_opening (logs 0) line start knows) ≡ opened i.shape line (live_now i logs line)
+    → open_line i (after logs (Open line start) knows) (new_opening (logs 0) line start knows) ≡ opened i.shape line (online_now i logs line)
 new_line i logs line start knows =
     let new : Logs = after logs (Open line start) knows in
     let o : Opening = new_opening (logs 0) line start knows in
-    let l : OpenLine = opened i.shape line (live_now i logs line) in
-    ap (λ (ls : Logs). with_outcomes i.shape (new 0) o (opened i.shape line (live_now i ls line))) (prefix_whole logs (Open line start) knows)
+    let l : OpenLine = opened i.shape line (online_now i logs line) in
+    ap (λ (ls : Logs). with_outcomes i.shape (new 0) o (opened i.shape line (online_now i ls line))) (prefix_whole logs (Open line start) knows)
     ∙ no_outcomes i.shape (new 0) o l (length l.stripes) (sym (ap (λ k. replicate k Unplaced) (length_replicate _ Unplaced)))
     (ap (filter (λ (p : Placed). is_life (length (logs 0)) p.life)) ((alike (logs 0) line start knows).placements)
     ∙ filter_none (λ (p : Placed). is_life (length (logs 0)) p.life) (placements (logs 0))
     (placed_before (logs 0) (length (logs 0)) (le_refl (length (logs 0)))))
 
 lines_more : (i : Image) (logs : Logs) (line : ℕ) (start : StartRecord) (knows : List ℕ) → is_opened (life_of (logs 0) line) ≡ false
-    → 0 < length (opened i.shape line (live_now i logs line)).stripes
-    → open_lines i (after logs (Open line start) knows) ≡ open_lines i logs ++ opened i.shape line (live_now i logs line) ∷ []
+    → 0 < length (opened i.shape line (online_now i logs line)).stripes
+    → open_lines i (after logs (Open line start) knows) ≡ open_lines i logs ++ opened i.shape line (online_now i logs line) ∷ []
 lines_more i logs line start knows closed some =
     let new : Logs = after logs (Open line start) knows in
     let o : Opening = new_opening (logs 0) line start knows in
-    let l : OpenLine = opened i.shape line (live_now i logs line) in
+    let l : OpenLine = opened i.shape line (online_now i logs line) in
     ap (λ os. filter has_left (map (open_line i new) os)) (standing_more (logs 0) line start knows closed)
     ∙ ap (filter has_left) (map_last (open_line i new) (standing (logs 0)) o)
     ∙ filter_last has_left (map (open_line i new) (standing (logs 0))) (open_line i new o) true
@@ -208,10 +208,10 @@ placing_opened i logs line start knows pad again closed some =
     let l : Logged = record { event = Decides (Open line start); knows = knows } in
     let new : Logs = after logs (Open line start) knows in
     same_placing i.shape (entries_of i.shape (new 0) pad) (entries_of i.shape (logs 0) pad)
-    (map (row_of i new again) (range_with_len 0 (units i.shape))) (map (row_of i logs again) (range_with_len 0 (units i.shape)))
-    (open_lines i new) (open_lines i logs ++ opened i.shape line (live_now i logs line) ∷ [])
+    (map (unit_row_in i new again) (range_with_len 0 (units i.shape))) (map (unit_row_in i logs again) (range_with_len 0 (units i.shape)))
+    (open_lines i new) (open_lines i logs ++ opened i.shape line (online_now i logs line) ∷ [])
     (entries_same i.shape (logs 0) (new 0) pad same (takes_more (logs 0) l ∙ append-nil (takes (logs 0))))
-    (map_same (row_of i new again) (row_of i logs again) (λ unit. row_same i logs (Open line start) knows again again unit
+    (map_same (unit_row_in i new again) (unit_row_in i logs again) (λ unit. row_same i logs (Open line start) knows again again unit
     (ap₂ (λ ps ns. unanswered_in ps ns unit) same.placements same.answers)
     (ap (λ b. b && not (contains_unit again unit)) (stopped_more (logs 0) l unit))) (range_with_len 0 (units i.shape)))
     (lines_more i logs line start knows closed some)

@@ -28,7 +28,7 @@ use Rattle.lemmas.proofs.Maps.{all_filter, all_passed, any_found, any_member, fi
 use Rattle.lemmas.proofs.Options.{mapped_some, some_value, split_then}
 use Rattle.lemmas.proofs.Parts.{all_at, all_by_get, contained_among, get_below, get_whole_within, got_within, none_past, take_and_drop}
 use Rattle.lemmas.proofs.Tests.{either_false, lt_true, not_both, same_number}
-use Rattle.world_laws.specs.LegalMounts.{IsLegalMount}
+use Rattle.pblk_world.specs.LegalMounts.{IsLegalMount}
 use Rattle.world_laws.proofs.Later.{answer_later, placed_within}
 use Rattle.world_laws.proofs.LifePlaces.{HasPlace, began, has_place, units_now}
 use Rattle.world_laws.proofs.LifeUnits.{chunk_known}

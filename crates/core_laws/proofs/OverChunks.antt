@@ -25,7 +25,7 @@ use Rattle.pblk_world.proofs.VictimsLemmas.{whole_prefix}
 use Rattle.pblk_world.proofs.WorldLemmas.{length_media}
 use Rattle.lemmas.proofs.Options.{split_then}
 use Rattle.lemmas.proofs.Parts.{get_below, get_more, got_within}
-use Rattle.world_laws.specs.LegalMounts.{IsLegalMount}
+use Rattle.pblk_world.specs.LegalMounts.{IsLegalMount}
 use Rattle.world_laws.specs.UnitChunks.{NoProgram, chunk_after}
 use Rattle.world_laws.proofs.Deeds.{IsDeed, deed, fetch_leaves, stop_leaves}
 use Rattle.world_laws.proofs.FoundEmpty.{known_is_empty}

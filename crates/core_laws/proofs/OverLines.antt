@@ -21,7 +21,7 @@ use Rattle.lemmas.proofs.Maps.{all_filter_map, any_member, given_at}
 use Rattle.lemmas.proofs.Options.{map_some, some_value, split_then}
 use Rattle.lemmas.proofs.Parts.{all_at, all_by_get, get_more, get_right}
 use Rattle.lemmas.proofs.Tests.{and_both, same_number}
-use Rattle.world_laws.specs.LegalMounts.{IsLegalMount}
+use Rattle.pblk_world.specs.LegalMounts.{IsLegalMount}
 use Rattle.world_laws.proofs.FoundEmpty.{all_pass}
 use Rattle.world_laws.proofs.Latest.{entry_of_block}
 use Rattle.world_laws.proofs.LifePlaces.{place_of_block, units_now}

@@ -16,7 +16,7 @@ use Rattle.pblk_world.specs.World.{World, log_of}
 use Rattle.pblk_world.specs.EngineLog.{Opened, Opening, life_of, Placed, stripes_of, stripes_on, Answer, DidLand, WasLost, answer_of, was_lost, has_failed}
 use Rattle.pblk_world.specs.Lines.{known_image, place_of}
 use Rattle.pblk_world.specs.Placing.{IsPad, next_block, is_done_with}
-use Rattle.world_laws.specs.LegalMounts.{IsLegalMount}
+use Rattle.pblk_world.specs.LegalMounts.{IsLegalMount}
 use Rattle.world_laws.proofs.StripePlaces.{kth_place}
 use Rattle.stripe_placer.specs.OpenLines.{OpenLine, numbers, is_closed, is_lost, is_unplaced, is_to_place, next_of, stripe_is, unit_of}
 use Rattle.stripe_placer.specs.OpenLines as lines

@@ -18,7 +18,7 @@ use Rattle.stripe_placer.specs.OpenLines.{kind_of, unit_of}
 use Rattle.stripe_placer.specs.Placing.{Program, is_ready, next_in, next_positions, next_stripe, stopped_in}
 use Rattle.stripe_placer.proofs.Named.{IsProgramIn, its_program}
 use Rattle.core_laws.specs.OpenedLines.{open_line}
-use Rattle.core_laws.specs.PlacerOf.{entries_of, row_of, placing_of, IsStripeOf}
+use Rattle.core_laws.specs.PlacerOf.{entries_of, unit_row_in, placing_of, IsStripeOf}
 use Rattle.core_laws.specs.StripeFor.{blocks_for, IsStripeFor}
 use Rattle.core_laws.proofs.Followed.{IsFollowed, follow}
 use Rattle.core_laws.proofs.IdleRows.{all_answered}
@@ -29,10 +29,10 @@ use Rattle.core_laws.proofs.PlainOpenings.{opened_lines}
 use Rattle.core_laws.proofs.UnitTurns.{filtered_is}
 use Rattle.lemmas.proofs.Lists.{IsAmong, among_contained}
 use Rattle.pblk_world.proofs.EngineLogLemmas.{opened_same}
-use Rattle.world_laws.specs.LegalMounts.{IsLegalMount}
+use Rattle.pblk_world.specs.LegalMounts.{IsLegalMount}
 
 module _ (i : Image) (w : World) (mount : IsLegalMount i w) (pad : ℕ) (again : List ℕ) (busy : ℕ) (of : Program) (o : Opening)
-    (next : next_stripe (placing_of i (log_of w) pad again) busy ≡ Some of) (none : stopped_in (row_of i (log_of w) again of.unit) ≡ None)
+    (next : next_stripe (placing_of i (log_of w) pad again) busy ≡ Some of) (none : stopped_in (unit_row_in i (log_of w) again of.unit) ≡ None)
     (opened : life_of (log_of w 0) of.line ≡ Opened o) (failed : has_failed (log_of w 0) o ≡ true) where
   abbrev us : ℕ → List ℕ
   us = line_units (known_image i (log_of w))
@@ -46,7 +46,7 @@ module _ (i : Image) (w : World) (mount : IsLegalMount i w) (pad : ℕ) (again :
   record IsPadIn : Type 0 where
     life : life_of (log_of w 0) o.line ≡ Opened o
     offered : next_in i.shape (entries_of i.shape (log_of w 0) pad) (open_line i (log_of w) o) ≡ Some of
-    ready : is_ready (map (row_of i (log_of w) again) (range_with_len 0 (units i.shape))) busy of.unit ≡ true
+    ready : is_ready (map (unit_row_in i (log_of w) again) (range_with_len 0 (units i.shape))) busy of.unit ≡ true
 
   here : IsPadIn
   here =
@@ -117,7 +117,7 @@ module _ (i : Image) (w : World) (mount : IsLegalMount i w) (pad : ℕ) (again :
 -- ---- the laws
 
 pub next_may_be_placed : (i : Image) (w : World) (pad : ℕ) (again : List ℕ) (busy : ℕ) (of : Program) (o : Opening) (stripe : Stripe) → IsLegalMount i w
-    → next_stripe (placing_of i (log_of w) pad again) busy ≡ Some of → stopped_in (row_of i (log_of w) again of.unit) ≡ None
+    → next_stripe (placing_of i (log_of w) pad again) busy ≡ Some of → stopped_in (unit_row_in i (log_of w) again of.unit) ≡ None
     → IsStripeFor i (log_of w) o of stripe → MayPlace i (log_of w) stripe
 next_may_be_placed i w pad again busy of o stripe mount next none for = go (has_failed (log_of w 0) o) refl
   where
@@ -126,7 +126,7 @@ next_may_be_placed i w pad again busy of o stripe mount next none for = go (has_
     go false e = whole_may_be_placed i (line_units (known_image i (log_of w))) w pad again busy of o stripe (follow i w mount) e next none for
 
 pub next_is_its : (i : Image) (w : World) (pad : ℕ) (again : List ℕ) (busy : ℕ) (of : Program) (o : Opening) (stripe : Stripe) → IsLegalMount i w
-    → next_stripe (placing_of i (log_of w) pad again) busy ≡ Some of → stopped_in (row_of i (log_of w) again of.unit) ≡ None
+    → next_stripe (placing_of i (log_of w) pad again) busy ≡ Some of → stopped_in (unit_row_in i (log_of w) again of.unit) ≡ None
     → IsStripeFor i (log_of w) o of stripe → IsStripeOf i (log_of w) pad o stripe of
 next_is_its i w pad again busy of o stripe mount next none for = go (has_failed (log_of w 0) o) refl
   where

@@ -29,7 +29,7 @@ use Rattle.stripe_placer.specs.Placing.{Program, allows, next_positions, next_st
 use Rattle.stripe_placer.proofs.Chunks.{lt_of as is_below}
 use Rattle.stripe_placer.proofs.Named.{its_program}
 use Rattle.core_laws.specs.OpenedLines.{as_opened, open_line}
-use Rattle.core_laws.specs.PlacerOf.{entries_of, placing_of, IsStripeOf, row_of}
+use Rattle.core_laws.specs.PlacerOf.{entries_of, placing_of, IsStripeOf, unit_row_in}
 use Rattle.core_laws.proofs.UnitTurns.{filtered_is}
 use Rattle.core_laws.proofs.WaitingEntries.{waiting_alike}
 use Rattle.core_laws.proofs.StillWaiting.{length_positions as positions_length}
@@ -272,7 +272,7 @@ is_its i us w pad of o stripe is off for = record {
 
 offered_here : (i : Image) (us : ℕ → List ℕ) (w : World) (pad : ℕ) (again : List ℕ) (busy : ℕ) (of : Program) (o : Opening) → IsFollowed i us w
     → has_failed (log_of w 0) o ≡ false → next_stripe (placing_of i (log_of w) pad again) busy ≡ Some of
-    → stopped_in (row_of i (log_of w) again of.unit) ≡ None → life_of (log_of w 0) of.line ≡ Opened o → IsOffered i us w pad of o
+    → stopped_in (unit_row_in i (log_of w) again of.unit) ≡ None → life_of (log_of w 0) of.line ≡ Opened o → IsOffered i us w pad of o
 offered_here i us w pad again busy of o is whole next none opened =
     let by = offered_line i us w pad again busy of is next none in
     let its = its_program i.shape (entries_of i.shape (log_of w 0) pad) (open_line i (log_of w) by.0) of by.1.next in
@@ -283,13 +283,13 @@ offered_here i us w pad again busy of o is whole next none opened =
 -- of a line that hasn't failed
 pub whole_may_be_placed : (i : Image) (us : ℕ → List ℕ) (w : World) (pad : ℕ) (again : List ℕ) (busy : ℕ) (of : Program) (o : Opening) (stripe : Stripe)
     → IsFollowed i us w → has_failed (log_of w 0) o ≡ false → next_stripe (placing_of i (log_of w) pad again) busy ≡ Some of
-    → stopped_in (row_of i (log_of w) again of.unit) ≡ None → IsStripeFor i (log_of w) o of stripe → MayPlace i (log_of w) stripe
+    → stopped_in (unit_row_in i (log_of w) again of.unit) ≡ None → IsStripeFor i (log_of w) o of stripe → MayPlace i (log_of w) stripe
 whole_may_be_placed i us w pad again busy of o stripe is whole next none for =
     placeable i us w pad of o stripe is whole (offered_here i us w pad again busy of o is whole next none for.opened) for
 
 pub whole_is_its : (i : Image) (us : ℕ → List ℕ) (w : World) (pad : ℕ) (again : List ℕ) (busy : ℕ) (of : Program) (o : Opening) (stripe : Stripe)
     → IsFollowed i us w → has_failed (log_of w 0) o ≡ false → next_stripe (placing_of i (log_of w) pad again) busy ≡ Some of
-    → stopped_in (row_of i (log_of w) again of.unit) ≡ None → IsStripeFor i (log_of w) o of stripe → IsStripeOf i (log_of w) pad o stripe of
+    → stopped_in (unit_row_in i (log_of w) again of.unit) ≡ None → IsStripeFor i (log_of w) o of stripe → IsStripeOf i (log_of w) pad o stripe of
 whole_is_its i us w pad again busy of o stripe is whole next none for =
     is_its i us w pad of o stripe is (offered_here i us w pad again busy of o is whole next none for.opened) for
 

@@ -6,13 +6,10 @@ use Rattle.std.proofs.lemmas.List.Folds.{list_any-append}
 use Rattle.pblk_model.specs.declared.shape.Shape.{Shape}
 use Rattle.pblk_model.specs.Chunk.{Block}
 use Rattle.pblk_model.specs.Records.{named}
-use Rattle.pblk_world.specs.Events.{Logged}
-use Rattle.pblk_world.specs.EngineLog.{Taken, Placed, placements, bears_position, holds_position}
-use Rattle.pblk_world.specs.Fronts.{was_placed}
+use Rattle.pblk_world.specs.EngineLog.{Taken, Placed, bears_position, holds_position}
 use Rattle.pblk_world.specs.Victims.{position_in}
 use Rattle.core_laws.specs.PlacerOf.{positions_of, positions_in_stripe}
 use Rattle.core_laws.proofs.Removing.{above as above_all}
-use Rattle.core_laws.specs.Placed.{placed_positions}
 use Rattle.lemmas.proofs.Maps.{filter_agree}
 use Rattle.lemmas.proofs.Tests.{other_number, same_number}
 
@@ -50,10 +47,6 @@ any_counts {X} f (x ∷ xs) = go (f x) (any_counts f xs)
     go : (b : Bool) → nat_lt 0 (length (filter f xs)) ≡ list_any f xs → nat_lt 0 (length (cond b (x ∷ filter f xs) (filter f xs))) ≡ (b || list_any f xs)
     go true rest = some (length (filter f xs))
     go false rest = rest
-
--- an entry was placed where its position is among the placed ones
-pub was_placed_by : (s : Shape) (log : List Logged) (t : Taken) → was_placed s log t ≡ is_in_list (placed_positions s log) t.entry.position
-was_placed_by s log t = any_counts (holds_position s t.entry.position) (placements log) ∙ some_hold s t.entry.position (placements log)
 
 -- ---- positions in a row
 

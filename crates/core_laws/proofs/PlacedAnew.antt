@@ -22,7 +22,7 @@ use Rattle.lemmas.proofs.Lists.{IsAmong, all_append, all_imply, all_replicated, 
 use Rattle.lemmas.proofs.Maps.{all_filter, all_mapped, all_passed, from_filter, in_filter}
 use Rattle.lemmas.proofs.Parts.{all_at, all_taken, contained_among, take_and_drop}
 use Rattle.lemmas.proofs.Tests.{first_of, lt_true, not_both, same, same_number}
-use Rattle.world_laws.specs.LegalMounts.{IsLegalMount}
+use Rattle.pblk_world.specs.LegalMounts.{IsLegalMount}
 use Rattle.world_laws.proofs.Entries.{marks_bear}
 use Rattle.world_laws.proofs.LandedRecords.{IsBlockAt, block_at_position}
 use Rattle.world_laws.proofs.Later.{lost_later, placed_within, takes_joined}

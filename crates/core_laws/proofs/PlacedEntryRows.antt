@@ -19,7 +19,6 @@ use Rattle.core_laws.proofs.KeptRows.{row_parts}
 use Rattle.core_laws.proofs.NextTakes.{IsRising, is_at, is_same, next_by, found_at}
 use Rattle.core_laws.proofs.EntryRows.{Places, with_entry, live_with, taker_with, IsNowhere, live_elsewhere, taker_elsewhere, live_outside, taker_outside, live_last, taker_last, live_later, taker_later}
 use Rattle.core_laws.proofs.ChangedTables.{table_of, table_changes, tables_agree}
-use Rattle.lemmas.proofs.Parts.{all_by_get}
 use Rattle.lemmas.proofs.Tests.{other_number}
 
 -- what took sectors from a line of this life, where their entries have landed in these lines: of a
@@ -245,7 +244,3 @@ entry_at (u ∷ ts) zero t e = record { before = []; after = ts; is = ap (λ v. 
 entry_at (u ∷ ts) (suc k) t e =
     let r : IsEntry ts t = entry_at ts k t e in
     record { before = u ∷ r.before; after = r.after; is = ap (λ vs. u ∷ vs) r.is }
-
--- all of them do
-pub all_entries : (ts : List Taken) → AllByRecursion (IsEntry ts) ts
-all_entries ts = all_by_get (IsEntry ts) ts (λ k t e. entry_at ts k t e)

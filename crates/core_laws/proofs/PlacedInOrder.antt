@@ -23,13 +23,13 @@ use Rattle.pblk_world.specs.Victims.{position_in}
 use Rattle.pblk_world.specs.Placing.{next_address, end_address, end_record, MayPlace, data_blocks, record_blocks}
 use Rattle.pblk_world.specs.Legal.{IsDecision}
 use Rattle.pblk_world.proofs.Appending.{placements_more}
-use Rattle.world_laws.specs.LegalMounts.{IsLegalMount}
+use Rattle.pblk_world.specs.LegalMounts.{IsLegalMount}
 use Rattle.world_laws.proofs.LineStripes.{IsKind}
 use Rattle.core_laws.specs.PlacerOf.{positions_of, positions_in_stripe, lost_entries, fresh_entries}
-use Rattle.core_laws.specs.PlainLogs.{NoStripeLost}
+use Rattle.core_laws.proofs.PlainLogs.{NoPlacementLost}
 use Rattle.core_laws.specs.Positions.{AreNumbered, AreMarked}
 use Rattle.core_laws.specs.Placed.{placed_count}
-use Rattle.core_laws.specs.PlacedEntries.{AreNamed}
+use Rattle.core_laws.specs.PlacedEntries.{AreSectorsOrVoid}
 use Rattle.core_laws.proofs.BlockPositions.{Bears, positions_by, record_positions, no_pad_positions}
 use Rattle.core_laws.proofs.HeldOnce.{HeldOnce, held_once}
 use Rattle.core_laws.proofs.KeptByEvents.{IsKept, kept}
@@ -103,7 +103,7 @@ HaveEntries s log = AllByRecursion (λ (p : Placed). HasEntries s log p.stripe) 
 pub record IsOrdered (s : Shape) (log : List Logged) : Type 0 where
   pub numbered : AreNumbered log
   pub marked : AreMarked log
-  pub named : AreNamed s log
+  pub named : AreSectorsOrVoid s log
   pub order : AreInOrder s log
   pub entries : AllByRecursion (λ (p : Placed). HasEntries s log p.stripe) (placements log)
   pub once : HeldOnce s log
@@ -187,12 +187,12 @@ waiting_among s log =
     (all_filter (IsAmong (takes log)) (λ t. waits s log t && was_placed s log t) (takes log) (among_all (takes log)))
     (all_filter (IsAmong (takes log)) (λ t. not (was_placed s log t)) (takes log) (among_all (takes log)))
 
-all_bear : (s : Shape) (log : List Logged) → AreNamed s log → AreMarked log → AllByRecursion (Bears s) (takes log)
+all_bear : (s : Shape) (log : List Logged) → AreSectorsOrVoid s log → AreMarked log → AllByRecursion (Bears s) (takes log)
 all_bear s log named_ marked =
     zipped (λ (t : Taken). is_some (named s t.mark) ≡ true) (λ (t : Taken). t.mark.position ≡ t.entry.position) (Bears s)
     (λ t names own. ap (λ b. if b then Some t.mark.position else None) names ∙ ap (λ n. Some n) own) (takes log) named_ marked
 
-holds_waiting : (s : Shape) (log : List Logged) (stripe : Stripe) → s.capacity ≤ meta_lba → AreNumbered log → AreMarked log → AreNamed s log
+holds_waiting : (s : Shape) (log : List Logged) (stripe : Stripe) → s.capacity ≤ meta_lba → AreNumbered log → AreMarked log → AreSectorsOrVoid s log
     → (order : AreInOrder s log)
     → stripe.blocks ≡ data_blocks s log → HoldsNext s log order.count stripe
 holds_waiting s log stripe small numbered marked named_ order is = record {
@@ -236,7 +236,7 @@ holds_waiting s log stripe small numbered marked named_ order is = record {
         ∙ ap (λ qs. take s.ws_opt lost ++ qs) (range_taken (first_position log + order.count) (s.ws_opt - length lost) (length (takes log) - order.count))
 
 by_kind : (i : Image) (logs : Logs) (stripe : Stripe) (o : Opening) → i.shape.capacity ≤ meta_lba → AreNumbered (logs 0) → AreMarked (logs 0)
-    → AreNamed i.shape (logs 0) → (order : AreInOrder i.shape (logs 0))
+    → AreSectorsOrVoid i.shape (logs 0) → (order : AreInOrder i.shape (logs 0))
     → IsKind i logs o stripe → HoldsNext i.shape (logs 0) order.count stripe
 by_kind i logs stripe o small numbered marked named_ order (inl is) =
     holds_none i.shape (logs 0) order.count stripe
@@ -262,7 +262,7 @@ by_kind i logs stripe o small numbered marked named_ order (inr (inr (inr is))) 
 record IsPlacedSo (s : Shape) (log : List Logged) : Type 0 where
   numbered : AreNumbered log
   marked : AreMarked log
-  named_ : AreNamed s log
+  named_ : AreSectorsOrVoid s log
   order : AreInOrder s log
   entries : HaveEntries s log
 
@@ -418,13 +418,13 @@ placed_below s log is =
 
 -- ---- where nothing was lost
 
-no_times_lost : (s : Shape) (log : List Logged) → NoStripeLost log → (t : Taken) → times_lost s log t ≡ 0
+no_times_lost : (s : Shape) (log : List Logged) → NoPlacementLost log → (t : Taken) → times_lost s log t ≡ 0
 no_times_lost s log none t = ap length
     (filter_none (λ p. was_lost log p && holds_position s t.entry.position p) (placements log)
     (all_imply (IsAmong (placements log)) (λ (p : Placed). (was_lost log p && holds_position s t.entry.position p) ≡ false)
     (λ p at. ap (λ b. b && holds_position s t.entry.position p) (none p)) (placements log) (among_all (placements log))))
 
-pub lost_are_none : (s : Shape) (log : List Logged) → NoStripeLost log → lost_entries s log ≡ []
+pub lost_are_none : (s : Shape) (log : List Logged) → NoPlacementLost log → lost_entries s log ≡ []
 lost_are_none s log none = filter_none (λ t. waits s log t && was_placed s log t) (takes log)
     (all_imply (IsAmong (takes log)) (λ (t : Taken). (waits s log t && was_placed s log t) ≡ false)
     (λ t at. ap (λ k. (times_placed s log t == k) && was_placed s log t) (no_times_lost s log none t) ∙ not_both_zero (times_placed s log t)) (takes log)
@@ -433,5 +433,5 @@ lost_are_none s log none = filter_none (λ t. waits s log t && was_placed s log 
     not_both_zero : (k : ℕ) → ((k == 0) && nat_lt 0 k) ≡ false
     not_both_zero k = grind arith
 
-pub waiting_are_last : (s : Shape) (log : List Logged) → NoStripeLost log → (is : IsOrdered s log) → waiting s log ≡ drop is.order.count (takes log)
+pub waiting_are_last : (s : Shape) (log : List Logged) → NoPlacementLost log → (is : IsOrdered s log) → waiting s log ≡ drop is.order.count (takes log)
 waiting_are_last s log none is = ap₂ (λ (ts us : List Taken). ts ++ us) (lost_are_none s log none) (fresh_are_last s log is.numbered is.order)

@@ -8,7 +8,7 @@ use Rattle.std.proofs.lemmas.Option.{none-some, slice_get_past}
 use Rattle.pblk_model.specs.declared.shape.Shape.{Shape}
 use Rattle.pblk_model.specs.Shape.{units}
 use Rattle.pblk_model.specs.Image.{Image}
-use Rattle.pblk_layout.specs.Live.{units_in}
+use Rattle.pblk_layout.specs.Online.{units_in}
 use Rattle.pblk_world.specs.Events.{Stripe, Place, Decides, Logged}
 use Rattle.pblk_world.specs.World.{Logs}
 use Rattle.pblk_world.specs.EngineLog.{Opened, is_life, life_of, Opening, openings, Placed, placed_on, answers, takes}
@@ -26,7 +26,7 @@ use Rattle.core_laws.specs.Stepping.{after}
 use Rattle.core_laws.specs.OpenedLines.{as_opened, is_stripe_at, outcome, with_outcomes, open_line, standing, open_lines}
 use Rattle.pblk_world.specs.Fronts.{first_position}
 use Rattle.core_laws.proofs.StillWaiting.{entries_placed}
-use Rattle.core_laws.specs.PlacerOf.{IsStripeOf, positions_of, entries_of, positions_in_stripe, number_of, program_at, program_of_stripe, row_in, row_of, unanswered_on, was_stopped_on, contains_unit, waits_again, placing_of}
+use Rattle.core_laws.specs.PlacerOf.{IsStripeOf, positions_of, entries_of, positions_in_stripe, number_of, program_at, program_of_stripe, row_in, unit_row_in, unanswered_on, was_stopped_on, contains_unit, waits_again, placing_of}
 use Rattle.core_laws.proofs.Engine.{prefix_whole, stopped_more}
 use Rattle.core_laws.proofs.Steady.{as_opened_same, standing_before, standing_same, row_same}
 use Rattle.core_laws.proofs.Taking.{same_placing}
@@ -88,9 +88,9 @@ placed_at i logs pad o stripe of some is =
     let opened : (opens_at (logs 0) o.number ≡ Some stripe.line) × (o.line ≡ stripe.line) = life_at (logs 0) stripe.line o is.opened in
     let unit : unit_of l j ≡ stripe.unit = ap (λ (x : Program). x.unit) same ∙ sym is.unit in
     let block : j / width l * s.ws_opt ≡ stripe.at = ap (λ (x : Program). x.block) same ∙ sym is.block in
-    let count : length l0.stripes ≡ length (units_in l0.live) * (s.clba / s.ws_opt) =
-    length_replicate (length (units_in l0.live) * (s.clba / s.ws_opt)) Unplaced in
-    let inside : j < length (units_in l0.live) * (s.clba / s.ws_opt) = subst (λ n. j < n) count at.0 in (
+    let count : length l0.stripes ≡ length (units_in l0.online) * (s.clba / s.ws_opt) =
+    length_replicate (length (units_in l0.online) * (s.clba / s.ws_opt)) Unplaced in
+    let inside : j < length (units_in l0.online) * (s.clba / s.ws_opt) = subst (λ n. j < n) count at.0 in (
       j,
       record {
         before = life_is_before (logs 0) stripe.line o is.opened;
@@ -98,7 +98,7 @@ placed_at i logs pad o stripe of some is =
         its_line = ap (λ (x : Program). x.line) same;
         number = its_stripe_is s e l of j some its.1;
         inside = at.0;
-        wide = some_units (length (units_in l0.live)) (s.clba / s.ws_opt) j inside;
+        wide = some_units (length (units_in l0.online)) (s.clba / s.ws_opt) j inside;
         here = at_its_place s l0 stripe.unit stripe.at j unit block;
         unplaced = ap (outcome s (logs 0) o l0) (sym from) ∙ at.1;
         next = its.1.next;
@@ -265,7 +265,7 @@ get_last (y ∷ xs) x (suc k) e = get_last xs x k (omega (arith, e))
 
 pub row_of_it : (i : Image) (logs : Logs) (knows again : List ℕ) (o : Opening) (stripe : Stripe) (of : Program) (j : ℕ) → 0 < i.shape.ws_opt
     → IsPlacing (logs 0) stripe o → IsPlacedAt i logs o stripe of j
-    → row_of i (after logs (Place stripe) knows) again stripe.unit ≡ UnderWay of
+    → unit_row_in i (after logs (Place stripe) knows) again stripe.unit ≡ UnderWay of
 row_of_it i logs knows again o stripe of j some is at =
     let s : Shape = i.shape in
     let new : Logs = after logs (Place stripe) knows in
@@ -293,7 +293,7 @@ row_of_it i logs knows again o stripe of j some is at =
 
 row_elsewhere : (i : Image) (logs : Logs) (knows again : List ℕ) (o : Opening) (stripe : Stripe) (v : ℕ) → life_of (logs 0) stripe.line ≡ Opened o
     → v ≢ stripe.unit
-    → row_of i (after logs (Place stripe) knows) again v ≡ row_of i logs again v
+    → unit_row_in i (after logs (Place stripe) knows) again v ≡ unit_row_in i logs again v
 row_elsewhere i logs knows again o stripe v opened other =
     let apart : (stripe.unit == v) ≡ false = other_number stripe.unit v (λ e. other (sym e)) in
     row_same i logs (Place stripe) knows again again v
@@ -304,7 +304,7 @@ row_elsewhere i logs knows again o stripe v opened other =
 
 -- a unit whose stripes are all answered has none
 pub row_before : (i : Image) (logs : Logs) (again : List ℕ) (unit : ℕ) → length (answers (logs 0) unit) ≡ length (placed_on (logs 0) unit)
-    → row_of i logs again unit ≡ Idle
+    → unit_row_in i logs again unit ≡ Idle
 row_before i logs again unit idle =
     let past : length (placed_on (logs 0) unit) ≤ length (answers (logs 0) unit) = omega (arith, idle) in
     ap (λ u. option_map_or (λ (p : Placed). row_in i logs (waits_again (logs 0) again unit) p.life p) u Idle)
@@ -331,14 +331,14 @@ placing_placed i logs knows pad again o stripe of some is numbered =
     let from : 0 + of.unit ≡ stripe.unit = first ∙ sym is.unit in
     let inside : of.unit < units i.shape = subst (λ u. u < units i.shape) is.unit is.in_range in
     same_placing i.shape (entries_of i.shape (new 0) pad) (without_first of.count (entries_of i.shape (logs 0) pad))
-    (map (row_of i new again) (range_with_len 0 (units i.shape)))
-    (slice_set (map (row_of i logs again) (range_with_len 0 (units i.shape))) of.unit (UnderWay of))
+    (map (unit_row_in i new again) (range_with_len 0 (units i.shape)))
+    (slice_set (map (unit_row_in i logs again) (range_with_len 0 (units i.shape))) of.unit (UnderWay of))
     (open_lines i new) (map (in_line of.line (of.at / i.shape.ws_opt) Unanswered) (open_lines i logs))
     (entries_placed i logs knows pad o stripe of is numbered)
-    (rows_set (row_of i logs again) (row_of i new again) (units i.shape) 0 of.unit (UnderWay of) inside
-    (ap (row_of i new again) from ∙ row_of_it i logs knows again o stripe of at.0 some placing at.1)
+    (rows_set (unit_row_in i logs again) (unit_row_in i new again) (units i.shape) 0 of.unit (UnderWay of) inside
+    (ap (unit_row_in i new again) from ∙ row_of_it i logs knows again o stripe of at.0 some placing at.1)
     (λ m other. row_elsewhere i logs knows again o stripe m is.opened (λ e. other (e ∙ sym from))))
     (lines_placed i logs knows o stripe of at.0 some placing at.1)
     ∙ sym (placed_new (placing_of i logs pad again) of
-    (get_row (row_of i logs again) (units i.shape) 0 of.unit inside
-    ∙ ap (λ r. Some r) (ap (row_of i logs again) from ∙ row_before i logs again stripe.unit is.idle)))
+    (get_row (unit_row_in i logs again) (units i.shape) 0 of.unit inside
+    ∙ ap (λ r. Some r) (ap (unit_row_in i logs again) from ∙ row_before i logs again stripe.unit is.idle)))

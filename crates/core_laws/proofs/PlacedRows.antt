@@ -27,7 +27,7 @@ use Rattle.core_laws.specs.Positions.{AreNumbered}
 use Rattle.core_laws.specs.RowsOf.{state_in, state_of, width_in, taker_in, row_of_line, rows_of}
 use Rattle.core_laws.proofs.Engine.{placements_before}
 use Rattle.core_laws.proofs.Placing.{with_place, new_placed, IsPlacing, answer_now, new_unanswered, stripes_now}
-use Rattle.core_laws.specs.PlainLogs.{FreedBefore}
+use Rattle.core_laws.specs.InOrder.{FreedBefore}
 use Rattle.core_laws.proofs.PlacedAnew.{IsWaiting, holders_lost, waiting_wait}
 use Rattle.core_laws.proofs.PlacedInOrder.{IsOrdered, waiting_rises}
 use Rattle.core_laws.specs.PlacedEntries.{place_entries}

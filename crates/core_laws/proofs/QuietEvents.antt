@@ -1,7 +1,6 @@
 -- Which events leave the window and the map as they were.
-use Rattle.std.proofs.Common.{◌≡◌, ℕ, ◌<◌, ◌≤◌, ◌&&◌, true, Some, None, Option, List, [], ◌∷◌, ◌++◌, length, refl, sym, ap, ap₂, ◌∙◌, arith, append-nil}
+use Rattle.std.proofs.Common.{◌≡◌, ℕ, ◌<◌, ◌≤◌, true, Some, None, Option, List, [], ◌∷◌, ◌++◌, length, refl, sym, ap, ap₂, ◌∙◌, arith, append-nil}
 use Rattle.std.specs.Prelude.{slice_get}
-use Rattle.std.specs.List.{list_any}
 use Rattle.std.specs.Option.{option_to_list}
 use Rattle.std.proofs.lemmas.Option.{slice_get_past}
 use Rattle.pblk_model.specs.declared.shape.Shape.{Shape}
@@ -10,8 +9,8 @@ use Rattle.pblk_model.specs.StartRecord.{StartRecord}
 use Rattle.pblk_model.specs.Contents.{least_missing}
 use Rattle.pblk_world.specs.Events.{EngineEvent, Stripe, Open, Place, Again, ResetDone, Decides, Logged}
 use Rattle.pblk_world.specs.World.{World, Logs, log_of}
-use Rattle.pblk_world.specs.EngineLog.{begun_by, Opened, life_of, Opening, takes, taken_by, Placed, placed_by, placements, placed_on, answers, answer_by, answer_of, has_landed, holds_position}
-use Rattle.pblk_world.specs.Fronts.{first_position, has_landed_at, synced}
+use Rattle.pblk_world.specs.EngineLog.{begun_by, Opened, life_of, Opening, takes, taken_by, Placed, placed_by, placements, placed_on, answers, answer_by, answer_of}
+use Rattle.pblk_world.specs.Fronts.{first_position}
 use Rattle.pblk_world.specs.Legal.{IsLegal}
 use Rattle.pblk_world.specs.Placing.{MayPlace}
 use Rattle.pblk_world.specs.Space.{freed}
@@ -24,7 +23,6 @@ use Rattle.core_laws.proofs.Engine.{placements_before}
 use Rattle.core_laws.proofs.Steady.{AreAlike, answer_same}
 use Rattle.core_laws.proofs.Placing.{with_place, new_placed, placements_now, placed_on_now, answers_now, answer_now}
 use Rattle.core_laws.proofs.UnitTurns.{turn_at}
-use Rattle.core_laws.proofs.TakenSlots.{any_same, landed_same}
 use Rattle.core_laws.proofs.Untouched.{AreKept, given_kept, window_kept}
 use Rattle.core_laws.proofs.KeptSlots.{first_kept, slot_kept}
 use Rattle.lemmas.proofs.Lists.{all_imply, all_of}
@@ -90,19 +88,6 @@ quiet_freed s log e knows quiet =
     let same : takes new ≡ takes log = quiet_takes log e knows quiet in
     let first : first_position new ≡ first_position log = first_kept log e knows quiet.begins in
     λ k. least_missing (given k) (length (same k)) (first k)
-
-pub quiet_synced : (s : Shape) (log : List Logged) (e : EngineEvent) (knows : List ℕ) → IsQuiet log e knows
-    → synced s (log ++ record { event = Decides e; knows = knows } ∷ []) ≡ synced s log
-quiet_synced s log e knows quiet =
-    let new : List Logged = log ++ record { event = Decides e; knows = knows } ∷ [] in
-    let alike : AreAlike log new = quiet_alike log e knows quiet in
-    let landed : has_landed_at s new ≡ has_landed_at s log = fun_same (has_landed_at s new) (has_landed_at s log) (λ q.
-    ap (list_any (λ (p : Placed). has_landed new p && holds_position s q p)) alike.placements
-    ∙ any_same (λ (p : Placed). has_landed new p && holds_position s q p) (λ (p : Placed). has_landed log p && holds_position s q p)
-    (λ p. ap (λ b. b && holds_position s q p) (landed_same log new alike p)) (placements log)) in
-    let same : takes new ≡ takes log = quiet_takes log e knows quiet in
-    let first : first_position new ≡ first_position log = first_kept log e knows quiet.begins in
-    λ k. least_missing (landed k) (length (same k)) (first k)
 
 pub open_is_quiet : (log : List Logged) (line : ℕ) (start : StartRecord) (knows : List ℕ) → IsQuiet log (Open line start) knows
 open_is_quiet log line start knows = record { begins = refl; takes = refl; places = refl; answers = λ unit. refl }

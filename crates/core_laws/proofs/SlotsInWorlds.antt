@@ -14,7 +14,7 @@ use Rattle.stripe_placer.specs.OpenLines.{width}
 use Rattle.core_laws.specs.Stepping.{after}
 use Rattle.core_laws.specs.OpenedLines.{as_opened, is_stripe_at}
 use Rattle.core_laws.specs.PlacerOf.{unanswered_on}
-use Rattle.world_laws.specs.LegalMounts.{IsLegalMount}
+use Rattle.pblk_world.specs.LegalMounts.{IsLegalMount}
 use Rattle.core_laws.specs.SlotOf.{slot_of}
 use Rattle.core_laws.proofs.StripesByPlace.{find_only, not_at}
 use Rattle.core_laws.proofs.Answered.{first_unanswered}

@@ -21,7 +21,7 @@ use Rattle.pblk_world.specs.Victims.{is_live_in, landed_line, landed_line_of, li
 use Rattle.pblk_world.specs.World.{World, Logs, log_of}
 use Rattle.pblk_world.proofs.EngineLogLemmas.{takes_more}
 use Rattle.pblk_world.proofs.SyncedFront.{synced_is, synced_missing, synced_within}
-use Rattle.world_laws.specs.LegalMounts.{IsLegalMount}
+use Rattle.pblk_world.specs.LegalMounts.{IsLegalMount}
 use Rattle.world_laws.proofs.Fronts.{synced_from}
 use Rattle.world_laws.proofs.Positions.{position_of}
 use Rattle.world_laws.proofs.Stripes.{life_of_stripe}

@@ -38,7 +38,7 @@ use Rattle.lemmas.proofs.Lists.{IsAmong, all_contains, all_everywhere, among_con
 use Rattle.lemmas.proofs.Maps.{all_filter, all_filter_map, all_flat_map, all_mapped, all_passed, from_filter, in_filter}
 use Rattle.lemmas.proofs.Parts.{all_at, all_by_get, contained_among}
 use Rattle.lemmas.proofs.Tests.{below_of, first_of, same, same_number, second_of}
-use Rattle.world_laws.specs.LegalMounts.{IsLegalMount}
+use Rattle.pblk_world.specs.LegalMounts.{IsLegalMount}
 use Rattle.world_laws.proofs.Latest.{one_entry}
 use Rattle.world_laws.proofs.LifePlaces.{began}
 use Rattle.world_laws.proofs.Stripes.{life_of_stripe}

@@ -15,7 +15,7 @@ use Rattle.lemmas.proofs.Maps.{any_found, any_member, found_passes, in_filter, n
 use Rattle.lemmas.proofs.Options.{map_some, some_value}
 use Rattle.lemmas.proofs.Parts.{contained_among}
 use Rattle.lemmas.proofs.Tests.{both, not_true, same, same_number}
-use Rattle.world_laws.specs.LegalMounts.{IsLegalMount}
+use Rattle.pblk_world.specs.LegalMounts.{IsLegalMount}
 use Rattle.world_laws.proofs.Stripes.{life_of_stripe, one_opening, opening_then}
 use Rattle.core_laws.proofs.PlacedAnew.{landed_not_lost, one_kept}
 

@@ -15,7 +15,7 @@ use Rattle.stripe_placer.specs.Placing.{Program, UnitRow, Placing, IsUnderWay, s
 use Rattle.stripe_placer.specs.Placing.UnitRow.{Idle, UnderWay, Stopped}
 use Rattle.core_laws.specs.Stepping.{after}
 use Rattle.core_laws.specs.OpenedLines.{open_lines}
-use Rattle.core_laws.specs.PlacerOf.{positions_of, lost_entries, fresh_entries, entries_of, program_of_placed, row_of_program, row_in, unanswered_on, was_stopped_on, contains_unit, without_unit, waits_again, row_of, placing_of}
+use Rattle.core_laws.specs.PlacerOf.{positions_of, lost_entries, fresh_entries, entries_of, program_of_placed, row_of_program, row_in, unanswered_on, was_stopped_on, contains_unit, without_unit, waits_again, unit_row_in, placing_of}
 use Rattle.core_laws.proofs.Engine.{stopped_more}
 use Rattle.core_laws.proofs.Steady.{AreAlike, is_lost_same, is_fresh_same, standing_same, lines_same, row_same, row_in_same, unanswered_before, unanswered_in}
 use Rattle.core_laws.proofs.Taking.{same_placing, same_entries}
@@ -66,7 +66,7 @@ by_stopped_row i logs was now (Some p) of e = stopped_row i logs was now p.life 
 
 -- ---- a program that is under way again
 
-again_elsewhere : (i : Image) (logs : Logs) (again : List ℕ) (unit v : ℕ) → v ≢ unit → row_of i logs (unit ∷ again) v ≡ row_of i logs again v
+again_elsewhere : (i : Image) (logs : Logs) (again : List ℕ) (unit v : ℕ) → v ≢ unit → unit_row_in i logs (unit ∷ again) v ≡ unit_row_in i logs again v
 again_elsewhere i logs again unit v other =
     ap (λ b. option_map_or (λ (p : Placed). row_in i logs (was_stopped_on (logs 0) v && not (b || contains_unit again v)) p.life p)
     (unanswered_on (logs 0) v) Idle) (other_number unit v (λ e. other (sym e)))
@@ -76,8 +76,8 @@ not_again true true c e = refl
 not_again false true c e = refl
 not_again a false c e = absurd cc
 
-again_here : (i : Image) (logs : Logs) (again : List ℕ) (of : Program) → row_of i logs again of.unit ≡ Stopped of
-    → row_of i logs (of.unit ∷ again) of.unit ≡ UnderWay of
+again_here : (i : Image) (logs : Logs) (again : List ℕ) (of : Program) → unit_row_in i logs again of.unit ≡ Stopped of
+    → unit_row_in i logs (of.unit ∷ again) of.unit ≡ UnderWay of
 again_here i logs again of e =
     ap (λ b. option_map_or (λ (p : Placed). row_in i logs b p.life p) (unanswered_on (logs 0) of.unit) Idle)
     (not_again (was_stopped_on (logs 0) of.unit) (of.unit == of.unit) (contains_unit again of.unit) (same_number of.unit))
@@ -90,15 +90,15 @@ pub placing_again : (i : Image) (logs : Logs) (pad : ℕ) (again : List ℕ) (of
     → slice_get (placing_of i logs pad again).units of.unit ≡ Some (Stopped of)
     → placing_of i logs pad (of.unit ∷ again) ≡ placed (placing_of i logs pad again) of
 placing_again i logs pad again of e =
-    let row = row_at (row_of i logs again) (units i.shape) 0 of.unit (Stopped of) e in
+    let row = row_at (unit_row_in i logs again) (units i.shape) 0 of.unit (Stopped of) e in
     let from : 0 + of.unit ≡ of.unit = omega arith in
     same_placing i.shape (entries_of i.shape (logs 0) pad) (entries_of i.shape (logs 0) pad)
-    (map (row_of i logs (of.unit ∷ again)) (range_with_len 0 (units i.shape)))
-    (slice_set (map (row_of i logs again) (range_with_len 0 (units i.shape))) of.unit (UnderWay of))
+    (map (unit_row_in i logs (of.unit ∷ again)) (range_with_len 0 (units i.shape)))
+    (slice_set (map (unit_row_in i logs again) (range_with_len 0 (units i.shape))) of.unit (UnderWay of))
     (open_lines i logs) (open_lines i logs)
     refl
-    (rows_set (row_of i logs again) (row_of i logs (of.unit ∷ again)) (units i.shape) 0 of.unit (UnderWay of) row.0
-    (ap (row_of i logs (of.unit ∷ again)) from ∙ again_here i logs again of (ap (row_of i logs again) (sym from) ∙ row.1))
+    (rows_set (unit_row_in i logs again) (unit_row_in i logs (of.unit ∷ again)) (units i.shape) 0 of.unit (UnderWay of) row.0
+    (ap (unit_row_in i logs (of.unit ∷ again)) from ∙ again_here i logs again of (ap (unit_row_in i logs again) (sym from) ∙ row.1))
     (λ m other. again_elsewhere i logs again of.unit m (λ e. other (e ∙ sym from))))
     refl
     ∙ sym (placed_stopped (placing_of i logs pad again) of e)
@@ -131,8 +131,8 @@ stopped_now log unit event knows again =
     (not_without unit again)
 
 -- the row of the unit, whose stripe isn't answered
-stopped_here : (i : Image) (logs : Logs) (event : ℕ) (knows again : List ℕ) (of : Program) → row_of i logs again of.unit ≡ UnderWay of
-    → row_of i (after logs (Again of.unit event) knows) (without_unit of.unit again) of.unit ≡ Stopped of
+stopped_here : (i : Image) (logs : Logs) (event : ℕ) (knows again : List ℕ) (of : Program) → unit_row_in i logs again of.unit ≡ UnderWay of
+    → unit_row_in i (after logs (Again of.unit event) knows) (without_unit of.unit again) of.unit ≡ Stopped of
 stopped_here i logs event knows again of e =
     let same = alike (logs 0) of.unit event knows in
     let open_now : unanswered_on (after logs (Again of.unit event) knows 0) of.unit ≡ unanswered_on (logs 0) of.unit =
@@ -155,15 +155,15 @@ placing_stopped i logs event knows pad again of e =
     let same : AreAlike (logs 0) (after logs (Again of.unit event) knows 0) = alike (logs 0) of.unit event knows in
     let l : Logged = record { event = Decides (Again of.unit event); knows = knows } in
     let new : Logs = after logs (Again of.unit event) knows in
-    let row = row_at (row_of i logs again) (units i.shape) 0 of.unit (UnderWay of) e in
+    let row = row_at (unit_row_in i logs again) (units i.shape) 0 of.unit (UnderWay of) e in
     let from : 0 + of.unit ≡ of.unit = omega arith in
     same_placing i.shape (entries_of i.shape (new 0) pad) (entries_of i.shape (logs 0) pad)
-    (map (row_of i new (without_unit of.unit again)) (range_with_len 0 (units i.shape)))
-    (slice_set (map (row_of i logs again) (range_with_len 0 (units i.shape))) of.unit (Stopped of))
+    (map (unit_row_in i new (without_unit of.unit again)) (range_with_len 0 (units i.shape)))
+    (slice_set (map (unit_row_in i logs again) (range_with_len 0 (units i.shape))) of.unit (Stopped of))
     (open_lines i new) (open_lines i logs)
     (entries_same i.shape (logs 0) (new 0) pad same (takes_more (logs 0) l ∙ append-nil (takes (logs 0))))
-    (rows_set (row_of i logs again) (row_of i new (without_unit of.unit again)) (units i.shape) 0 of.unit (Stopped of) row.0
-    (ap (row_of i new (without_unit of.unit again)) from ∙ stopped_here i logs event knows again of (ap (row_of i logs again) (sym from) ∙ row.1))
+    (rows_set (unit_row_in i logs again) (unit_row_in i new (without_unit of.unit again)) (units i.shape) 0 of.unit (Stopped of) row.0
+    (ap (unit_row_in i new (without_unit of.unit again)) from ∙ stopped_here i logs event knows again of (ap (unit_row_in i logs again) (sym from) ∙ row.1))
     (λ m other. row_same i logs (Again of.unit event) knows again (without_unit of.unit again) m
     (ap₂ (λ ps ns. unanswered_in ps ns m) same.placements same.answers)
     (stopped_elsewhere (logs 0) of.unit event knows again m (λ f. other (f ∙ sym from)))))

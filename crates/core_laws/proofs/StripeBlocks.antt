@@ -4,10 +4,8 @@ use Rattle.std.specs.Prelude.{slice_range, map, if◌then◌else◌}
 use Rattle.std.specs.List.{AllByRecursion, flat_map}
 use Rattle.std.specs.Option.{option_to_list}
 use Rattle.std.specs.Int.{div_ceil}
-use Rattle.std.proofs.Math.Nat.{lt_of_mul-lt-mul_right, mul_comm, mul_assoc, suc-mul, zero-mul, add-mul, mul-le-mul_right, mul-div_cancel, mul-div_cancel_left}
+use Rattle.std.proofs.Math.Nat.{lt_of_mul-lt-mul_right, mul_comm, mul_assoc, suc-mul, zero-mul}
 use Rattle.std.proofs.lemmas.Nat.{mul-add-lt}
-use Rattle.std.proofs.lemmas.Bool.{cases_order}
-use Rattle.pblk_world.specs.Starts.{start_stripes}
 use Rattle.pblk_model.specs.declared.shape.Shape.{Shape}
 use Rattle.pblk_model.specs.Accepted.{IsAccepted}
 use Rattle.pblk_model.specs.Chunk.{Block}
@@ -211,82 +209,4 @@ marks_whole s log o is within = marks_counted s log o is ∙ by_min (start_len s
     by_min : (a b n : ℕ) → a + b ≤ n → min b (n - a) ≡ b
     by_min a b n within = omega arith
 
-pub marks_fewer : (s : Shape) (log : List Logged) (o : Opening) → HaveBlocks s log → 0 < data_len s o.start.width → next_address s log o < end_address s o
-    → length (data_marks s log o) < data_len s o.start.width
-marks_fewer s log o is wide within =
-    subst (λ n. n < data_len s o.start.width) (sym (marks_counted s log o is))
-    (by_min (start_len s) (data_len s o.start.width) (next_address s log o) wide within)
-  where
-    by_min : (a b n : ℕ) → 0 < b → n < a + b → min b (n - a) < b
-    by_min a b n wide within = omega arith
-
 -- ---- by stripes
-
-sub_times : (n m w : ℕ) → (n - m) * w ≡ n * w - m * w
-sub_times n m w = go (cases_order n m)
-  where
-    above : m ≤ n → (n - m) * w ≡ n * w - m * w
-    above h =
-        let parts : n ≡ n - m + m = omega arith in
-        let sum : n * w ≡ (n - m) * w + m * w = ap (λ k. k * w) parts ∙ add-mul (n - m) m w in
-        omega (arith, sum)
-
-    go : (n ≡ m) ⊎ ((n < m) ⊎ (m < n)) → (n - m) * w ≡ n * w - m * w
-    go (inl same) = above (omega (arith, same))
-    go (inr (inr more)) = above (omega (arith, more))
-    go (inr (inl less)) =
-        let none : n - m ≡ 0 = omega (arith, less) in
-        let under : n * w ≤ m * w = mul-le-mul_right w (omega (arith, less)) in
-        ap (λ k. k * w) none ∙ zero-mul w ∙ omega (arith, under)
-
--- the data of a line are whole stripes
-data_whole : (s : Shape) (g : ℕ) → s.clba % s.ws_opt ≡ 0 → (d : ℕ) × (data_len s g ≡ d * s.ws_opt)
-data_whole s g even = go (nat_lt (g * s.clba - start_len s - end_len s g) s.ws_opt)
-  where
-    rest : (n w a b : ℕ) → w * n - w * a - w * b ≡ (n - a - b) * w
-    rest n w a b =
-        let one : (n - a - b) * w ≡ (n - a) * w - b * w = sub_times (n - a) b w in
-        let two : (n - a) * w ≡ n * w - a * w = sub_times n a w in
-        let x : w * n ≡ n * w = mul_comm w n in
-        let y : w * a ≡ a * w = mul_comm w a in
-        let z : w * b ≡ b * w = mul_comm w b in
-        ap₂ (λ m k. m - k) (ap₂ (λ m k. m - k) x y ∙ sym two) z ∙ sym one
-
-    go : (b : Bool) → (d : ℕ) × ((if b then 0 else g * s.clba - start_len s - end_len s g) ≡ d * s.ws_opt)
-    go true = (0, sym (zero-mul s.ws_opt))
-    go false = (
-      g * (s.clba / s.ws_opt) - div_ceil (64 + 24 * (s.chunks - 1)) (s.ws_opt * s.sector) - div_ceil (32 + 16 * (g * s.clba - start_len s))
-          (s.ws_opt * (s.sector + 16)),
-      ap (λ n. n - start_len s - end_len s g) (whole_chunks s.clba s.ws_opt g even)
-          ∙ rest (g * (s.clba / s.ws_opt)) s.ws_opt (div_ceil (64 + 24 * (s.chunks - 1)) (s.ws_opt * s.sector))
-          (div_ceil (32 + 16 * (g * s.clba - start_len s)) (s.ws_opt * (s.sector + 16))),
-    )
-
-min_times : (m n w : ℕ) → min (m * w) (n * w) ≡ min m n * w
-min_times m n w = go (cases_order m n)
-  where
-    at : (a b : ℕ) → a ≤ b → min a b ≡ a
-    at a b h = omega arith
-
-    past : (a b : ℕ) → b ≤ a → min a b ≡ b
-    past a b h = omega arith
-
-    go : (m ≡ n) ⊎ ((m < n) ⊎ (n < m)) → min (m * w) (n * w) ≡ min m n * w
-    go (inl same) = let h : m ≤ n = omega (arith, same) in at (m * w) (n * w) (mul-le-mul_right w h) ∙ ap (λ k. k * w) (sym (at m n h))
-    go (inr (inl below)) = let h : m ≤ n = omega (arith, below) in at (m * w) (n * w) (mul-le-mul_right w h) ∙ ap (λ k. k * w) (sym (at m n h))
-    go (inr (inr above)) = let h : n ≤ m = omega (arith, above) in past (m * w) (n * w) (mul-le-mul_right w h) ∙ ap (λ k. k * w) (sym (past m n h))
-
-pub marks_by_stripes : (s : Shape) (log : List Logged) (o : Opening) → IsAccepted s → HaveBlocks s log
-    → length (data_marks s log o) ≡ min (data_len s o.start.width / s.ws_opt) (length (stripes_of log o) - start_stripes s) * s.ws_opt
-marks_by_stripes s log o accepted is =
-    let whole = data_whole s o.start.width accepted.drive.whole_stripes in
-    let first : start_len s / s.ws_opt ≡ div_ceil (64 + 24 * (s.chunks - 1)) (s.ws_opt * s.sector) =
-    mul-div_cancel_left (div_ceil (64 + 24 * (s.chunks - 1)) (s.ws_opt * s.sector)) accepted.drive.ws_opt in
-    let start : start_len s ≡ start_stripes s * s.ws_opt = mul_comm s.ws_opt (div_ceil (64 + 24 * (s.chunks - 1)) (s.ws_opt * s.sector))
-    ∙ ap (λ n. n * s.ws_opt) (sym first) in
-    let rows : data_len s o.start.width / s.ws_opt ≡ whole.0 = ap (λ n. n / s.ws_opt) whole.1 ∙ mul-div_cancel whole.0 accepted.drive.ws_opt in
-    marks_counted s log o is
-    ∙ ap₂ (λ a b. min a b) whole.1
-    (ap (λ n. length (stripes_of log o) * s.ws_opt - n) start ∙ sym (sub_times (length (stripes_of log o)) (start_stripes s) s.ws_opt))
-    ∙ min_times whole.0 (length (stripes_of log o) - start_stripes s) s.ws_opt
-    ∙ ap (λ d. min d (length (stripes_of log o) - start_stripes s) * s.ws_opt) (sym rows)

@@ -20,7 +20,7 @@ use Rattle.lemmas.proofs.Numbers.{some_units}
 use Rattle.lemmas.proofs.Options.{mapped_some}
 use Rattle.lemmas.proofs.Parts.{all_at, contained_among, get_below, got_within}
 use Rattle.lemmas.proofs.Tests.{either_false, not_both, same_number}
-use Rattle.world_laws.specs.LegalMounts.{IsLegalMount}
+use Rattle.pblk_world.specs.LegalMounts.{IsLegalMount}
 use Rattle.world_laws.proofs.LineBlocks.{IsLineOf, opened_line}
 use Rattle.world_laws.proofs.LineStripes.{IsKind, next_fits, some_data, stripe_kind}
 use Rattle.world_laws.proofs.StripePlaces.{kth_place}

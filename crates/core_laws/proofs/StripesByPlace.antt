@@ -4,7 +4,7 @@ use Rattle.std.specs.List.{AllByRecursion, find, slice_index_or, range_with_len}
 use Rattle.std.proofs.lemmas.Bool.{eqb-true}
 use Rattle.std.proofs.lemmas.Option.{same_Some, none-some, slice_get-get_or}
 use Rattle.pblk_model.specs.declared.shape.Shape.{Shape}
-use Rattle.pblk_layout.specs.Live.{units_in}
+use Rattle.pblk_layout.specs.Online.{units_in}
 use Rattle.pblk_layout.proofs.Sets.{member}
 use Rattle.stripe_placer.specs.OpenLines.{OpenLine, width, unit_of}
 use Rattle.core_laws.specs.OpenedLines.{is_stripe_at}
@@ -30,7 +30,7 @@ one_stripe s l unit block i j some wide a b =
     let p = both (unit_of l i == unit) (i / width l * s.ws_opt == block) a in
     let q = both (unit_of l j == unit) (j / width l * s.ws_opt == block) b in
     let column : i % width l ≡ j % width l =
-    one_rank l.live (i % width l) (j % width l) (mod-lt i {m = width l} wide) (mod-lt j {m = width l} wide)
+    one_rank l.online (i % width l) (j % width l) (mod-lt i {m = width l} wide) (mod-lt j {m = width l} wide)
     (eqb-true (unit_of l i) unit p.0 ∙ sym (eqb-true (unit_of l j) unit q.0)) in
     let row : i / width l ≡ j / width l =
     same_quotient (i / width l) (j / width l) s.ws_opt some

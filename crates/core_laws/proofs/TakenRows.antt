@@ -20,7 +20,7 @@ use Rattle.pblk_world.specs.Placing.{line_end}
 use Rattle.pblk_world.specs.Victims.{is_freed, is_in_force, line_of_position, line_of, is_live_in, live, take_before, landed_line_of, took_from}
 use Rattle.world_laws.proofs.HeldSectors.{last_last}
 use Rattle.line_table.specs.declared.row.LineState.TheVariants as states
-use Rattle.line_table.specs.Rows.{latest, lost, lowered}
+use Rattle.line_table.specs.Rows.{latest, lost_to_taker, lowered}
 use Rattle.core_laws.specs.Stepping.{after}
 use Rattle.core_laws.specs.PlacerOf.{positions_of}
 use Rattle.core_laws.specs.Positions.{IsUnplaced, AreNumbered}
@@ -28,7 +28,7 @@ use Rattle.core_laws.specs.RowsOf.{state_in, width_in, taker_by, taker_in, row_o
 use Rattle.core_laws.proofs.Placing.{not_below}
 use Rattle.core_laws.proofs.Taking.{filter_last}
 use Rattle.core_laws.specs.ChangedTables.{lose_in}
-use Rattle.core_laws.specs.PlainLogs.{FreedBefore}
+use Rattle.core_laws.specs.InOrder.{FreedBefore}
 use Rattle.core_laws.proofs.KeptStripes.{with_event, KeepsStripes, stripes_kept, lives_kept, alike_kept, have_landed_alike}
 use Rattle.core_laws.proofs.KeptRows.{known_kept, KeepsChunks, state_same, width_same, live_same, same_row, KeepsThen, then_kept, taker_same}
 use Rattle.core_laws.proofs.LandedRows.{line_of_kept, landed_of_kept}
@@ -351,7 +351,7 @@ live_unfreed i logs lba (Some t) line is = by_stripe (find in_line (placements (
 row_lost : (i : Image) (logs : Logs) (entry : Entry) (mark : Mark) (knows : List ℕ) (line : ℕ) → FreedBefore (logs 0) → AreNumbered (logs 0)
     → IsUnplaced i.shape (logs 0) entry.position → entry.position ≡ taken (logs 0)
     → mark.lba < i.shape.capacity → is_live_in i logs line mark.lba ≡ true → is_of line (landed_line_of i logs mark.lba (last_take (logs 0) mark.lba)) ≡ true
-    → row_of_line i (after logs (Take entry mark) knows) line ≡ lost entry.position (row_of_line i logs line)
+    → row_of_line i (after logs (Take entry mark) knows) line ≡ lost_to_taker entry.position (row_of_line i logs line)
 row_lost i logs entry mark knows line before numbered none next inside is there =
     let new : Logs = after logs (Take entry mark) knows in
     let kept : IsStateKept i logs new line = state_kept i logs entry mark knows line before in
@@ -404,7 +404,7 @@ rows_taken i logs entry mark knows landed before numbered none next inside there
         → rows_of i new ≡ lose_in o b entry.position (rows_of i logs)
     go None e b is = rows_stay i logs new (λ m. row_beside i logs entry mark knows m before numbered none next (ap (is_of m) e)
         (ap (is_of m) (is ∙ none_of (line_of i logs mark.lba (last_take (logs 0) mark.lba)) b e)))
-    go (Some line) e true is = row_changes_any i logs new line (lost entry.position)
+    go (Some line) e true is = row_changes_any i logs new line (lost_to_taker entry.position)
         (row_lost i logs entry mark knows line before numbered none next inside (ap (is_of line) e ∙ same_number line)
         (ap (is_of line) (is ∙ e) ∙ same_number line))
         (λ m other. row_beside i logs entry mark knows m before numbered none next (ap (is_of m) e ∙ other_number line m (λ f. other (sym f)))

@@ -18,7 +18,7 @@ use Rattle.stripe_placer.specs.Placing.{UnitRow, Placing}
 use Rattle.stripe_placer.specs.Placing as placer
 use Rattle.core_laws.specs.Stepping.{after}
 use Rattle.core_laws.specs.OpenedLines.{open_lines}
-use Rattle.core_laws.specs.PlacerOf.{positions_of, lost_entries, fresh_entries, entries_of, contains_unit, row_of, placing_of}
+use Rattle.core_laws.specs.PlacerOf.{positions_of, lost_entries, fresh_entries, entries_of, contains_unit, unit_row_in, placing_of}
 use Rattle.core_laws.proofs.Engine.{stopped_more}
 use Rattle.core_laws.proofs.Steady.{AreAlike, is_lost_same, is_fresh_same, standing_same, lines_same, row_same, unanswered_in}
 use Rattle.lemmas.proofs.Maps.{filter_none, filter_same, map_same}
@@ -85,11 +85,11 @@ placing_taken i logs entry mark knows pad again none =
     let same : AreAlike (logs 0) (after logs (Take entry mark) knows 0) = alike (logs 0) entry mark knows in
     let l : Logged = record { event = Decides (Take entry mark); knows = knows } in
     same_placing i.shape (entries_of i.shape (after logs (Take entry mark) knows 0) pad) (with_entry (entries_of i.shape (logs 0) pad) entry.position false)
-    (map (row_of i (after logs (Take entry mark) knows) again) (range_with_len 0 (units i.shape)))
-    (map (row_of i logs again) (range_with_len 0 (units i.shape)))
+    (map (unit_row_in i (after logs (Take entry mark) knows) again) (range_with_len 0 (units i.shape)))
+    (map (unit_row_in i logs again) (range_with_len 0 (units i.shape)))
     (open_lines i (after logs (Take entry mark) knows)) (open_lines i logs)
     (entries_taken i.shape (logs 0) entry mark knows pad none)
-    (map_same (row_of i (after logs (Take entry mark) knows) again) (row_of i logs again) (λ unit. row_same i logs (Take entry mark) knows again again unit
+    (map_same (unit_row_in i (after logs (Take entry mark) knows) again) (unit_row_in i logs again) (λ unit. row_same i logs (Take entry mark) knows again again unit
     (ap₂ (λ ps ns. unanswered_in ps ns unit) same.placements same.answers)
     (ap (λ b. b && not (contains_unit again unit)) (stopped_more (logs 0) l unit))) (range_with_len 0 (units i.shape)))
     (lines_same i logs (Take entry mark) knows same

@@ -9,7 +9,7 @@ use Rattle.std.proofs.lemmas.Nat.{mod_below, mod-pow-add, pow_pos}
 use Rattle.std.proofs.lemmas.List.Sums.{sum_by-append}
 use Rattle.std.proofs.lemmas.Nat.Bits.{bit_at-lt, bit_at_lowest, bit_at_cat_low, bit_at_cat_high}
 use Rattle.pblk_model.specs.Image.{Image, line_units}
-use Rattle.pblk_layout.specs.Live.{is_in, units_in, is_live}
+use Rattle.pblk_layout.specs.Online.{is_in, units_in, is_online}
 use Rattle.pblk_layout.proofs.Sets.{filter_more, shorter}
 use Rattle.pblk_layout.proofs.LineBits.{has_chunk, line_bits, units_kept}
 use Rattle.pblk_layout.proofs.LiveLemmas.{none_past}
@@ -102,7 +102,7 @@ bit_is p (suc n) u h = go (nat_lt u n) refl (λ inside. bit_is p n u inside)
 -- ---- the units of a line
 
 -- the units that have a chunk of the line are those for which the test says so
-pub units_are : (i : Image) (line : ℕ) (p : ℕ → Bool) → length i.units ≤ 64 → ((unit : ℕ) → p unit ≡ is_live i line unit)
+pub units_are : (i : Image) (line : ℕ) (p : ℕ → Bool) → length i.units ≤ 64 → ((unit : ℕ) → p unit ≡ is_online i line unit)
     → line_units i line ≡ filter p (range_with_len 0 64)
 unfolding has_chunk
 units_are i line p few same = sym (units_kept line p 0 64 i.units few (λ k l. let place : 0 + k ≡ k = omega arith in ap p place ∙ same k))
@@ -110,15 +110,15 @@ units_are i line p few same = sym (units_kept line p 0 64 i.units few (λ k l. l
 -- the units of a line come back from their bits
 pub bits_back : (i : Image) (line : ℕ) → length i.units ≤ 64 → units_in (bits_of (line_units i line)) ≡ line_units i line
 bits_back i line few =
-    let bits : bits_of (line_units i line) ≡ bits_of (kept (is_live i line) 64) = ap bits_of (units_are i line (is_live i line) few (λ unit. refl)) in
-    line_bits i line (bits_of (line_units i line)) few (λ unit inside. ap (λ m. is_in m unit) bits ∙ bit_is (is_live i line) 64 unit inside)
+    let bits : bits_of (line_units i line) ≡ bits_of (kept (is_online i line) 64) = ap bits_of (units_are i line (is_online i line) few (λ unit. refl)) in
+    line_bits i line (bits_of (line_units i line)) few (λ unit inside. ap (λ m. is_in m unit) bits ∙ bit_is (is_online i line) 64 unit inside)
 
 -- they are those below the number of units that have a chunk of it
-pub units_below : (i : Image) (line : ℕ) → length i.units ≤ 64 → line_units i line ≡ filter (is_live i line) (range_with_len 0 (length i.units))
+pub units_below : (i : Image) (line : ℕ) → length i.units ≤ 64 → line_units i line ≡ filter (is_online i line) (range_with_len 0 (length i.units))
 units_below i line few =
     let all : length i.units + (64 - length i.units) ≡ 64 = omega arith in
-    units_are i line (is_live i line) few (λ unit. refl) ∙ ap (λ n. filter (is_live i line) (range_with_len 0 n)) (sym all)
-    ∙ shorter (is_live i line) (length i.units) (64 - length i.units) (λ k past. none_past i line k past)
+    units_are i line (is_online i line) few (λ unit. refl) ∙ ap (λ n. filter (is_online i line) (range_with_len 0 n)) (sym all)
+    ∙ shorter (is_online i line) (length i.units) (64 - length i.units) (λ k past. none_past i line k past)
 
 pub bits_few : (i : Image) (line : ℕ) → length i.units ≤ 64 → bits_of (line_units i line) < 2 ^ length i.units
-bits_few i line few = subst (λ us. bits_of us < 2 ^ length i.units) (sym (units_below i line few)) (kept_below (is_live i line) (length i.units))
+bits_few i line few = subst (λ us. bits_of us < 2 ^ length i.units) (sym (units_below i line few)) (kept_below (is_online i line) (length i.units))

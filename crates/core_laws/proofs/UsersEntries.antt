@@ -10,9 +10,9 @@ use Rattle.pblk_world.specs.World.{World, Logs, log_of}
 use Rattle.pblk_world.specs.EngineLog.{Begun, Taken, takes}
 use Rattle.pblk_world.specs.Fronts.{is_users}
 use Rattle.pblk_world.specs.Legal.{IsLegal, IsDecision}
-use Rattle.core_laws.specs.PlacedEntries.{AreNamed}
+use Rattle.core_laws.specs.PlacedEntries.{AreSectorsOrVoid}
 use Rattle.core_laws.specs.Positions.{AreNumbered, AreMarked, AreTaken}
-use Rattle.world_laws.specs.LegalMounts.{NoneCopied, decides, is_copying}
+use Rattle.pblk_world.specs.LegalMounts.{NoneCopied, decides, is_copying}
 use Rattle.core_laws.proofs.TakenNumbers.{numbered_after}
 use Rattle.core_laws.proofs.KeptPositions.{marked_after, named_after, taken_after}
 use Rattle.core_laws.proofs.KeptByEvents.{IsKept, kept}
@@ -31,7 +31,7 @@ pub record IsUsers (s : Shape) (t : Taken) : Type 0 where
 pub record AreInOrder (s : Shape) (log : List Logged) : Type 0 where
   pub numbered : AreNumbered log
   pub marked : AreMarked log
-  pub named : AreNamed s log
+  pub named : AreSectorsOrVoid s log
   pub taken : AreTaken s log
 
 order_kept : (i : Image) → i.shape.capacity ≤ meta_lba → IsKept i (λ e. true) (AreInOrder i.shape)

@@ -25,7 +25,7 @@ use Rattle.lemmas.proofs.Maps.{given_at}
 use Rattle.lemmas.proofs.Options.{split_then}
 use Rattle.lemmas.proofs.Parts.{got_within}
 use Rattle.lemmas.proofs.Tests.{both, not_both, same_number}
-use Rattle.world_laws.specs.LegalMounts.{IsLegalMount}
+use Rattle.pblk_world.specs.LegalMounts.{IsLegalMount}
 use Rattle.world_laws.proofs.FoundEmpty.{all_pass}
 use Rattle.world_laws.proofs.Lives.{IsFree, IsNeither, IsOpen, Turns, life_is_known, turns}
 use Rattle.world_laws.proofs.NextLives.{life_next}

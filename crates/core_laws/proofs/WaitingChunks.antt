@@ -10,7 +10,7 @@ use Rattle.pblk_world.specs.Events.{Logged}
 use Rattle.pblk_world.specs.World.{World, log_of}
 use Rattle.pblk_world.specs.EngineLog.{Opened, Opening, Placed, placements, stripes_on, answer_of, is_land, has_landed, bears_position}
 use Rattle.pblk_world.specs.Space.{landed_blocks}
-use Rattle.world_laws.specs.LegalMounts.{IsLegalMount}
+use Rattle.pblk_world.specs.LegalMounts.{IsLegalMount}
 use Rattle.world_laws.proofs.UnitTurns.{rise_between}
 use Rattle.core_laws.specs.PlacerOf.{unanswered_on}
 use Rattle.core_laws.specs.ChunkBlocks.{chunk_blocks, first_bearing, has_landed_in}

@@ -12,7 +12,7 @@ use Rattle.pblk_world.specs.Events.{Logged}
 use Rattle.pblk_world.specs.World.{World, log_of}
 use Rattle.pblk_world.specs.EngineLog.{Opened, Opening, Placed, is_life, life_of, placements, stripes_of, has_failed}
 use Rattle.pblk_world.specs.Lines.{known_image}
-use Rattle.world_laws.specs.LegalMounts.{IsLegalMount}
+use Rattle.pblk_world.specs.LegalMounts.{IsLegalMount}
 use Rattle.world_laws.proofs.LineStripes.{failed_later}
 use Rattle.world_laws.proofs.UnitTurns.{Rises, rise_all, rise_between, some_rise}
 use Rattle.core_laws.specs.OpenedLines.{as_opened, is_stripe_at}

@@ -19,7 +19,7 @@ use Rattle.pblk_model.proofs.MarksLemmas.{accepted_small}
 use Rattle.lemmas.proofs.Lists.{all_append, all_front}
 use Rattle.lemmas.proofs.Maps.{all_filter}
 use Rattle.lemmas.proofs.Parts.{all_taken, take_and_drop, take_nothing}
-use Rattle.world_laws.specs.LegalMounts.{IsLegalMount}
+use Rattle.pblk_world.specs.LegalMounts.{IsLegalMount}
 use Rattle.world_laws.proofs.Later.{takes_joined}
 use Rattle.world_laws.proofs.LineStripes.{IsKind}
 use Rattle.world_laws.proofs.Openings.{placed_at}

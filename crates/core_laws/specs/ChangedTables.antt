@@ -3,7 +3,7 @@ use Rattle.std.specs.Prelude.{ℕ, Bool, true, false, slice_get, slice_set, Opti
 use Rattle.std.specs.Option.{option_map_or}
 use Rattle.line_table.specs.declared.row.LineState.TheVariants.{Failed, Full}
 use Rattle.line_table.specs.declared.row.Row.{Row}
-use Rattle.line_table.specs.Rows.{Table, lost, lowered, noted, turned}
+use Rattle.line_table.specs.Rows.{Table, lost_to_taker, lowered, noted, turned}
 
 -- the row of a line is changed, where there is one
 abbrev pub with_row : ℕ → (Row → Row) → Table → Table
@@ -26,7 +26,7 @@ failed row = turned Failed row.width row
 -- the line.
 abbrev pub lose_in : Option ℕ → Bool → ℕ → Table → Table
 lose_in None landed by t = t
-lose_in (Some line) true by t = with_row line (lost by) t
+lose_in (Some line) true by t = with_row line (lost_to_taker by) t
 lose_in (Some line) false by t = with_row line lowered t
 
 -- An entry has landed in a line. A later entry of the sector, which was taken before, took it from

@@ -6,13 +6,10 @@ pub mod WindowOf
 pub mod RowsOf
 pub mod Stepping
 pub mod Positions
-pub mod SimpleMounts
 pub mod FaultlessMounts
-pub mod PlainEvents
 pub mod LeastFree
 pub mod OpenAddresses
 pub mod ChangedTables
-pub mod PlainLogs
 pub mod PlacedEntries
 pub mod InOrder
 pub mod KnownLogs

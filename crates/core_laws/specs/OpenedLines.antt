@@ -23,8 +23,8 @@ abbrev pub bits_of : List ℕ → ℕ
 bits_of units = sum_by (λ unit. 2 ^ unit) units
 
 -- those of a line that is opened now
-abbrev pub live_now : Image → Logs → ℕ → ℕ
-live_now i logs line = bits_of (line_units (known_image i logs) line)
+abbrev pub online_now : Image → Logs → ℕ → ℕ
+online_now i logs line = bits_of (line_units (known_image i logs) line)
 
 -- the line as it was opened, without stripes
 abbrev pub as_opened : Image → Logs → Opening → OpenLine

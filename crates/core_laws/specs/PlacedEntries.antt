@@ -56,5 +56,5 @@ abbrev pub lower_entries : List Logged → ℕ → Table → List Taken → Tabl
 lower_entries log line table ts = fold (lower_entry log line) table ts
 
 -- each entry that was taken is of a sector or Void
-abbrev pub AreNamed : Shape → List Logged → Type 0
-AreNamed s log = AllByRecursion (λ t. is_some (named s t.mark) ≡ true) (takes log)
+abbrev pub AreSectorsOrVoid : Shape → List Logged → Type 0
+AreSectorsOrVoid s log = AllByRecursion (λ t. is_some (named s t.mark) ≡ true) (takes log)

@@ -99,8 +99,8 @@ row_in i logs stopped AsFound p = Idle
 row_in i logs stopped (Opened o) p = row_of_program stopped (program_of_placed i logs o p)
 row_in i logs stopped (Freed past knows) p = Idle
 
-abbrev pub row_of : Image → Logs → List ℕ → ℕ → UnitRow
-row_of i logs again unit =
+abbrev pub unit_row_in : Image → Logs → List ℕ → ℕ → UnitRow
+unit_row_in i logs again unit =
     option_map_or (λ p. row_in i logs (waits_again (logs 0) again unit) p.life p) (unanswered_on (logs 0) unit) Idle
 
 -- The placer of these logs, for a pad target and the units whose stopped programs are under way
@@ -109,7 +109,7 @@ abbrev pub placing_of : Image → Logs → ℕ → List ℕ → Placing
 placing_of i logs pad again = record {
   shape = i.shape;
   entries = entries_of i.shape (logs 0) pad;
-  units = map (row_of i logs again) (range_with_len 0 (units i.shape));
+  units = map (unit_row_in i logs again) (range_with_len 0 (units i.shape));
   lines = open_lines i logs;
 }
 

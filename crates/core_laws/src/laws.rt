@@ -16,7 +16,7 @@ ghost use Rattle.pblk_world.specs.Fronts.{history, user_positions, last_take};
 ghost use Rattle.pblk_world.specs.Lines.{found_image};
 ghost use Rattle.pblk_world.specs.Space.{freed};
 ghost use Rattle.pblk_world.specs.Freeing.{MayFree};
-ghost use Rattle.world_laws.specs.LegalMounts.{IsLegalMount, NoneCopied};
+ghost use Rattle.pblk_world.specs.LegalMounts.{IsLegalMount, NoneCopied};
 ghost use Rattle.core_laws.specs.Stepping.{after};
 ghost use Rattle.core_laws.specs.Spent.{IsSpent, OpensWhenFull};
 

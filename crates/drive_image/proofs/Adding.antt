@@ -4,14 +4,14 @@ use Rattle.std.specs.Prelude.{Vec, vec_capacity}
 use Rattle.std.specs.List.{enumerate_from, flat_map, sum_by}
 use Rattle.std.proofs.lemmas.List.Sums.{sum_by-cons}
 use Rattle.std.proofs.lemmas.Option.{none-some, same_Some}
-use Rattle.drive_image.specs.Storing.{HasRoom, WasAdded}
+use Rattle.drive_image.specs.Storing.{HasCapacity, WasAdded}
 use Rattle.lemmas.proofs.Maps.{enumerate_get}
 use Rattle.lemmas.proofs.Parts.{take-all}
 
-pub room_here : {Z : Type 0} (old : Vec ℕ Z) (xs ys : List ℕ) → HasRoom old (xs ++ ys) → HasRoom old xs
+pub room_here : {Z : Type 0} (old : Vec ℕ Z) (xs ys : List ℕ) → HasCapacity old (xs ++ ys) → HasCapacity old xs
 room_here old xs ys room = omega (arith, length-append xs ys)
 
-pub room_then : {Z : Type 0} (old new : Vec ℕ Z) (xs ys : List ℕ) → HasRoom old (xs ++ ys) → WasAdded old new xs → HasRoom new ys
+pub room_then : {Z : Type 0} (old new : Vec ℕ Z) (xs ys : List ℕ) → HasCapacity old (xs ++ ys) → WasAdded old new xs → HasCapacity new ys
 room_then old new xs ys room added =
     let size : length new.items ≡ length old.items + length xs = ap length added.items ∙ length-append old.items xs in
     omega (arith, length-append xs ys, added.capacity)
@@ -63,9 +63,9 @@ one_added f xs i x old now new before is added =
       capacity = omega (arith, before.capacity, added.capacity);
     }
 
-pub room_left : {X Z : Type 0} (f : X → List ℕ) (xs : List X) (i : ℕ) (x : X) (old now : Vec ℕ Z) → HasRoom old (flat_map f xs) → FirstAdded f xs i old now
+pub room_left : {X Z : Type 0} (f : X → List ℕ) (xs : List X) (i : ℕ) (x : X) (old now : Vec ℕ Z) → HasCapacity old (flat_map f xs) → FirstAdded f xs i old now
     → slice_get xs i ≡ Some x
-    → HasRoom now (f x)
+    → HasCapacity now (f x)
 room_left f xs i x old now room before is =
     let size : length now.items ≡ length old.items + length (flat_map f (take i xs)) = ap length before.items
     ∙ length-append old.items (flat_map f (take i xs)) in
@@ -136,7 +136,7 @@ next_added f g xs x old now new before added =
     subst (WasAdded old new) (sym (flat_both f g xs (x ∷ []) ∙ ap (λ zs. flat_map f (map g xs) ++ zs) (append-nil (f (g x))))) both
 
 pub room_next : {X Y Z : Type 0} (f : Y → List ℕ) (g : X → Y) (xs : List X) (x : X) (ys : List X) (old now : Vec ℕ Z)
-    → HasRoom old (flat_map f (map g (xs ++ x ∷ ys))) → WasAdded old now (flat_map f (map g xs)) → HasRoom now (f (g x))
+    → HasCapacity old (flat_map f (map g (xs ++ x ∷ ys))) → WasAdded old now (flat_map f (map g xs)) → HasCapacity now (f (g x))
 room_next f g xs x ys old now room before =
-    let parts : HasRoom old (flat_map f (map g xs) ++ flat_map f (map g (x ∷ ys))) = subst (HasRoom old) (flat_both f g xs (x ∷ ys)) room in
+    let parts : HasCapacity old (flat_map f (map g xs) ++ flat_map f (map g (x ∷ ys))) = subst (HasCapacity old) (flat_both f g xs (x ∷ ys)) room in
     room_here now (f (g x)) (flat_map f (map g ys)) (room_then old now (flat_map f (map g xs)) (flat_map f (map g (x ∷ ys))) parts before)

@@ -8,8 +8,8 @@ use Rattle.pblk_model.specs.declared.shape.Shape.{Shape}
 use Rattle.pblk_model.specs.Bytes.{le32, le64}
 
 -- there is room for these bytes
-abbrev pub HasRoom : {Z : Type 0} → Vec ℕ Z → List ℕ → Type 0
-HasRoom out bytes = length out.items + length bytes ≤ vec_capacity out
+abbrev pub HasCapacity : {Z : Type 0} → Vec ℕ Z → List ℕ → Type 0
+HasCapacity out bytes = length out.items + length bytes ≤ vec_capacity out
 
 -- these bytes were added, and no memory was given back
 pub record WasAdded {Z : Type 0} (old new : Vec ℕ Z) (bytes : List ℕ) : Type 0 where

@@ -10,7 +10,7 @@ ghost use Rattle.pblk_laws.specs.GeometryFields.{FitsFields};
 ghost use Rattle.ocssd_geometry.specs.Numbers.{numbers_of, IsGeometry};
 ghost use Rattle.ocssd_drive.specs.Drive.{IsWhole, shape_of, stored};
 ghost use Rattle.ocssd_drive.specs.Units.{IsUnitOf, stored_chunks};
-ghost use Rattle.drive_image.specs.Storing.{HasRoom, IsDescriptorAdded, WasAdded, chunk_bytes, front_bytes, numbers_bytes};
+ghost use Rattle.drive_image.specs.Storing.{HasCapacity, IsDescriptorAdded, WasAdded, chunk_bytes, front_bytes, numbers_bytes};
 
 use crate::bytes::put;
 use crate::counting::image_length;
@@ -73,7 +73,7 @@ fn has_fields(geometry: &Geometry)
 // Adds the parts of an image.
 fn put_image(drive: &Drive, out: &mut Vec<u8>)
     requires whole { IsWhole drive.now }
-    requires room { HasRoom out.old (image_bytes (stored drive.now)) }
+    requires room { HasCapacity out.old (image_bytes (stored drive.now)) }
     ensures { WasAdded out.old out.new (image_bytes (stored drive.now)) }
 {
     put_numbers(drive, out);
@@ -83,7 +83,7 @@ fn put_image(drive: &Drive, out: &mut Vec<u8>)
 // Adds the parts of an image that stand before the blocks.
 fn put_numbers(drive: &Drive, out: &mut Vec<u8>)
     requires whole { IsWhole drive.now }
-    requires room { HasRoom out.old (front_bytes (stored drive.now)) }
+    requires room { HasCapacity out.old (front_bytes (stored drive.now)) }
     ensures { WasAdded out.old out.new (front_bytes (stored drive.now)) }
 {
     let shape = drive.shape();
@@ -94,7 +94,7 @@ fn put_numbers(drive: &Drive, out: &mut Vec<u8>)
 
 // Adds the magic, the version 1 and the settings.
 fn put_header(shape: &Shape, out: &mut Vec<u8>)
-    requires { HasRoom out.old (numbers_bytes shape.now) }
+    requires { HasCapacity out.old (numbers_bytes shape.now) }
     ensures { WasAdded out.old out.new (numbers_bytes shape.now) }
 {
     put(out, b"PBLKOCSD");
@@ -106,7 +106,7 @@ fn put_header(shape: &Shape, out: &mut Vec<u8>)
 
 fn put_geometry(geometry: &Geometry, out: &mut Vec<u8>)
     requires accepted { IsGeometry geometry.now }
-    requires room { HasRoom out.old (geometry_bytes (numbers_of geometry.now)) }
+    requires room { HasCapacity out.old (geometry_bytes (numbers_of geometry.now)) }
     ensures { WasAdded out.old out.new (geometry_bytes (numbers_of geometry.now)) }
 {
     let mut bytes = [0; 4096];
@@ -117,7 +117,7 @@ fn put_geometry(geometry: &Geometry, out: &mut Vec<u8>)
 // Adds the descriptors of all chunks.
 fn put_descriptors(drive: &Drive, out: &mut Vec<u8>)
     requires whole { IsWhole drive.now }
-    requires room { HasRoom out.old (descriptors_bytes (stored drive.now)) }
+    requires room { HasCapacity out.old (descriptors_bytes (stored drive.now)) }
     ensures { WasAdded out.old out.new (descriptors_bytes (stored drive.now)) }
 {
     let shape = drive.shape();
@@ -134,7 +134,7 @@ fn put_unit_descriptors(geometry: &Geometry, unit: u32, kept: &MemoryUnit, out: 
     requires clba { kept.now.unit.shape.clba ≡ geometry.now.clba }
     requires fits { IsUnitOf kept.now.unit.shape kept.now }
     requires room { let g = numbers_of geometry.now
-        in HasRoom out.old (unit_descriptors g (unit, stored_chunks kept.now)) }
+        in HasCapacity out.old (unit_descriptors g (unit, stored_chunks kept.now)) }
     ensures { let g = numbers_of geometry.now
         in WasAdded out.old out.new (unit_descriptors g (unit, stored_chunks kept.now)) }
 {
@@ -172,7 +172,7 @@ fn put_descriptor(geometry: &Geometry, unit: u32, chunk: u32, kept: &MemoryUnit,
 // Adds the written blocks of all chunks.
 fn put_blocks(drive: &Drive, out: &mut Vec<u8>)
     requires whole { IsWhole drive.now }
-    requires room { HasRoom out.old (blocks_bytes (stored drive.now)) }
+    requires room { HasCapacity out.old (blocks_bytes (stored drive.now)) }
     ensures { WasAdded out.old out.new (blocks_bytes (stored drive.now)) }
 {
     let shape = drive.shape();
@@ -184,7 +184,7 @@ fn put_blocks(drive: &Drive, out: &mut Vec<u8>)
 // Adds the written blocks of units of a drive, and lets go each unit after its own.
 fn put_units(units: Vec<MemoryUnit>, shape: &Shape, out: &mut Vec<u8>)
     requires fit { AllByRecursion (IsUnitOf shape.now) units.items }
-    requires room { HasRoom out.old
+    requires room { HasCapacity out.old
         (flat_map (flat_map chunk_bytes) (map stored_chunks units.items)) }
     ensures { WasAdded out.old out.new
         (flat_map (flat_map chunk_bytes) (map stored_chunks units.items)) }
@@ -198,7 +198,7 @@ fn put_units(units: Vec<MemoryUnit>, shape: &Shape, out: &mut Vec<u8>)
 fn put_unit_blocks(kept: &MemoryUnit, chunks: u32, out: &mut Vec<u8>)
     requires chunks { chunks ≡ kept.now.unit.shape.chunks }
     requires fits { IsUnitOf kept.now.unit.shape kept.now }
-    requires room { HasRoom out.old (flat_map chunk_bytes (stored_chunks kept.now)) }
+    requires room { HasCapacity out.old (flat_map chunk_bytes (stored_chunks kept.now)) }
     ensures { WasAdded out.old out.new (flat_map chunk_bytes (stored_chunks kept.now)) }
 {
     for chunk in 0..chunks {
@@ -209,7 +209,7 @@ fn put_unit_blocks(kept: &MemoryUnit, chunks: u32, out: &mut Vec<u8>)
 
 // Adds the written blocks of a chunk.
 fn put_chunk(chunk: &Chunk, out: &mut Vec<u8>)
-    requires { HasRoom out.old (flat_map block_bytes chunk.now.chunk.blocks) }
+    requires { HasCapacity out.old (flat_map block_bytes chunk.now.chunk.blocks) }
     ensures { WasAdded out.old out.new (flat_map block_bytes chunk.now.chunk.blocks) }
 {
     let (_state, pointer) = chunk.state();
@@ -223,7 +223,7 @@ fn put_chunk(chunk: &Chunk, out: &mut Vec<u8>)
 
 // Adds a block: its sector, and then the two numbers of its mark.
 fn put_block(sector: &[u8], mark: Mark, out: &mut Vec<u8>)
-    requires { HasRoom out.old (block_bytes (record { sector = sector.now; mark = mark })) }
+    requires { HasCapacity out.old (block_bytes (record { sector = sector.now; mark = mark })) }
     ensures { WasAdded out.old out.new (block_bytes (record { sector = sector.now; mark = mark })) }
 {
     put(out, sector);

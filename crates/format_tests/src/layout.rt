@@ -15,24 +15,24 @@ fn lengths(layout: &Layout, width: u32) -> Option<(u32, u32, u32)> {
     ))
 }
 
-fn place(layout: &Layout, live: u64, at: u32) -> Option<(u32, u32)> {
+fn place(layout: &Layout, online: u64, at: u32) -> Option<(u32, u32)> {
     let units = layout.shape().units();
-    if units >= 64 || live >= 1 << units {
+    if units >= 64 || online >= 1 << units {
         return None;
     }
-    let blocks = u64::from(layout.width(live)) * u64::from(layout.shape().clba);
+    let blocks = u64::from(layout.width(online)) * u64::from(layout.shape().clba);
     if u64::from(at) >= blocks {
         return None;
     }
-    Some(layout.place(live, at))
+    Some(layout.place(online, at))
 }
 
-fn addr_of(layout: &Layout, live: u64, unit: u32, block: u32) -> Option<u32> {
+fn addr_of(layout: &Layout, online: u64, unit: u32, block: u32) -> Option<u32> {
     let units = layout.shape().units();
-    if units >= 64 || live >= 1 << units {
+    if units >= 64 || online >= 1 << units {
         return None;
     }
-    layout.addr_of(live, unit, block)
+    layout.addr_of(online, unit, block)
 }
 
 #[test]
@@ -61,7 +61,7 @@ fn lengths_of_lines(rt: HostRuntime) {
 #[test]
 fn places_and_addresses_on_two_units(rt: HostRuntime) {
     let layout = small();
-    for ((live, at), told) in [
+    for ((online, at), told) in [
         ((3, 0), Some((0, 0))),
         ((3, 3), Some((0, 3))),
         ((3, 4), Some((1, 0))),
@@ -75,12 +75,12 @@ fn places_and_addresses_on_two_units(rt: HostRuntime) {
         ((2, 13), Some((1, 13))),
         ((0, 0), None),
     ] {
-        assert_eq!(rt; place(&layout, live, at), told, "of {live} at {at}");
+        assert_eq!(rt; place(&layout, online, at), told, "of {online} at {at}");
         if let Some((unit, block)) = told {
-            assert_eq!(rt; addr_of(&layout, live, unit, block), Some(at));
+            assert_eq!(rt; addr_of(&layout, online, unit, block), Some(at));
         }
     }
-    for ((live, unit, block), told) in [
+    for ((online, unit, block), told) in [
         ((3, 1, 0), Some(4)),
         ((3, 0, 24), None),
         ((3, 2, 0), None),
@@ -90,9 +90,9 @@ fn places_and_addresses_on_two_units(rt: HostRuntime) {
         ((2, 1, 23), Some(23)),
     ] {
         assert_eq!(rt;
-            addr_of(&layout, live, unit, block),
+            addr_of(&layout, online, unit, block),
             told,
-            "of {live}: {unit} {block}"
+            "of {online}: {unit} {block}"
         );
     }
 }
@@ -101,7 +101,7 @@ fn places_and_addresses_on_two_units(rt: HostRuntime) {
 #[test]
 fn places_and_addresses_on_two_groups(rt: HostRuntime) {
     let layout = two_groups();
-    for ((live, at), told) in [
+    for ((online, at), told) in [
         ((255, 24), Some((1, 0))),
         ((255, 191), Some((7, 23))),
         ((255, 192), Some((0, 24))),
@@ -120,9 +120,9 @@ fn places_and_addresses_on_two_groups(rt: HostRuntime) {
         ((222, 576), None),
         ((256, 0), None),
     ] {
-        assert_eq!(rt; place(&layout, live, at), told, "of {live} at {at}");
+        assert_eq!(rt; place(&layout, online, at), told, "of {online} at {at}");
         if let Some((unit, block)) = told {
-            assert_eq!(rt; addr_of(&layout, live, unit, block), Some(at));
+            assert_eq!(rt; addr_of(&layout, online, unit, block), Some(at));
         }
     }
 }

@@ -7,9 +7,9 @@ use Rattle.std.specs.Option.{is_some}
 use Rattle.pblk_model.specs.declared.shape.Shape.{Shape}
 use Rattle.pblk_model.specs.declared.found.Found.{Found}
 use Rattle.pblk_model.specs.declared.found.LineRow.{LineRow}
-use Rattle.pblk_model.specs.Found.{live_units}
+use Rattle.pblk_model.specs.Found.{online_units}
 use Rattle.pblk_model.specs.LineOrder.{data_len}
-use Rattle.pblk_layout.specs.Live.{units_in}
+use Rattle.pblk_layout.specs.Online.{units_in}
 use Rattle.line_table.specs.declared.row.LineState.{LineState}
 use Rattle.line_table.specs.declared.row.LineState.TheVariants.{Free, Full, Failed, Freed, Dead}
 use Rattle.pblk_model.specs.Shape.{units}
@@ -54,7 +54,7 @@ is_free_one s f line g n row seq stray g-is n-is some =
     sym (chosen _ false row.full row.full _ false _ false seq refl stray dead)
 
 -- the width of a line by its online units
-pub width_is : (s : Shape) (f : Found) (line live width : ℕ) → width ≡ length (units_in live) → units_in live ≡ live_units s f line → width ≡ width_of s f line
+pub width_is : (s : Shape) (f : Found) (line live width : ℕ) → width ≡ length (units_in live) → units_in live ≡ online_units s f line → width ≡ width_of s f line
 unfolding width_of
 width_is s f line live width is units-are = is ∙ ap length units-are
 

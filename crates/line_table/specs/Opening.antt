@@ -5,14 +5,14 @@ use Rattle.pblk_model.specs.declared.shape.Shape.{Shape}
 use Rattle.pblk_model.specs.declared.found.Found.{Found}
 use Rattle.pblk_model.specs.declared.found.LineRow.{LineRow}
 use Rattle.pblk_model.specs.declared.found.Winner.{Winner}
-use Rattle.pblk_model.specs.Found.{live_units}
+use Rattle.pblk_model.specs.Found.{online_units}
 use Rattle.pblk_model.specs.LineOrder.{data_len}
 use Rattle.line_table.specs.declared.row.LineState.{LineState}
 use Rattle.line_table.specs.declared.row.LineState.TheVariants.{Free, Full, Failed, Freed, Dead}
 
 -- how many chunks of a line aren't Offline
 unfoldable pub width_of : Shape → Found → ℕ → ℕ
-width_of s f line = length (live_units s f line)
+width_of s f line = length (online_units s f line)
 
 -- how many winning records are in a line
 unfoldable pub live_count : List Winner → ℕ → ℕ

@@ -60,8 +60,8 @@ abbrev pub noted : ℕ → Row → Row
 noted by row = record row { taker = Some (latest row.taker by) }
 
 -- both at once
-abbrev pub lost : ℕ → Row → Row
-lost by row = record row { live = row.live - 1; taker = Some (latest row.taker by) }
+abbrev pub lost_to_taker : ℕ → Row → Row
+lost_to_taker by row = record row { live = row.live - 1; taker = Some (latest row.taker by) }
 
 -- what a turn to a state leaves of the position that took a sector last
 abbrev pub kept : LineState → Option ℕ → Option ℕ

@@ -7,7 +7,7 @@ ghost use Rattle.pblk_model.specs.Shape.{units};
 ghost use Rattle.pblk_model.specs.declared.found.LineRow.{LineRow};
 ghost use Rattle.line_table.specs.declared.row.Row.{Row};
 ghost use Rattle.line_table.specs.Opening.{width_of, live_count, opening_state};
-ghost use Rattle.line_table.specs.Rows.{IsRow, EachRow, IsFreeLine, IsOutlivedLine, Changes, IsChange, is_free, free_addresses, lost, lowered, noted, turned};
+ghost use Rattle.line_table.specs.Rows.{IsRow, EachRow, IsFreeLine, IsOutlivedLine, Changes, IsChange, is_free, free_addresses, lost_to_taker, lowered, noted, turned};
 
 use crate::line_set::LineSet;
 use crate::opening::{
@@ -158,7 +158,7 @@ impl Lines {
     pub fn lose(&mut self, line: u32, by: u64)
         requires inside { line < length self.old.rows }
         requires some { (row : Row) → IsRow self.old line row → 0 < row.live }
-        ensures { Changes self.old self.new line (lost by) }
+        ensures { Changes self.old self.new line (lost_to_taker by) }
     {
         self.lower(line);
         self.note_taker(line, by);

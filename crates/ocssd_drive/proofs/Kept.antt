@@ -10,7 +10,7 @@ use Rattle.ocssd_drive.specs.Tally.{IsTally, TallyView, idle_tally}
 use Rattle.ocssd_drive.specs.StopWord.{SeatView}
 use Rattle.ocssd_drive.specs.Journal.{FitsArming, SeatTellsBy, word_of}
 use Rattle.ocssd_drive.specs.Arming.{AreTallies, finds, own_fuse, seat_after}
-use Rattle.ocssd_drive.specs.Fields.{IsKept, last_arms}
+use Rattle.ocssd_drive.specs.Fields.{AreFieldsOf, last_arms}
 use Rattle.ocssd_drive.specs.declared.journal.Arming.{Arming}
 use Rattle.ocssd_drive.specs.declared.journal.Journal.TheInside.{Inside}
 use Rattle.ocssd_drive.specs.declared.fault.Fault.{Fault}
@@ -42,7 +42,7 @@ fresh_seat a log (Some f) (Some s) none word fits = record {
 pub kept_anew : (log : List UnitEvent) (events : ℕ) (arms : List Armed) (arming : Arming) (fuse : Option Fuse) (a : Armed) → last_arms arms ≡ a → a.since ≡ length log → events ≡ min (length log) (2 ^ 64 - 1)
     → IsTally a.plans a.unit kinds.Program 0 arming.programs → IsTally a.plans a.unit kinds.Fetch 0 arming.fetches → IsTally a.plans a.unit kinds.Reset 0 arming.resets
     → fuse ≡ own_fuse a.unit a.fuse → FitsArming a.unit a.fuse arming.stop → a.word ≡ word_of arming.stop
-    → IsKept (record { log = log; events = events; arms = arms; armed = arming; fuse = fuse })
+    → AreFieldsOf (record { log = log; events = events; arms = arms; armed = arming; fuse = fuse })
 kept_anew log events arms arming fuse a last now count programs fetches resets own fits word =
     let none : events_since a log ≡ [] = no_events a log now in
     record {
@@ -55,12 +55,12 @@ kept_anew log events arms arming fuse a last now count programs fetches resets o
     }
 
 -- a command of this kind met this fault, and is counted
-pub kept_noted : (j : Inside) (event : UnitEvent) (kind : CommandKind) (fault : Fault) (log : List UnitEvent) (events : ℕ) (arming : Arming) → IsKept j
+pub kept_noted : (j : Inside) (event : UnitEvent) (kind : CommandKind) (fault : Fault) (log : List UnitEvent) (events : ℕ) (arming : Arming) → AreFieldsOf j
     → kind_of event.command ≡ kind → fault ≡ fault_of (last_arms j.arms) (events_since (last_arms j.arms) j.log) (finds j.armed.stop) kind
     → is_fail event.outcome ≡ is_failing fault → is_stop event.outcome ≡ is_stopping fault
     → log ≡ j.log ++ event ∷ [] → events ≡ min (j.events + 1) (2 ^ 64 - 1) → arming.stop ≡ seat_after fault j.armed.stop
     → AreTallies (last_arms j.arms) (events_since (last_arms j.arms) j.log ++ event ∷ []) arming.programs arming.fetches arming.resets
-    → IsKept (record { log = log; events = events; arms = j.arms; armed = arming; fuse = j.fuse })
+    → AreFieldsOf (record { log = log; events = events; arms = j.arms; armed = arming; fuse = j.fuse })
 kept_noted j event kind fault log events arming old of is fails stops log_is events_are stop tallies =
     let a = last_arms j.arms in
     let since : a.since ≤ length j.log = old.since in

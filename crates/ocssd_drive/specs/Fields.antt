@@ -14,7 +14,7 @@ last_arms (a ∷ b ∷ arms) = last_arms (b ∷ arms)
 abbrev pub journal_view : Inside → JournalView
 journal_view j = record { log = j.log; armed = last_arms j.arms; seat = j.armed.stop }
 
-pub record IsKept (j : Inside) : Type 0 where
+pub record AreFieldsOf (j : Inside) : Type 0 where
   pub events : j.events ≡ min (length j.log) (2 ^ 64 - 1)
   pub since : (last_arms j.arms).since ≤ length j.log
   pub tallies : let a = last_arms j.arms in AreTallies a (events_since a j.log) j.armed.programs j.armed.fetches j.armed.resets

@@ -45,11 +45,11 @@ impl Model for Journal {
 
     ghost Value = { JournalView };
 
-    ghost use Rattle.ocssd_drive.specs.Fields.{journal_view, IsKept};
+    ghost use Rattle.ocssd_drive.specs.Fields.{journal_view, AreFieldsOf};
 
     ghost view = { journal_view };
 
-    ghost invariant = { IsKept };
+    ghost invariant = { AreFieldsOf };
 }
 
 impl Journal {

@@ -1,6 +1,7 @@
 -- A loaded drive that was armed with plans and a stop: its units, and what they did by these.
-use Rattle.std.proofs.Common.{◌≡◌, ℕ, zero, suc, ◌+◌, ◌<◌, ◌≤◌, true, List, [], ◌∷◌, ◌++◌, length, map, Option, Some, slice_get, refl, sym, subst, ap, ◌∙◌, arith, inr}
+use Rattle.std.proofs.Common.{◌≡◌, ℕ, zero, suc, ◌+◌, ◌<◌, ◌≤◌, true, List, [], ◌∷◌, ◌++◌, length, map, Option, None, Some, slice_get, refl, sym, subst, ap, ◌∙◌, arith, inr}
 use Rattle.std.specs.List.{AllByRecursion, enumerate_from}
+use Rattle.std.specs.Option.{option_map_or}
 use Rattle.std.proofs.lemmas.List.{length-map}
 use Rattle.std.proofs.lemmas.List.FromFn.{length-enumerate_from}
 use Rattle.std.proofs.lemmas.Option.{none-some, same_Some, slice_get_within}
@@ -19,9 +20,10 @@ use Rattle.ocssd_drive.specs.Faults.{changes_of}
 use Rattle.ocssd_drive.specs.Outcomes.{AreEventsBy, IsEventBy, any_stop}
 use Rattle.ocssd_drive.specs.Units.{IsUnitOf, WornUnit, stored_chunks}
 use Rattle.drive_image.specs.Quiet.{IsQuietUnit}
+use Rattle.scan_recovery.specs.Units.{log_length}
 use Rattle.step_laws.specs.Opened.{AreArmed}
-use Rattle.pblk_cli.specs.Serving.{AreNewLosses, DidByArms, FellBetween, IsLeftBy, IsNewLoss, units_of, wear_of}
-use Rattle.pblk_cli.specs.Stops.{AreNames, AreOutcomesBy, HasFallen, IsLossIn, arms_of}
+use Rattle.pblk_cli.specs.Serving.{AreNewDriveFaults, DidByArms, FellBetween, IsLeftBy, IsNewDriveFault, units_of, wear_of}
+use Rattle.pblk_cli.specs.Stops.{AreNames, AreOutcomesBy, HasFallen, IsDriveFaultIn, arms_of}
 use Rattle.lemmas.proofs.Lists.{all_weaker}
 use Rattle.lemmas.proofs.Parts.{got_within}
 
@@ -176,7 +178,7 @@ module _ (i : Image) (plans : List FaultPlan) (fuse : Option Fuse) (word : Optio
         (fresh_at plans fuse word us quiet k u.0 u.1).arms (log_is k v.0 v.1) stop));
   }
 
-  loss_in : (place : ℕ × ℕ) → IsNewLoss (units_of (armed_units plans fuse word us)) (units_of left) place → IsLossIn i logs place
+  loss_in : (place : ℕ × ℕ) → IsNewDriveFault (units_of (armed_units plans fuse word us)) (units_of left) place → IsDriveFaultIn i logs place
   loss_in place h = record {
     unit = subst (λ n. place.0 < n) here (slice_get_within (units_of left) place.0 h.unit h.there);
     event = h.event;
@@ -184,10 +186,18 @@ module _ (i : Image) (plans : List FaultPlan) (fuse : Option Fuse) (word : Optio
     lost = h.lost;
   }
 
-  pub are_names : (names : List (ℕ × ℕ)) → AreNewLosses (units_of (armed_units plans fuse word us)) (units_of left) names → AreNames i logs names
+  pub are_names : (names : List (ℕ × ℕ)) → AreNewDriveFaults (units_of (armed_units plans fuse word us)) (units_of left) names → AreNames i logs names
   are_names names h = record {
     places = h.places;
     names_are = h.names_are;
-    each = all_weaker (IsNewLoss (units_of (armed_units plans fuse word us)) (units_of left)) (IsLossIn i logs) h.places (λ place. loss_in place) h.each;
+    each = all_weaker (IsNewDriveFault (units_of (armed_units plans fuse word us)) (units_of left)) (IsDriveFaultIn i logs) h.places (λ place. loss_in place) h.each;
     distinct = h.distinct;
   }
+
+  -- nothing had been logged before
+  pub unlogged_before : (unit : ℕ) → log_length (units_of (armed_units plans fuse word us)) unit ≡ 0
+  unlogged_before unit = go (slice_get (units_of (armed_units plans fuse word us)) unit) refl
+    where
+      go : (o : Option ModelUnit) → slice_get (units_of (armed_units plans fuse word us)) unit ≡ o → option_map_or (λ u. length u.log) o 0 ≡ 0
+      go None is = refl
+      go (Some u) is = ap (λ (xs : List UnitEvent). length xs) (fresh_at plans fuse word us quiet unit u is).log

@@ -15,7 +15,7 @@ use Rattle.ocssd_drive.specs.Outcomes.{AreEventsBy}
 use Rattle.ocssd_drive.specs.Units.{WornUnit, disarmed}
 use Rattle.scan_recovery.specs.Units.{AreFit}
 use Rattle.run_threads.specs.declared.records.Records.{Records}
-use Rattle.pblk_cli.specs.Serving.{AreBack, DidByArms, FellBetween, IsLeftBy, IsNewLoss, IsServing, units_of}
+use Rattle.pblk_cli.specs.Serving.{AreBack, DidByArms, FellBetween, IsLeftBy, IsNewDriveFault, IsServing, units_of}
 use Rattle.lemmas.proofs.Lists.{all_weaker}
 use Rattle.lemmas.proofs.Maps.{get_mapped}
 use Rattle.lemmas.proofs.Parts.{got_within}
@@ -50,8 +50,8 @@ left_disarmed : (i : Image) (handed : List ModelUnit) (logs : Logs) (k : ℕ) (x
     → IsLeftBy i handed logs k (disarmed x).unit
 left_disarmed i handed logs k x h = record { media = h.media; before = h.before; was = h.was; log = h.log }
 
-loss_disarmed : (handed : List ModelUnit) (units : List WornUnit) (place : ℕ × ℕ) → IsNewLoss handed (units_of units) place
-    → IsNewLoss handed (units_of (map disarmed units)) place
+loss_disarmed : (handed : List ModelUnit) (units : List WornUnit) (place : ℕ × ℕ) → IsNewDriveFault handed (units_of units) place
+    → IsNewDriveFault handed (units_of (map disarmed units)) place
 loss_disarmed handed units place h =
     let at = is_there units place.0 h.unit h.there in
     record {
@@ -78,10 +78,11 @@ serving_disarmed i handed units script records w h = record {
   named = record {
     places = h.named.places;
     names_are = h.named.names_are;
-    each = all_weaker (IsNewLoss handed (units_of units)) (IsNewLoss handed (units_of (map disarmed units))) h.named.places
+    each = all_weaker (IsNewDriveFault handed (units_of units)) (IsNewDriveFault handed (units_of (map disarmed units))) h.named.places
         (λ place. loss_disarmed handed units place) h.named.each;
     distinct = h.named.distinct;
   };
+  lost = h.lost;
   history_is = h.history_is;
   worn = h.worn;
   granted = h.granted;
@@ -90,6 +91,9 @@ serving_disarmed i handed units script records w h = record {
   after_resets = h.after_resets;
   opened_full = h.opened_full;
   none_was_left = h.none_was_left;
+  none_to_free = h.none_to_free;
+  flushed = h.flushed;
+  all_synced = h.all_synced;
   over = h.over;
   kept = h.kept;
   told = h.told;

@@ -11,7 +11,7 @@ use Rattle.pblk_model.specs.UnitLog.{UnitEvent, UnitOutcome, Answered, Failed, S
 use Rattle.pblk_world.specs.Commanding.{is_program}
 use Rattle.pblk_world.specs.Events.{Logged}
 use Rattle.pblk_world.specs.World.{World, log_of, unit_event_of, unit_events}
-use Rattle.world_laws.specs.LegalMounts.{IsLegalMount, NoneLost}
+use Rattle.pblk_world.specs.LegalMounts.{IsLegalMount, NoStripeLost}
 use Rattle.core_laws.specs.FaultlessMounts.{AreAnswered, IsFaultlessMount, is_answered}
 use Rattle.unit_port.specs.declared.armed.CommandKind.{CommandKind}
 use Rattle.unit_port.specs.declared.armed.CommandKind.TheVariants as kinds
@@ -19,7 +19,7 @@ use Rattle.unit_port.specs.declared.armed.FaultPlan.{FaultPlan}
 use Rattle.unit_port.specs.declared.armed.Fuse.{Fuse}
 use Rattle.unit_port.specs.Armed.{is_fail, is_stop}
 use Rattle.ocssd_drive.specs.Faults.{kind_of}
-use Rattle.scan_recovery.specs.Lost.{is_fetch}
+use Rattle.scan_recovery.specs.DriveFaults.{is_fetch}
 use Rattle.core_laws.proofs.NextWorlds.{none_beyond}
 use Rattle.rest_laws.proofs.LostEvents.{IsFailedProgram, none_lost}
 use Rattle.lemmas.proofs.Lists.{IsAmong, contains_cases, contains_first, contains_none}
@@ -27,7 +27,7 @@ use Rattle.lemmas.proofs.Maps.{any_member, given_at}
 use Rattle.lemmas.proofs.Options.{split_then}
 use Rattle.lemmas.proofs.Parts.{all_by_get}
 use Rattle.lemmas.proofs.Tests.{either, first_of, second_of}
-use Rattle.pblk_cli.specs.Stops.{AreNames, AreOutcomesBy, HasFallen, HasPlan, IsLossIn, name_at}
+use Rattle.pblk_cli.specs.Stops.{AreNames, AreOutcomesBy, HasFallen, HasPlan, IsDriveFaultIn, name_at}
 use Rattle.pblk_cli.proofs.PlannedFaults.{failed_by}
 
 -- ---- kinds and outcomes
@@ -62,7 +62,7 @@ module _ (i : Image) (w : World) (plans : List FaultPlan) (fuse : Option Fuse) (
   planned_for unit k e low there = failed_by i.shape plans fuse unit _ e (by.outcomes unit low k e there)
 
   -- a lost command was stopped, or is a fetch that was to fail
-  cause_of : (place : ℕ × ℕ) → IsLossIn i (log_of w) place → HasFallen fuse (log_of w) ⊎ HasPlan plans kinds.Fetch place.0
+  cause_of : (place : ℕ × ℕ) → IsDriveFaultIn i (log_of w) place → HasFallen fuse (log_of w) ⊎ HasPlan plans kinds.Fetch place.0
   cause_of place loss = go (either (is_stop loss.event.outcome) (is_fetch loss.event.command && is_fail loss.event.outcome) loss.lost)
     where
       go : (is_stop loss.event.outcome ≡ true) ⊎ ((is_fetch loss.event.command && is_fail loss.event.outcome) ≡ true)
@@ -73,7 +73,7 @@ module _ (i : Image) (w : World) (plans : List FaultPlan) (fuse : Option Fuse) (
           (planned_for place.0 place.1 loss.event loss.unit loss.there
           (second_of (is_fetch loss.event.command) (is_fail loss.event.outcome) fetch)))
 
-  named_cause : (places : List (ℕ × ℕ)) (event : ℕ × ℕ) → AllByRecursion (IsLossIn i (log_of w)) places → Contains (map name_at places) event
+  named_cause : (places : List (ℕ × ℕ)) (event : ℕ × ℕ) → AllByRecursion (IsDriveFaultIn i (log_of w)) places → Contains (map name_at places) event
       → HasFallen fuse (log_of w) ⊎ HasPlan plans kinds.Fetch event.0
   named_cause [] event each there = absurd (contains_none event there)
   named_cause (p ∷ places) event each there =
@@ -102,7 +102,7 @@ module _ (i : Image) (w : World) (plans : List FaultPlan) (fuse : Option Fuse) (
             absurd (none-some l (ap (λ (log : List Logged). slice_get log k) (sym none) ∙ there))
 
     -- the engine hears of a lost stripe only where a program was to fail
-    pub unlost : ((unit : ℕ) → HasPlan plans kinds.Program unit → ⊥) → NoneLost (log_of w 0)
+    pub unlost : ((unit : ℕ) → HasPlan plans kinds.Program unit → ⊥) → NoStripeLost (log_of w 0)
     unlost unplanned = none_lost i w legal.legal (λ unit number lost. unplanned unit (plan_for unit number lost))
       where
         plan_for : (unit number : ℕ) → IsFailedProgram (log_of w) unit number → HasPlan plans kinds.Program unit
@@ -130,7 +130,8 @@ module _ (i : Image) (w : World) (plans : List FaultPlan) (fuse : Option Fuse) (
 
   pub faultless : IsLegalMount i w → IsFaultlessMount i w
   faultless legal = record {
-    simple = record { mount = legal; engine = record { lost = unlost i w plans fuse by legal (no_plan kinds.Program) } };
+    mount = legal;
+    none_lost = unlost i w plans fuse by legal (no_plan kinds.Program);
     answered = λ unit. at unit (cases_lt unit (length i.units));
   }
     where

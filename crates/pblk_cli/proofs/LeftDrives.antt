@@ -19,10 +19,11 @@ use Rattle.pblk_model.specs.Text.{HistoryLine, Transcript, text_of}
 use Rattle.pblk_model.specs.Transcript.{IsRun, sector_writes}
 use Rattle.pblk_world.specs.World.{Logs, World, log_of, media}
 use Rattle.pblk_world.specs.Fronts.{history, user_positions}
-use Rattle.world_laws.specs.LegalMounts.{IsLegalMount}
+use Rattle.pblk_world.specs.LegalMounts.{IsLegalMount}
 use Rattle.unit_port.specs.declared.armed.FaultPlan.{FaultPlan}
 use Rattle.unit_port.specs.declared.armed.Fuse.{Fuse}
 use Rattle.unit_port.specs.Unit.{ModelUnit}
+use Rattle.scan_recovery.specs.Units.{log_length}
 use Rattle.world_laws.proofs.SealedMedia.{media_sealed}
 use Rattle.prefix_law.proofs.Prefix.{prefix_contents}
 use Rattle.ocssd_drive.specs.Drive.{DriveView, HasWord, IsWhole, armed_units, fitting_fuse, shape_of, stored, with_units}
@@ -37,10 +38,11 @@ use Rattle.pblk_cli.specs.Running.{IsRunTo, IsStored}
 use Rattle.pblk_cli.specs.Serving.{IsLeftBy, IsRan, IsServing, transcript_by, units_of}
 use Rattle.pblk_cli.specs.Status.{status_of_run}
 use Rattle.pblk_cli.specs.Stops.{AreOutcomesBy}
-use Rattle.pblk_cli.proofs.ArmedDrives.{are_armed, are_names, outcomes_by, stored_armed, wear_armed, whole_before}
+use Rattle.pblk_cli.proofs.ArmedDrives.{are_armed, are_names, outcomes_by, stored_armed, unlogged_before, wear_armed, whole_before}
 use Rattle.pblk_cli.proofs.HandedDrives.{media_mapped}
 use Rattle.pblk_cli.proofs.StoredUnits.{image_units, same_numbers}
 use Rattle.pblk_cli.proofs.TidyRuns.{complete}
+use Rattle.pblk_cli.proofs.ToldLosses.{told_of_all}
 use Rattle.lemmas.proofs.Maps.{get_mapped}
 use Rattle.lemmas.proofs.Parts.{got_within, same_lists}
 use Rattle.pblk_world.proofs.WorldLemmas.{length_media}
@@ -149,6 +151,8 @@ module _ (found : DriveView) (options : RunOptions) (word : Option TableId) (scr
           (outcomes_by i options.plans fuse word found.units left.units (log_of w) quiet armed_count armed_shapes left_count serving.each is.by_arms);
       named = are_names i options.plans fuse word found.units left.units (log_of w) quiet armed_count armed_shapes left_count serving.each _
           serving.named;
+      lost = told_of_all (log_length (units_of armed.units)) (length script) w _
+          (unlogged_before i options.plans fuse word found.units left.units (log_of w) quiet armed_count armed_shapes left_count serving.each) serving.lost;
       worn = serving.worn;
       granted = serving.granted;
       begun = serving.begun;
@@ -156,6 +160,9 @@ module _ (found : DriveView) (options : RunOptions) (word : Option TableId) (scr
       after_resets = serving.after_resets;
       opened_full = serving.opened_full;
       none_was_left = serving.none_was_left;
+      none_to_free = serving.none_to_free;
+      flushed = serving.flushed;
+      all_synced = serving.all_synced;
       over = serving.over;
     }
 

@@ -9,6 +9,7 @@ pub mod Sessions
 pub mod Histories
 pub mod WornCauses
 pub mod Names
+pub mod ToldLosses
 pub mod Backs
 pub mod Servings
 pub mod Disarmed

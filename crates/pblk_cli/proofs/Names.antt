@@ -7,12 +7,12 @@ use borrow.Author.Tests.{ltb-true}
 use Rattle.pblk_model.specs.Transcript.{IsDistinct, is_of_one}
 use Rattle.pblk_model.specs.UnitLog.{UnitEvent}
 use Rattle.unit_port.specs.Unit.{ModelUnit}
-use Rattle.scan_recovery.specs.Lost.{IsLostAt}
+use Rattle.scan_recovery.specs.DriveFaults.{IsDriveFaultAt}
 use Rattle.block_port.specs.declared.rows.DriveAnswer.{DriveAnswer}
 use Rattle.block_target.specs.Mount.{MountView}
 use Rattle.block_target.specs.Serial.{AreNamed, IsNamed}
 use Rattle.run_report.specs.OnePort.{event_of}
-use Rattle.pblk_cli.specs.Serving.{AreNewLosses, IsNewLoss}
+use Rattle.pblk_cli.specs.Serving.{AreNewDriveFaults, IsNewDriveFault}
 use Rattle.pblk_cli.specs.Stops.{name_at}
 use Rattle.lemmas.proofs.Parts.{get_last}
 
@@ -47,7 +47,7 @@ names_distinct (p ∷ ps) h = go (is_of_one (name_at p)) refl (names_distinct ps
     go true small rest = (apart p ps small h.0, rest)
     go false large rest = rest
 
-pub losses_distinct : (handed units : List ModelUnit) (names : List (ℕ × ℕ)) → AreNewLosses handed units names → IsDistinct (filter is_of_one names)
+pub losses_distinct : (handed units : List ModelUnit) (names : List (ℕ × ℕ)) → AreNewDriveFaults handed units names → IsDistinct (filter is_of_one names)
 losses_distinct handed units names h = subst (λ xs. IsDistinct (filter is_of_one xs)) (sym h.names_are) (names_distinct h.places h.distinct)
 
 -- What a target answered.
@@ -83,7 +83,7 @@ places_apart (a ∷ answers) (i ∷ indices) h = (
 )
 
 module _ (v : MountView) where
-  loss_of : (a : DriveAnswer) (index : ℕ) → IsNamed v a index → IsNewLoss v.handed v.units (a.unit, index)
+  loss_of : (a : DriveAnswer) (index : ℕ) → IsNamed v a index → IsNewDriveFault v.handed v.units (a.unit, index)
   loss_of a index n = record {
     before = n.handed;
     was = n.was;
@@ -97,7 +97,7 @@ module _ (v : MountView) where
 
   names_of : (answers : List DriveAnswer) (indices : List ℕ) → length indices ≡ length answers
       → ((k index : ℕ) (a : DriveAnswer) → slice_get answers k ≡ Some a → slice_get indices k ≡ Some index → IsNamed v a index)
-      → (map event_of answers ≡ map name_at (places_of answers indices)) × AllByRecursion (IsNewLoss v.handed v.units) (places_of answers indices)
+      → (map event_of answers ≡ map name_at (places_of answers indices)) × AllByRecursion (IsNewDriveFault v.handed v.units) (places_of answers indices)
   names_of [] indices count each = (refl, tt)
   names_of (a ∷ answers) [] count each = absurd (omega (arith, count))
   names_of (a ∷ answers) (i ∷ indices) count each =
@@ -107,7 +107,7 @@ module _ (v : MountView) where
         (loss_of a i first, rest.1),
       )
 
-  pub losses_named : (answers : List DriveAnswer) → AreNamed v answers → AreNewLosses v.handed v.units (map event_of answers)
+  pub losses_named : (answers : List DriveAnswer) → AreNamed v answers → AreNewDriveFaults v.handed v.units (map event_of answers)
   losses_named answers h =
       let of = names_of answers h.indices h.count h.each in
       record {
@@ -119,7 +119,7 @@ module _ (v : MountView) where
 
 -- What an opening answered.
 
-pub loss_at : (old new : List ModelUnit) (unit event : ℕ) → IsLostAt old new unit event → AreNewLosses old new ((unit, event) ∷ [])
+pub loss_at : (old new : List ModelUnit) (unit event : ℕ) → IsDriveFaultAt old new unit event → AreNewDriveFaults old new ((unit, event) ∷ [])
 loss_at old new unit event h =
     let long : length h.last.of.log ≡ length h.last.front + 1 = ap (λ (log : List UnitEvent). length log) h.last.log
     ∙ length-append h.last.front (h.event ∷ []) in

@@ -12,7 +12,7 @@ use Rattle.pblk_world.specs.World.{World, log_of, media}
 use Rattle.pblk_world.specs.EngineLog.{Begun, Taken, begun, takes}
 use Rattle.pblk_world.specs.Fronts.{first_position, is_users, user_positions, user_takes}
 use Rattle.pblk_world.specs.Lines.{found_image, next_seq}
-use Rattle.world_laws.specs.LegalMounts.{IsLegalMount}
+use Rattle.pblk_world.specs.LegalMounts.{IsLegalMount}
 use Rattle.world_laws.specs.SameImages.{HoldsTheSame}
 use Rattle.world_laws.proofs.Beginnings.{has_begun}
 use Rattle.world_laws.proofs.FoundImages.{found_holds}

@@ -18,6 +18,10 @@ use Rattle.pblk_cli.proofs.Backs.{together_back, whole_back}
 use Rattle.pblk_cli.proofs.Disarmed.{did_by_arms, serving_disarmed}
 use Rattle.pblk_cli.proofs.HandedDrives.{image_handed}
 
+still_disarmed : (us : List WornUnit) → map disarmed us ≡ map disarmed (map disarmed us)
+still_disarmed [] = refl
+still_disarmed (u ∷ us) = ap (λ (xs : List WornUnit). disarmed u ∷ xs) (still_disarmed us)
+
 wear_disarmed : (us : List WornUnit) → wear_of (map disarmed us) ≡ wear_of us
 wear_disarmed [] = refl
 wear_disarmed (u ∷ us) = ap (λ (ws : List (List ℕ)). u.wear ∷ ws) (wear_disarmed us)
@@ -32,6 +36,7 @@ module _ (found left : DriveView) (units : List WornUnit) (was : IsWhole found) 
   drive_left = record {
     numbers = is ∙ ap (λ us. with_units us found) (sym units_are);
     wear = ap wear_of units_are ∙ wear_disarmed units ∙ back.wear;
+    unarmed = units_are ∙ still_disarmed units ∙ ap (map disarmed) (sym units_are);
     was = was;
     whole = whole;
   }

@@ -2,6 +2,7 @@
 use Rattle.std.proofs.Common.{◌≡◌, ◌⊎◌, ℕ, ◌^◌, ◌<◌, ◌≤◌, List, [], ◌∷◌, ◌++◌, Option, Result, Ok, Err, length, map, take, false, Some, None, slice_get, refl, sym, subst, ap, ◌∙◌, arith}
 use Rattle.std.specs.Prelude.{IfOk}
 use Rattle.std.specs.List.{AllByRecursion, filter, flat_map}
+use Rattle.std.specs.Option.{unwrap_or}
 use Rattle.std.proofs.lemmas.List.{append-nil, length-map, map-append}
 use Rattle.std.proofs.lemmas.Option.{none-some}
 use Rattle.std.proofs.lemmas.Result.{IfOk-weaker}
@@ -17,7 +18,7 @@ use Rattle.pblk_model.specs.Script.{ScriptFits}
 use Rattle.pblk_model.specs.Sealed.{IsSealed}
 use Rattle.pblk_model.specs.Shape as shapes
 use Rattle.pblk_model.specs.Text.{Closed, HistoryLine, Transcript}
-use Rattle.pblk_model.specs.Transcript.{IsDistinct, IsRun, IsTranscript, closing_event, events, is_of_one, sector_writes}
+use Rattle.pblk_model.specs.Transcript.{IsDistinct, IsRun, IsTranscript, closing_event, events, is_of_one, outcome_event, sector_writes}
 use Rattle.pblk_world.specs.AtRest.{IsAtRest}
 use Rattle.pblk_world.specs.Events.{Logged}
 use Rattle.pblk_world.specs.EngineLog.{Begun, begun}
@@ -28,17 +29,17 @@ use Rattle.pblk_world.specs.World.{World, log_of, media}
 use Rattle.unit_port.specs.Unit.{ModelUnit}
 use Rattle.ocssd_drive.specs.Units.{WornUnit}
 use Rattle.prefix_law.proofs.Prefix.{prefix_above}
-use Rattle.scan_recovery.specs.Lost.{IsLostAt}
+use Rattle.scan_recovery.specs.DriveFaults.{IsDriveFaultAt}
 use Rattle.scan_recovery.specs.Readying.{AreHandedBack}
-use Rattle.scan_recovery.specs.Units.{AreFit, image_of}
+use Rattle.scan_recovery.specs.Units.{AreFit, image_of, log_length}
 use Rattle.block_port.specs.declared.rows.DriveAnswer.{DriveAnswer}
 use Rattle.block_port.specs.declared.rows.WornAnswer.{WornAnswer}
 use Rattle.block_port.specs.Own.{PlacedSector, lines_of}
 use Rattle.block_port.specs.Port.{Footing, IsSameTarget, ModelPort, positions}
 use Rattle.block_target.specs.Arm.{IsArm}
-use Rattle.world_laws.specs.LegalMounts.{IsLegalMount}
-use Rattle.world_laws.specs.Orders.{AreAfterResets, AreOpenedFull, NoneWasLeft}
-use Rattle.world_laws.specs.Reasons.{AreBegun, AreGranted, AreUrgent}
+use Rattle.pblk_world.specs.LegalMounts.{IsLegalMount}
+use Rattle.pblk_world.specs.Orders.{AreAfterResets, AreOpenedFull, NoneToFree, NoneWasLeft}
+use Rattle.pblk_world.specs.Reasons.{AreBegun, AreGranted, AreUrgent}
 use Rattle.block_target.specs.Mount.{IsCollectionOver, MountView, synced_in, taken_in, world_in}
 use Rattle.block_target.specs.Refusals.{AreRefusals}
 use Rattle.block_target.specs.Opened.{AreReadied, IsOpened, OpenCause, readied_world}
@@ -50,21 +51,26 @@ use Rattle.block_target.specs.declared.opening.SettleErr.TheVariants as settle
 use Rattle.run_threads.specs.declared.records.Answer.{Answer}
 use Rattle.run_threads.specs.declared.records.Records.{Records}
 use Rattle.run_threads.specs.declared.records.Trouble.TheVariants.{Drive}
-use Rattle.run_threads.specs.Run.{IsEvent, Runs}
-use Rattle.run_report.specs.OnePort.{AreKept, IsRunOfOnePort, IsTrouble, event_of}
-use Rattle.run_report.specs.Report.{closing_of, opening_of, transcript_of}
-use Rattle.run_report.proofs.OnePort.{no_more, no_port, one_events, one_history, one_kept, one_port, one_told, unopened}
+use Rattle.run_threads.specs.Run.{IsEvent, Runs, faults_in}
+use Rattle.run_report.specs.OnePort.{AreKeptBelow, IsRunOfOnePort, IsTrouble, event_of}
+use Rattle.run_report.specs.Report.{closing_of, opening_of, outcome_of, transcript_of}
+use Rattle.run_report.proofs.OnePort.{answer_events, no_more, no_port, one_events, one_history, one_kept, one_port, one_told, unopened}
 use Rattle.run_report.proofs.Recorded.{recorded}
-use Rattle.pblk_cli.specs.Serving.{AreBack, AreNewLosses, Closes, HasRun, IsClosed, IsNewTarget, IsServed, IsServedOn, IsServing, IsSessionOf, transcript_by, trouble_of, units_of, wear_of, with_closing}
-use Rattle.pblk_cli.specs.Stops.{HasBegun}
+use Rattle.pblk_cli.specs.Serving.{AreBack, AreNewDriveFaults, Closes, HasRun, IsBroughtBack, IsNewTarget, IsServed, IsServedOn, IsServing, IsSessionOf, transcript_by, trouble_of, units_of, wear_of, with_closing}
+use Rattle.pblk_cli.specs.Stops.{AreAllTold, HasBegun, thread_events}
+use Rattle.pblk_cli.specs.Synced.{AreFlushesSynced, IsAllSynced, synced_lines}
 use Rattle.pblk_cli.specs.Worn.{worns_of}
 use Rattle.pblk_cli.proofs.Backs.{back_of, left_by}
 use Rattle.pblk_cli.proofs.Histories.{history_lines, lines_taken}
 use Rattle.pblk_cli.proofs.Names.{loss_at, losses_distinct, losses_named}
 use Rattle.pblk_cli.proofs.Sessions.{answered}
+use Rattle.pblk_cli.proofs.ToldLosses.{all_told, opening_told}
 use Rattle.pblk_cli.proofs.WornCauses.{no_worns, one_worns}
 use Rattle.lemmas.proofs.Parts.{take_nothing}
+use Rattle.block_target.proofs.AllAnswered.{none_of_others, opening_answered}
 use Rattle.block_target.proofs.DeviceFronts.{positions_in}
+use Rattle.block_target.proofs.NamedAnswers.{answer_of}
+use Rattle.run_threads.proofs.RunLemmas.{run_faults}
 use Rattle.block_target.proofs.Written.{lines_kept}
 
 -- what no call changes of a target
@@ -121,7 +127,8 @@ settled_events (Ok x) = refl
 settled_events (Err (settle.Worn wanted have)) = refl
 settled_events (Err (settle.Drive unit event)) = refl
 
-all_settled : (settled : Result Unit SettleErr) (old v : MountView) → Settles old settled v → trouble_of settled ≡ None → synced_in v ≡ taken_in v
+all_settled : (settled : Result Unit SettleErr) (old v : MountView) → Settles old settled v → closing_of (trouble_of settled) ≡ Closed
+    → synced_in v ≡ taken_in v
 all_settled (Ok x) old v settles none = settles.1
 all_settled (Err (settle.Worn wanted have)) old v settles none = absurd (cc)
 all_settled (Err (settle.Drive unit event)) old v settles none = absurd (cc)
@@ -134,7 +141,7 @@ collection_over (Err (settle.Drive unit event)) old v settles none = absurd (cc)
 
 -- A target that was opened on the units of a drive, before and after a session, and closed.
 module _ (s : Shape) (us : List ModelUnit) (first last : SerialView) (units : List WornUnit) (opened : IsOpened s us first.mount)
-    (target : IsSameTarget (device first) (device last)) (closed : IsClosed last units) where
+    (target : IsSameTarget (device first) (device last)) (closed : IsBroughtBack last units) where
   abbrev i : Image
   i = image_of s us
 
@@ -186,8 +193,14 @@ module _ (s : Shape) (us : List ModelUnit) (first last : SerialView) (units : Li
       (prefix_above closed.mount.image (world_in closed.mount)
       closed.closed.sound.legal (subst IsSealed (sym mount_image) sealed))
 
-  all_synced : trouble_of closed.settled ≡ None → synced_in closed.mount ≡ taken_in closed.mount
+  all_synced : closing_of (trouble_of closed.settled) ≡ Closed → synced_in closed.mount ≡ taken_in closed.mount
   all_synced none = all_settled closed.settled last.mount closed.mount closed.closed.settles none
+
+  all_synced_is : closing_of (trouble_of closed.settled) ≡ Closed → IsAllSynced (image_of s us).shape (log_of w 0)
+  all_synced_is none = subst (λ (j : Image). IsAllSynced j.shape (log_of w 0)) mount_image (all_synced none)
+
+  none_is_to_free : NoneToFree (image_of s us) (log_of w)
+  none_is_to_free = subst (λ (j : Image). NoneToFree j (log_of w)) mount_image closed.closed.none_to_free
 
   -- the position below which all is kept
   abbrev front : ℕ
@@ -211,9 +224,9 @@ module _ (s : Shape) (us : List ModelUnit) (first last : SerialView) (units : Li
   their_events = ap (λ xs. map event_of last.faults ++ xs) (settled_events closed.settled)
       ∙ sym (map-append event_of last.faults (settle_faults closed.settled))
 
-  losses : AreNewLosses us (units_of units) (map event_of answers)
-  losses = subst (λ (xs : List ModelUnit). AreNewLosses us xs (map event_of answers)) (sym closed.units_are)
-      (subst (λ (xs : List ModelUnit). AreNewLosses xs closed.mount.units (map event_of answers)) mount_handed
+  losses : AreNewDriveFaults us (units_of units) (map event_of answers)
+  losses = subst (λ (xs : List ModelUnit). AreNewDriveFaults us xs (map event_of answers)) (sym closed.units_are)
+      (subst (λ (xs : List ModelUnit). AreNewDriveFaults xs closed.mount.units (map event_of answers)) mount_handed
       (losses_named closed.mount answers closed.closed.faults))
 
   distinct : IsDistinct (filter is_of_one (map event_of last.faults ++ closing_event (closing_of (trouble_of closed.settled))))
@@ -225,12 +238,13 @@ module _ (s : Shape) (us : List ModelUnit) (first last : SerialView) (units : Li
     abbrev records : Records
     records = with_closing before closed.settled
 
-    are_kept : IsSealed (image_of s us) → AreKept records (device last) (lines_in last.mount) (end (media i (log_of w)))
-    are_kept sealed = let high : synced_in closed.mount ≤ end (media i (log_of w)) = above sealed in record {
+    -- all that is synced is kept below each position that isn't lower
+    kept_below : (n : ℕ) → synced_in closed.mount ≤ n → AreKeptBelow records (device last) (lines_in last.mount) n
+    kept_below n high = record {
       flushed = (let rises : synced_in last.mount ≤ synced_in closed.mount = closed.closed.same.synced in omega arith);
       all = λ none.
-          let whole : synced_in closed.mount ≡ taken_in closed.mount = all_synced none in
-          all_below (taken_in closed.mount) (end (media i (log_of w))) (lines_in last.mount) (omega arith)
+          let whole : synced_in closed.mount ≡ taken_in closed.mount = all_synced (ap closing_of none) in
+          all_below (taken_in closed.mount) n (lines_in last.mount) (omega arith)
           (subst (λ (ls : List PlacedSector). AllByRecursion (λ (line : PlacedSector). line.position < taken_in closed.mount) ls) lines_are
           (lines_taken closed.mount closed.closed.sound));
     }
@@ -277,6 +291,33 @@ module _ (s : Shape) (us : List ModelUnit) (first last : SerialView) (units : Li
           (length (transcript_by (commands ∷ []) records i (log_of w)).history) ran calm unwritten as_many
           ∙ rw threads refl
 
+      -- the lines of the history that are synced
+      lines_synced : (transcript_of (commands ∷ []) records (synced_in closed.mount)).kept ≡ synced_lines (image_of s us).shape (log_of w 0)
+      unfolding one
+      lines_synced =
+          one_kept commands records (device first) (device last) (synced_in closed.mount) one
+          ∙ ap (λ ps. users ps (synced_in closed.mount)) positions_are
+          ∙ ap (λ (j : Image). synced_lines j.shape (log_of w 0)) mount_image
+
+      flushes_synced : AreFlushesSynced (image_of s us).shape (log_of w 0) (commands ∷ [])
+          (transcript_by (commands ∷ []) records i (log_of w))
+      unfolding one
+      flushes_synced = λ i c front at.
+          subst (λ n. front ≤ n) lines_synced
+          ((one_port commands records (device first) (device last) (synced_in closed.mount) one
+          (kept_below (synced_in closed.mount) (le_refl (synced_in closed.mount)))).flushed i c front at)
+
+      -- the thread's lines, and the close's
+      lines_named : thread_events (transcript_by (commands ∷ []) records i (log_of w)) 0 ++ closing_event (closing_of (trouble_of closed.settled))
+          ≡ map event_of answers
+      lines_named =
+          ap (λ (rs : List (List Answer)). flat_map outcome_event (unwrap_or (slice_get (map (map outcome_of) rs) 0) [])
+          ++ closing_event (closing_of (trouble_of closed.settled))) threads
+          ∙ ap (λ (es : List (ℕ × ℕ)). es ++ closing_event (closing_of (trouble_of closed.settled)))
+          (answer_events rows ∙ ap (map event_of) (sym (run_faults told commands rows (device first) (device last) ran
+          ∙ ap (λ (fs : List DriveAnswer). fs ++ faults_in rows) faultless)))
+          ∙ their_events
+
       one_serving : ScriptFits s.capacity (commands ∷ []) → IsServing (image_of s us) us (units_of units) (commands ∷ []) records w
       unfolding one
       one_serving fits = record {
@@ -289,8 +330,10 @@ module _ (s : Shape) (us : List ModelUnit) (first last : SerialView) (units : Li
             (let small : s.capacity < 2 ^ 40 = accepted.target.capacity_number in omega arith) fits
             ((let count : length (contents first.mount.found) ≡ s.capacity = start_count in omega arith), tt)
             unopened_is (rw threads (ran, tt));
-        named = subst (AreNewLosses us (units_of units))
+        named = subst (AreNewDriveFaults us (units_of units))
             (sym (one_events commands records (device first) (device last) front one ∙ their_events)) losses;
+        lost = all_told us closed.mount answers mount_handed closed.closed.answered 1 (transcript_by (commands ∷ []) records i (log_of w)) (omega arith)
+            (ap opening_of unopened_is) lines_named;
         history_is =
             history_lines closed.mount ∙ ap (map (λ (x : PlacedSector). x.write)) lines_are
             ∙ sym (one_history commands records (device first) (device last) front one)
@@ -304,6 +347,9 @@ module _ (s : Shape) (us : List ModelUnit) (first last : SerialView) (units : Li
         after_resets = subst (λ (j : Image). AreAfterResets j (log_of w)) mount_image closed.closed.after_resets;
         opened_full = subst (λ (j : Image). AreOpenedFull j (log_of w)) mount_image closed.closed.opened_full;
         none_was_left = subst (λ (j : Image). NoneWasLeft j (log_of w)) mount_image closed.closed.none_was_left;
+        none_to_free = λ none. none_is_to_free;
+        flushed = flushes_synced;
+        all_synced = λ none. all_synced_is;
         over = λ none. over_is;
         kept = one_kept commands records (device first) (device last) front one ∙ ap (λ ps. users ps front) positions_are;
         told = told_by first.mount.image.shape.sector s.sector (commands ∷ []) (contents first.mount.found)
@@ -311,7 +357,7 @@ module _ (s : Shape) (us : List ModelUnit) (first last : SerialView) (units : Li
             (one_told commands records (device first) (device last) front one);
         run = λ sealed. run_by first.mount.image.shape.sector s.sector (commands ∷ []) (contents first.mount.found) (contents (image_of s us))
             (transcript_by (commands ∷ []) records i (log_of w)) size_is (start_is sealed)
-            (one_port commands records (device first) (device last) front one (are_kept sealed));
+            (one_port commands records (device first) (device last) front one (kept_below front (above sealed)));
       }
 
     -- No thread.
@@ -331,6 +377,12 @@ module _ (s : Shape) (us : List ModelUnit) (first last : SerialView) (units : Li
       events_are : events (transcript_by [] records i (log_of w)) ≡ map event_of answers
       events_are = rw (threads, unopened_is) (sym (ap (λ xs. map event_of xs ++ closing_event (closing_of records.closing)) no_faults) ∙ their_events)
 
+      no_lines_named : thread_events (transcript_by [] records i (log_of w)) 0 ++ closing_event (closing_of (trouble_of closed.settled)) ≡ map event_of answers
+      no_lines_named =
+          ap (λ (rs : List (List Answer)). flat_map outcome_event (unwrap_or (slice_get (map (map outcome_of) rs) 0) [])
+          ++ closing_event (closing_of (trouble_of closed.settled))) threads
+          ∙ ap (λ (fs : List DriveAnswer). map event_of fs ++ closing_event (closing_of (trouble_of closed.settled))) (sym no_faults) ∙ their_events
+
       no_serving : ScriptFits s.capacity [] → IsServing (image_of s us) us (units_of units) [] records w
       no_serving fits = record {
         legal = legal_is;
@@ -341,7 +393,9 @@ module _ (s : Shape) (us : List ModelUnit) (first last : SerialView) (units : Li
         recorded = recorded (λ name. 0) s.capacity [] records [] []
             (let small : s.capacity < 2 ^ 40 = accepted.target.capacity_number in omega arith) fits tt
             unopened_is (rw threads tt);
-        named = subst (AreNewLosses us (units_of units)) (sym events_are) losses;
+        named = subst (AreNewDriveFaults us (units_of units)) (sym events_are) losses;
+        lost = all_told us closed.mount answers mount_handed closed.closed.answered 0 (transcript_by [] records i (log_of w)) (omega arith)
+            (ap opening_of unopened_is) no_lines_named;
         history_is = history_lines closed.mount ∙ ap (map (λ (x : PlacedSector). x.write)) none_left;
         worn = subst (λ (ws : List WornAnswer). AreRefusals (image_of s us) (log_of w) 0 ws)
             (no_worns last.worns last.own closed.settled (ap (λ (p : ModelPort). p.worns) same ∙ calm) (ap (λ (p : ModelPort). p.own) same ∙ unwritten)
@@ -354,6 +408,12 @@ module _ (s : Shape) (us : List ModelUnit) (first last : SerialView) (units : Li
         after_resets = subst (λ (j : Image). AreAfterResets j (log_of w)) mount_image closed.closed.after_resets;
         opened_full = subst (λ (j : Image). AreOpenedFull j (log_of w)) mount_image closed.closed.opened_full;
         none_was_left = subst (λ (j : Image). NoneWasLeft j (log_of w)) mount_image closed.closed.none_was_left;
+        none_to_free = λ none. none_is_to_free;
+        flushed = λ i c most at.
+            let low : most ≤ 0 =
+            (no_port s.sector records (contents (image_of s us)) front threads unopened_is closed.trouble).flushed i c most at in
+            omega arith;
+        all_synced = λ none. all_synced_is;
         over = λ none. over_is;
         kept = sym (ap (λ ps. users ps front) no_positions);
         told = (no_port s.sector records (contents (found_image (image_of s us) (log_of w))) front threads unopened_is closed.trouble).told;
@@ -372,14 +432,14 @@ module _ {E : Type 0} (s : Shape) (script : List (List Command)) (old new : List
   pub served_back : (result : Result Records E) → IsServedOn script target new result → AreBack s old new
   served_back result served = closed_back s (units_of old) target served.last new fresh.opened served.same served.closed old refl fit fresh.wear
 
-  session_served : (before : Result Records E) (records : Records) (last : SerialView) (closed : IsClosed last new) → IsAccepted s → length script ≤ 1
+  session_served : (before : Result Records E) (records : Records) (last : SerialView) (closed : IsBroughtBack last new) → IsAccepted s → length script ≤ 1
       → ScriptFits s.capacity script → IsSameTarget (device target) (device last) → IsSessionOf script target before last
       → Closes before closed.settled (answered E records) → IsServed s script old new records
   session_served (Err e) left last closed accepted few fits same session closes = absurd closes
   session_served (Ok before) left last closed accepted few fits same session closes = record {
     world = world_in closed.mount;
     serving = subst (λ (r : Records). IsServing (image_of s (units_of old)) (units_of old) (units_of new) script r (world_in closed.mount)) (sym closes)
-        (serving_of s (units_of old) target last new fresh.opened same closed before fresh.unwritten fresh.faultless fresh.calm accepted session.opened
+        (serving_of s (units_of old) target last new fresh.opened same closed before fresh.unwritten fresh.faultless fresh.unworn accepted session.opened
         script few fits session.run);
   }
 
@@ -412,9 +472,10 @@ module _ (s : Shape) (old new : List WornUnit) (refused : AreHandedBack s (units
   refused_back wear = back_of s as_it_was (log_of still) old new (units_of old) refl refl refused.kept.count wear readied.each
 
   -- it answered an event
-  module _ (script : List (List Command)) (records : Records) (unit event : ℕ) (lost : IsLostAt (units_of old) (units_of new) unit event)
+  module _ (script : List (List Command)) (records : Records) (unit event : ℕ) (lost : IsDriveFaultAt (units_of old) (units_of new) unit event)
       (number : IsEvent unit event) (threads : records.threads ≡ []) (opening : records.opening ≡ Some (Drive unit event))
-      (closing : records.closing ≡ None) (accepted : IsAccepted s) (fits : ScriptFits s.capacity script) where
+      (closing : records.closing ≡ None) (accepted : IsAccepted s) (fits : ScriptFits s.capacity script) (few : length script ≤ 1)
+      (fit : AreFit s (units_of old)) where
     nothing_taken : user_positions (log_of still 0) ≡ []
     nothing_taken = ap user_positions readied.none
 
@@ -433,8 +494,18 @@ module _ (s : Shape) (old new : List WornUnit) (refused : AreHandedBack s (units
     no_event : (k : ℕ) (l : Logged) → slice_get (log_of still 0) k ≡ Some l → ⊥
     no_event k l there = none-some l (ap (λ (log : List Logged). slice_get log k) (sym readied.none) ∙ there)
 
+    was_opened : opening_of records.opening ≡ None → ⊥
+    was_opened none = none-some (unit, event) (sym none ∙ ap opening_of opening)
+
     ran_nothing : (size : ℕ) (start : List (List ℕ)) → IsRun size script start (transcript_of script records left_end) start
     ran_nothing size start = unopened size script records start left_end unit event threads opening closing number
+
+    -- it is all that the opening lost
+    its_loss : length script ≤ 1 → AreAllTold (length script) (log_length (units_of old)) still (transcript_by script records as_it_was (log_of still))
+    its_loss few =
+        let at = opening_answered s (units_of old) (units_of new) readied refused.kept.count fit.count unit event lost in
+        opening_told (units_of old) still at.0 (answer_of unit event) (length script) (transcript_by script records as_it_was (log_of still)) few at.1 at.2
+        (none_of_others s (units_of old) (units_of new) readied refused.kept.count fit.count) (ap opening_of opening) (rw (threads, closing) refl)
 
     pub unopened_served : IsServed s script old new records
     unopened_served = record {
@@ -449,7 +520,8 @@ module _ (s : Shape) (old new : List WornUnit) (refused : AreHandedBack s (units
           fits = fits;
           answered = rw (opening, threads) refl;
         };
-        named = subst (AreNewLosses (units_of old) (units_of new)) (sym events_is) (loss_at (units_of old) (units_of new) unit event lost);
+        named = subst (AreNewDriveFaults (units_of old) (units_of new)) (sym events_is) (loss_at (units_of old) (units_of new) unit event lost);
+        lost = its_loss few;
         history_is = ap history readied.none ∙ ap (sector_writes s.sector) (sym (nothing_written left_end));
         worn = rw (threads, closing) tt;
         granted = record { each = λ k knows entry mark there its. absurd (no_event k _ there) };
@@ -461,7 +533,13 @@ module _ (s : Shape) (old new : List WornUnit) (refused : AreHandedBack s (units
         };
         opened_full = record { each = λ k knows line start there. absurd (no_event k _ there) };
         none_was_left = record { each = λ k knows e past there others. absurd (no_event k _ there) };
-        over = λ none. absurd (none-some (unit, event) (sym none ∙ ap opening_of opening));
+        none_to_free = λ none. absurd (was_opened none);
+        flushed = λ i c most at.
+            let low : most ≤ (transcript_of script records left_end).kept =
+            (ran_nothing s.sector (contents as_it_was)).flushed i c most at in
+            omega (arith, nothing_kept left_end);
+        all_synced = λ none. absurd (was_opened none);
+        over = λ none. absurd (was_opened none);
         kept = nothing_kept left_end ∙ sym (ap (λ ps. users ps left_end) nothing_taken);
         told = (ran_nothing s.sector (contents (found_image as_it_was (log_of still)))).told;
         run = λ sealed. subst (IsRun s.sector script (contents as_it_was) (transcript_of script records left_end))
@@ -477,9 +555,9 @@ module _ (s : Shape) (old new : List WornUnit) (refused : AreHandedBack s (units
       → ((unit event : ℕ) → cause ≡ errors.Drive unit event → IsEvent unit event × IfOk result (λ records. (records.threads ≡ [])
       × (records.opening ≡ Some (Drive unit event)) × (records.closing ≡ None)))
       → (cause ≡ errors.Memory → (records : Records) → result ≡ Ok records → ⊥)
-      → IsAccepted s → ScriptFits s.capacity script → IfOk result (IsServed s script old new)
-  refused_served script (errors.Drive unit event) result lost named memory accepted fits =
+      → IsAccepted s → ScriptFits s.capacity script → length script ≤ 1 → AreFit s (units_of old) → IfOk result (IsServed s script old new)
+  refused_served script (errors.Drive unit event) result lost named memory accepted fits few fit =
       let h = named unit event refl in
-      IfOk-weaker result _ _ (λ records is. unopened_served script records unit event lost h.0 is.0 is.1 is.2 accepted fits) h.1
-  refused_served script errors.Memory (Ok records) lost named memory accepted fits = absurd (memory refl records refl)
-  refused_served script errors.Memory (Err e) lost named memory accepted fits = tt
+      IfOk-weaker result _ _ (λ records is. unopened_served script records unit event lost h.0 is.0 is.1 is.2 accepted fits few fit) h.1
+  refused_served script errors.Memory (Ok records) lost named memory accepted fits few fit = absurd (memory refl records refl)
+  refused_served script errors.Memory (Err e) lost named memory accepted fits few fit = tt

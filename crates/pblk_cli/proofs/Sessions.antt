@@ -14,7 +14,7 @@ use Rattle.run_threads.specs.declared.records.Records.{Records}
 use Rattle.run_threads.specs.Run.{EachThread, IsAcceptedFor, WasRun, WereRun}
 use Rattle.pblk_model.specs.Script.{NeverStuck, ScriptFits}
 use Rattle.ocssd_drive.specs.Units.{WornUnit}
-use Rattle.pblk_cli.specs.Serving.{Closes, HasRun, IsClosed, IsServedOn, IsSession}
+use Rattle.pblk_cli.specs.Serving.{Closes, HasRun, IsBroughtBack, IsServedOn, IsSession}
 
 -- of one port
 has_run : (told : List ℕ → ℕ) (script : List (List Command)) (threads : List (List Answer)) (old new : ModelPort) → length script ≤ 1 → script ≢ []
@@ -109,7 +109,7 @@ unanswered E e = Err e
 
 pub idle_served : {E : Type 0} (script slice : List (List Command)) (b : Bool) → slice ≡ script → b ≡ (length slice == 0) → b ≡ true → (before : Records)
     → before ≡ record { threads = []; opening = None; closing = None } → (target : SerialView) (units : List WornUnit) (result : Result Records E)
-    (closed : IsClosed target units) → Closes (answered E before) closed.settled result → IsServedOn script target units result
+    (closed : IsBroughtBack target units) → Closes (answered E before) closed.settled result → IsServedOn script target units result
 idle_served script slice b same is empty before none target units result closed closes = record {
   last = target;
   same = same_target target target refl;
@@ -122,7 +122,7 @@ idle_served script slice b same is empty before none target units result closed 
 
 pub run_served : {E : Type 0} (script : List (List Command)) (before : Records) (target last : SerialView) (ports news : List SerialView)
     (units : List WornUnit) (result : Result Records E) → length script ≡ 1 → ports ≡ target ∷ [] → news ≡ last ∷ []
-    → WereRun script before (map device ports) (map device news) → (closed : IsClosed last units) → Closes (answered E before) closed.settled result
+    → WereRun script before (map device ports) (map device news) → (closed : IsBroughtBack last units) → Closes (answered E before) closed.settled result
     → IsServedOn script target units result
 run_served script before target last ports news units result one olds_are news_are ran closed closes =
     let session = session_of script before target last ports news (omega (arith, one))
@@ -138,7 +138,7 @@ run_served script before target last ports news units result one olds_are news_a
 
 -- without memory no command was run
 pub unrun_served : {E : Type 0} (script : List (List Command)) (target last : SerialView) (units : List WornUnit) (e : E) (result : Result Records E)
-    → target ≡ last → (closed : IsClosed last units) → Closes (unanswered E e) closed.settled result → IsServedOn script target units result
+    → target ≡ last → (closed : IsBroughtBack last units) → Closes (unanswered E e) closed.settled result → IsServedOn script target units result
 unrun_served script target last units e result same closed closes = record {
   last = last;
   same = same_target target last same;

@@ -20,8 +20,8 @@ use Rattle.pblk_world.specs.Space.{is_due, position_limit}
 use Rattle.pblk_world.specs.World.{World, log_of, media}
 use Rattle.pblk_world.proofs.EngineLogLemmas.{begun_knows}
 use Rattle.pblk_world.proofs.VictimsLemmas.{whole_prefix}
-use Rattle.world_laws.specs.LegalMounts.{NoneLost}
-use Rattle.world_laws.specs.Reasons.{HasReasons}
+use Rattle.pblk_world.specs.LegalMounts.{NoStripeLost}
+use Rattle.pblk_world.specs.Reasons.{HasReasons}
 use Rattle.block_target.specs.Refusals.{AreRefusals, IsRefusal}
 use Rattle.rest_laws.specs.Tidy.{IsTidy}
 use Rattle.rest_laws.specs.TidyMounts.{HasNoFailures, HasNumbersLeft, HasRoom, IsTidyMount}
@@ -67,7 +67,7 @@ module _ (found left : Drive) (options : RunOptions) (commands : List (List Comm
   abbrev w : World
   w = world.world
 
-  unlost : NoneLost (log_of world.world 0)
+  unlost : NoStripeLost (log_of world.world 0)
   unlost = faultless_kept i w world.legal.legal (heard_faultless (log_of w) fine)
 
   mount : IsTidyMount (image_of found) world.world

@@ -18,9 +18,9 @@ use Rattle.pblk_world.specs.EngineLog.{begun}
 use Rattle.pblk_world.specs.Space.{is_due}
 use Rattle.pblk_world.specs.Fronts.{history, user_positions}
 use Rattle.pblk_world.specs.Lines.{found_image}
-use Rattle.world_laws.specs.LegalMounts.{IsLegalMount}
-use Rattle.world_laws.specs.Orders.{AreAfterResets, AreOpenedFull, NoneWasLeft}
-use Rattle.world_laws.specs.Reasons.{AreBegun, AreGranted, AreUrgent}
+use Rattle.pblk_world.specs.LegalMounts.{IsLegalMount}
+use Rattle.pblk_world.specs.Orders.{AreAfterResets, AreOpenedFull, NoneToFree, NoneWasLeft}
+use Rattle.pblk_world.specs.Reasons.{AreBegun, AreGranted, AreUrgent}
 use Rattle.rest_laws.specs.Tidy.{IsTidy}
 use Rattle.rest_laws.specs.TidyMounts.{HasNoFailures}
 use Rattle.block_target.specs.Refusals.{AreRefusals}
@@ -28,7 +28,8 @@ use Rattle.command_text.specs.Says.{Says}
 use Rattle.pblk_cli.specs.Complete.{HasSmallNumbers, IsComplete}
 use Rattle.pblk_cli.specs.Contents.{numbers_text, show_text}
 use Rattle.pblk_cli.specs.Status.{status_of_run}
-use Rattle.pblk_cli.specs.Stops.{AreNames, AreOutcomesBy, HasBegun, fuse_on}
+use Rattle.pblk_cli.specs.Stops.{AreAllTold, AreNames, AreOutcomesBy, HasBegun, fuse_on}
+use Rattle.pblk_cli.specs.Synced.{AreFlushesSynced, IsAllSynced}
 use Rattle.pblk_cli.specs.Worn.{worns_of}
 use Rattle.pblk_cli.specs.Telling.{Call, Image, Script, ScriptUnbuilt, Failed, Missing, Memory, Ending, Gives, Refuses, Tells, Holds, IsThere, AreUntouched, Stores, FailsReading, IsMissing, FailsWriting}
 
@@ -93,35 +94,50 @@ pub record SameNumbers (old new : Drive) : Type 0 where
   pub ring : new.ring ≡ old.ring
   pub wear : map (map (λ k. k.wear)) new.units ≡ map (map (λ k. k.wear)) old.units
 
--- What was done on a drive: a legal world over the image found. Programs and resets may have failed
--- in it, sectors may have been copied, and lines freed. Where opening answered an event no mount
--- has begun in it. The media are the image left, and the history is the printed one. The outcomes
--- of the units' commands are those that the named plans and the named stop give, and no others.
--- Each `e` line names an event of its own in it: a command that was stopped, or a fetch that
--- failed. Each answer for want of room was given at a length of the engine's log at which the
--- target was at rest. These lengths never fall from one answer to the next, and the users' sectors
--- that were taken by then are those that the thread had written. And no user's sector was taken but
--- where there had been room for it, nor a copy but one that had been begun. And no stripe with an
--- entry was placed but where it was urgent. Resets came first, and each line was opened where an
--- entry waited and no open line had an address left. Lines were freed at once: once the mount had
--- begun, none might be freed before an event, unless that event frees one. Where neither opening
--- nor the close answered anything, collection isn't due at the end, or the target is at rest.
+-- What was done on a drive from one image to another, as a world.
 pub record IsWorldBetween (found left : Drive) (options : RunOptions) (commands : List (List Command)) (t : Transcript) : Type 0 where
+  -- It is a legal world over the image found: programs and resets may have failed in it, sectors may
+  -- have been copied, and lines freed.
   pub world : World
   pub legal : IsLegalMount (image_of found) world
+  -- The mount has begun in it, unless opening answered an event.
   pub has_begun : HasBegun t.opening (begun (log_of world 0))
+  -- The media that it leaves are the image left.
   pub media_are : image_of left ≡ media (image_of found) (log_of world)
+  -- Its history is the printed one.
   pub history_is : history (log_of world 0) ≡ sector_writes found.sector t.history
+  -- The outcomes of each unit's commands are those that the named plans give it, and so is the named
+  -- stop's on its own unit. Any unit was stopped only where that stop fell.
   pub outcomes : AreOutcomesBy (image_of found) options.plans (fuse_on (image_of found) options.stop)
       (log_of world)
+  -- Each `e` line names an event of its own in it: a command that was stopped, or a fetch that failed.
   pub named : AreNames (image_of found) (log_of world) (events t)
+  -- The lines of the opening, of each thread and of the close leave out no such command of theirs, and
+  -- name them in the order of the world's steps.
+  pub lost : AreAllTold (length commands) (λ unit. 0) world t
+  -- Each answer for want of room was given at a length of the engine's log at which the target was at
+  -- rest. These lengths never fall from one answer to the next, and the users' sectors that were taken
+  -- by then are those that the thread had written.
   pub worn : AreRefusals (image_of found) (log_of world) 0 (worns_of commands t)
+  -- A user's sector was taken only where there had been room for it.
   pub granted : AreGranted (image_of found) (log_of world)
+  -- A copy was taken only where it had been begun.
   pub begun : AreBegun (image_of found) (log_of world)
+  -- A stripe with an entry was placed only where it was urgent.
   pub urgent : AreUrgent (image_of found) (log_of world)
+  -- Resets came first: no stripe was placed and no line opened where a chunk was to be reset.
   pub after_resets : AreAfterResets (image_of found) (log_of world)
+  -- Each line was opened where an entry waited and no open line had an address left.
   pub opened_full : AreOpenedFull (image_of found) (log_of world)
+  -- Once the mount had begun, no line might be freed before an event, unless that event frees one.
   pub none_was_left : NoneWasLeft (image_of found) (log_of world)
+  -- At the end no line is left that may be freed, unless opening answered an event.
+  pub none_to_free : t.opening ≡ None → NoneToFree (image_of found) (log_of world)
+  -- Each `f` line counts lines of the history below the front synced, and no others.
+  pub flushed : AreFlushesSynced (image_of found).shape (log_of world 0) commands t
+  -- Where neither opening nor the close answered anything, all that was taken is synced.
+  pub all_synced : t.opening ≡ None → t.closing ≡ Closed → IsAllSynced (image_of found).shape (log_of world 0)
+  -- There, too, collection isn't due at the end, or the target is at rest.
   pub over : t.opening ≡ None → t.closing ≡ Closed → (is_due (image_of found) (log_of world) ≡ false)
       ⊎ IsAtRest (image_of found) (log_of world) 0 (length (log_of world 0))
 

@@ -2,6 +2,7 @@ pub mod Status
 pub mod Stops
 pub mod Worn
 pub mod Complete
+pub mod Synced
 pub mod Serving
 pub mod Telling
 pub mod Commands

@@ -23,14 +23,14 @@ use Rattle.unit_port.specs.Unit.{ModelUnit, IsFitUnit}
 use Rattle.ocssd_drive.specs.Drive.{DriveView, IsWhole, stored, with_units}
 use Rattle.ocssd_drive.specs.Faults.{changes_of}
 use Rattle.ocssd_drive.specs.Outcomes.{AreEventsBy}
-use Rattle.ocssd_drive.specs.Units.{WornUnit}
-use Rattle.scan_recovery.specs.Lost.{was_lost}
-use Rattle.scan_recovery.specs.Units.{image_of}
+use Rattle.ocssd_drive.specs.Units.{WornUnit, disarmed}
+use Rattle.scan_recovery.specs.DriveFaults.{is_drive_fault}
+use Rattle.scan_recovery.specs.Units.{image_of, log_length}
 use Rattle.block_port.specs.Own.{lines_of}
 use Rattle.block_port.specs.Port.{IsSameTarget, ModelPort}
-use Rattle.world_laws.specs.LegalMounts.{IsLegalMount}
-use Rattle.world_laws.specs.Orders.{AreAfterResets, AreOpenedFull, NoneWasLeft}
-use Rattle.world_laws.specs.Reasons.{AreBegun, AreGranted, AreUrgent}
+use Rattle.pblk_world.specs.LegalMounts.{IsLegalMount}
+use Rattle.pblk_world.specs.Orders.{AreAfterResets, AreOpenedFull, NoneToFree, NoneWasLeft}
+use Rattle.pblk_world.specs.Reasons.{AreBegun, AreGranted, AreUrgent}
 use Rattle.block_target.specs.Mount.{MountView}
 use Rattle.block_target.specs.Refusals.{AreRefusals}
 use Rattle.block_target.specs.Opened.{IsOpened}
@@ -46,7 +46,8 @@ use Rattle.run_threads.specs.Run.{Runs}
 use Rattle.run_report.specs.OnePort.{IsTrouble}
 use Rattle.run_report.specs.Recorded.{IsRecorded}
 use Rattle.run_report.specs.Report.{closing_of, opening_of, transcript_of}
-use Rattle.pblk_cli.specs.Stops.{HasBegun, name_at}
+use Rattle.pblk_cli.specs.Stops.{AreAllTold, HasBegun, name_at}
+use Rattle.pblk_cli.specs.Synced.{AreFlushesSynced, IsAllSynced}
 use Rattle.pblk_cli.specs.Worn.{worns_of}
 
 -- what contracts of a target see of units, and the wear indices of their chunks
@@ -74,7 +75,7 @@ pub record IsNewTarget (s : Shape) (units : List WornUnit) (target : SerialView)
   pub wear : target.mount.wear ≡ wear_of units
   pub unwritten : target.own ≡ []
   pub faultless : target.faults ≡ []
-  pub calm : target.worns ≡ []
+  pub unworn : target.worns ≡ []
 
 -- The thread of a script was run through a port; where the script has none the port is as it was.
 abbrev pub HasRun : List (List Command) → List (List Answer) → ModelPort → ModelPort → Type 0
@@ -94,7 +95,7 @@ trouble_of (Err (settle.Worn wanted have)) = Some (Worn wanted have)
 trouble_of (Err (settle.Drive unit event)) = Some (Drive unit event)
 
 -- A target was closed, and these units came back.
-pub record IsClosed (target : SerialView) (units : List WornUnit) : Type 0 where
+pub record IsBroughtBack (target : SerialView) (units : List WornUnit) : Type 0 where
   pub mount : MountView
   pub settled : Result Unit SettleErr
   pub closed : target_port.IsClosed target settled mount
@@ -126,7 +127,7 @@ pub record IsServedOn {E : Type 0} (script : List (List Command)) (target : Seri
   pub same : IsSameTarget (device target) (device last)
   pub before : Result Records E
   pub session : IsSessionOf script target before last
-  pub closed : IsClosed last units
+  pub closed : IsBroughtBack last units
   pub closes : Closes before closed.settled records
 
 -- What was done.
@@ -145,7 +146,7 @@ pub record IsLeftBy (i : Image) (handed : List ModelUnit) (logs : Logs) (number 
 
 -- At this place, a unit and the number of an event in its log from 0, stands a command that was
 -- stopped or a fetch that failed, and the unit's log hadn't got it when it was handed in.
-pub record IsNewLoss (handed units : List ModelUnit) (place : ℕ × ℕ) : Type 0 where
+pub record IsNewDriveFault (handed units : List ModelUnit) (place : ℕ × ℕ) : Type 0 where
   pub before : ModelUnit
   pub was : slice_get handed place.0 ≡ Some before
   pub since : length before.log ≤ place.1
@@ -153,37 +154,57 @@ pub record IsNewLoss (handed units : List ModelUnit) (place : ℕ × ℕ) : Type
   pub there : slice_get units place.0 ≡ Some unit
   pub event : UnitEvent
   pub event_is : slice_get unit.log place.1 ≡ Some event
-  pub lost : was_lost event ≡ true
+  pub lost : is_drive_fault event ≡ true
 
 -- Each of these names is of such an event, and no two are of the same.
-pub record AreNewLosses (handed units : List ModelUnit) (names : List (ℕ × ℕ)) : Type 0 where
+pub record AreNewDriveFaults (handed units : List ModelUnit) (names : List (ℕ × ℕ)) : Type 0 where
   pub places : List (ℕ × ℕ)
   pub names_are : names ≡ map name_at places
-  pub each : AllByRecursion (IsNewLoss handed units) places
+  pub each : AllByRecursion (IsNewDriveFault handed units) places
   pub distinct : IsDistinct places
 
 -- A script was run on units with this image, or their target answered an event as it was opened.
--- What was done is a world that began with these units and leaves those. Its history is the
--- transcript's. Each event that the transcript names is one of its own that was added to a unit's
--- log, of a command that was stopped or a fetch that failed. It is a transcript of the script from
--- what the mount found. Where the image is sealed it is one of a run from what the image held.
+-- What was done is a world.
 pub record IsServing (i : Image) (handed units : List ModelUnit) (script : List (List Command)) (records : Records) (w : World) : Type 0 where
   pub legal : IsLegalMount i w
+  -- The mount has begun in it, unless opening answered an event.
   pub has_begun : HasBegun (opening_of records.opening) (begun (log_of w 0))
+  -- It began with the units that were handed in, and leaves these.
   pub each : (number : ℕ) (u : ModelUnit) → slice_get units number ≡ Some u → IsLeftBy i handed (log_of w) number u
   pub recorded : IsRecorded script records
-  pub named : AreNewLosses handed units (events (transcript_by script records i (log_of w)))
+  -- Each event that the transcript names is one of its own that was added to a unit's log, of a command
+  -- that was stopped or a fetch that failed.
+  pub named : AreNewDriveFaults handed units (events (transcript_by script records i (log_of w)))
+  -- Of the opening's commands, of each thread's and of the close's, none that was stopped and no fetch
+  -- that failed is left out, and they are named in the order of the world's steps.
+  pub lost : AreAllTold (length script) (log_length handed) w (transcript_by script records i (log_of w))
+  -- Its history is the transcript's.
   pub history_is : history (log_of w 0) ≡ sector_writes i.shape.sector (transcript_by script records i (log_of w)).history
+  -- The target was at rest at each answer for want of room.
   pub worn : AreRefusals i (log_of w) 0 (worns_of script (transcript_by script records i (log_of w)))
+  -- A user's sector was taken only where there had been room for it, and a copy only where it had been
+  -- begun. A stripe with an entry was placed only where it was urgent.
   pub granted : AreGranted i (log_of w)
   pub begun : AreBegun i (log_of w)
   pub urgent : AreUrgent i (log_of w)
+  -- Resets came first. Each line was opened where an entry waited and no open line had an address left.
+  -- No line might be freed before an event, unless that event frees one.
   pub after_resets : AreAfterResets i (log_of w)
   pub opened_full : AreOpenedFull i (log_of w)
   pub none_was_left : NoneWasLeft i (log_of w)
+  -- At the end no line is left that may be freed, unless opening answered an event.
+  pub none_to_free : opening_of records.opening ≡ None → NoneToFree i (log_of w)
+  -- Each flush counts lines of the history below the front synced, and no others.
+  pub flushed : AreFlushesSynced i.shape (log_of w 0) script (transcript_by script records i (log_of w))
+  -- Where neither opening nor the close answered anything, all that was taken is synced. And collection
+  -- isn't due there, or the target is at rest.
+  pub all_synced : opening_of records.opening ≡ None → closing_of records.closing ≡ Closed → IsAllSynced i.shape (log_of w 0)
   pub over : opening_of records.opening ≡ None → closing_of records.closing ≡ Closed → (is_due i (log_of w) ≡ false)
       ⊎ IsAtRest i (log_of w) 0 (length (log_of w 0))
+  -- Kept are the lines of the history below the end of what is left.
   pub kept : (transcript_by script records i (log_of w)).kept ≡ users (user_positions (log_of w 0)) (end (media i (log_of w)))
+  -- It is a transcript of the script from what the mount found. Where the image is sealed it is one of a
+  -- run from what the image held.
   pub told : IsTranscript i.shape.sector script (contents (found_image i (log_of w))) (transcript_by script records i (log_of w))
   pub run : IsSealed i → let t = transcript_by script records i (log_of w) in let start = contents i in
       IsRun i.shape.sector script start t (after start (sector_writes i.shape.sector (take t.kept t.history)))
@@ -215,10 +236,12 @@ pub record DidByArms (old new : List WornUnit) : Type 0 where
   pub fallen : (number : ℕ) (u v : ModelUnit) → slice_get (units_of old) number ≡ Some u → slice_get (units_of new) number ≡ Some v
       → has_stopped u.armed v.log ≡ true → FellBetween old new u.armed
 
--- a drive has its numbers still, with these units
+-- a drive has its numbers still, with these units, and none of them is armed
 pub record IsDriveLeft (found left : DriveView) : Type 0 where
   pub numbers : left ≡ with_units left.units found
   pub wear : wear_of left.units ≡ wear_of found.units
+  -- each unit is as disarming leaves it: without plans and fuse
+  pub unarmed : left.units ≡ map disarmed left.units
   pub was : IsWhole found
   pub whole : IsWhole left
 

@@ -21,8 +21,13 @@ use std::sync::Wait;
 ///
 /// A program or a reset that fails is no error of the script, and the records don't name it. Each
 /// event that the records name was added to that unit's log in this call, and is a fetch that
-/// failed or a command that was stopped; no two name the same. Where opening answers such an event
-/// no command is run, and the records say so. Without memory the drive is handed back.
+/// failed or a command that was stopped; no two name the same. None of the opening, of the thread
+/// and of the close is left out, and they stand in the order in which they were made. Where opening
+/// answers such an event no command is run, and the records say so. Without memory the drive is
+/// handed back, disarmed too.
+///
+/// Whether the image is sealed or not, what a flush counted is synced in the end. So is all that
+/// was taken, where neither opening nor the close answered anything.
 pub fn run_drive<R: Wait>(
     rt: &R,
     alloc: Global,

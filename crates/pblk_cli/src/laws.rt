@@ -21,7 +21,7 @@ ghost use Rattle.pblk_world.specs.World.{World, log_of, media};
 ghost use Rattle.unit_port.specs.declared.armed.CommandKind.TheVariants as kinds;
 ghost use Rattle.unit_port.specs.declared.armed.Fuse.{Fuse};
 ghost use Rattle.rest_laws.specs.Tidy.{IsTidy};
-ghost use Rattle.world_laws.specs.LegalMounts.{NoneLost};
+ghost use Rattle.pblk_world.specs.LegalMounts.{NoStripeLost};
 ghost use Rattle.pblk_cli.specs.Commands.{CreateComesTo, IsDriveOf, IsRunBetween, IsWorldBetween, RunMade};
 ghost use Rattle.pblk_cli.specs.Complete.{HasSmallNumbers, IsComplete};
 ghost use Rattle.pblk_cli.specs.Laws.{with_units};
@@ -87,7 +87,7 @@ pub fn a_run_loses_only_what_is_planned()
     ensures { (found left : Drive) (options : RunOptions) (commands : List (List Command))
         (t : Transcript) → (run : IsWorldBetween found left options commands t)
         → ((unit : ℕ) → ¬ HasPlan options.plans kinds.Program unit)
-        → NoneLost (log_of run.world 0) }
+        → NoStripeLost (log_of run.world 0) }
 {}
 
 /// A run that is told of no stop and of no plan names no event of a unit: each command of its world
@@ -140,7 +140,7 @@ pub fn a_run_that_leaves_the_head_keeps_nothing()
 pub fn a_worn_flush_tells_the_end()
     ensures { (found left : Drive) (options : RunOptions) (commands : List (List Command))
         (t : Transcript) (a : WornAnswer) → (run : IsWorldBetween found left options commands t)
-        → NoneLost (log_of run.world 0)
+        → NoStripeLost (log_of run.world 0)
         → IsSealed (image_of found) → Contains (worns_of commands t) a → a.count ≡ 0
         → (n : ℕ) × (past : World) × IsMoment run.world n past
         × (a.wanted ≤ taken (log_of past 0))

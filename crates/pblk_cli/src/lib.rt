@@ -7,6 +7,7 @@
 mod create;
 mod drive_run;
 mod geometry;
+mod input;
 mod laws;
 mod main_call;
 mod output;

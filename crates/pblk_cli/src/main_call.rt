@@ -38,6 +38,10 @@ use std::sync::Wait;
 /// read, the image before the script; then the image is judged, then the script; the file is
 /// written before the text. A run may wait: nothing says that its call returns.
 ///
+/// Whether the image is sealed or not, an `f` line counts lines of the history that are synced in
+/// the end, and no others. Where neither opening nor the close has a line, all of the history is
+/// synced.
+///
 /// An `e` line comes only where a stop was named, or a plan by which a fetch of that line's unit
 /// fails. A program or a reset that fails is no error, and has no line.
 ///

@@ -16,7 +16,7 @@ ghost use Rattle.command_words.specs.Words.{options_seen};
 ghost use Rattle.pblk_cli.specs.Running.{CannotReadBoth, RefusesScript, IsRunOfScript, IsRunTo, IsStored};
 
 use crate::drive_run::run_drive;
-use crate::geometry::{drive_of, read_file};
+use crate::input::{drive_of, read_file};
 use crate::output::Output;
 use crate::refusal::Refusal;
 use crate::status::status_of;
@@ -55,7 +55,7 @@ pub(crate) fn run<'a, R: Wait, F: Files>(
         Ok(drive) => drive,
         Err(refusal) => return Err(refusal),
     };
-    let (stored, output) = match run_script(rt, alloc, drive, options, &script_bytes) {
+    let (stored, output) = match read_and_run(rt, alloc, drive, options, &script_bytes) {
         Ok(made) => made,
         Err(refusal) => return Err(refusal),
     };
@@ -91,9 +91,9 @@ fn read_both<'a, F: Files>(
     }
 }
 
-// Runs the script that these bytes are, with these options: the bytes of the image afterwards, and
-// the status and the text of the transcript.
-fn run_script<'a, R: Wait>(
+// Reads the script that these bytes are and runs it, with these options: the bytes of the image
+// afterwards, and the status and the text of the transcript.
+fn read_and_run<'a, R: Wait>(
     rt: &R,
     alloc: Global,
     drive: Drive,

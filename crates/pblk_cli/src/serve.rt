@@ -1,14 +1,12 @@
 //! Runs a script on a target over the units of a drive.
 
 ghost use Rattle.std.specs.Prelude.{ℕ, ◌≡◌, ◌≤◌, ◌<◌, ◌^◌, ◌∷◌, [], length, map, Ok, Err, None, Some, IfOk};
-ghost use Rattle.pblk_model.specs.Accepted.{IsAccepted};
 ghost use Rattle.pblk_model.specs.Script.{NeverStuck, ScriptFits};
+ghost use Rattle.block_target.specs.Opened.{CanOpen};
 ghost use Rattle.block_target.specs.Serial.{SerialView};
 ghost use Rattle.run_threads.specs.declared.records.Records.{Records};
 ghost use Rattle.run_threads.specs.Run.{IsEvent};
-ghost use Rattle.scan_recovery.specs.Units.{AreFit};
-ghost use Rattle.step_laws.specs.Opened.{AreArmed};
-ghost use Rattle.pblk_cli.specs.Serving.{AreBack, Closes, IsClosed, IsServed, IsServedOn, trouble_of, units_of, with_closing};
+ghost use Rattle.pblk_cli.specs.Serving.{AreBack, Closes, IsBroughtBack, IsServed, IsServedOn, trouble_of, units_of, with_closing};
 
 use block_target::{OpenErr, Refused, Serial, SettleErr, a_refused_opening_is_of_a_legal_world};
 use ocssd_drive::MemoryUnit;
@@ -37,9 +35,7 @@ pub(crate) fn serve<R: Wait>(
     shape: &Shape,
     script: &Script,
 ) -> Served
-    requires accepted { IsAccepted shape.now }
-    requires fit { AreFit shape.now (units_of units.items) }
-    requires armed { AreArmed (units_of units.items) }
+    requires opens { CanOpen shape.now (units_of units.items) }
     requires one { length script.now ≤ 1 }
     requires fits { ScriptFits shape.now.capacity script.now }
     requires flows { NeverStuck script.now }
@@ -150,7 +146,7 @@ fn close<R: Wait>(
     target: Serial<MemoryUnit>,
     records: Result<Records, AllocError>,
 ) -> Served
-    ensures { (closed : IsClosed target result.units.items)
+    ensures { (closed : IsBroughtBack target result.units.items)
         × Closes records closed.settled result.records }
 {
     let (units, settled) = target.close(rt);
@@ -185,7 +181,8 @@ fn closed_records(records: Records, closing: Option<Trouble>) -> Records
 // The trouble that a close met.
 fn trouble_of(settled: Result<(), SettleErr>) -> Option<Trouble>
     ensures is { result ≡ trouble_of settled }
-    ensures number { (wanted have : ℕ) → settled ≡ Err (SettleErr.Worn wanted have) → wanted < 2 ^ 64 }
+    ensures number { (wanted have : ℕ) → settled ≡ Err (SettleErr.Worn wanted have)
+        → wanted < 2 ^ 64 }
     ensures event { (unit event : ℕ) → settled ≡ Err (SettleErr.Drive unit event)
         → IsEvent unit event }
 {

@@ -7,7 +7,7 @@ ghost use Rattle.pblk_cli.specs.Contents.{numbers_text, show_text};
 ghost use Rattle.pblk_cli.specs.Endings.{ending_of, reason_of};
 ghost use Rattle.pblk_cli.specs.Reading.{RefusesBytes, TellsOf};
 
-use crate::geometry::{drive_of, read_file};
+use crate::input::{drive_of, read_file};
 use crate::output::Output;
 use crate::refusal::Refusal;
 use ocssd_drive::Drive;

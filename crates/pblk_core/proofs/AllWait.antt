@@ -138,9 +138,6 @@ all_in p (q ∷ qs) x h = go (all_in (waits p q true) qs x h)
 -- ---- those of the first marks
 
 module _ (s : Shape) (marks : List Mark) (k : ℕ) (m : Mark) (there : slice_get marks k ≡ Some m) where
-  first_marks : List ℕ
-  first_marks = positions_of_marks s (take k marks)
-
   one_more_mark : positions_of_marks s (take (k + 1) marks) ≡ positions_of_marks s (take k marks) ++ option_to_list (position_of_mark s m)
   one_more_mark = ap (positions_of_marks s) (take_more marks k m there) ∙ more (position_of_mark s) (take k marks) m
 

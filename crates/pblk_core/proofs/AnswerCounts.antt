@@ -4,14 +4,13 @@ use Rattle.std.specs.Prelude.{map, min, replicate, slice_get, slice_index_or, sl
 use Rattle.std.specs.List.{range_with_len}
 use Rattle.pblk_model.specs.declared.shape.Shape.{Shape}
 use Rattle.pblk_model.specs.Shape.{units}
-use Rattle.pblk_world.specs.EngineLog.{Answer, DidLand, WasLost, answers}
-use Rattle.pblk_world.specs.Events.{Landed, Logged, Lost, Stripe}
+use Rattle.pblk_world.specs.EngineLog.{Answer, answers}
+use Rattle.pblk_world.specs.Events.{Logged, Stripe}
 use Rattle.pblk_model.specs.Image.{Image}
 use Rattle.pblk_world.specs.World.{Logs}
 use Rattle.core_laws.specs.Stepping.{after}
 use Rattle.core_laws.proofs.Answered.{IsAnswer}
-use Rattle.core_laws.proofs.LandedStripe.{is_answer}
-use Rattle.core_laws.proofs.LostStripe.{its_loss}
+use Rattle.core_laws.proofs.NotedAnswers.{answer_is, noting}
 use Rattle.core_laws.proofs.Placing.{with_place, answers_now}
 use Rattle.core_laws.proofs.Steady.{AreAlike}
 use Rattle.pblk_core.specs.Stands.{Stands, answer_count, answer_counts}
@@ -52,17 +51,11 @@ counts_answered s log new unit a inside is =
     (ap (answer_count new) from ∙ ap (λ (told : List Answer). min (length told) (2 ^ 64 - 1)) is.here ∙ one_more (answers log unit) a)
     (λ other apart. ap (λ (told : List Answer). min (length told) (2 ^ 64 - 1)) (is.elsewhere other (λ e. apart (e ∙ sym from)))))
 
-pub counts_landed : (s : Shape) (logs : Logs) (unit event : ℕ) (knows : List ℕ) → unit < units s
+pub counts_noted : (s : Shape) (logs : Logs) (unit : ℕ) (a : Answer) (knows : List ℕ) → unit < units s
     → slice_set (answer_counts s (logs 0)) unit (min (answer_count (logs 0) unit + 1) (2 ^ 64 - 1))
-    ≡ answer_counts s (after logs (Landed unit event) knows 0)
-counts_landed s logs unit event knows inside =
-    counts_answered s (logs 0) (after logs (Landed unit event) knows 0) unit (DidLand event) inside (is_answer (logs 0) unit event knows)
-
-pub counts_lost : (s : Shape) (logs : Logs) (unit event : ℕ) (knows : List ℕ) → unit < units s
-    → slice_set (answer_counts s (logs 0)) unit (min (answer_count (logs 0) unit + 1) (2 ^ 64 - 1))
-    ≡ answer_counts s (after logs (Lost unit event) knows 0)
-counts_lost s logs unit event knows inside =
-    counts_answered s (logs 0) (after logs (Lost unit event) knows 0) unit (WasLost event) inside (its_loss (logs 0) unit event knows)
+    ≡ answer_counts s (after logs (noting unit a) knows 0)
+counts_noted s logs unit a knows inside =
+    counts_answered s (logs 0) (after logs (noting unit a) knows 0) unit a inside (answer_is (logs 0) unit knows a)
 
 pub counts_none : (s : Shape) (log : List Logged) → ((unit : ℕ) → answers log unit ≡ []) → answer_counts s log ≡ replicate (units s) 0
 counts_none s log none = map_constant (answer_count log) 0 0 (units s)

@@ -4,18 +4,18 @@ use Rattle.std.specs.Prelude.{slice_get}
 use Rattle.std.specs.List.{filter, list_any}
 use Rattle.std.proofs.Math.Nat.{lt_of_mul-lt-mul_right, mul-div_cancel}
 use Rattle.pblk_model.specs.Image.{Image, line_units}
-use Rattle.pblk_world.specs.Events.{EngineEvent, Landed, Lost, Decides, Logged}
+use Rattle.pblk_world.specs.Events.{EngineEvent, Landed, Decides, Logged}
 use Rattle.pblk_world.specs.World.{World, Logs, log_of}
 use Rattle.pblk_world.specs.EngineLog.{Answer, DidLand, WasLost, answer_of, has_landed, is_land, is_life, was_lost, Opening, Placed, placements, stripes_on}
 use Rattle.pblk_world.specs.Lines.{known_image}
 use Rattle.stripe_placer.specs.OpenLines.{OpenLine, has_left, in_line, is_closed, is_unanswered, is_unplaced, width, with_stripe}
-use Rattle.stripe_placer.specs.OpenLines.Stripe.{Unplaced, Landed as HasLanded, Lost as WasIt}
+use Rattle.stripe_placer.specs.OpenLines.Stripe.{Unplaced, Lost as WasIt}
 use Rattle.stripe_placer.specs.Placing.{Program}
 use Rattle.core_laws.specs.LeftOpenings.{left_openings}
 use Rattle.core_laws.specs.OpenedLines.{as_opened, became, by_answer, is_stripe_at, open_line, opened_units, outcome, placed_as, standing}
 use Rattle.core_laws.specs.PlacerOf.{IsAwaited}
 use Rattle.core_laws.specs.Stepping.{after}
-use Rattle.world_laws.specs.LegalMounts.{IsLegalMount}
+use Rattle.pblk_world.specs.LegalMounts.{IsLegalMount}
 use Rattle.world_laws.proofs.StripePlaces.{kth_place}
 use Rattle.core_laws.proofs.Answered.{IsAnswer, answered_at, line_answered}
 use Rattle.core_laws.proofs.ChunksInRows.{rows_of_chunks}
@@ -24,11 +24,10 @@ use Rattle.core_laws.proofs.Engine.{prefix_same}
 use Rattle.core_laws.proofs.GivenBack.{IsLandedNow, of_unit_landed}
 use Rattle.core_laws.proofs.GivenNow.{IsOfChunk, chunk_life, chunk_members, chunk_unit}
 use Rattle.core_laws.proofs.LandedNow.{opened_now}
-use Rattle.core_laws.proofs.LandedStripe.{is_answer}
 use Rattle.core_laws.proofs.LandedWindow.{landed_now}
 use Rattle.core_laws.proofs.LeftLines.{left_landed, left_lost}
-use Rattle.core_laws.proofs.LostStripe.{its_loss}
 use Rattle.core_laws.proofs.NewBlocks.{last_in_chunk}
+use Rattle.core_laws.proofs.NotedAnswers.{answer_is, noting}
 use Rattle.core_laws.proofs.NewWindow.{newest_in}
 use Rattle.core_laws.proofs.OpenWhileLeft.{IsOfNumber, not_closed, of_number, unit_in}
 use Rattle.core_laws.proofs.OverAnswered.{none_lost_there}
@@ -36,9 +35,9 @@ use Rattle.core_laws.proofs.PlacedLines.{IsStanding, all_standing, get_row}
 use Rattle.lemmas.proofs.Lists.{IsAmong}
 use Rattle.lemmas.proofs.Maps.{from_filter}
 use Rattle.lemmas.proofs.Parts.{all_at, get_below, got_within}
-use Rattle.pblk_core.specs.LineRecords.{AreKept, Records}
+use Rattle.pblk_core.specs.LineRecords.{AreRecordsOf, RecordsView}
 use Rattle.pblk_core.specs.Stands.{is_left, stripes_left}
-use Rattle.pblk_core.proofs.AnsweredOpen.{IsAnswered}
+use Rattle.pblk_core.proofs.AnsweredOpen.{IsAnswered, has_more}
 use Rattle.pblk_core.proofs.LandedWay.{IsOnWay, unit_is, waits_there}
 use Rattle.pblk_core.proofs.LineCounts as counts
 use Rattle.pblk_core.proofs.WholeMarks.{records_kept}
@@ -244,7 +243,12 @@ module _ (i : Image) (w : World) (mount : IsLegalMount i w) (unit : ℕ) (of : P
 
 -- ---- the two answers
 
-module _ (i : Image) (w : World) (mount : IsLegalMount i w) (unit event : ℕ) (knows : List ℕ) (pad : ℕ) (again : List ℕ) (of : Program)
+-- so many stripes of the line less are left then
+abbrev pub stripes_less : Image → Program → Answer → ℕ
+stripes_less i of (DidLand event) = 1
+stripes_less i of (WasLost event) = (i.shape.clba - of.block) / i.shape.ws_opt
+
+module _ (i : Image) (w : World) (mount : IsLegalMount i w) (unit : ℕ) (knows : List ℕ) (pad : ℕ) (again : List ℕ) (of : Program)
     (is : IsOnWay i w unit of) (waits : IsAwaited i (log_of w) pad again of) where
   same_line : (e : EngineEvent) (a : Answer) → IsAnswer (log_of w 0) (after (log_of w) e knows 0) unit a → (k : ℕ) (o : Opening)
       → slice_get (left_openings i (log_of w)) k ≡ Some o
@@ -261,33 +265,30 @@ module _ (i : Image) (w : World) (mount : IsLegalMount i w) (unit event : ℕ) (
       → opened_units i (after (log_of w) e knows) o ≡ opened_units i (log_of w) o
   units_kept e o before = ap (λ (ls : Logs). line_units (known_image i ls) o.line) (prefix_same (log_of w) e knows o.number before)
 
-  records_then : (e : EngineEvent) (a : Answer) → IsAnswer (log_of w 0) (after (log_of w) e knows 0) unit a → (o : Opening) (r : Records)
-      → AreKept i.shape (log_of w 0) o r → AreKept i.shape (after (log_of w) e knows 0) o r
+  records_then : (e : EngineEvent) (a : Answer) → IsAnswer (log_of w 0) (after (log_of w) e knows 0) unit a → (o : Opening) (r : RecordsView)
+      → AreRecordsOf i.shape (log_of w 0) o r → AreRecordsOf i.shape (after (log_of w) e knows 0) o r
   records_then e a answer o r was =
       records_kept i.shape (log_of w 0) (record { event = Decides e; knows = knows }) o r
       (ap (filter (λ (x : Placed). is_life o.number x.life)) answer.placements) was
 
-  pub has_landed_open : IsAnswered i w (after (log_of w) (Landed unit event) knows) unit of is HasLanded 1
-  has_landed_open =
-      let answer = is_answer (log_of w 0) unit event knows in
-      record {
-        left = ap (λ u. left_openings i (after (log_of w) (Landed u event) knows)) (sym (unit_is i w unit of is))
-            ∙ left_landed i (log_of w) event knows pad again of mount.accepted.drive.ws_opt waits;
-        line = same_line (Landed unit event) (DidLand event) answer;
-        units = units_kept (Landed unit event);
-        kept = records_then (Landed unit event) (DidLand event) answer;
-        fewer = counts.left_landed (open_line i (log_of w) is.row.opening) is.number (waits_there i w unit of mount is);
-      }
+  left_is : (a : Answer) → left_openings i (after (log_of w) (noting of.unit a) knows)
+      ≡ filter (has_more i w of (by_answer (Some a))) (left_openings i (log_of w))
+  left_is (DidLand event) = left_landed i (log_of w) event knows pad again of mount.accepted.drive.ws_opt waits
+  left_is (WasLost event) = left_lost i (log_of w) event knows pad again of mount.accepted.drive.ws_opt waits
 
-  pub was_lost_open : IsAnswered i w (after (log_of w) (Lost unit event) knows) unit of is WasIt ((i.shape.clba - of.block) / i.shape.ws_opt)
-  was_lost_open =
-      let answer = its_loss (log_of w 0) unit event knows in
-      record {
-        left = ap (λ u. left_openings i (after (log_of w) (Lost u event) knows)) (sym (unit_is i w unit of is))
-            ∙ left_lost i (log_of w) event knows pad again of mount.accepted.drive.ws_opt waits;
-        line = same_line (Lost unit event) (WasLost event) answer;
-        units = units_kept (Lost unit event);
-        kept = records_then (Lost unit event) (WasLost event) answer;
-        fewer = ap (λ n. stripes_left (with_stripe (open_line i (log_of w) is.row.opening) is.number WasIt) + n) (sym (rows_left i w mount unit of is))
-            ∙ lost_fewer i w mount unit of is;
-      }
+  fewer_is : (a : Answer)
+      → stripes_left (with_stripe (open_line i (log_of w) is.row.opening) is.number (by_answer (Some a))) + stripes_less i of a
+      ≡ stripes_left (open_line i (log_of w) is.row.opening)
+  fewer_is (DidLand event) = counts.left_landed (open_line i (log_of w) is.row.opening) is.number (waits_there i w unit of mount is)
+  fewer_is (WasLost event) =
+      ap (λ n. stripes_left (with_stripe (open_line i (log_of w) is.row.opening) is.number WasIt) + n) (sym (rows_left i w mount unit of is))
+      ∙ lost_fewer i w mount unit of is
+
+  pub answered_open : (a : Answer) → IsAnswered i w (after (log_of w) (noting unit a) knows) unit of is (by_answer (Some a)) (stripes_less i of a)
+  answered_open a = record {
+    left = ap (λ u. left_openings i (after (log_of w) (noting u a) knows)) (sym (unit_is i w unit of is)) ∙ left_is a;
+    line = same_line (noting unit a) a (answer_is (log_of w 0) unit knows a);
+    units = units_kept (noting unit a);
+    kept = records_then (noting unit a) a (answer_is (log_of w 0) unit knows a);
+    fewer = fewer_is a;
+  }

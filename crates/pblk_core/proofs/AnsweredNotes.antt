@@ -9,15 +9,16 @@ use Rattle.pblk_world.specs.World.{World, log_of}
 use Rattle.stripe_placer.specs.OpenLines.{has_left}
 use Rattle.stripe_placer.specs.declared.placement.StripeKind.TheVariants as kinds
 use Rattle.stripe_placer.specs.Placing.{Program}
-use Rattle.world_laws.specs.LegalMounts.{IsLegalMount}
+use Rattle.pblk_world.specs.LegalMounts.{IsLegalMount}
 use Rattle.core_laws.specs.ClosedLines.{top_of}
 use Rattle.core_laws.specs.OpenedLines.{open_line}
 use Rattle.core_laws.specs.Stepping.{after}
+use Rattle.pblk_core.specs.Answering.{closed_when}
 use Rattle.pblk_core.specs.declared.line_notes.LineNote.{LineNote}
 use Rattle.pblk_core.specs.declared.line_notes.LineNotes.{LineNotes}
 use Rattle.pblk_core.specs.LineNotes.{AreNotes, newest_landed, note_added}
 use Rattle.pblk_core.proofs.LandedCore.{positions_are}
-use Rattle.pblk_core.proofs.LandedNotes.{closed_when, note_answered, notes_landed as landed_in, notes_lost as lost_in}
+use Rattle.pblk_core.proofs.LandedNotes.{note_answered, notes_landed as landed_in, notes_lost as lost_in}
 use Rattle.pblk_core.proofs.LandedWay.{IsOnWay, line_of_way}
 use Rattle.pblk_core.proofs.StartKinds.{is_start}
 use Rattle.lemmas.proofs.Parts.{take_nothing}

@@ -1,7 +1,7 @@
 -- The open lines of a core once a stripe was answered: its line leaves them where no stripe of it
 -- is left.
 use Rattle.std.proofs.Common.{◌≡◌, ◌≢◌, ℕ, ◌+◌, ◌-◌, ◌/◌, ◌<◌, ◌≤◌, ◌==◌, zero, suc, nat_eq, if◌then◌else◌, Bool, true, false, cond, Some, List, [], ◌∷◌, length, refl, sym, subst, ap, ◌∙◌, arith}
-use Rattle.std.specs.Prelude.{slice_get, slice_set}
+use Rattle.std.specs.Prelude.{slice_get}
 use Rattle.std.specs.List.{filter}
 use Rattle.std.proofs.lemmas.Bool.{eqb-true, eqb-false}
 use Rattle.std.proofs.lemmas.Option.{same_Some, none-some}
@@ -17,8 +17,9 @@ use Rattle.core_laws.proofs.UnitTurns.{filtered_is}
 use Rattle.core_laws.proofs.LeftLines.{left_apart, left_before}
 use Rattle.core_laws.proofs.HistorySectors.{set_length}
 use Rattle.world_laws.proofs.HeldSectors.{all_pass as keeps_all}
-use Rattle.pblk_core.specs.LineRecords.{AreKept, Records}
-use Rattle.pblk_core.specs.Slots.{IsSlot, lost_slot}
+use Rattle.pblk_core.specs.LineRecords.{AreRecordsOf, RecordsView}
+use Rattle.pblk_core.specs.Answering.{IsLessIn, IsRemoved}
+use Rattle.pblk_core.specs.Slots.{IsSlot, answered_slot}
 use Rattle.pblk_core.specs.Stands.{IsOpenLine, AreOpenLines, stripes_left}
 use Rattle.pblk_core.specs.declared.open_lines.OpenLine.{OpenLine as KeptLine}
 use Rattle.pblk_core.specs.declared.open_lines.OpenLines.{OpenLines}
@@ -41,7 +42,7 @@ pub record IsAnswered (i : Image) (w : World) (new : Logs) (unit : ℕ) (of : Pr
   pub line : (k : ℕ) (o : Opening) → slice_get (left_openings i (log_of w)) k ≡ Some o
       → open_line i new o ≡ in_line of.line (of.at / i.shape.ws_opt) to (open_line i (log_of w) o)
   pub units : (o : Opening) → o.number ≤ length (log_of w 0) → opened_units i new o ≡ opened_units i (log_of w) o
-  pub kept : (o : Opening) (r : Records) → AreKept i.shape (log_of w 0) o r → AreKept i.shape (new 0) o r
+  pub kept : (o : Opening) (r : RecordsView) → AreRecordsOf i.shape (log_of w 0) o r → AreRecordsOf i.shape (new 0) o r
   pub fewer : stripes_left (with_stripe (open_line i (log_of w) is.row.opening) is.number to) + count
       ≡ stripes_left (open_line i (log_of w) is.row.opening)
 
@@ -93,10 +94,10 @@ module _ (i : Image) (w : World) (new : Logs) (unit : ℕ) (of : Program) (is : 
   -- ---- records
 
   own_open : (k : ℕ) (kept : KeptLine) → slice_get (left_openings i (log_of w)) k ≡ Some is.row.opening
-      → IsOpenLine i (log_of w) is.row.opening kept → IsOpenLine i new is.row.opening (lost_slot count kept)
+      → IsOpenLine i (log_of w) is.row.opening kept → IsOpenLine i new is.row.opening (answered_slot count kept)
   own_open k kept here old = record {
     records = answered.kept is.row.opening kept.records old.records;
-    live = old.live ∙ ap bits_of (sym
+    online = old.online ∙ ap bits_of (sym
         (answered.units is.row.opening (le_before is.row.opening.number (length (log_of w 0)) (left_before i (log_of w) k is.row.opening here))));
     left = left_now kept old.left ∙ ap stripes_left (sym (answered.line k is.row.opening here ∙ own_line));
   }
@@ -105,7 +106,7 @@ module _ (i : Image) (w : World) (new : Logs) (unit : ℕ) (of : Program) (is : 
       → slice_get (left_openings i (log_of w)) m ≡ Some other → m ≢ k → IsOpenLine i (log_of w) other kept → IsOpenLine i new other kept
   other_open k m other kept here there apart old = record {
     records = answered.kept other kept.records old.records;
-    live = old.live ∙ ap bits_of (sym
+    online = old.online ∙ ap bits_of (sym
         (answered.units other (le_before other.number (length (log_of w 0)) (left_before i (log_of w) m other there))));
     left = old.left ∙ ap stripes_left (sym (answered.line m other there ∙ other_line other (apart_by k m other here there apart)));
   }
@@ -161,18 +162,13 @@ drops_one f (a ∷ b ∷ c ∷ xs) k x at fails others few = absurd (omega arith
 
 -- ---- the open lines
 
--- one slot has so many stripes less left
-pub record IsLessIn (old mid : OpenLines) (k : ℕ) (slot : KeptLine) (count : ℕ) : Type 0 where
-  pub slots : mid.slots.items ≡ slice_set old.slots.items k (lost_slot count slot)
-  pub same : mid.count ≡ old.count
-
 pub slot_of_mid : (old mid : OpenLines) (k : ℕ) (slot : KeptLine) (count : ℕ) → IsLessIn old mid k slot count → IsSlot old k slot
-    → IsSlot mid k (lost_slot count slot)
-slot_of_mid old mid k slot count is there = ap (λ xs. slice_get xs k) is.slots ∙ got_here old.slots.items k slot (lost_slot count slot) there
+    → IsSlot mid k (answered_slot count slot)
+slot_of_mid old mid k slot count is there = ap (λ xs. slice_get xs k) is.slots ∙ got_here old.slots.items k slot (answered_slot count slot) there
 
 pub other_of_mid : (old mid : OpenLines) (k m : ℕ) (slot x : KeptLine) (count : ℕ) → IsLessIn old mid k slot count → m ≢ k → IsSlot mid m x → IsSlot old m x
 other_of_mid old mid k m slot x count is apart there =
-    sym (ap (λ xs. slice_get xs m) is.slots ∙ got_else old.slots.items k m (lost_slot count slot) apart) ∙ there
+    sym (ap (λ xs. slice_get xs m) is.slots ∙ got_else old.slots.items k m (answered_slot count slot) apart) ∙ there
 
 shapes_of_mid : (s : Shape) (old mid : OpenLines) (k : ℕ) (slot : KeptLine) (count : ℕ) → IsLessIn old mid k slot count → IsSlot old k slot
     → ((m : ℕ) (x : KeptLine) → IsSlot old m x → x.records.shape ≡ s) → (m : ℕ) (x : KeptLine) → IsSlot mid m x → x.records.shape ≡ s
@@ -180,19 +176,11 @@ shapes_of_mid s old mid k slot count is there all m x at = go (nat_eq m k) refl
   where
     go : (b : Bool) → nat_eq m k ≡ b → x.records.shape ≡ s
     go true e =
-        let same : lost_slot count slot ≡ x =
-        same_Some (lost_slot count slot) x
+        let same : answered_slot count slot ≡ x =
+        same_Some (answered_slot count slot) x
         (sym (slot_of_mid old mid k slot count is there) ∙ ap (slice_get mid.slots.items) (sym (eqb-true m k e)) ∙ at) in
         ap (λ (y : KeptLine). y.records.shape) (sym same) ∙ all k slot there
     go false e = all m x (other_of_mid old mid k m slot x count is (eqb-false m k e) at)
-
--- one slot is given up
-pub record IsRemoved (mid new : OpenLines) (k : ℕ) : Type 0 where
-  pub count : new.count + 1 ≡ mid.count
-  pub first : (slot : KeptLine) → k ≡ 0 → IsSlot mid 1 slot → IsSlot new 0 slot
-  pub second : (slot : KeptLine) → k ≡ 1 → IsSlot mid 0 slot → IsSlot new 0 slot
-  pub two : length new.slots.items ≡ 2
-  pub same : (m : ℕ) (slot : KeptLine) → IsSlot new m slot → (j : ℕ) × IsSlot mid j slot
 
 module _ (i : Image) (w : World) (logs : Logs) (unit : ℕ) (of : Program) (is : IsOnWay i w unit of) (to : Stripe) (count : ℕ)
     (answered : IsAnswered i w logs unit of is to count) (old mid : OpenLines) (are : AreOpenLines i (log_of w) old)
@@ -204,7 +192,7 @@ module _ (i : Image) (w : World) (logs : Logs) (unit : ℕ) (of : Program) (is :
       answered.left ∙ keeps_all (has_more i w of to) (left_openings i (log_of w))
       (all_by_get (λ (x : Opening). has_more i w of to x ≡ true) (left_openings i (log_of w)) (λ m x e. more m x e (nat_eq m has.k) refl)) in
       record {
-        two = ap length less.slots ∙ set_length old.slots.items has.k (lost_slot count has.slot) ∙ are.two;
+        two = ap length less.slots ∙ set_length old.slots.items has.k (answered_slot count has.slot) ∙ are.two;
         few = subst (λ n. n ≤ 2) (sym less.same) are.few;
         shapes = shapes_of_mid i.shape old mid has.k has.slot count less has.there are.shapes;
         count = less.same ∙ are.count ∙ ap length (sym left);
@@ -223,11 +211,11 @@ module _ (i : Image) (w : World) (logs : Logs) (unit : ℕ) (of : Program) (is :
       each k o x there at true f =
           let opening : is.row.opening ≡ o =
           same_Some is.row.opening o (sym has.opening ∙ ap (slice_get (left_openings i (log_of w))) (sym (eqb-true k has.k f)) ∙ there) in
-          let slot : lost_slot count has.slot ≡ x =
-          same_Some (lost_slot count has.slot) x
+          let slot : answered_slot count has.slot ≡ x =
+          same_Some (answered_slot count has.slot) x
           (sym (slot_of_mid old mid has.k has.slot count less has.there) ∙ ap (slice_get mid.slots.items) (sym (eqb-true k has.k f)) ∙ at) in
           subst (λ (y : KeptLine). IsOpenLine i logs o y) slot
-          (subst (λ (p : Opening). IsOpenLine i logs p (lost_slot count has.slot)) opening
+          (subst (λ (p : Opening). IsOpenLine i logs p (answered_slot count has.slot)) opening
           (own_open i w logs unit of is to count answered has.k has.slot has.opening has.is))
       each k o x there at false f = other_open i w logs unit of is to count answered has.k k o x has.opening there (eqb-false k has.k f)
           (are.each k o x there (other_of_mid old mid has.k k has.slot x count less (eqb-false k has.k f) at))
@@ -257,13 +245,13 @@ module _ (i : Image) (w : World) (logs : Logs) (unit : ℕ) (of : Program) (is :
       slot_there zero e h x at =
           let y : (z : KeptLine) × (IsSlot old 1 z) = got_within old.slots.items 1 (let two : length old.slots.items ≡ 2 = are.two in omega arith) in
           let in_mid : IsSlot mid 1 y.0 = ap (λ xs. slice_get xs 1) less.slots
-          ∙ got_else old.slots.items has.k 1 (lost_slot count has.slot) (λ f. absurd (omega (arith, e, f))) ∙ y.1 in
+          ∙ got_else old.slots.items has.k 1 (answered_slot count has.slot) (λ f. absurd (omega (arith, e, f))) ∙ y.1 in
           let same : y.0 ≡ x = same_Some y.0 x (sym (gone.first y.0 e in_mid) ∙ at) in
           y.1 ∙ ap Some same
       slot_there (suc zero) e h x at =
           let y : (z : KeptLine) × (IsSlot old 0 z) = got_within old.slots.items 0 (let two : length old.slots.items ≡ 2 = are.two in omega arith) in
           let in_mid : IsSlot mid 0 y.0 = ap (λ xs. slice_get xs 0) less.slots
-          ∙ got_else old.slots.items has.k 0 (lost_slot count has.slot) (λ f. absurd (omega (arith, e, f))) ∙ y.1 in
+          ∙ got_else old.slots.items has.k 0 (answered_slot count has.slot) (λ f. absurd (omega (arith, e, f))) ∙ y.1 in
           let same : y.0 ≡ x = same_Some y.0 x (sym (gone.second y.0 e in_mid) ∙ at) in
           y.1 ∙ ap Some same
       slot_there (suc (suc k)) e h x at = absurd (omega arith)

@@ -8,13 +8,13 @@ use Rattle.std.proofs.lemmas.Option.{none-some, same_Some}
 use Rattle.pblk_model.specs.declared.shape.Shape.{Shape}
 use Rattle.pblk_model.specs.Image.{Image}
 use Rattle.pblk_model.specs.LineOrder.{data_len}
-use Rattle.pblk_layout.specs.Live.{units_in}
+use Rattle.pblk_layout.specs.Online.{units_in}
 use Rattle.pblk_world.specs.World.{World, log_of}
-use Rattle.world_laws.specs.LegalMounts.{IsLegalMount}
+use Rattle.pblk_world.specs.LegalMounts.{IsLegalMount}
 use Rattle.victim_index.specs.declared.candidate.Candidate.{Candidate}
 use Rattle.line_table.specs.declared.row.LineState.TheVariants.{Failed, Full}
 use Rattle.line_table.specs.declared.row.Row.{Row}
-use Rattle.line_table.specs.Rows.{Changes, IsRow, Table, lost, lowered, noted}
+use Rattle.line_table.specs.Rows.{Changes, IsRow, Table, lost_to_taker, lowered, noted}
 use Rattle.core_laws.specs.CandidateLines.{is_failed_state}
 use Rattle.core_laws.specs.ChangedTables.{lose_in, note_by}
 use Rattle.core_laws.specs.ClosedLines.{ClosedLine, closed_line}
@@ -44,12 +44,12 @@ use Rattle.pblk_core.proofs.SpentTables.{row_stands}
 pub record IsKeptAt (old new : Core) (line : ℕ) : Type 0 where
   pub notes : slice_get new.notes.rows.items line ≡ slice_get old.notes.rows.items line
   pub rows : slice_get new.lines.rows line ≡ slice_get old.lines.rows line
-  pub live : slice_get new.live.items line ≡ slice_get old.live.items line
+  pub online : slice_get new.online.items line ≡ slice_get old.online.items line
 
 weighed_same : (old new : Core) (line : ℕ) → new.layout ≡ old.layout → new.notes.newest ≡ old.notes.newest → IsKeptAt old new line
     → weighed new line ≡ weighed old line
 weighed_same old new line layout newest kept = λ k. option_and_then (λ (note : LineNote). option_and_then (λ (row : Row). option_and_then
-    (weighed_by (layout k) (newest k) note row) (kept.live k)) (kept.rows k)) (kept.notes k)
+    (weighed_by (layout k) (newest k) note row) (kept.online k)) (kept.rows k)) (kept.notes k)
 
 -- ---- a line that isn't closed may not be collected
 
@@ -81,7 +81,7 @@ weighed_none : (c : Core) (line : ℕ) → IsUnclosed c line → weighed c line 
 weighed_none c line unclosed =
     none_then (slice_get c.notes.rows.items line) _
     (λ note there. none_then (slice_get c.lines.rows line) _
-    (λ row at. none_then (slice_get c.live.items line) _
+    (λ row at. none_then (slice_get c.online.items line) _
     (λ live has. unclosed_by c.layout c.notes.newest note row live (unclosed note there))))
 
 -- ---- a step that changed what is kept of one line alone
@@ -100,11 +100,11 @@ brings_none old new line kept unclosed = λ other none. go other none (eqb_tells
     go other none (inr apart) = weighed_same old new other kept.layout kept.newest (kept.others other apart.1) ∙ none
 
 -- or of none
-pub brings_kept : (old new : Core) → new.layout ≡ old.layout → new.notes ≡ old.notes → new.lines ≡ old.lines → new.live ≡ old.live → BringsNone old new
+pub brings_kept : (old new : Core) → new.layout ≡ old.layout → new.notes ≡ old.notes → new.lines ≡ old.lines → new.online ≡ old.online → BringsNone old new
 brings_kept old new layout notes lines live = λ line none. weighed_same old new line layout (ap (λ (n : LineNotes). n.newest) notes) (record {
   notes = ap (λ (n : LineNotes). slice_get n.rows.items line) notes;
   rows = ap (λ (t : Table). slice_get t.rows line) lines;
-  live = ap (λ us. slice_get us.items line) live;
+  online = ap (λ us. slice_get us.items line) live;
 }) ∙ none
 
 -- or of this one, if one is named
@@ -191,7 +191,7 @@ turned_elsewhere old new line other change inside changes apart =
 pub lost_elsewhere : (at : Option ℕ) (landed : Bool) (by other : ℕ) (t : Table) → at ≢ Some other
     → slice_get (lose_in at landed by t).rows other ≡ slice_get t.rows other
 lost_elsewhere None landed by other t apart = refl
-lost_elsewhere (Some line) true by other t apart = row_elsewhere line other (lost by) t (λ e. apart (ap (λ n. Some n) (sym e)))
+lost_elsewhere (Some line) true by other t apart = row_elsewhere line other (lost_to_taker by) t (λ e. apart (ap (λ n. Some n) (sym e)))
 lost_elsewhere (Some line) false by other t apart = row_elsewhere line other lowered t (λ e. apart (ap (λ n. Some n) (sym e)))
 
 pub placed_elsewhere : (rows : List Hold) (line other : ℕ) (qs : List ℕ) (t : Table) → other ≢ line

@@ -16,7 +16,7 @@ use Rattle.pblk_world.specs.Victims.{comes_to_work, is_freed, live, next_victim,
 use Rattle.pblk_world.specs.World.{World, Logs, log_of}
 use Rattle.line_table.specs.declared.row.Row.{Row}
 use Rattle.l2p_map.specs.declared.slot.Slot.TheVariants.{Media}
-use Rattle.world_laws.specs.LegalMounts.{IsLegalMount}
+use Rattle.pblk_world.specs.LegalMounts.{IsLegalMount}
 use Rattle.world_laws.proofs.Lives.{IsFree, IsNeither, IsOpen, Turns, life_freed, life_opened, life_stays, turns}
 use Rattle.core_laws.specs.CandidateLines.{IsCandidate, IsNextVictim}
 use Rattle.core_laws.specs.RowsOf.{row_of_line, taker_by, taker_in}

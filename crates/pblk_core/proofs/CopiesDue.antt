@@ -14,7 +14,7 @@ use Rattle.pblk_world.specs.Fronts.{taken, waiting}
 use Rattle.pblk_world.specs.Space.{addresses, is_due, position_limit}
 use Rattle.pblk_world.specs.Victims.{is_live_in, live}
 use Rattle.pblk_world.specs.World.{World, Logs, log_of}
-use Rattle.world_laws.specs.LegalMounts.{IsLegalMount}
+use Rattle.pblk_world.specs.LegalMounts.{IsLegalMount}
 use Rattle.l2p_map.specs.declared.slot.Slot.TheVariants.{Media}
 use Rattle.line_table.specs.declared.row.Row.{Row}
 use Rattle.line_table.specs.Rows.{free_addresses}

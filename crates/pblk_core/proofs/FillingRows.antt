@@ -18,11 +18,6 @@ use Rattle.pblk_core.specs.Holds.{row_at}
 use Rattle.pblk_core.specs.Losing.{is_live, live_among, lower_hold}
 use Rattle.lemmas.proofs.Parts.{got_within}
 
-pub gained_once : (old new : Table) (line : ℕ) → line < length old.rows → Changes old new line gained → new ≡ with_row line gained old
-gained_once old new line inside changes =
-    let r = got_within old.rows line inside in
-    changed_is old new line gained r.0 r.1 changes
-
 pub noted_once : (old new : Table) (line by : ℕ) → line < length old.rows → Changes old new line (noted by) → new ≡ with_row line (noted by) old
 noted_once old new line by inside changes =
     let r = got_within old.rows line inside in

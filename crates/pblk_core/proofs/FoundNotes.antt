@@ -19,7 +19,7 @@ use Rattle.pblk_model.specs.LineOrder.{block_of, column_of}
 use Rattle.pblk_model.specs.Shape.{units}
 use Rattle.pblk_model.specs.StartRecord.{StartRecord, start_of}
 use Rattle.pblk_model.proofs.LeastLengths.{start_len_positive}
-use Rattle.pblk_layout.specs.Live.{units_in}
+use Rattle.pblk_layout.specs.Online.{units_in}
 use Rattle.pblk_laws.specs.LineBlocks.{chunk_in}
 use Rattle.pblk_laws.proofs.Runs.{start_none}
 use Rattle.pblk_world.specs.EngineLog.{Begun, begun, LineLife}
@@ -32,7 +32,7 @@ use Rattle.lemmas.proofs.Maps.{filter_map_none, filter_same, made_alike}
 use Rattle.lemmas.proofs.Options.{map_some, split_then}
 use Rattle.lemmas.proofs.Parts.{all_at}
 use Rattle.world_laws.specs.Finding.{IsFoundOf, NoneOpen, taken_state}
-use Rattle.world_laws.specs.LegalMounts.{IsLegalMount}
+use Rattle.pblk_world.specs.LegalMounts.{IsLegalMount}
 use Rattle.world_laws.specs.MountBeginnings.{beginning_of}
 use Rattle.world_laws.proofs.FoundImages.{found_closed}
 use Rattle.world_laws.proofs.FoundStates.{state_is}

@@ -9,18 +9,18 @@ use Rattle.pblk_model.specs.Shape.{units}
 use Rattle.pblk_model.specs.Image.{Image}
 use Rattle.pblk_model.specs.StartRecord.{Row as OlderRow, StartRecord, start_of}
 use Rattle.pblk_meta.specs.Records.{start_numbers}
-use Rattle.pblk_layout.specs.Live.{units_in}
+use Rattle.pblk_layout.specs.Online.{units_in}
 use Rattle.pblk_world.specs.EngineLog.{is_as_found, life_of}
 use Rattle.pblk_world.specs.Freeing.{MayFree}
 use Rattle.pblk_world.specs.Lines.{are_empty, found_image, known_image}
 use Rattle.pblk_world.specs.Starts.{found_row, older_row}
 use Rattle.pblk_world.specs.World.{World, Logs, log_of}
-use Rattle.world_laws.specs.LegalMounts.{IsLegalMount}
+use Rattle.pblk_world.specs.LegalMounts.{IsLegalMount}
 use Rattle.line_table.specs.declared.row.LineState.{LineState}
 use Rattle.line_table.specs.declared.row.LineState.TheVariants as states
 use Rattle.line_table.specs.declared.row.Row.{Row}
 use Rattle.line_table.specs.Rows.{IsChange, IsOutlivedLine, IsRow, Table, is_full_or_failed, is_outlived}
-use Rattle.core_laws.specs.OpenedLines.{live_now}
+use Rattle.core_laws.specs.OpenedLines.{online_now}
 use Rattle.core_laws.specs.RowsOf.{row_of_line}
 use Rattle.core_laws.proofs.FreedRows.{state_was}
 use Rattle.core_laws.proofs.FreedWidths.{not_given_up, numbered_used}
@@ -121,8 +121,8 @@ none_spent_before c from line standing before between m below spent = go (cases_
 -- ---- what is asked
 
 pub record MayGiveUp (c : Core) (line : ℕ) : Type 0 where
-  pub line_units : line < length c.live.items
-  pub few : (live : ℕ) → slice_get c.live.items line ≡ Some live → length (units_in live) ≤ units c.lines.shape
+  pub line_units : line < length c.online.items
+  pub few : (live : ℕ) → slice_get c.online.items line ≡ Some live → length (units_in live) ≤ units c.lines.shape
   pub line_row : line < length c.lines.rows
   pub turns : (row : Row) (addresses : ℕ) → IsRow c.lines line row → IsChange row.state states.Freed addresses
   pub noted : line < length c.notes.rows.items
@@ -132,9 +132,9 @@ pub record MayGiveUp (c : Core) (line : ℕ) : Type 0 where
 
 pub may_give_up : (c : Core) (line : ℕ) → IsStanding c → IsSpentIn c line → MayGiveUp c line
 may_give_up c line standing spent = record {
-  line_units = slice_get_within c.live.items line (live_now i (log_of w) line) live_there;
+  line_units = slice_get_within c.online.items line (online_now i (log_of w) line) live_there;
   few = λ live there.
-      let own : live_now i (log_of w) line ≡ live = same_Some (live_now i (log_of w) line) live (sym live_there ∙ there) in
+      let own : online_now i (log_of w) line ≡ live = same_Some (online_now i (log_of w) line) live (sym live_there ∙ there) in
       let wide = bits_width i w (log_of w) line mount in
       let low = known_width i w (log_of w) line mount in
       subst (λ (s : Shape). length (units_in live) ≤ units s) (sym (ap (λ (t : Table). t.shape) st.table))
@@ -168,9 +168,9 @@ may_give_up c line standing spent = record {
     from : 0 + line ≡ line
     from = omega arith
 
-    live_there : slice_get c.live.items line ≡ Some (live_now i (log_of w) line)
-    live_there = ap (λ us. slice_get us line) st.units ∙ row_there (live_now i (log_of w)) i.shape.chunks 0 line may.in_range
-        ∙ ap (λ n. Some (live_now i (log_of w) n)) from
+    live_there : slice_get c.online.items line ≡ Some (online_now i (log_of w) line)
+    live_there = ap (λ us. slice_get us line) st.units ∙ row_there (online_now i (log_of w)) i.shape.chunks 0 line may.in_range
+        ∙ ap (λ n. Some (online_now i (log_of w) n)) from
 
     row_is : IsRow c.lines line (row_of_line i (log_of w) line)
     row_is = its_row i w mount st line may.in_range

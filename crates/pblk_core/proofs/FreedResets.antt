@@ -2,24 +2,23 @@
 use Rattle.std.proofs.Common.{◌≡◌, ◌≢◌, ◌⊎◌, inl, inr, ℕ, ◌+◌, ◌<◌, ◌≤◌, zero, suc, true, false, Some, None, Option, List, [], ◌∷◌, ◌++◌, refl, sym, subst, ap, ap₂, ◌∙◌, arith, append_assoc, if◌then◌else◌}
 use Rattle.std.specs.Prelude.{slice_get}
 use Rattle.std.specs.List.{AllByRecursion, filter, list_all, range_with_len}
-use Rattle.pblk_model.specs.declared.shape.Shape.{Shape}
 use Rattle.pblk_model.specs.declared.chunk.ChunkState.{ChunkState}
 use Rattle.pblk_model.specs.declared.chunk.ChunkState.TheVariants as states
 use Rattle.pblk_model.specs.Chunk.{Chunk}
 use Rattle.pblk_model.specs.Image.{Image, is_online_in, line_units}
 use Rattle.pblk_model.specs.Shape.{units}
 use Rattle.pblk_laws.specs.LineBlocks.{chunk_in}
-use Rattle.pblk_layout.specs.Live.{is_live}
+use Rattle.pblk_layout.specs.Online.{is_online}
 use Rattle.pblk_world.specs.Events.{Free}
 use Rattle.pblk_world.specs.World.{World, Logs, log_of}
-use Rattle.pblk_world.specs.EngineLog.{AsFound, Begun, begun, life_of}
-use Rattle.pblk_world.specs.Lines.{chunks_of, found_by, found_image, is_given_up_by, is_over_state, known_image, strays_of}
+use Rattle.pblk_world.specs.EngineLog.{Begun, begun}
+use Rattle.pblk_world.specs.Lines.{chunks_of, is_given_up_by, is_over_state, known_image, strays_of}
 use Rattle.pblk_world.specs.Starts.{seq_of}
-use Rattle.world_laws.specs.LegalMounts.{IsLegalMount}
+use Rattle.pblk_world.specs.LegalMounts.{IsLegalMount}
 use Rattle.world_laws.proofs.FoundEmpty.{all_pass}
 use Rattle.core_laws.specs.Stepping.{after}
 use Rattle.core_laws.proofs.FreedLives.{known_freed, life_beside, life_freed}
-use Rattle.core_laws.proofs.FreedWidths.{not_given_up, numbered_stands}
+use Rattle.core_laws.proofs.FreedWidths.{not_given_up}
 use Rattle.core_laws.proofs.KeptLines.{few_units}
 use Rattle.core_laws.proofs.UnitBits.{units_below}
 use Rattle.lemmas.proofs.Lists.{IsAmong, all_append}
@@ -81,8 +80,8 @@ pub used_over : (i : Image) (w : World) (ls : Logs) (line : ℕ) → IsLegalMoun
     → list_all (λ (c : Chunk). is_over_state false c.state) (chunks_of (known_image i ls) line) ≡ true
     → used_units (known_image i ls) line ≡ line_units (known_image i ls) line
 used_over i w ls line mount over =
-    filter_same (is_used_in known line) (is_live known line) each (range_with_len 0 (units i.shape))
-    ∙ ap (λ n. filter (is_live known line) (range_with_len 0 n)) (sym (known_count i w ls mount))
+    filter_same (is_used_in known line) (is_online known line) each (range_with_len 0 (units i.shape))
+    ∙ ap (λ n. filter (is_online known line) (range_with_len 0 n)) (sym (known_count i w ls mount))
     ∙ sym (units_below known line (few_units i w ls mount))
   where
     known : Image
@@ -100,7 +99,7 @@ used_over i w ls line mount over =
         let at : IsAmong (chunks_of known line) c = given_at (λ (cs : List Chunk). slice_get cs line) known.units its.0 c unit its.1 its.2 in
         all_pass (λ (x : Chunk). is_over_state false x.state) (chunks_of known line) at.0 c over at.1
 
-    each : (unit : ℕ) → is_used_in known line unit ≡ is_live known line unit
+    each : (unit : ℕ) → is_used_in known line unit ≡ is_online known line unit
     each unit = go (chunk_in known line unit) refl ∙ sym (live_is known line unit)
       where
         go : (c : Option Chunk) → chunk_in known line unit ≡ c
@@ -130,17 +129,4 @@ module _ (i : Image) (w : World) (mount : IsLegalMount i w) (line : ℕ) (b : Be
     pub resets_freed : GetsChunks (resets_of i (log_of w)) (resets_of i (after (log_of w) (Free line) knows)) line (used_units (known_image i (log_of w)) line)
     resets_freed = subst (GetsChunks (resets_of i (log_of w)) (resets_of i new) line) its_units
         (gets_chunks (units_to_reset i (log_of w)) (units_to_reset i new) 0 i.shape.chunks line (omega arith) (omega arith) none_before others)
-
-  -- ---- its used chunks
-
-  -- where it is as it was found, those that were used then
-  pub used_found : (seq : ℕ) → seq_of i (log_of w) line ≡ Some seq → life_of (log_of w 0) line ≡ AsFound
-      → used_units (known_image i (log_of w)) line ≡ used_units (found_image i (log_of w)) line
-  used_found seq has_seq is =
-      filter_same (is_used_in (known_image i (log_of w)) line) (is_used_in (found_image i (log_of w)) line)
-      (λ u. ap (test_chunk is_used_state) (numbered_stands i w mount line b begins seq has_seq is u)) (range_with_len 0 (units i.shape))
-      ∙ ap (λ (s : Shape). filter (is_used_in (found_image i (log_of w)) line) (range_with_len 0 (units s))) (sym (same_shape (begun (log_of w 0))))
-    where
-      same_shape : (o : Option Begun) → (found_by i (log_of w) o).shape ≡ i.shape
-      same_shape None = refl
-      same_shape (Some c) = refl
+    -- ---- its used chunks

@@ -9,7 +9,7 @@ use Rattle.pblk_world.specs.EngineLog.{Taken, takes}
 use Rattle.pblk_world.specs.Fronts.{first_position, synced, taken, has_landed_at}
 use Rattle.pblk_world.specs.Space.{freed}
 use Rattle.pblk_world.proofs.SyncedFront.{synced_within}
-use Rattle.world_laws.specs.LegalMounts.{IsLegalMount}
+use Rattle.pblk_world.specs.LegalMounts.{IsLegalMount}
 use Rattle.core_laws.specs.WindowOf.{HeldSector, HeldSectors, without_frame, progress_by, is_given_back, held_of}
 use Rattle.core_laws.proofs.Placing.{not_below}
 use Rattle.core_laws.proofs.CachedEntries.{numbered_at}

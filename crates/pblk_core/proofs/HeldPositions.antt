@@ -9,7 +9,7 @@ use Rattle.pblk_world.specs.World.{World, log_of}
 use Rattle.pblk_world.specs.Fronts.{taken}
 use Rattle.stripe_placer.specs.Placing.{Placing, held}
 use Rattle.write_window.specs.Window as view
-use Rattle.world_laws.specs.LegalMounts.{IsLegalMount}
+use Rattle.pblk_world.specs.LegalMounts.{IsLegalMount}
 use Rattle.core_laws.specs.PlacerOf.{placing_of, entries_of}
 use Rattle.core_laws.specs.Placed.{IsInWindow}
 use Rattle.core_laws.proofs.PlacedInOrder.{ordered}

@@ -1,20 +1,15 @@
 -- A window keeps its frames as entries land and become readable.
-use Rattle.std.proofs.Common.{◌≡◌, ℕ, Bool, true, false, List, [], ◌∷◌, length, refl, sym, subst, ◌∙◌}
+use Rattle.std.proofs.Common.{◌≡◌, ℕ, Bool, true, false, List, [], ◌∷◌, refl, sym, subst, ◌∙◌}
 use Rattle.std.specs.Prelude.{if◌then◌else◌, slice_get}
 use Rattle.std.specs.Option.{option_map_or}
 use Rattle.stripe_placer.specs.Placing.{Placing, Program, placed, placed_again, placed_first, is_stopped}
-use Rattle.pblk_model.specs.Frames.{Region}
-use Rattle.write_window.specs.Window.{WindowView, AreOf, has_landed_at, turned}
+use Rattle.write_window.specs.Window.{WindowView, has_landed_at, turned}
 use Rattle.write_window.specs.declared.held.Progress.TheVariants as progress
 use Rattle.write_window.proofs.Owners.{own_with}
+pub use Rattle.pblk_core.specs.Keeping.{KeepsFrames}
 use Rattle.pblk_core.specs.Landing.{all_landed, one_landed}
 use Rattle.pblk_core.specs.Readable.{ReadBlock, all_readable}
 use Rattle.write_window.proofs.EntriesLemmas.{turned_length}
-
--- the same frames, and as many
-pub record KeepsFrames (old new : WindowView) : Type 0 where
-  pub own : (r : Region) → AreOf r old.entries → AreOf r new.entries
-  pub count : length new.entries ≡ length old.entries
 
 and_then : {a b c : WindowView} → KeepsFrames a b → KeepsFrames b c → KeepsFrames a c
 and_then x y = record { own = λ r o. y.own r (x.own r o); count = y.count ∙ x.count }

@@ -9,22 +9,20 @@ use Rattle.pblk_model.specs.Chunk.{Chunk}
 use Rattle.pblk_model.specs.Shape.{units}
 use Rattle.pblk_model.specs.StartRecord.{StartRecord}
 use Rattle.pblk_model.specs.Image.{Image}
-use Rattle.pblk_laws.specs.LineBlocks.{chunk_in}
-use Rattle.pblk_world.specs.Events.{EngineEvent, Open, Landed, Decides, Logged}
-use Rattle.pblk_world.specs.World.{World, Logs, log_of, unit_event_at}
-use Rattle.pblk_world.specs.Answering.{MayLand}
-use Rattle.pblk_world.specs.EngineLog.{Begun, begun_by, begun, LineLife, AsFound, Opened, Freed, Placed, is_opened, life_of}
+use Rattle.pblk_world.specs.Events.{EngineEvent, Open, Decides, Logged}
+use Rattle.pblk_world.specs.World.{World, Logs, log_of}
+use Rattle.pblk_world.specs.EngineLog.{Answer, Begun, begun_by, begun, LineLife, AsFound, Opened, Freed, Placed, is_opened, life_of}
 use Rattle.pblk_world.specs.Lines.{known_image, told_by, is_empty_state, are_empty, has_number, is_free_line, is_given_up_by, strays_of, is_given_up}
 use Rattle.pblk_world.proofs.Appending.{life_more}
 use Rattle.core_laws.specs.PlacerOf.{unanswered_on}
-use Rattle.world_laws.specs.LegalMounts.{IsLegalMount}
+use Rattle.pblk_world.specs.LegalMounts.{IsLegalMount}
 use Rattle.core_laws.specs.Stepping.{after}
 use Rattle.core_laws.proofs.KeptRows.{begun_kept, known_kept}
+use Rattle.core_laws.proofs.NotedAnswers.{MayNote, lives_noted, none_begun, noting}
 use Rattle.pblk_core.specs.Resets.{is_used_state, is_used_in, used_units, in_line, units_to_reset, resets_of}
 use Rattle.pblk_core.specs.Stands.{IsOlder, HasFitNumbers}
 use Rattle.pblk_core.specs.declared.target_core.Core.{Core}
-use Rattle.pblk_core.proofs.KnownAfter.{untold_after, beside_after}
-use Rattle.pblk_core.proofs.LandedProgram.{IsItsProgram, landed_program}
+use Rattle.pblk_core.proofs.AnsweredProgram.{chunk_same}
 use Rattle.pblk_meta.specs.Records.{start_numbers}
 use Rattle.lemmas.proofs.Lists.{all_of}
 use Rattle.lemmas.proofs.Maps.{filter_none, filter_same}
@@ -101,46 +99,24 @@ pub empty_none : (j : Image) (line : ℕ) → are_empty j line ≡ true → used
 empty_none j line all = filter_none (is_used_in j line) (range_with_len 0 (units j.shape))
     (all_of (λ unit. is_used_in j line unit ≡ false) (λ unit. empty_unused j line unit all) (range_with_len 0 (units j.shape)))
 
--- ---- a program that has landed
+-- ---- a program that was answered
 
-module _ (i : Image) (w : World) (unit event : ℕ) (knows : List ℕ) (p : Placed) (b : Begun) (mount : IsLegalMount i w) (may : MayLand (log_of w) unit event)
+module _ (i : Image) (w : World) (unit : ℕ) (a : Answer) (knows : List ℕ) (p : Placed) (b : Begun) (mount : IsLegalMount i w) (may : MayNote (log_of w) unit a)
     (waits : unanswered_on (log_of w 0) unit ≡ Some p) (begins : begun (log_of w 0) ≡ Some b) where
-  is : IsItsProgram w unit event p
-  is = landed_program i w unit event p mount may waits
-
-  told : (u : ℕ) (c : Bool) → nat_eq unit u ≡ c
-      → told_by (log_of w) u (Decides (Landed unit event)) ≡ (if c then unit_event_at (log_of w) unit event else None)
-  told u c e = ap (λ (x : Bool). if x then unit_event_at (log_of w) u event else None) e ∙ go c e
-    where
-      go : (c : Bool) → nat_eq unit u ≡ c → (if c then unit_event_at (log_of w) u event else None) ≡ (if c then unit_event_at (log_of w) unit event else None)
-      go true e = ap (λ v. unit_event_at (log_of w) v event) (sym (eqb-true unit u e))
-      go false e = refl
-
-  -- the chunks of another line are as they were
-  chunk_same : (line u : ℕ) → line ≢ p.stripe.line
-      → chunk_in (known_image i (after (log_of w) (Landed unit event) knows)) line u ≡ chunk_in (known_image i (log_of w)) line u
-  chunk_same line u apart = by (nat_eq unit u) refl
-    where
-      by : (c : Bool) → nat_eq unit u ≡ c
-          → chunk_in (known_image i (after (log_of w) (Landed unit event) knows)) line u ≡ chunk_in (known_image i (log_of w)) line u
-      by true e = beside_after i (log_of w) (Landed unit event) knows u line b is.done.event begins (told u true e ∙ is.done.is_event)
-          (λ same. apart (sym same ∙ is.chunk))
-      by false e = untold_after i (log_of w) (Landed unit event) knows u line b begins (told u false e)
-
   pub used_beside : (line : ℕ) → line ≢ p.stripe.line
-      → used_units (known_image i (after (log_of w) (Landed unit event) knows)) line ≡ used_units (known_image i (log_of w)) line
+      → used_units (known_image i (after (log_of w) (noting unit a) knows)) line ≡ used_units (known_image i (log_of w)) line
   used_beside line apart =
-      filter_same (is_used_in (known_image i (after (log_of w) (Landed unit event) knows)) line) (is_used_in (known_image i (log_of w)) line)
-      (λ u. ap (λ (o : Option Chunk). option_map_or (λ (c : Chunk). is_used_state c.state) o false) (chunk_same line u apart))
+      filter_same (is_used_in (known_image i (after (log_of w) (noting unit a) knows)) line) (is_used_in (known_image i (log_of w)) line)
+      (λ u. ap (λ (o : Option Chunk). option_map_or (λ (c : Chunk). is_used_state c.state) o false)
+      (chunk_same i w unit a knows p mount may waits b begins line u apart))
       (range_with_len 0 (units i.shape))
 
-  pub resets_landed : is_opened (life_of (log_of w 0) p.stripe.line) ≡ true → resets_of i (after (log_of w) (Landed unit event) knows) ≡ resets_of i (log_of w)
-  resets_landed opened =
-      resets_same i (log_of w) (after (log_of w) (Landed unit event) knows) (λ line inside. go line (is_given_up (log_of w 0) line) refl)
+  pub resets_noted : is_opened (life_of (log_of w 0) p.stripe.line) ≡ true → resets_of i (after (log_of w) (noting unit a) knows) ≡ resets_of i (log_of w)
+  resets_noted opened =
+      resets_same i (log_of w) (after (log_of w) (noting unit a) knows) (λ line inside. go line (is_given_up (log_of w 0) line) refl)
     where
-      same : (line : ℕ) → is_given_up (after (log_of w) (Landed unit event) knows 0) line ≡ is_given_up (log_of w 0) line
-      same line = given_up_kept (log_of w) (Landed unit event) knows line refl
-          (life_more (log_of w 0) (record { event = Decides (Landed unit event); knows = knows }) line)
+      same : (line : ℕ) → is_given_up (after (log_of w) (noting unit a) knows 0) line ≡ is_given_up (log_of w 0) line
+      same line = given_up_kept (log_of w) (noting unit a) knows line (none_begun unit knows a) (lives_noted (log_of w) unit knows a line)
 
       apart : (line : ℕ) → is_given_up (log_of w 0) line ≡ true → line ≢ p.stripe.line
       apart line given e =
@@ -149,11 +125,11 @@ module _ (i : Image) (w : World) (unit event : ℕ) (knows : List ℕ) (p : Plac
           absurd cc
 
       go : (line : ℕ) (c : Bool) → is_given_up (log_of w 0) line ≡ c
-          → units_to_reset i (after (log_of w) (Landed unit event) knows) line ≡ units_to_reset i (log_of w) line
-      go line false e = ap (λ c. if c then used_units (known_image i (after (log_of w) (Landed unit event) knows)) line else []) (same line ∙ e)
+          → units_to_reset i (after (log_of w) (noting unit a) knows) line ≡ units_to_reset i (log_of w) line
+      go line false e = ap (λ c. if c then used_units (known_image i (after (log_of w) (noting unit a) knows)) line else []) (same line ∙ e)
           ∙ sym (ap (λ c. if c then used_units (known_image i (log_of w)) line else []) e)
       go line true e =
-          ap (λ c. if c then used_units (known_image i (after (log_of w) (Landed unit event) knows)) line else []) (same line ∙ e)
+          ap (λ c. if c then used_units (known_image i (after (log_of w) (noting unit a) knows)) line else []) (same line ∙ e)
           ∙ used_beside line (apart line e)
           ∙ sym (ap (λ c. if c then used_units (known_image i (log_of w)) line else []) e)
 

@@ -16,7 +16,7 @@ use Rattle.pblk_model.specs.LineOrder.{line_order, address_of, column_of, data_l
 use Rattle.pblk_model.specs.Records.{named}
 use Rattle.pblk_model.proofs.LineOrder.{address_below, chunk_back, block_back, chunk_below, block_below, address_back}
 use Rattle.pblk_model.proofs.OrderedBlocks.{order_exactly, order_length}
-use Rattle.pblk_layout.specs.Live.{units_in}
+use Rattle.pblk_layout.specs.Online.{units_in}
 use Rattle.pblk_layout.proofs.Orders as orders
 use Rattle.pblk_world.specs.World.{World, log_of}
 use Rattle.pblk_world.specs.EngineLog.{Opening, Taken, takes, Placed, is_life, placements, stripes_of, stripes_on}
@@ -39,7 +39,7 @@ use Rattle.pblk_laws.proofs.LineUnits.{line_units_rise}
 use Rattle.core_laws.proofs.LineNumbers.{IsNumbered, numbered}
 use Rattle.core_laws.proofs.StripesInOrder.{stripe_count}
 use Rattle.core_laws.proofs.WholePlaces.{was_whole, whole_at, pad_behind}
-use Rattle.world_laws.specs.LegalMounts.{IsLegalMount}
+use Rattle.pblk_world.specs.LegalMounts.{IsLegalMount}
 use Rattle.pblk_core.specs.LineRecords.{placed_whole, whole_marks}
 use Rattle.pblk_core.specs.Stands.{IsOpenLine}
 use Rattle.pblk_core.specs.Readable.{ReadBlock, block_reads, data_mark, position_of}
@@ -82,7 +82,7 @@ pub record IsInLine (i : Image) (w : World) (unit : ℕ) (o : Opening) (slot : O
   pub later : was_whole (log_of w 0) o stripe ≡ false → length (placed_whole (log_of w 0) o) ≤ number
   pub block : slice_get stripe.stripe.blocks (n % i.shape.ws_opt) ≡ Some b
   pub address : address_of_block i (log_of w) o unit n ≡ number * i.shape.ws_opt + n % i.shape.ws_opt
-  pub place : position_of (unit, n) (line_order slot.records.shape (units_in slot.live)) ≡ Some (number * i.shape.ws_opt + n % i.shape.ws_opt)
+  pub place : position_of (unit, n) (line_order slot.records.shape (units_in slot.online)) ≡ Some (number * i.shape.ws_opt + n % i.shape.ws_opt)
 
 -- a number in its row
 row_below : (w n m : ℕ) → n < m * w → n / w < m
@@ -149,7 +149,7 @@ in_line i w unit of slot n b mount is kept there =
           ∙ ap (slice_get (chunk_blocks (log_of w 0) is.row.opening unit)) parts ∙ there;
       address = address_at i (log_of w) is.row.opening unit n place.number ws wide (omega arith)
           (ap₂ (λ u m. is_stripe_at i.shape (as_opened i (log_of w) is.row.opening) u m place.number) (sym own) (sym its.at) ∙ place.at);
-      place = ap₂ (λ s us. position_of (unit, n) (line_order s us)) kept.records.shape (ap units_in kept.live ∙ is.line_is.units)
+      place = ap₂ (λ s us. position_of (unit, n) (line_order s us)) kept.records.shape (ap units_in kept.online ∙ is.line_is.units)
           ∙ place_found i.shape (now_units i w is.row.opening.line) unit (place.number % length (now_units i w is.row.opening.line)) n
           (line_units_rise (known_image i (log_of w)) is.row.opening.line) ws mount.accepted.drive.whole_stripes column below
           ∙ ap (λ m. Some (m * i.shape.ws_opt + n % i.shape.ws_opt)) number;

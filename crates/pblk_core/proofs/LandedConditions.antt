@@ -1,21 +1,20 @@
 -- What the notes of lines and the chunks to be reset ask of a stripe that has landed.
-use Rattle.std.proofs.Common.{◌≡◌, ℕ, ◌≤◌, ◌^◌, ◌<◌, true, Some, List, length, take, arith, sym, subst, ap, ◌∙◌}
-use Rattle.std.specs.Prelude.{◌↔◌, Bool, IsTrue, slice_get, slice_set}
+use Rattle.std.proofs.Common.{◌≡◌, ℕ, ◌≤◌, ◌^◌, ◌<◌, true, Some, length, take, arith, sym, subst, ap, ◌∙◌}
+use Rattle.std.specs.Prelude.{◌↔◌, Bool, IsTrue, slice_get}
 use Rattle.std.proofs.lemmas.List.FromFn.{length-map-range_with_len}
 use Rattle.pblk_model.specs.Image.{Image}
 use Rattle.pblk_world.specs.EngineLog.{is_opened, life_of, Opened}
 use Rattle.pblk_world.specs.World.{World, log_of}
 use Rattle.stripe_placer.specs.declared.placement.StripeKind.TheVariants as kinds
 use Rattle.stripe_placer.specs.Placing.{Program}
-use Rattle.core_laws.specs.OpenedLines.{live_now}
-use Rattle.world_laws.specs.LegalMounts.{IsLegalMount}
+use Rattle.core_laws.specs.OpenedLines.{online_now}
+use Rattle.pblk_world.specs.LegalMounts.{IsLegalMount}
 use Rattle.core_laws.proofs.HeldInWorlds.{own_in_window}
-use Rattle.lemmas.proofs.Parts.{get_set_same, get_whole, got_within}
+use Rattle.lemmas.proofs.Parts.{get_whole}
 use Rattle.pblk_world.specs.Fronts.{taken}
-use Rattle.std.proofs.lemmas.Option.{same_Some}
 use Rattle.pblk_core.specs.declared.line_notes.LineNote.{LineNote}
 use Rattle.pblk_core.specs.declared.target_core.Core.{Core}
-use Rattle.pblk_core.specs.LineNotes.{IsNoteOf, note_added}
+use Rattle.pblk_core.specs.LineNotes.{IsNoteOf}
 use Rattle.pblk_core.specs.Resets.{HasNoneOf, resets_left}
 use Rattle.pblk_core.specs.Stands.{Stands}
 use Rattle.pblk_core.proofs.KeptResets.{opened_kept}
@@ -36,9 +35,9 @@ module _ (i : Image) (w : World) (c : Core) (unit : ℕ) (of : Program) (mount :
   pub line_noted : of.line < length c.notes.rows.items
   line_noted = subst (λ n. of.line < n) (sym st.notes.count) inside
 
-  pub line_live : of.line < length c.live.items
+  pub line_live : of.line < length c.online.items
   line_live = subst (λ n. of.line < n)
-      (sym (ap length st.units ∙ length-map-range_with_len (live_now i (log_of w)) 0 i.shape.chunks)) inside
+      (sym (ap length st.units ∙ length-map-range_with_len (online_now i (log_of w)) 0 i.shape.chunks)) inside
 
   pub line_in_use : of.line < length c.resets.used
   line_in_use = subst (λ n. of.line < n) (sym st.used_lines) inside
@@ -54,17 +53,6 @@ module _ (i : Image) (w : World) (c : Core) (unit : ℕ) (of : Program) (mount :
       subst (λ n. 0 < n) (sym was.starts_left)
       (start_left i.shape (log_of w) unit is.row.stripe is.row.opening is.among.0 is.row.waits is.among.1
       (sym (is_start i w unit of mount is start tells) ∙ first))
-
-  -- and still where blocks of it are written
-  pub some_starts_added : (start : Bool) → IsTrue start ↔ (of.kind ≡ kinds.Start) → (top : ℕ) (rows : List LineNote)
-      → ((row : LineNote) → slice_get c.notes.rows.items of.line ≡ Some row → rows ≡ slice_set c.notes.rows.items of.line (note_added top row))
-      → (row : LineNote) → slice_get rows of.line ≡ Some row → start ≡ true → 0 < row.starts_left
-  some_starts_added start tells top rows added row there first =
-      let was = got_within c.notes.rows.items of.line line_noted in
-      let same : note_added top was.0 ≡ row = same_Some (note_added top was.0) row
-      (sym (get_set_same c.notes.rows.items of.line (note_added top was.0) line_noted)
-      ∙ ap (λ (rs : List LineNote). slice_get rs of.line) (sym (added was.0 was.1)) ∙ there) in
-      subst (λ (r : LineNote). 0 < r.starts_left) same (some_starts start tells was.0 was.1 first)
 
   -- the positions that it holds are small
   pub positions_small : (k q : ℕ) → slice_get of.positions k ≡ Some q → q < 2 ^ 63

@@ -8,7 +8,7 @@ use Rattle.std.proofs.lemmas.List.FromFn.{length-range_with_len}
 use Rattle.std.proofs.lemmas.Option.{same_Some}
 use Rattle.pblk_model.specs.Shape.{units}
 use Rattle.pblk_model.specs.Image.{Image}
-use Rattle.pblk_layout.specs.Live.{units_in}
+use Rattle.pblk_layout.specs.Online.{units_in}
 use Rattle.pblk_world.specs.World.{World, log_of}
 use Rattle.pblk_world.specs.EngineLog.{Placed, stripes_of, stripes_on, has_failed, holds_position}
 use Rattle.pblk_world.specs.Victims.{engine_prefix}
@@ -21,7 +21,7 @@ use Rattle.stripe_placer.specs.Placing.{Program, Placing, UnitRow, program, posi
 use Rattle.stripe_placer.specs.Placing.UnitRow.{UnderWay}
 use Rattle.write_window.specs.Window as view
 use Rattle.core_laws.specs.PlacerOf.{IsAwaited, placing_of, positions_in_stripe}
-use Rattle.world_laws.specs.LegalMounts.{IsLegalMount}
+use Rattle.pblk_world.specs.LegalMounts.{IsLegalMount}
 use Rattle.core_laws.specs.OpenedLines.{open_line}
 use Rattle.core_laws.specs.RowsOf.{row_of_line, rows_of, width_in}
 use Rattle.core_laws.specs.ChunkBlocks.{IsInRow}
@@ -29,6 +29,7 @@ use Rattle.core_laws.proofs.HeldInWorlds.{own_in_window}
 use Rattle.core_laws.specs.ChangedTables.{with_row, full_if}
 use Rattle.core_laws.proofs.LineRoom.{has_room, state_failed, state_open}
 use Rattle.core_laws.proofs.Placed.{stripe_holds}
+use Rattle.pblk_core.specs.Answering.{IsLineOf}
 use Rattle.pblk_core.specs.Landing.{is_open}
 use Rattle.pblk_core.specs.Slots.{IsSlot}
 use Rattle.pblk_core.specs.Stands.{Stands, stripes_left}
@@ -117,9 +118,9 @@ block_within i w unit of mount is = subst (λ n. n + i.shape.ws_opt ≤ i.shape.
 -- ---- the units of its line
 
 pub live_few : (i : Image) (w : World) (c : Core) (unit : ℕ) (of : Program) → IsLegalMount i w → (is : IsOnWay i w unit of)
-    → (has : HasSlot i (log_of w) c.open is.row.opening) → has.slot.live < 2 ^ units i.shape
+    → (has : HasSlot i (log_of w) c.open is.row.opening) → has.slot.online < 2 ^ units i.shape
 live_few i w c unit of mount is has =
-    subst (λ n. n < 2 ^ units i.shape) (sym has.is.live) (known_bits i w (engine_prefix is.row.opening.number (log_of w)) is.row.opening.line mount)
+    subst (λ n. n < 2 ^ units i.shape) (sym has.is.online) (known_bits i w (engine_prefix is.row.opening.number (log_of w)) is.row.opening.line mount)
 
 pub left_some : (i : Image) (w : World) (c : Core) (unit : ℕ) (of : Program) → IsLegalMount i w → (is : IsOnWay i w unit of)
     → (has : HasSlot i (log_of w) c.open is.row.opening) → 0 < has.slot.stripes_left
@@ -180,6 +181,12 @@ got i w c unit of result slot st its inside line first at =
       slot = same_Some slot its.has.slot (sym at ∙ ap (slice_get c.open.slots.items) index ∙ its.has.there);
     }
 
+-- so it is where the line of its number is found
+pub got_line : (i : Image) (w : World) (c : Core) (unit : ℕ) (of : Program) (k : ℕ) (slot : OpenLine) → Stands i (log_of w) c → (its : IsOfCore i w c unit of)
+    → IsLineOf c.open of.line k slot → IsGot i w c unit of k slot its
+got_line i w c unit of k slot st its found = got i w c unit of k slot st its found.inside
+    (λ x is. ap (λ (l : OpenLine). l.records.line) (same_Some x slot (sym is ∙ found.there)) ∙ found.its_line) found.first found.there
+
 -- ---- the table by the two ways
 
 pub lines_kept : (old : Table) (line : ℕ) (row : Row) → slice_get old.rows line ≡ Some row → old ≡ with_row line (full_if false) old
@@ -189,7 +196,7 @@ lines_kept old line row there =
 
 -- its row, and the width there
 pub its_row : (i : Image) (w : World) (c : Core) (unit : ℕ) (of : Program) (live : ℕ) → Stands i (log_of w) c → (its : IsOfCore i w c unit of)
-    → live ≡ its.has.slot.live
+    → live ≡ its.has.slot.online
     → (row : Row) × (slice_get c.lines.rows of.line ≡ Some row) × (length (units_in live) ≡ row.width)
 its_row i w c unit of live st its same =
     let is : IsOnWay i w unit of = its.is in
@@ -199,7 +206,7 @@ its_row i w c unit of live st its same =
     ∙ its.is.its_line in (
       some.0,
       some.1,
-      ap (λ n. length (units_in n)) (same ∙ its.has.is.live) ∙ its.is.line_is.wide_is ∙ sym its.is.line_is.well.width
+      ap (λ n. length (units_in n)) (same ∙ its.has.is.online) ∙ its.is.line_is.wide_is ∙ sym its.is.line_is.well.width
           ∙ ap (width_in i (log_of w) its.is.row.stripe.stripe.line) (sym its.is.stands)
           ∙ ap (λ n. (row_of_line i (log_of w) n).width) (sym line) ∙ ap (λ (r : Row). r.width) at.1,
     )

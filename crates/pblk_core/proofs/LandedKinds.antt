@@ -17,8 +17,8 @@ use Rattle.pblk_world.specs.World.{World, Logs, log_of}
 use Rattle.pblk_world.specs.EngineLog.{Placed, Opening, Taken, takes, stripes_of, has_failed}
 use Rattle.pblk_world.specs.Placing.{IsNext, IsStart, IsData, IsEnd, IsPad, record_blocks, data_blocks, end_address}
 use Rattle.stripe_placer.specs.Placing.{Program}
-use Rattle.world_laws.specs.LegalMounts.{IsLegalMount}
-use Rattle.core_laws.specs.PlacedEntries.{AreNamed}
+use Rattle.pblk_world.specs.LegalMounts.{IsLegalMount}
+use Rattle.core_laws.specs.PlacedEntries.{AreSectorsOrVoid}
 use Rattle.core_laws.proofs.LogOrders.{in_order}
 use Rattle.core_laws.proofs.Followed.{follow}
 use Rattle.core_laws.proofs.LandedNow.{opened_now}
@@ -60,7 +60,7 @@ by_lba s lba = is_some (if nat_lt lba s.capacity then Some (Some lba) else (if l
 
 -- ---- the stripe that is placed next
 
-of_taken : (s : Shape) (log : List Logged) (b : Block) → IsAccepted s → AreNamed s log → IsOfTaken s (takes log) b
+of_taken : (s : Shape) (log : List Logged) (b : Block) → IsAccepted s → AreSectorsOrVoid s log → IsOfTaken s (takes log) b
     → ((b.mark.lba ≡ pad_lba) × (is_some (named s b.mark) ≡ false))
     ⊎ ((b.mark.lba ≢ pad_lba) × (is_some (named s b.mark) ≡ true) × ((t : Taken) × IsAmong (takes log) t × (b.mark ≡ t.mark)))
 of_taken s log b accepted names (inl pad) =
@@ -71,7 +71,7 @@ of_taken s log b accepted names (inr (k, t, at, same)) =
     ap (λ (m : Mark). is_some (named s m)) mark ∙ all_at (λ (t : Taken). is_some (named s t.mark) ≡ true) (takes log) k t at names in
     inr (λ pad. let clash : true ≡ false = sym some ∙ ap (by_lba s) pad ∙ ap is_some (pad_none s accepted) in absurd cc, some, (t, (k, at), mark))
 
-module _ (i : Image) (ls : Logs) (o : Opening) (stripe : Stripe) (accepted : IsAccepted i.shape) (names : AreNamed i.shape (ls 0))
+module _ (i : Image) (ls : Logs) (o : Opening) (stripe : Stripe) (accepted : IsAccepted i.shape) (names : AreSectorsOrVoid i.shape (ls 0))
     (striped : IsStriped i.shape o.start.width) (sound : has_failed (ls 0) o ≡ false) where
   abbrev count : ℕ
   count = length (stripes_of (ls 0) o)
@@ -148,7 +148,7 @@ module _ (i : Image) (w : World) (unit : ℕ) (of : Program) (mount : IsLegalMou
   abbrev o : Opening
   o = is.row.opening
 
-  names : (first more : List Logged) → first ++ more ≡ log_of w 0 → AreNamed i.shape first
+  names : (first more : List Logged) → first ++ more ≡ log_of w 0 → AreSectorsOrVoid i.shape first
   names first more whole =
       (all_front (λ (t : Taken). is_some (named i.shape t.mark) ≡ true) (takes first) (takes more)
       (subst (AllByRecursion (λ (t : Taken). is_some (named i.shape t.mark) ≡ true)) (ap takes (sym whole) ∙ takes_joined first more)

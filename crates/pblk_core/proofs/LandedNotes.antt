@@ -5,7 +5,7 @@ use Rattle.std.specs.Option.{option_map}
 use Rattle.pblk_model.specs.declared.shape.Shape.{Shape}
 use Rattle.pblk_model.specs.Image.{Image}
 use Rattle.pblk_world.specs.Answering.{MayLand, MayLose}
-use Rattle.pblk_world.specs.EngineLog.{Begun, begun, has_failed, is_life, life_of, Opened, Opening, Placed, placements, stripes_of}
+use Rattle.pblk_world.specs.EngineLog.{DidLand, WasLost, Begun, begun, has_failed, is_life, life_of, Opened, Opening, Placed, placements, stripes_of}
 use Rattle.pblk_world.specs.Events.{Decides, Landed, Lost}
 use Rattle.pblk_world.specs.Starts.{has_landed_start, start_stripes}
 use Rattle.pblk_world.specs.World.{World, Logs, log_of}
@@ -15,28 +15,23 @@ use Rattle.lemmas.proofs.Parts.{contained_among, get_set_same, got_within}
 use Rattle.lemmas.proofs.Tests.{not_both, other_number}
 use Rattle.line_table.proofs.Places.{set_twice}
 use Rattle.stripe_placer.specs.OpenLines.{has_left}
-use Rattle.world_laws.specs.LegalMounts.{IsLegalMount}
+use Rattle.pblk_world.specs.LegalMounts.{IsLegalMount}
 use Rattle.core_laws.specs.ClosedLines.{StartNumbers, answered_top, closed_line, newer_start, newest_numbers, starts_left, top_of}
 use Rattle.core_laws.specs.OpenedLines.{open_line}
 use Rattle.core_laws.specs.PlacerOf.{positions_in_stripe, unanswered_on}
 use Rattle.core_laws.specs.Stepping.{after}
 use Rattle.core_laws.proofs.Answered.{first_unanswered}
 use Rattle.core_laws.proofs.AnsweredTops.{IsOfPlaced, of_placed, top_landed, top_lost, top_others}
-use Rattle.core_laws.proofs.ClosedKept.{closed_others}
-use Rattle.core_laws.proofs.ClosedLanded.{closed_as, closed_if, closed_left_landed, closed_left_lost, closed_others_lost, waiting_unclosed}
+use Rattle.core_laws.proofs.ClosedLanded.{closed_as, closed_if, closed_left, closed_others, waiting_unclosed}
 use Rattle.core_laws.proofs.NewestStarts as starts
 use Rattle.core_laws.proofs.OpeningNumbers.{life_at, of_its_line}
 use Rattle.core_laws.proofs.WrittenPositions.{first_positions}
+use Rattle.pblk_core.specs.Answering.{closed_when}
 use Rattle.pblk_core.specs.declared.line_notes.LineNote.{LineNote}
 use Rattle.pblk_core.specs.declared.line_notes.LineNotes.{LineNotes}
 use Rattle.pblk_core.specs.declared.line_notes.StartNote.{StartNote}
 use Rattle.pblk_core.specs.LineNotes.{AreNotes, IsNoteOf, closed_by, newer_note, newest_landed, note_added, note_closed, note_landed, numbers_in, start_in}
 use Rattle.pblk_core.proofs.NotesSet.{notes_set, note_unclosed}
-
--- what becomes of a row where no stripe of its line is left
-abbrev pub closed_when : Bool → LineNote → LineNote
-closed_when true row = note_closed row
-closed_when false row = row
 
 -- ---- what a row keeps
 
@@ -100,25 +95,16 @@ newer_is (Some m) start = go (nat_lt m.seq start.seq)
 -- what becomes of a row where no stripe of its line is left, or one is, with a stripe of its start
 -- record that has landed, or another
 abbrev pub note_answered : Bool → Bool → ℕ → LineNote → LineNote
-note_answered gone start top row = closed_when gone (note_landed start (note_added top row))
+note_answered gone start top row = closed_when gone (note_added top (note_landed start row))
 
--- so far as the calls tell it: blocks are written in the line, and then the stripe has landed
-module _ (old added landed : List LineNote) (line top : ℕ) (start : Bool) (inside : line < length old)
-    (adds : (row : LineNote) → slice_get old line ≡ Some row → added ≡ slice_set old line (note_added top row))
-    (lands : (row : LineNote) → slice_get added line ≡ Some row → landed ≡ slice_set added line (note_landed start row)) where
-  pub rows_landed : (row : LineNote) → slice_get old line ≡ Some row → landed ≡ slice_set old line (note_answered false start top row)
-  rows_landed row there = set_more old added landed line (note_added top row) (note_landed start) inside (adds row there) lands
-
-  -- and the line is closed
-  pub rows_closed : (closed : List LineNote) → ((row : LineNote) → slice_get landed line ≡ Some row → closed ≡ slice_set landed line (note_closed row))
-      → (row : LineNote) → slice_get old line ≡ Some row → closed ≡ slice_set old line (note_answered true start top row)
-  rows_closed closed closes row there =
-      set_closed old landed closed line (note_landed start (note_added top row)) inside (rows_landed row there) closes
-
--- the row in which the position was noted
-pub row_added : (old added : List LineNote) (line top : ℕ) (row : LineNote) → line < length old → added ≡ slice_set old line (note_added top row)
-    → slice_get added line ≡ Some (note_added top row)
-row_added old added line top row inside adds = ap (λ (rows : List LineNote). slice_get rows line) adds ∙ get_set_same old line (note_added top row) inside
+-- so far as the calls tell it: the stripe has landed, and then blocks are written in the line, which
+-- may be closed
+pub rows_answered : (old landed new : List LineNote) (line top : ℕ) (gone start : Bool) → line < length old
+    → ((row : LineNote) → slice_get old line ≡ Some row → landed ≡ slice_set old line (note_landed start row))
+    → ((row : LineNote) → slice_get landed line ≡ Some row → new ≡ slice_set landed line (closed_when gone (note_added top row)))
+    → (row : LineNote) → slice_get old line ≡ Some row → new ≡ slice_set old line (note_answered gone start top row)
+rows_answered old landed new line top gone start inside lands answers row there =
+    set_more old landed new line (note_landed start row) (λ x. closed_when gone (note_added top x)) inside (lands row there) answers
 
 module _ (i : Image) (logs new : Logs) (line : ℕ) (o : Opening) (stands : life_of (logs 0) line ≡ Opened o)
     (lives : (m : ℕ) → life_of (new 0) m ≡ life_of (logs 0) m) (written : ℕ) (start gone : Bool)
@@ -128,25 +114,25 @@ module _ (i : Image) (logs new : Logs) (line : ℕ) (o : Opening) (stands : life
   -- the row of its line
   note_is : (row : LineNote) → IsNoteOf i logs o row → IsNoteOf i new o (note_answered gone start written row)
   note_is row was =
-      let kept = landed_row start (note_added written row) in
-      let all = closed_row gone (note_landed start (note_added written row)) in
+      let kept = landed_row start row in
+      let all = closed_row gone (note_added written (note_landed start row)) in
       record {
         seq = all.seq ∙ kept.seq ∙ was.seq;
         front = all.front ∙ kept.front ∙ was.front;
-        starts_left = all.starts_left ∙ left (note_added written row) was.starts_left;
-        top = all.top ∙ kept.top ∙ ap (λ n. max n written) was.top ∙ sym top;
+        starts_left = all.starts_left ∙ left row was.starts_left;
+        top = all.top ∙ ap (λ n. max n written) (kept.top ∙ was.top) ∙ sym top;
       }
 
   note_closes : (row : LineNote) → IsNoteOf i logs o row → closed_by row ≡ closed_line i logs line
       → closed_by (note_answered gone start written row) ≡ closed_line i new line
   note_closes row was is = go gone ∙ sym closed
     where
-      kept : IsLandedRow (note_added written row) (note_landed start (note_added written row))
-      kept = landed_row start (note_added written row)
+      kept : IsLandedRow row (note_landed start row)
+      kept = landed_row start row
 
       go : (t : Bool) → closed_by (note_answered t start written row) ≡ closed_if t (closed_as i new o)
-      go true = ap₂ (λ seq n. Some (record { seq = seq; top = n })) (kept.seq ∙ was.seq) (kept.top ∙ ap (λ n. max n written) was.top ∙ sym top)
-      go false = unclosed_by (note_landed start (note_added written row)) (kept.closed ∙ note_unclosed row (is ∙ unclosed))
+      go true = ap₂ (λ seq n. Some (record { seq = seq; top = n })) (kept.seq ∙ was.seq) (ap (λ n. max n written) (kept.top ∙ was.top) ∙ sym top)
+      go false = unclosed_by (note_added written (note_landed start row)) (kept.closed ∙ note_unclosed row (is ∙ unclosed))
 
   notes_answered : (old notes : LineNotes) → line < i.shape.chunks
       → ((row : LineNote) → slice_get old.rows.items line ≡ Some row
@@ -280,10 +266,10 @@ module _ (i : Image) (w : World) (mount : IsLegalMount i w) (b : Begun) (begins 
     notes_landed gone old notes gone_is inside rows newest are =
         notes_answered i (log_of w) new line o stands lives (top_of (positions_in_stripe i.shape p.stripe)) start gone
         (waiting_unclosed i w unit p o mount waits life stands)
-        (closed_left_landed i w unit event knows line o mount may stands ∙ ap (λ t. closed_if t (closed_as i new o)) gone_is)
+        (closed_left i w unit (DidLand event) knows line o mount may stands ∙ ap (λ t. closed_if t (closed_as i new o)) gone_is)
         (top_landed i w mount unit event knows p waits o stands may) row_left old notes inside rows
         (λ row there was. ap (option_map numbers_in) (newest row there) ∙ newest_now row old.newest was are.newest)
-        (λ other differs. closed_others i w unit event knows p other mount may waits differs)
+        (λ other differs. closed_others i w unit (DidLand event) knows p other mount may waits differs)
         (λ other q differs is. (
           starts.left_others i.shape (log_of w) unit event knows p q waits (apart other q differs is),
           top_others i w (Landed unit event) unit event knows may.program p other q refl (λ u. refl)
@@ -314,7 +300,7 @@ module _ (i : Image) (w : World) (mount : IsLegalMount i w) (b : Begun) (begins 
       (λ m. life_more (log_of w 0) (record { event = Decides (Lost unit event); knows = knows }) m)
       (top_of (take kept (positions_in_stripe i.shape p.stripe))) false gone
       (waiting_unclosed i w unit p o mount waits life stands)
-      (closed_left_lost i w unit event knows p.stripe.line o mount may stands ∙ ap (λ t. closed_if t (closed_as i lost o)) gone_is)
+      (closed_left i w unit (WasLost event) knows p.stripe.line o mount may stands ∙ ap (λ t. closed_if t (closed_as i lost o)) gone_is)
       (top_lost i w mount unit event knows p waits o stands may
       ∙ ap (λ qs. max (answered_top i (log_of w) o) (top_of qs))
       (first_positions i w p (may.landed_before * i.shape.ws_min) mount
@@ -322,7 +308,7 @@ module _ (i : Image) (w : World) (mount : IsLegalMount i w) (b : Begun) (begins 
       ∙ ap (λ n. take n (positions_in_stripe i.shape p.stripe)) (sym kept_is)))
       (λ row was. was ∙ sym (starts.left_lost i.shape (log_of w) unit event knows p o waits)) old notes inside rows
       (λ row there was. ap (option_map numbers_in) newest ∙ are.newest ∙ sym (starts.newest_lost i w b unit event knows p begins waits))
-      (λ other differs. closed_others_lost i w unit event knows p other mount may waits differs)
+      (λ other differs. closed_others i w unit (WasLost event) knows p other mount may waits differs)
       (λ other q differs is. (
         starts.left_lost i.shape (log_of w) unit event knows p q waits,
         top_others i w (Lost unit event) unit event knows may.program p other q refl (λ u. refl) its differs is,

@@ -11,7 +11,7 @@ use Rattle.pblk_world.specs.World.{World, log_of}
 use Rattle.pblk_world.specs.EngineLog.{Opening, Taken, takes}
 use Rattle.pblk_world.specs.Space.{landed_blocks}
 use Rattle.stripe_placer.specs.Placing.{Program}
-use Rattle.world_laws.specs.LegalMounts.{IsLegalMount}
+use Rattle.pblk_world.specs.LegalMounts.{IsLegalMount}
 use Rattle.core_laws.specs.ChunkBlocks.{chunk_blocks, newly_readable, readable_blocks, unreadable_blocks}
 use Rattle.core_laws.specs.ReadSlots.{address_of_block}
 use Rattle.core_laws.proofs.LostBlocks.{few_readable}

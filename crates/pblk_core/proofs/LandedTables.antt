@@ -1,7 +1,7 @@
 -- The window and the map of a core once a program has landed, given what its records keep of the
 -- blocks of its chunk.
 use Rattle.std.proofs.Common.{◌≡◌, ℕ, ◌+◌, ◌<◌, ◌≤◌, ◌==◌, ◌&&◌, ◌||◌, true, false, Some, List, [], length, refl, sym, subst, ap, ap₂, ◌∙◌, arith}
-use Rattle.std.specs.Prelude.{slice_get, map}
+use Rattle.std.specs.Prelude.{slice_get}
 use Rattle.std.specs.List.{Contains, enumerate_from, list_any}
 use Rattle.std.specs.FinMap as fin
 use Rattle.pblk_model.specs.Image.{Image}
@@ -12,7 +12,7 @@ use Rattle.pblk_world.specs.Fronts.{has_landed_at}
 use Rattle.stripe_placer.specs.Placing.{Program}
 use Rattle.write_window.specs.Window as view
 use Rattle.core_laws.specs.Stepping.{after}
-use Rattle.world_laws.specs.LegalMounts.{IsLegalMount}
+use Rattle.pblk_world.specs.LegalMounts.{IsLegalMount}
 use Rattle.core_laws.specs.SlotOf.{slot_of}
 use Rattle.core_laws.specs.WindowOf.{sectors_in, window_from}
 use Rattle.core_laws.specs.AdvancedEntries.{advanced_window}

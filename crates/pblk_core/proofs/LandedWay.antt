@@ -1,5 +1,5 @@
 -- A program under way in a core's placer, by the logs: its stripe, and which one of its line it is.
-use Rattle.std.proofs.Common.{◌≡◌, ℕ, ◌+◌, ◌-◌, ◌*◌, ◌/◌, ◌%◌, ◌<◌, ◌≤◌, ◌==◌, ◌&&◌, not, Bool, true, Some, None, Option, List, [], length, refl, sym, subst, ap, ◌∙◌, arith, zero-add}
+use Rattle.std.proofs.Common.{◌≡◌, ℕ, ◌+◌, ◌*◌, ◌/◌, ◌%◌, ◌<◌, ◌≤◌, ◌==◌, ◌&&◌, not, Bool, true, Some, None, Option, List, [], length, refl, sym, subst, ap, ◌∙◌, arith, zero-add}
 use Rattle.std.specs.Prelude.{slice_get}
 use Rattle.std.specs.List.{list_any, range_with_len, slice_index_or}
 use Rattle.std.specs.Option.{option_map_or, unwrap_or}
@@ -11,7 +11,7 @@ use Rattle.std.proofs.Math.Nat.{mul-div_cancel}
 use Rattle.pblk_model.specs.declared.shape.Shape.{Shape}
 use Rattle.pblk_model.specs.Shape.{units}
 use Rattle.pblk_model.specs.Image.{Image}
-use Rattle.pblk_layout.specs.Live.{units_in}
+use Rattle.pblk_layout.specs.Online.{units_in}
 use Rattle.pblk_world.specs.Events.{Stripe, Logged}
 use Rattle.pblk_world.specs.World.{World, Logs, log_of}
 use Rattle.pblk_world.specs.EngineLog.{AsFound, Opened, Freed, Opening, LineLife, is_life, life_of, Placed, placements, placed_on, stripes_of, stripes_on, answers}
@@ -26,8 +26,8 @@ use Rattle.core_laws.proofs.LineNumbers.{IsNumbered, numbered}
 use Rattle.core_laws.proofs.PlacedLines.{get_row}
 use Rattle.core_laws.proofs.PartLengths.{IsStriped}
 use Rattle.core_laws.specs.OpenedLines.{as_opened, by_answer, is_stripe_at, outcome, open_line, open_lines, standing}
-use Rattle.core_laws.specs.PlacerOf.{IsAwaited, number_of, placing_of, program_of_placed, row_in, row_of, contains_unit, unanswered_on, waits_again, was_stopped_on}
-use Rattle.world_laws.specs.LegalMounts.{IsLegalMount}
+use Rattle.core_laws.specs.PlacerOf.{IsAwaited, number_of, placing_of, program_of_placed, row_in, unit_row_in, contains_unit, unanswered_on, waits_again, was_stopped_on}
+use Rattle.pblk_world.specs.LegalMounts.{IsLegalMount}
 use Rattle.core_laws.proofs.UnitRows.{under_way_is, stopped_is}
 use Rattle.core_laws.proofs.StripesByPlace.{find_only, not_at}
 use Rattle.core_laws.proofs.Answered.{first_unanswered}
@@ -70,10 +70,10 @@ of_stripe i logs stopped (Some p) of e = go p.life refl e
 pub of_row : (i : Image) (logs : Logs) (pad : ℕ) (again : List ℕ) (unit : ℕ) (of : Program)
     → slice_get (placing_of i logs pad again).units unit ≡ Some (UnderWay of) → IsOfRow i logs unit of
 of_row i logs pad again unit of there =
-    let row : (unit < units i.shape) × (row_of i logs again (0 + unit) ≡ UnderWay of) =
-    row_at (row_of i logs again) (units i.shape) 0 unit (UnderWay of) there in
+    let row : (unit < units i.shape) × (unit_row_in i logs again (0 + unit) ≡ UnderWay of) =
+    row_at (unit_row_in i logs again) (units i.shape) 0 unit (UnderWay of) there in
     let whole : 0 + unit ≡ unit = zero-add unit in
-    let its = of_stripe i logs (waits_again (logs 0) again unit) (unanswered_on (logs 0) unit) of (ap (row_of i logs again) (sym whole) ∙ row.1) in
+    let its = of_stripe i logs (waits_again (logs 0) again unit) (unanswered_on (logs 0) unit) of (ap (unit_row_in i logs again) (sym whole) ∙ row.1) in
     record { inside = row.0; stripe = its.0; opening = its.1; waits = its.2; life = its.3; is = its.4 }
 
 -- of a unit whose program was stopped
@@ -92,10 +92,10 @@ of_stop i logs stopped (Some p) of e = go p.life refl e
 pub of_stopped_row : (i : Image) (logs : Logs) (pad : ℕ) (again : List ℕ) (unit : ℕ) (of : Program)
     → slice_get (placing_of i logs pad again).units unit ≡ Some (Stopped of) → IsOfRow i logs unit of × (was_stopped_on (logs 0) unit ≡ true)
 of_stopped_row i logs pad again unit of there =
-    let row : (unit < units i.shape) × (row_of i logs again (0 + unit) ≡ Stopped of) =
-    row_at (row_of i logs again) (units i.shape) 0 unit (Stopped of) there in
+    let row : (unit < units i.shape) × (unit_row_in i logs again (0 + unit) ≡ Stopped of) =
+    row_at (unit_row_in i logs again) (units i.shape) 0 unit (Stopped of) there in
     let whole : 0 + unit ≡ unit = zero-add unit in
-    let its = of_stop i logs (waits_again (logs 0) again unit) (unanswered_on (logs 0) unit) of (ap (row_of i logs again) (sym whole) ∙ row.1) in (
+    let its = of_stop i logs (waits_again (logs 0) again unit) (unanswered_on (logs 0) unit) of (ap (unit_row_in i logs again) (sym whole) ∙ row.1) in (
       record { inside = row.0; stripe = its.0; opening = its.1; waits = its.2; life = its.3; is = its.4 },
       first_of (was_stopped_on (logs 0) unit) (not (contains_unit again unit)) its.5,
     )
@@ -106,7 +106,7 @@ seen_at : Shape → ℕ → ℕ → ℕ → ℕ → Bool
 seen_at s live unit block j = (slice_index_or (units_in live) (j % length (units_in live)) 0 == unit) && (j / length (units_in live) * s.ws_opt == block)
 
 -- the number by a line of the same units
-pub number_at : (s : Shape) (l m : OpenLine) (stripe : Stripe) (j : ℕ) → l.live ≡ m.live → 0 < s.ws_opt → 0 < width m → j < length l.stripes
+pub number_at : (s : Shape) (l m : OpenLine) (stripe : Stripe) (j : ℕ) → l.online ≡ m.online → 0 < s.ws_opt → 0 < width m → j < length l.stripes
     → is_stripe_at s m stripe.unit stripe.at j ≡ true → number_of s l stripe ≡ j
 unfolding seen_at
 number_at s l m stripe j same some wide inside there =
@@ -120,7 +120,7 @@ number_at s l m stripe j same some wide inside there =
 
 -- the line without stripes
 pub record IsLineKept (i : Image) (w : World) (o : Opening) : Type 0 where
-  pub units : units_in (as_opened i (log_of w) o).live ≡ now_units i w o.line
+  pub units : units_in (as_opened i (log_of w) o).online ≡ now_units i w o.line
   pub wide_is : width (as_opened i (log_of w) o) ≡ wide (now_units i w) o.line
   pub count : length (as_opened i (log_of w) o).stripes ≡ stripe_count i (now_units i w) o.line
   pub well : IsOpenedLine i (now_units i w) o.line o
@@ -129,7 +129,7 @@ pub record IsLineKept (i : Image) (w : World) (o : Opening) : Type 0 where
 pub line_kept : (i : Image) (w : World) (o : Opening) → IsLegalMount i w → life_of (log_of w 0) o.line ≡ Opened o → IsLineKept i w o
 line_kept i w o mount life =
     let steady : IsFollowed i (now_units i w) w = follow i w mount in
-    let units : units_in (as_opened i (log_of w) o).live ≡ now_units i w o.line = units_back i (now_units i w) w o steady life in
+    let units : units_in (as_opened i (log_of w) o).online ≡ now_units i w o.line = units_back i (now_units i w) w o steady life in
     let wide_is : width (as_opened i (log_of w) o) ≡ wide (now_units i w) o.line = ap (λ (us : List ℕ). length us) units in
     let well : IsOpenedLine i (now_units i w) o.line o = opened_lines i (now_units i w) w steady o.line o life in
     record {

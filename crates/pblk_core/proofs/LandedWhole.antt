@@ -9,18 +9,18 @@ use Rattle.std.proofs.Math.Nat.{mul-div_cancel}
 use Rattle.pblk_model.specs.Image.{Image}
 use Rattle.pblk_world.specs.Events.{Landed, Logged}
 use Rattle.pblk_world.specs.World.{World, log_of}
-use Rattle.pblk_world.specs.EngineLog.{Opening, answer_of, has_failed, has_landed, is_life, Placed, stripes_of}
+use Rattle.pblk_world.specs.EngineLog.{DidLand, Opening, answer_of, has_failed, has_landed, is_life, Placed, stripes_of}
 use Rattle.pblk_world.specs.Placing.{line_end}
 use Rattle.pblk_world.specs.Starts.{have_landed}
 use Rattle.stripe_placer.specs.OpenLines as line
 use Rattle.stripe_placer.specs.OpenLines.{OpenLine, is_landed, is_lost, has_left, with_stripe}
 use Rattle.stripe_placer.specs.OpenLines.Stripe.{Unplaced, Unanswered, Landed as HasLanded}
 use Rattle.stripe_placer.specs.Placing.{Program}
-use Rattle.core_laws.specs.InOrder.{HasRoom}
+use Rattle.core_laws.specs.InOrder.{FitsItsLine}
 use Rattle.core_laws.specs.LandedStripes.{landed_count}
 use Rattle.core_laws.specs.OpenedLines.{open_line}
 use Rattle.core_laws.specs.Stepping.{after}
-use Rattle.world_laws.specs.LegalMounts.{IsLegalMount}
+use Rattle.pblk_world.specs.LegalMounts.{IsLegalMount}
 use Rattle.core_laws.proofs.Followed.{follow}
 use Rattle.core_laws.proofs.HistorySectors.{set_length}
 use Rattle.core_laws.proofs.KeptStripes.{stripes_kept}
@@ -29,10 +29,10 @@ use Rattle.core_laws.proofs.LandedLines.{left_by_landing}
 use Rattle.core_laws.proofs.LineForms.{IsLineOf, answered_as, formed, line_of}
 use Rattle.core_laws.proofs.LineRoom.{failed_not_landed, has_room}
 use Rattle.core_laws.proofs.NextStripes.{landed_is as landed_by, unfailed}
+use Rattle.core_laws.proofs.NotedAnswers.{placements_noted}
 use Rattle.core_laws.proofs.OpenAddresses.{failed_kept}
 use Rattle.core_laws.proofs.StripesInOrder.{stripe_count}
 use Rattle.pblk_core.specs.Stands.{stripes_left}
-use Rattle.pblk_core.proofs.LandedLogs.{stripes_landed}
 use Rattle.pblk_core.proofs.LandedWay.{IsOnWay, waits_there}
 use Rattle.pblk_core.proofs.LineCounts.{left_landed, none_left, some_left}
 use Rattle.pblk_core.proofs.LineUnits.{now_units}
@@ -185,14 +185,14 @@ module _ (i : Image) (w : World) (mount : IsLegalMount i w) (unit : ℕ) (of : P
       ∙ ap (λ n. n / i.shape.ws_opt) (sym is.line_is.striped.line_is)
       ∙ mul-div_cancel (stripe_count i (now_units i w) is.row.opening.line) is.line_is.striped.some
 
-  room_then : (event : ℕ) (knows : List ℕ) → HasRoom i.shape (after (log_of w) (Landed unit event) knows 0) is.row.opening
+  room_then : (event : ℕ) (knows : List ℕ) → FitsItsLine i.shape (after (log_of w) (Landed unit event) knows 0) is.row.opening
   room_then event knows =
-      let room : HasRoom i.shape (log_of w 0) is.row.opening = has_room i w is.row.stripe.stripe.line is.row.opening mount is.stands in
+      let room : FitsItsLine i.shape (log_of w 0) is.row.opening = has_room i w is.row.stripe.stripe.line is.row.opening mount is.stands in
       record {
         some = room.some;
         within =
             subst (λ (ps : List Placed). length ps * i.shape.ws_opt ≤ line_end i.shape is.row.opening)
-            (sym (stripes_landed (log_of w) unit event knows is.row.opening)) room.within;
+            (sym (ap (filter (λ (q : Placed). is_life is.row.opening.number q.life)) (placements_noted (log_of w 0) unit knows (DidLand event)))) room.within;
       }
 
   -- it has landed whole where no stripe is left and none was lost

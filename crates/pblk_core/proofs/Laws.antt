@@ -12,7 +12,7 @@ use Rattle.core_laws.proofs.OneStripe.{one_stripe}
 use Rattle.core_laws.proofs.UnitTurns.{stands_at_turn}
 use Rattle.lemmas.proofs.Lists.{IsAmong}
 use Rattle.line_table.proofs.Places.{eqb-same}
-use Rattle.world_laws.specs.LegalMounts.{IsLegalMount}
+use Rattle.pblk_world.specs.LegalMounts.{IsLegalMount}
 use Rattle.pblk_core.specs.Resets.{used_units, units_to_reset, resets_of}
 use Rattle.pblk_core.proofs.FirstReset.{none_of_any}
 use Rattle.pblk_core.proofs.LineBits.{known_count}

@@ -1,6 +1,4 @@
 pub mod LostHolds
-pub mod LostLogs
-pub mod LostResets
 pub mod NotesKept
 pub mod NotesSet
 pub mod DataBlocks
@@ -15,7 +13,6 @@ pub mod LineUnits
 pub mod KnownAfter
 pub mod CountedRanges
 pub mod LineCounts
-pub mod LandedProgram
 pub mod UsedBits
 pub mod ResetLists
 pub mod LineBits
@@ -62,13 +59,18 @@ pub mod StandsBegun
 pub mod ReadBlocks
 pub mod ReadRuns
 pub mod LandedWay
-pub mod LandedLogs
 pub mod LandedLines
 pub mod AnsweredOpen
 pub mod AnsweredLines
+pub mod AnsweredProgram
+pub mod AnsweredLogs
+pub mod AnsweredNow
+pub mod StandsAnswered
+pub mod StripeUnderWay
 pub mod LandedWhole
 pub mod StandsLanded
 pub mod KeptFrames
+mod KeptStripes
 pub mod LandedCore
 pub mod LandedEntries
 pub mod LandedMap
@@ -76,11 +78,9 @@ pub mod LandedReads
 pub mod ReadTables
 pub mod LandedTables
 pub mod LostTables
-pub mod LostNow
 pub mod AllWait
 pub mod LostRoom
 pub mod LookedAgain
-pub mod LandedNow
 pub mod LandedChunk
 pub mod LandedKinds
 pub mod StandsLemmas

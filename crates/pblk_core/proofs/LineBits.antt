@@ -4,11 +4,11 @@ use Rattle.std.specs.List.{filter, range_with_len}
 use Rattle.pblk_model.specs.Shape.{units}
 use Rattle.pblk_model.specs.Image.{Image, line_units, width}
 use Rattle.pblk_laws.proofs.LineUnits.{line_units_count}
-use Rattle.pblk_layout.specs.Live.{units_in, is_live}
+use Rattle.pblk_layout.specs.Online.{units_in, is_online}
 use Rattle.pblk_world.specs.World.{World, Logs}
 use Rattle.pblk_world.specs.Lines.{known_image}
 use Rattle.core_laws.specs.OpenedLines.{bits_of}
-use Rattle.world_laws.specs.LegalMounts.{IsLegalMount}
+use Rattle.pblk_world.specs.LegalMounts.{IsLegalMount}
 use Rattle.core_laws.proofs.KeptLines.{few_units}
 use Rattle.core_laws.proofs.UnitBits.{bits_back, bits_few, units_below}
 use Rattle.lemmas.proofs.Maps.{filter_short}
@@ -29,14 +29,14 @@ range_length a (suc n) = ap suc (range_length (a + 1) n)
 
 pub known_units : (i : Image) (w : World) (ls : Logs) (line : ℕ) → IsLegalMount i w → length (line_units (known_image i ls) line) ≤ units i.shape
 known_units i w ls line mount =
-    let all : length (filter (is_live (known_image i ls) line) (range_with_len 0 (length (known_image i ls).units))) ≤ length
+    let all : length (filter (is_online (known_image i ls) line) (range_with_len 0 (length (known_image i ls).units))) ≤ length
     (range_with_len 0 (length (known_image i ls).units)) =
-    filter_short (is_live (known_image i ls) line) (range_with_len 0 (length (known_image i ls).units)) in
+    filter_short (is_online (known_image i ls) line) (range_with_len 0 (length (known_image i ls).units)) in
     let count : length (range_with_len 0 (length (known_image i ls).units)) ≡ length (known_image i ls).units =
     range_length 0 (length (known_image i ls).units) in
     let own : length (known_image i ls).units ≡ units i.shape = known_count i w ls mount in
     let same : length (line_units (known_image i ls) line) ≡ length
-    (filter (is_live (known_image i ls) line) (range_with_len 0 (length (known_image i ls).units))) =
+    (filter (is_online (known_image i ls) line) (range_with_len 0 (length (known_image i ls).units))) =
     ap (λ (us : List ℕ). length us) (units_below (known_image i ls) line (few_units i w ls mount)) in
     omega arith
 

@@ -43,5 +43,5 @@ opened_earlier log k p o there life =
 
 -- ---- the line as it was opened, by a later prefix
 
-pub same_live : (i : Image) (logs : Logs) (o : Opening) (n : ℕ) → o.number ≤ n → (as_opened i (engine_prefix n logs) o).live ≡ (as_opened i logs o).live
+pub same_live : (i : Image) (logs : Logs) (o : Opening) (n : ℕ) → o.number ≤ n → (as_opened i (engine_prefix n logs) o).online ≡ (as_opened i logs o).online
 same_live i logs o n within = ap (λ (ls : Logs). bits_of (line_units (known_image i ls) o.line)) (prefix_twice logs o.number n within)

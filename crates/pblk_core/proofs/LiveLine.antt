@@ -17,7 +17,7 @@ use Rattle.pblk_world.specs.Lines.{found_image}
 use Rattle.pblk_world.specs.Space.{gives_back, freed}
 use Rattle.pblk_world.specs.Victims.{is_in_force, line_of_position, line_of, landed_line, landed_line_of}
 use Rattle.l2p_map.specs.declared.slot.Slot.TheVariants.{Cached}
-use Rattle.world_laws.specs.LegalMounts.{IsLegalMount}
+use Rattle.pblk_world.specs.LegalMounts.{IsLegalMount}
 use Rattle.core_laws.specs.SlotOf.{slot_of, slot_by, slot_of_entry, slot_of_winner, media_of}
 use Rattle.core_laws.specs.WindowOf.{HeldSector, HeldSectors, held_of, is_given_back, progress_by, without_frame}
 use Rattle.core_laws.proofs.Placing.{not_below}

@@ -17,7 +17,7 @@ use Rattle.line_table.specs.declared.row.LineState.TheVariants.{Failed, Open}
 use Rattle.line_table.specs.declared.row.Row.{Row}
 use Rattle.line_table.specs.Rows.{IsRow, Table}
 use Rattle.stripe_placer.specs.Placing.{Program}
-use Rattle.world_laws.specs.LegalMounts.{IsLegalMount}
+use Rattle.pblk_world.specs.LegalMounts.{IsLegalMount}
 use Rattle.core_laws.specs.Stepping.{after}
 use Rattle.core_laws.proofs.LostAddresses.{addresses_lost}
 use Rattle.core_laws.proofs.LostRows.{live_lost}

@@ -15,7 +15,7 @@ use Rattle.pblk_world.specs.EngineLog.{Taken, takes}
 use Rattle.pblk_world.specs.EngineLog.{holds_position}
 use Rattle.line_table.specs.Rows.{Table}
 use Rattle.line_table.proofs.Places.{get_set_same, get_set_other}
-use Rattle.world_laws.specs.LegalMounts.{IsLegalMount}
+use Rattle.pblk_world.specs.LegalMounts.{IsLegalMount}
 use Rattle.pblk_world.proofs.EngineLogLemmas.{takes_more}
 use Rattle.core_laws.specs.EntryHolds.{later_take, placed_line}
 use Rattle.core_laws.specs.PlacedEntries.{lower_by, lower_entries, lower_entry, taker_of}

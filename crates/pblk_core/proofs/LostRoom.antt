@@ -20,7 +20,7 @@ use Rattle.pblk_world.specs.Victims.{position_in}
 use Rattle.stripe_placer.specs.Entries.{waiting}
 use Rattle.stripe_placer.specs.Placing.{Placing, Program, UnitRow, held, lost, positions_in}
 use Rattle.stripe_placer.specs.Placing.UnitRow.{Idle, UnderWay}
-use Rattle.world_laws.specs.LegalMounts.{IsLegalMount}
+use Rattle.pblk_world.specs.LegalMounts.{IsLegalMount}
 use Rattle.core_laws.specs.PlacerOf.{placing_of}
 use Rattle.core_laws.specs.WindowOf.{is_given_back}
 use Rattle.core_laws.proofs.CachedEntries.{numbered_at}

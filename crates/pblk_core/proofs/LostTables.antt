@@ -10,7 +10,7 @@ use Rattle.pblk_world.specs.EngineLog.{bears_position}
 use Rattle.pblk_world.specs.Fronts.{has_landed_at}
 use Rattle.stripe_placer.specs.Placing.{Program}
 use Rattle.write_window.specs.Window as view
-use Rattle.world_laws.specs.LegalMounts.{IsLegalMount}
+use Rattle.pblk_world.specs.LegalMounts.{IsLegalMount}
 use Rattle.core_laws.specs.Stepping.{after}
 use Rattle.core_laws.specs.AdvancedEntries.{advanced_window}
 use Rattle.core_laws.specs.ChunkBlocks.{unreadable_blocks}

@@ -8,7 +8,7 @@ use Rattle.pblk_model.specs.declared.chunk.ChunkState.{ChunkState}
 use Rattle.pblk_model.specs.declared.chunk.ChunkState.TheVariants as states
 use Rattle.pblk_model.specs.declared.found.Found.{Found}
 use Rattle.pblk_model.specs.declared.shape.Shape.{Shape}
-use Rattle.pblk_model.specs.Found.{IsFitFound, live_unit, state_at}
+use Rattle.pblk_model.specs.Found.{IsFitFound, online_unit, state_at}
 use Rattle.pblk_model.specs.Shape.{units}
 use Rattle.core_laws.specs.OnlineUnits.{online_bits}
 use Rattle.core_laws.specs.OpenedLines.{bits_of}
@@ -36,7 +36,7 @@ made_kept give own (x ∷ xs) = go (own x) (made_kept give own xs)
         ap (λ o. cons_option o (filter_map give xs)) some ∙ ap (λ ys. x ∷ ys) rest
         ∙ sym (ap (λ o. cond (is_some o) (x ∷ filter (λ u. is_some (give u)) xs) (filter (λ u. is_some (give u)) xs)) some)
 
-own_unit : (o : Option ChunkState) (unit : ℕ) → (live_unit o unit ≡ None) ⊎ (live_unit o unit ≡ Some unit)
+own_unit : (o : Option ChunkState) (unit : ℕ) → (online_unit o unit ≡ None) ⊎ (online_unit o unit ≡ Some unit)
 own_unit None unit = inl refl
 own_unit (Some states.Free) unit = inr refl
 own_unit (Some states.Open) unit = inr refl
@@ -45,8 +45,8 @@ own_unit (Some states.Offline) unit = inl refl
 
 online_below : (s : Shape) (f : Found) (line : ℕ) → online_bits s f line < 2 ^ units s
 online_below s f line = subst (λ us. bits_of us < 2 ^ units s)
-    (sym (made_kept (λ unit. live_unit (state_at s f line unit) unit) (λ unit. own_unit (state_at s f line unit) unit) (range_with_len 0 (units s))))
-    (kept_below (λ unit. is_some (live_unit (state_at s f line unit) unit)) (units s))
+    (sym (made_kept (λ unit. online_unit (state_at s f line unit) unit) (λ unit. own_unit (state_at s f line unit) unit) (range_with_len 0 (units s))))
+    (kept_below (λ unit. is_some (online_unit (state_at s f line unit) unit)) (units s))
 
 -- ---- the tables
 
@@ -57,9 +57,9 @@ made_tabled s f c fit is =
       each = record {
         rows = is.lines.lines ∙ chunks;
         noted = ap length is.notes ∙ length-map f.lines note_found ∙ fit.lines ∙ chunks;
-        online = ap length is.live ∙ length_mapped (online_bits s f) 0 s.chunks ∙ chunks;
+        online = ap length is.online ∙ length_mapped (online_bits s f) 0 s.chunks ∙ chunks;
         few = λ line live there.
-            let row = row_at (online_bits s f) s.chunks 0 line live (ap (λ us. slice_get us line) (sym is.live) ∙ there) in
+            let row = row_at (online_bits s f) s.chunks 0 line live (ap (λ us. slice_get us line) (sym is.online) ∙ there) in
             subst (λ (x : Shape). live < 2 ^ units x) (sym is.layout) (subst (λ n. n < 2 ^ units s) row.1 (online_below s f (0 + line)));
       };
       count = is.lines_held ∙ chunks;

@@ -14,7 +14,7 @@ use Rattle.pblk_world.specs.Events.{Logged}
 use Rattle.pblk_world.specs.World.{World, Logs, log_of}
 use Rattle.pblk_world.specs.EngineLog.{Begun, begun, LineLife, AsFound, Opened, Freed, Opening, life_of}
 use Rattle.pblk_world.specs.Lines.{found_by, found_image, known_image, is_stray, stray_lines, is_given_up_by, strays_of, is_given_up}
-use Rattle.world_laws.specs.LegalMounts.{IsLegalMount}
+use Rattle.pblk_world.specs.LegalMounts.{IsLegalMount}
 use Rattle.world_laws.proofs.FoundImages.{found_strays}
 use Rattle.core_laws.proofs.MadeLists.{any_passed}
 use Rattle.stripe_placer.specs.Placing.{next_stripe}

@@ -17,7 +17,7 @@ use Rattle.line_table.specs.Rows.{Table, IsRow, noted}
 use Rattle.line_table.proofs.Places.{get_set_same}
 use Rattle.stripe_placer.specs.Placing.{Program}
 use Rattle.core_laws.specs.PlacerOf.{positions_of}
-use Rattle.world_laws.specs.LegalMounts.{IsLegalMount}
+use Rattle.pblk_world.specs.LegalMounts.{IsLegalMount}
 use Rattle.core_laws.specs.WindowOf.{is_given_back}
 use Rattle.core_laws.proofs.StillWaiting.{holds_is as bears_is}
 use Rattle.core_laws.proofs.Growing.{given_landed}

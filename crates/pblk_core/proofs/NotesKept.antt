@@ -5,7 +5,7 @@ use Rattle.pblk_world.specs.EngineLog.{Begun, begun, begun_by, Opened, Opening, 
 use Rattle.pblk_world.specs.Events.{Decides, EngineEvent}
 use Rattle.pblk_world.specs.Lines.{known_image, told_by}
 use Rattle.pblk_world.specs.World.{World, Logs, log_of}
-use Rattle.world_laws.specs.LegalMounts.{IsLegalMount}
+use Rattle.pblk_world.specs.LegalMounts.{IsLegalMount}
 use Rattle.core_laws.specs.ClosedLines.{ClosedLine, answered_top, closed_line, newest_numbers, starts_left}
 use Rattle.core_laws.specs.LandedStripes.{keeps_landed}
 use Rattle.core_laws.specs.Stepping.{after}

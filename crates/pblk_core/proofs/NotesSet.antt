@@ -18,7 +18,7 @@ use Rattle.pblk_world.proofs.EngineLogLemmas.{opened_same}
 use Rattle.lemmas.proofs.Options.{none_there}
 use Rattle.lemmas.proofs.Parts.{get_set_other, get_set_same}
 use Rattle.lemmas.proofs.Tests.{first_of, not_true}
-use Rattle.world_laws.specs.LegalMounts.{IsLegalMount}
+use Rattle.pblk_world.specs.LegalMounts.{IsLegalMount}
 use Rattle.core_laws.specs.ClosedLines.{ClosedLine, answered_top, closed_line, newest_numbers, starts_left}
 use Rattle.core_laws.specs.Stepping.{after}
 use Rattle.core_laws.proofs.AnsweredTops.{top_kept, top_opened}

@@ -15,13 +15,13 @@ use Rattle.pblk_world.specs.World.{World, Logs, log_of}
 use Rattle.pblk_world.specs.EngineLog.{Begun, begun, Opening, Opened, is_opened, life_of}
 use Rattle.pblk_world.specs.Lines.{known_image, has_number, are_empty, line_data}
 use Rattle.pblk_world.specs.Opening.{MayOpen}
-use Rattle.pblk_layout.specs.Live.{units_in}
+use Rattle.pblk_layout.specs.Online.{units_in}
 use Rattle.line_table.specs.Rows.{is_free}
 use Rattle.write_window.specs.Window as view
 use Rattle.stripe_placer.specs.OpenLines.{OpenLine as PlacedLine, opened}
 use Rattle.stripe_placer.specs.OpenLines.Stripe.{Unplaced}
-use Rattle.core_laws.specs.OpenedLines.{live_now, open_line, open_lines}
-use Rattle.world_laws.specs.LegalMounts.{IsLegalMount}
+use Rattle.core_laws.specs.OpenedLines.{online_now, open_line, open_lines}
+use Rattle.pblk_world.specs.LegalMounts.{IsLegalMount}
 use Rattle.core_laws.proofs.PlacedLines.{get_row as row_there}
 use Rattle.core_laws.proofs.LeftLines.{lines_of_left, left_opened}
 use Rattle.core_laws.specs.LeastFree.{IsLeastFree}
@@ -141,25 +141,25 @@ pub record IsNextLine (i : Image) (w : World) (c : Core) : Type 0 where
   pub least : IsLeastFree i (log_of w) (next_line c)
   pub closed : is_opened (life_of (log_of w 0) (next_line c)) ≡ false
   -- its units are those that are known
-  pub live : slice_get c.live.items (next_line c) ≡ Some (live_now i (log_of w) (next_line c))
-  pub units_are : next_units c ≡ live_now i (log_of w) (next_line c)
+  pub online : slice_get c.online.items (next_line c) ≡ Some (online_now i (log_of w) (next_line c))
+  pub units_are : next_units c ≡ online_now i (log_of w) (next_line c)
   pub small : next_units c < 2 ^ units i.shape
   pub wide : length (units_in (next_units c)) ≡ width (known_image i (log_of w)) (next_line c)
   pub few : width (known_image i (log_of w)) (next_line c) ≤ units i.shape
   pub data_some : 0 < data_len i.shape (width (known_image i (log_of w)) (next_line c))
-  pub stripes : 0 < length (opened i.shape (next_line c) (live_now i (log_of w) (next_line c))).stripes
+  pub stripes : 0 < length (opened i.shape (next_line c) (online_now i (log_of w) (next_line c))).stripes
 
 pub next_line_is : (i : Image) (w : World) (c : Core) → IsLegalMount i w → Stands i (log_of w) c → MayOpenNext c → IsNextLine i w c
 next_line_is i w c mount st may = record {
   least = least;
   closed = free_unopened i (log_of w) line least.is_free;
-  live = there;
+  online = there;
   units_are = is;
   small = subst (λ m. m < 2 ^ units i.shape) (sym is) (known_bits i w (log_of w) (next_line c) mount);
   wide = ap (λ m. length (units_in m)) is ∙ count;
   few = known_width i w (log_of w) (next_line c) mount;
   data_some = data_is;
-  stripes = subst (λ k. 0 < k) (sym (length_replicate (length (units_in (live_now i (log_of w) line)) * (i.shape.clba / i.shape.ws_opt)) Unplaced))
+  stripes = subst (λ k. 0 < k) (sym (length_replicate (length (units_in (online_now i (log_of w) line)) * (i.shape.clba / i.shape.ws_opt)) Unplaced))
       (subst (λ g. 0 < g * (i.shape.clba / i.shape.ws_opt)) (sym count)
       (has_stripes i.shape (width (known_image i (log_of w)) (next_line c)) mount.accepted data_is));
 }
@@ -175,34 +175,34 @@ next_line_is i w c mount st may = record {
         (third (not (has_number i (log_of w) (life_of (log_of w 0) (next_line c)) (next_line c))) (are_empty (known_image i (log_of w)) (next_line c))
         (nat_lt 0 (line_data (known_image i (log_of w)) (next_line c))) least.is_free)
 
-    count : length (units_in (live_now i (log_of w) (next_line c))) ≡ width (known_image i (log_of w)) (next_line c)
+    count : length (units_in (online_now i (log_of w) (next_line c))) ≡ width (known_image i (log_of w)) (next_line c)
     count = bits_width i w (log_of w) (next_line c) mount
 
-    there : slice_get c.live.items (next_line c) ≡ Some (live_now i (log_of w) (next_line c))
+    there : slice_get c.online.items (next_line c) ≡ Some (online_now i (log_of w) (next_line c))
     there =
         let first : 0 + next_line c ≡ next_line c = omega arith in
-        ap (λ us. slice_get us (next_line c)) st.units ∙ row_there (live_now i (log_of w)) i.shape.chunks 0 (next_line c) least.in_range
-        ∙ ap (λ m. Some (live_now i (log_of w) m)) first
+        ap (λ us. slice_get us (next_line c)) st.units ∙ row_there (online_now i (log_of w)) i.shape.chunks 0 (next_line c) least.in_range
+        ∙ ap (λ m. Some (online_now i (log_of w) m)) first
 
-    is : next_units c ≡ live_now i (log_of w) (next_line c)
-    is = get_or_from_slice_get c.live.items (next_line c) (live_now i (log_of w) (next_line c)) 0 there
+    is : next_units c ≡ online_now i (log_of w) (next_line c)
+    is = get_or_from_slice_get c.online.items (next_line c) (online_now i (log_of w) (next_line c)) 0 there
 
 -- what is found of it
 pub chosen : (i : Image) (w : World) (c : Core) (line live d : ℕ) → IsLegalMount i w → Stands i (log_of w) c → MayOpenNext c
-    → position is_free c.lines.rows ≡ Some line → live ≡ slice_index_or c.live.items line d
+    → position is_free c.lines.rows ≡ Some line → live ≡ slice_index_or c.online.items line d
     → (next_line c ≡ line) × (live ≡ next_units c)
 chosen i w c line live d mount st may found is =
     let next : IsNextLine i w c = next_line_is i w c mount st may in
     let at : next_line c ≡ line = same_Some (next_line c) line (sym may.line ∙ found) in (
       at,
-      is ∙ ap (λ n. slice_index_or c.live.items n d) (sym at)
-          ∙ get_or_from_slice_get c.live.items (next_line c) (live_now i (log_of w) (next_line c)) d next.live ∙ sym next.units_are,
+      is ∙ ap (λ n. slice_index_or c.online.items n d) (sym at)
+          ∙ get_or_from_slice_get c.online.items (next_line c) (online_now i (log_of w) (next_line c)) d next.online ∙ sym next.units_are,
     )
 
 -- its width is at most the number of units
 pub chosen_few : (i : Image) (w : World) (c : Core) (line live d width : ℕ) → IsLegalMount i w → Stands i (log_of w) c → MayOpenNext c
     → position is_free c.lines.rows ≡ Some line
-    → live ≡ slice_index_or c.live.items line d → ((n : ℕ) → live < 2 ^ n → width ≤ n) → width ≤ units c.layout
+    → live ≡ slice_index_or c.online.items line d → ((n : ℕ) → live < 2 ^ n → width ≤ n) → width ≤ units c.layout
 chosen_few i w c line live d width mount st may found is few =
     let small : live < 2 ^ units i.shape =
     subst (λ m. m < 2 ^ units i.shape) (sym (chosen i w c line live d mount st may found is).1) (next_line_is i w c mount st may).small in

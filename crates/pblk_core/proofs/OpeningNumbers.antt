@@ -16,7 +16,7 @@ use Rattle.pblk_world.specs.Lines.{found_image}
 use Rattle.pblk_world.specs.Space.{freed}
 use Rattle.pblk_world.specs.Starts.{found_row, older_row, older_rows}
 use Rattle.write_window.specs.Window as view
-use Rattle.world_laws.specs.LegalMounts.{IsLegalMount}
+use Rattle.pblk_world.specs.LegalMounts.{IsLegalMount}
 use Rattle.line_table.proofs.Places.{eqb-same}
 use Rattle.core_laws.proofs.Growing.{freed_within}
 use Rattle.core_laws.proofs.Happened.{happened}

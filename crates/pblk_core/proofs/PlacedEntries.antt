@@ -19,7 +19,7 @@ use Rattle.core_laws.specs.ChangedTables.{note_by}
 use Rattle.core_laws.specs.PlacedEntries.{next_take, taker_of, place_by, place_entry, place_entries, note_entry, note_entries}
 use Rattle.core_laws.specs.PlacerOf.{positions_of, positions_in_stripe}
 use Rattle.pblk_world.specs.Fronts.{waiting}
-use Rattle.world_laws.specs.LegalMounts.{IsLegalMount}
+use Rattle.pblk_world.specs.LegalMounts.{IsLegalMount}
 use Rattle.core_laws.specs.WindowOf.{is_given_back}
 use Rattle.core_laws.proofs.Placing.{with_place, IsPlacing}
 use Rattle.core_laws.proofs.PlacedInOrder.{ordered}

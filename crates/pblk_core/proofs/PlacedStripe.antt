@@ -25,8 +25,8 @@ use Rattle.core_laws.proofs.PaddedLines.{fails_with, low, unit, unit_is}
 use Rattle.core_laws.proofs.LeftLines.{left_apart}
 use Rattle.stripe_placer.specs.Placing.{Program, allows, is_ready, next_in, next_positions, next_stripe, stopped_in}
 use Rattle.core_laws.specs.OpenedLines.{open_line, standing}
-use Rattle.core_laws.specs.PlacerOf.{entries_of, placing_of, positions_of, row_of, IsStripeOf}
-use Rattle.world_laws.specs.LegalMounts.{IsLegalMount}
+use Rattle.core_laws.specs.PlacerOf.{entries_of, placing_of, positions_of, unit_row_in, IsStripeOf}
+use Rattle.pblk_world.specs.LegalMounts.{IsLegalMount}
 use Rattle.core_laws.specs.StripeFor.{IsStripeFor, IsProgramFor, positions_for}
 use Rattle.core_laws.proofs.PlainOpenings.{life_stands}
 use Rattle.core_laws.proofs.Followed.{IsFollowed, follow}
@@ -130,7 +130,7 @@ has_one : {s : Shape} {e : Entries} {of : Program} (l : OpenLine) → (j : ℕ) 
 has_one l its = ap (λ b. b || list_any is_unanswered l.stripes) (found_some (is_to_place l) (numbers l) its.0 its.1.next)
 
 module _ (i : Image) (w : World) (pad : ℕ) (again : List ℕ) (busy : ℕ) (of : Program) (mount : IsLegalMount i w)
-    (next : next_stripe (placing_of i (log_of w) pad again) busy ≡ Some of) (none : stopped_in (row_of i (log_of w) again of.unit) ≡ None) where
+    (next : next_stripe (placing_of i (log_of w) pad again) busy ≡ Some of) (none : stopped_in (unit_row_in i (log_of w) again of.unit) ≡ None) where
   us : ℕ → List ℕ
   us = line_units (known_image i (log_of w))
 
@@ -138,7 +138,7 @@ module _ (i : Image) (w : World) (pad : ℕ) (again : List ℕ) (busy : ℕ) (of
   is = follow i w mount
 
   module _ (o : Opening) (by : IsOfferedBy i (line_units (known_image i (log_of w))) w pad of o)
-      (ready : is_ready (map (row_of i (log_of w) again) (range_with_len 0 (units i.shape))) busy of.unit ≡ true) where
+      (ready : is_ready (map (unit_row_in i (log_of w) again) (range_with_len 0 (units i.shape))) busy of.unit ≡ true) where
     abbrev l : OpenLine
     l = open_line i (log_of w) o
 
@@ -230,7 +230,7 @@ module _ (i : Image) (w : World) (pad : ℕ) (again : List ℕ) (busy : ℕ) (of
       (by.0, go by.0 by.1 by.2 (has_failed (log_of w 0) by.0) refl)
     where
       go : (o : Opening) → IsOfferedBy i (line_units (known_image i (log_of w))) w pad of o
-          → is_ready (map (row_of i (log_of w) again) (range_with_len 0 (units i.shape))) busy of.unit ≡ true → (b : Bool) → has_failed (log_of w 0) o ≡ b
+          → is_ready (map (unit_row_in i (log_of w) again) (range_with_len 0 (units i.shape))) busy of.unit ≡ true → (b : Bool) → has_failed (log_of w 0) o ≡ b
           → IsOfferedNow i w pad o of
       go o by ready true e = failed_now o by ready e
       go o by ready false e = sound_now o by ready e

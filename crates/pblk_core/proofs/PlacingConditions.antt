@@ -31,8 +31,8 @@ use Rattle.line_table.specs.declared.row.Row.{Row}
 use Rattle.line_table.specs.Rows.{Table, IsRow}
 use Rattle.core_laws.proofs.LiveCounts.{live_few}
 use Rattle.write_window.specs.Window as view
-use Rattle.core_laws.specs.PlacerOf.{positions_of, row_of}
-use Rattle.world_laws.specs.LegalMounts.{IsLegalMount}
+use Rattle.core_laws.specs.PlacerOf.{positions_of, unit_row_in}
+use Rattle.pblk_world.specs.LegalMounts.{IsLegalMount}
 use Rattle.core_laws.specs.Stepping.{after}
 use Rattle.pblk_model.specs.EndRecord.{end_bytes}
 use Rattle.core_laws.specs.RowsOf.{row_of_line}
@@ -41,7 +41,7 @@ use Rattle.core_laws.specs.StripeFor.{IsStripeFor, blocks_for, positions_for}
 use Rattle.pblk_core.proofs.IdleRows.{its_row}
 use Rattle.pblk_core.specs.Entries.{entry_blocks, placed_lines, placed_rows}
 use Rattle.pblk_core.specs.Filling.{Filling, followed_by, empty_stripe}
-use Rattle.pblk_core.specs.LineRecords.{Records, AreKept, AreOf, whole_marks, blocks_at_start, blocks_at_end, end_begins}
+use Rattle.pblk_core.specs.LineRecords.{RecordsView, AreRecordsOf, AreOf, whole_marks, blocks_at_start, blocks_at_end, end_begins}
 use Rattle.pblk_core.specs.Slots.{IsSlot}
 use Rattle.pblk_core.specs.Stands.{Stands, IsOpenLine}
 use Rattle.pblk_core.specs.declared.target_core.Core.{Core}
@@ -273,11 +273,11 @@ end_within i w o of pad slot mount now is = within_end i w o of.at of.line slot 
 
 -- ---- the blocks of the stripe
 
-pub start_of_line : (s : Shape) (log : List Logged) (o : Opening) (r : Records) (shape : Shape) (a : ℕ) → AreKept s log o r → shape ≡ s
+pub start_of_line : (s : Shape) (log : List Logged) (o : Opening) (r : RecordsView) (shape : Shape) (a : ℕ) → AreRecordsOf s log o r → shape ≡ s
     → stripe_at shape (blocks_at_start r) 0 a ≡ stripe_at s (start_blocks s o) 0 a
 start_of_line s log o r shape a of same = λ j. stripe_at (same j) (record_blocks (of.shape j) (of.seq j) (start_len (of.shape j)) (of.start j)) 0 a
 
-pub end_of_line : (s : Shape) (log : List Logged) (o : Opening) (r : Records) (shape : Shape) (a : ℕ) → AreOf s log o r → shape ≡ s
+pub end_of_line : (s : Shape) (log : List Logged) (o : Opening) (r : RecordsView) (shape : Shape) (a : ℕ) → AreOf s log o r → shape ≡ s
     → stripe_at shape (blocks_at_end r) (end_begins r) a ≡ stripe_at s (end_blocks s log o) (end_address s o) a
 end_of_line s log o r shape a of same = λ j. stripe_at (same j)
     (record_blocks (of.shape j) (of.seq j) (end_len (of.shape j) (of.width j))
@@ -285,7 +285,7 @@ end_of_line s log o r shape a of same = λ j. stripe_at (same j)
     (start_len (of.shape j) + data_len (of.shape j) (of.width j)) a
 
 -- also where a stripe of the line was lost since
-pub end_kept : (s : Shape) (log : List Logged) (o : Opening) (r : Records) (shape : Shape) (a : ℕ) → AreKept s log o r → shape ≡ s
+pub end_kept : (s : Shape) (log : List Logged) (o : Opening) (r : RecordsView) (shape : Shape) (a : ℕ) → AreRecordsOf s log o r → shape ≡ s
     → stripe_at shape (blocks_at_end r) (end_begins r) a
     ≡ stripe_at s (record_blocks s o.start.seq (end_len s o.start.width)
     (end_bytes s (record { line = o.line; width = o.start.width; seq = o.start.seq; pairs = whole_marks s log o }))) (end_address s o) a
@@ -424,7 +424,7 @@ under_way_short i w c mount st =
 pub unit_inside : (i : Image) (w : World) (c : Core) (unit : ℕ) → Stands i (log_of w) c → unit < units i.shape → unit < length c.placer.units
 unit_inside i w c unit st inside =
     subst (λ (p : Placing). unit < length p.units) (sym st.placing)
-    (subst (λ n. unit < n) (sym (length-map-range_with_len (row_of i (log_of w) st.again) 0 (units i.shape))) inside)
+    (subst (λ n. unit < n) (sym (length-map-range_with_len (unit_row_in i (log_of w) st.again) 0 (units i.shape))) inside)
 
 -- the positions that a placer tells of the unit of the next program, once that is placed
 pub told_entries : (i : Image) (w : World) (c : Core) (new : Placing) (o : Opening) (of : Program) (told : List ℕ) → Stands i (log_of w) c
@@ -445,7 +445,7 @@ pub record IsSettledInto (old mid : Core) (k : ℕ) (slot : KeptLine) (of : Prog
   pub holds : mid.holds.rows.items ≡ placed_rows of.line old.holds.rows.items of.positions
   pub open_count : mid.open.count ≡ old.open.count
   pub open_slots : mid.open.slots.items ≡ slots_for of.kind old.open.slots.items k slot stripe
-  pub live : mid.live ≡ old.live
+  pub online : mid.online ≡ old.online
   pub resets : mid.resets ≡ old.resets
   pub notes : mid.notes ≡ old.notes
   pub start : mid.start ≡ old.start
@@ -471,7 +471,7 @@ settled_same old mid p kept k slot of stripe same is count slots none quiet all 
   holds = ap (λ (c : Core). c.holds.rows.items) same ∙ sym (ap (placed_rows of.line old.holds.rows.items) none);
   open_count = ap (λ (c : Core). c.open.count) same ∙ count;
   open_slots = ap (λ (c : Core). c.open.slots.items) same ∙ slots ∙ sym quiet;
-  live = ap (λ (c : Core). c.live) same;
+  online = ap (λ (c : Core). c.online) same;
   resets = ap (λ (c : Core). c.resets) same;
   notes = ap (λ (c : Core). c.notes) same;
   start = ap (λ (c : Core). c.start) same;

@@ -13,7 +13,7 @@ use Rattle.pblk_model.specs.declared.shape.Shape.{Shape}
 use Rattle.pblk_model.specs.declared.chunk.Mark.{Mark}
 use Rattle.pblk_model.specs.LineOrder.{line_order}
 use Rattle.pblk_model.specs.Marks.{pad_lba}
-use Rattle.pblk_layout.specs.Live.{units_in}
+use Rattle.pblk_layout.specs.Online.{units_in}
 use Rattle.core_laws.proofs.Placing.{not_below}
 use Rattle.l2p_map.specs.declared.slot.Slot.{Slot}
 use Rattle.l2p_map.specs.declared.slot.Slot.TheVariants.{Unwritten, Cached, Media}
@@ -81,11 +81,11 @@ place_is order place r found only =
         absurd cc
 
 pub place_at : (l : OpenLine) (s : Shape) (unit block : ℕ) (r : Option ℕ) → l.records.shape ≡ s
-    → IfSome r (λ a. slice_get (line_order s (units_in l.live)) a ≡ Some (unit, block))
-    → ((a : ℕ) → slice_get (line_order s (units_in l.live)) a ≡ Some (unit, block) → r ≡ Some a)
-    → position_of (unit, block) (line_order l.records.shape (units_in l.live)) ≡ r
-place_at l s unit block r shape found only = ap (λ t. position_of (unit, block) (line_order t (units_in l.live))) shape
-    ∙ place_is (line_order s (units_in l.live)) (unit, block) r found only
+    → IfSome r (λ a. slice_get (line_order s (units_in l.online)) a ≡ Some (unit, block))
+    → ((a : ℕ) → slice_get (line_order s (units_in l.online)) a ≡ Some (unit, block) → r ≡ Some a)
+    → position_of (unit, block) (line_order l.records.shape (units_in l.online)) ≡ r
+place_at l s unit block r shape found only = ap (λ t. position_of (unit, block) (line_order t (units_in l.online))) shape
+    ∙ place_is (line_order s (units_in l.online)) (unit, block) r found only
 
 -- ---- a block's mark
 
@@ -95,21 +95,21 @@ read_if at m = if m.lba == pad_lba then None else Some (record { at = at; mark =
 abbrev read_by : ℕ → Mark → Bool → Option ReadBlock
 read_by at m b = if b then None else Some (record { at = at; mark = m })
 
-pub none_there : (l : OpenLine) (unit block : ℕ) → position_of (unit, block) (line_order l.records.shape (units_in l.live)) ≡ None
+pub none_there : (l : OpenLine) (unit block : ℕ) → position_of (unit, block) (line_order l.records.shape (units_in l.online)) ≡ None
     → block_reads l unit block ≡ None
 none_there l unit block e = ap (option_and_then (read_at l.records)) e
 
-pub none_told : (l : OpenLine) (unit block at : ℕ) → position_of (unit, block) (line_order l.records.shape (units_in l.live)) ≡ Some at
+pub none_told : (l : OpenLine) (unit block at : ℕ) → position_of (unit, block) (line_order l.records.shape (units_in l.online)) ≡ Some at
     → data_mark l.records at ≡ None → block_reads l unit block ≡ None
 none_told l unit block at e none = ap (option_and_then (read_at l.records)) e ∙ ap (option_and_then (read_if at)) none
 
-pub pads_there : (l : OpenLine) (unit block at : ℕ) (mark : Mark) → position_of (unit, block) (line_order l.records.shape (units_in l.live)) ≡ Some at
+pub pads_there : (l : OpenLine) (unit block at : ℕ) (mark : Mark) → position_of (unit, block) (line_order l.records.shape (units_in l.online)) ≡ Some at
     → data_mark l.records at ≡ Some mark → mark.lba ≡ pad_lba → block_reads l unit block ≡ None
 pads_there l unit block at mark e told pad =
     ap (option_and_then (read_at l.records)) e ∙ ap (option_and_then (read_if at)) told
     ∙ ap (read_by at mark) (ap (λ n. n == pad_lba) pad ∙ same_number pad_lba)
 
-pub reads_there : (l : OpenLine) (unit block at : ℕ) (mark : Mark) → position_of (unit, block) (line_order l.records.shape (units_in l.live)) ≡ Some at
+pub reads_there : (l : OpenLine) (unit block at : ℕ) (mark : Mark) → position_of (unit, block) (line_order l.records.shape (units_in l.online)) ≡ Some at
     → data_mark l.records at ≡ Some mark → mark.lba ≢ pad_lba → block_reads l unit block ≡ Some (record { at = at; mark = mark })
 reads_there l unit block at mark e told other =
     ap (option_and_then (read_at l.records)) e ∙ ap (option_and_then (read_if at)) told

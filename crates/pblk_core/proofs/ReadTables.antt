@@ -21,7 +21,7 @@ use Rattle.write_window.specs.Entries.{has_landed}
 use Rattle.write_window.specs.Window as view
 use Rattle.write_window.specs.declared.held.Held.{Held}
 use Rattle.core_laws.specs.PlacerOf.{positions_of}
-use Rattle.world_laws.specs.LegalMounts.{IsLegalMount}
+use Rattle.pblk_world.specs.LegalMounts.{IsLegalMount}
 use Rattle.core_laws.specs.SlotOf.{slot_of}
 use Rattle.core_laws.specs.WindowOf.{HeldSector, HeldSectors, is_given_back, held_of, progress_by, sectors_in, window_from, without_frame}
 use Rattle.core_laws.proofs.Placing.{not_below}

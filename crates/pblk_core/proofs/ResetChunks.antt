@@ -12,7 +12,7 @@ use Rattle.pblk_model.specs.ChunkStep.{ChunkCommand, ChunkAnswer, Reset, reset_i
 use Rattle.pblk_model.specs.UnitLog.{UnitEvent, UnitOutcome, Answered, Failed, Stopped, after_outcome}
 use Rattle.pblk_model.specs.Image.{Image, is_online_in}
 use Rattle.pblk_laws.specs.LineBlocks.{chunk_in}
-use Rattle.pblk_layout.specs.Live.{is_live}
+use Rattle.pblk_layout.specs.Online.{is_online}
 use Rattle.pblk_world.specs.Events.{ResetDone, Decides, Logged}
 use Rattle.pblk_world.specs.World.{Logs, unit_event_at, unit_event_of}
 use Rattle.pblk_world.specs.Answering.{IsDoneReset, MayNoteReset}
@@ -129,7 +129,7 @@ used_online states.Open e = refl
 used_online states.Closed e = refl
 used_online states.Offline e = absurd cc
 
-pub live_is : (j : Image) (line unit : ℕ) → is_live j line unit ≡ test_chunk is_online_in (chunk_in j line unit)
+pub live_is : (j : Image) (line unit : ℕ) → is_online j line unit ≡ test_chunk is_online_in (chunk_in j line unit)
 live_is j line unit = go (slice_get j.units unit)
   where
     go : (o : Option (List Chunk))

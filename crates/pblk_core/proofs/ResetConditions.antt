@@ -10,13 +10,13 @@ use Rattle.pblk_model.specs.declared.chunk.ChunkState.{ChunkState}
 use Rattle.pblk_model.specs.Shape.{units}
 use Rattle.pblk_model.specs.LineOrder.{data_len}
 use Rattle.pblk_model.specs.Image.{Image, is_online_in}
-use Rattle.pblk_layout.specs.Live.{is_in}
+use Rattle.pblk_layout.specs.Online.{is_in}
 use Rattle.pblk_world.specs.World.{World, log_of}
 use Rattle.line_table.specs.declared.row.LineState.TheVariants.{Free, Dead, Freed}
 use Rattle.line_table.specs.declared.row.Row.{Row}
 use Rattle.line_table.specs.Rows.{Table, IsRow, IsChange}
 use Rattle.line_table.proofs.Places.{get_set_same}
-use Rattle.core_laws.specs.OpenedLines.{live_now}
+use Rattle.core_laws.specs.OpenedLines.{online_now}
 use Rattle.core_laws.specs.RowsOf.{row_of_line}
 use Rattle.core_laws.proofs.HistorySectors.{set_length}
 use Rattle.core_laws.proofs.PlacedLines.{get_row as row_there}
@@ -36,21 +36,21 @@ use Rattle.pblk_core.proofs.StandsReset.{named_in}
 use Rattle.pblk_core.proofs.TabledLines.{each_line}
 
 pub record MayReset (c : Core) (line unit : ℕ) : Type 0 where
-  pub line_units : line < length c.live.items
+  pub line_units : line < length c.online.items
   pub small : unit < 64
-  pub unit_in : (us : ℕ) → slice_get c.live.items line ≡ Some us → is_in us unit ≡ true
-  pub below : (us : ℕ) → slice_get c.live.items line ≡ Some us → us < 2 ^ units c.layout
+  pub unit_in : (us : ℕ) → slice_get c.online.items line ≡ Some us → is_in us unit ≡ true
+  pub below : (us : ℕ) → slice_get c.online.items line ≡ Some us → us < 2 ^ units c.layout
   pub line_row : line < length c.lines.rows
   pub freed : (row : Row) → IsRow c.lines line row → row.state ≡ Freed
 
 pub reset_next : (c : Core) (line unit : ℕ) → IsStanding c → named c ≡ Reset line unit → MayReset c line unit
 reset_next c line unit standing names = record {
-  line_units = slice_get_within c.live.items line (live_now i (log_of w) line) units_there;
+  line_units = slice_get_within c.online.items line (online_now i (log_of w) line) units_there;
   small = let few : units i.shape ≤ 64 = standing.legal.accepted.drive.few_units in let inside : unit < units i.shape = named_is.unit_in_range in omega arith;
-  unit_in = λ us there. subst (λ n. is_in n unit ≡ true) (same_Some (live_now i (log_of w) line) us (sym units_there ∙ there))
+  unit_in = λ us there. subst (λ n. is_in n unit ≡ true) (same_Some (online_now i (log_of w) line) us (sym units_there ∙ there))
       (unit_was_in i w line unit standing.legal named_is);
-  below = λ us there. subst (λ n. n < 2 ^ units c.layout) (same_Some (live_now i (log_of w) line) us (sym units_there ∙ there))
-      (subst (λ (s : Shape). live_now i (log_of w) line < 2 ^ units s) (sym st.layout) (known_bits i w (log_of w) line standing.legal));
+  below = λ us there. subst (λ n. n < 2 ^ units c.layout) (same_Some (online_now i (log_of w) line) us (sym units_there ∙ there))
+      (subst (λ (s : Shape). online_now i (log_of w) line < 2 ^ units s) (sym st.layout) (known_bits i w (log_of w) line standing.legal));
   line_row = slice_get_within c.lines.rows line (row_of_line i (log_of w) line) row_is;
   freed = λ row there. ap (λ (r : Row). r.state) (sym (same_Some (row_of_line i (log_of w) line) row (sym row_is ∙ there)))
       ∙ state_before i w line unit st.beginning standing.legal st.has_begun named_is;
@@ -71,9 +71,9 @@ reset_next c line unit standing names = record {
     from : 0 + line ≡ line
     from = omega arith
 
-    units_there : slice_get c.live.items line ≡ Some (live_now i (log_of w) line)
-    units_there = ap (λ us. slice_get us line) st.units ∙ row_there (live_now i (log_of w)) i.shape.chunks 0 line named_is.in_range
-        ∙ ap (λ l. Some (live_now i (log_of w) l)) from
+    units_there : slice_get c.online.items line ≡ Some (online_now i (log_of w) line)
+    units_there = ap (λ us. slice_get us line) st.units ∙ row_there (online_now i (log_of w)) i.shape.chunks 0 line named_is.in_range
+        ∙ ap (λ l. Some (online_now i (log_of w) l)) from
 
     row_is : slice_get c.lines.rows line ≡ Some (row_of_line i (log_of w) line)
     row_is = ap (λ (t : Table). slice_get t.rows line) st.table ∙ row_there (row_of_line i (log_of w)) i.shape.chunks 0 line named_is.in_range
@@ -131,10 +131,10 @@ kept_below live line unit n state low = go (is_online_in state) (slice_get live 
     go false (Some us) there = (set_length live line (us - 2 ^ unit), λ k x at. less us there k x at (cases_order k line))
 
 pub each_reset : (c new : Core) (line unit : ℕ) (state : ChunkState) → IsStanding c → new.layout ≡ c.layout → new.notes ≡ c.notes
-    → length new.lines.rows ≡ length c.lines.rows → new.live.items ≡ kept_units c.live.items line unit state → HasEachLine new
+    → length new.lines.rows ≡ length c.lines.rows → new.online.items ≡ kept_units c.online.items line unit state → HasEachLine new
 each_reset c new line unit state standing layout notes rows live =
     let each = each_line standing.image standing.world (log_of standing.world) standing.legal standing.stands in
-    let kept = kept_below c.live.items line unit (2 ^ units c.layout) state each.few in
+    let kept = kept_below c.online.items line unit (2 ^ units c.layout) state each.few in
     let chunks = ap (λ (s : Shape). s.chunks) (sym layout) in
     record {
       rows = rows ∙ each.rows ∙ chunks;
@@ -153,12 +153,12 @@ emptied_change s width = go (data_len s width == 0) refl
     go false e = inl (refl, grind arith)
 
 pub kept_there : (c : Core) (line unit : ℕ) (state : ChunkState) → IsStanding c → named c ≡ Reset line unit
-    → (x : ℕ) × (slice_get (kept_units c.live.items line unit state) line ≡ Some x) × (x < 2 ^ units c.layout)
+    → (x : ℕ) × (slice_get (kept_units c.online.items line unit state) line ≡ Some x) × (x < 2 ^ units c.layout)
 kept_there c line unit state standing names =
     let may : MayReset c line unit = reset_next c line unit standing names in
-    let us : ℕ = slice_index_or c.live.items line 0 in
-    let there : slice_get c.live.items line ≡ Some us = slice_get-get_or c.live.items line 0 may.line_units in
-    let kept = kept_less c.live.items line unit us state there in
+    let us : ℕ = slice_index_or c.online.items line 0 in
+    let there : slice_get c.online.items line ≡ Some us = slice_get-get_or c.online.items line 0 may.line_units in
+    let kept = kept_less c.online.items line unit us state there in
     let low : us < 2 ^ units c.layout = may.below us there in
     let less : kept.0 ≤ us = kept.2 in
     (kept.0, kept.1, omega arith)
@@ -166,12 +166,12 @@ kept_there c line unit state standing names =
 -- the table is of the drive's shape
 -- their number is at most that of all units
 pub kept_few : (c : Core) (line unit us d width : ℕ) (state : ChunkState) → IsStanding c → named c ≡ Reset line unit
-    → us ≡ slice_index_or (kept_units c.live.items line unit state) line d
+    → us ≡ slice_index_or (kept_units c.online.items line unit state) line d
     → ((n : ℕ) → us < 2 ^ n → width ≤ n) → width ≤ units c.layout
 kept_few c line unit us d width state standing names is few =
     let kept = kept_there c line unit state standing names in
     few (units c.layout) (subst (λ n. n < 2 ^ units c.layout)
-    (sym (is ∙ get_or_from_slice_get (kept_units c.live.items line unit state) line kept.0 d kept.1)) kept.2)
+    (sym (is ∙ get_or_from_slice_get (kept_units c.online.items line unit state) line kept.0 d kept.1)) kept.2)
 
 pub table_shape : (c : Core) → IsStanding c → c.layout ≡ c.lines.shape
 table_shape c standing = standing.stands.layout ∙ sym (ap (λ (t : Table). t.shape) standing.stands.table)

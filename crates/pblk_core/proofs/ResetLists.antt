@@ -13,7 +13,7 @@ use Rattle.pblk_model.specs.declared.shape.Shape.{Shape}
 use Rattle.pblk_model.specs.declared.chunk.ChunkState.{ChunkState}
 use Rattle.pblk_model.specs.Found.{Rise}
 use Rattle.pblk_model.specs.Shape.{units}
-use Rattle.pblk_layout.specs.Live.{units_in}
+use Rattle.pblk_layout.specs.Online.{units_in}
 use Rattle.line_table.specs.LineSets.{has}
 use Rattle.pblk_core.specs.declared.resets.LineChunk.{LineChunk}
 use Rattle.pblk_core.specs.Resets.{GetsChunks, HasNoneOf, IsResetQueue, ResetQueue, in_line, resets_found, resets_left, used_below, used_in, waiting_units}
@@ -203,13 +203,6 @@ module _ (r : ResetQueue) (keeps : IsResetQueue r) (line : ℕ) (waiting : List 
   gets_line = subst (GetsChunks (resets_left r) (resets_left given) line) (waits given line set)
       (gets_chunks (waiting_units r) (waiting_units given) 0 (length r.used) line (omega arith) (let inside = within r line some in omega arith)
       (rests r line (is_out r line keeps none)) (λ k apart. ap (λ b. cond b (units_in (used_in r k)) []) (others k apart)))
-
-  pub keeps_given : IsResetQueue given
-  keeps_given = record { few = keeps.few; some = λ n is. by n is (cases_eq n line) }
-    where
-      by : (n : ℕ) → has waiting n ≡ true → (n ≡ line) ⊎ (n ≢ line) → units_in (used_in r n) ≢ []
-      by n is (inl same) = λ all. some (ap (λ k. units_in (used_in r k)) (sym same) ∙ all)
-      by n is (inr apart) = keeps.some n (sym (others n apart) ∙ is)
 
 -- ---- what is found
 

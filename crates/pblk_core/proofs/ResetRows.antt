@@ -15,7 +15,7 @@ use Rattle.pblk_world.specs.Placing.{line_end}
 use Rattle.pblk_world.specs.Victims.{live}
 use Rattle.line_table.specs.declared.row.LineState.TheVariants as states
 use Rattle.line_table.specs.Rows.{kept, turned}
-use Rattle.world_laws.specs.LegalMounts.{IsLegalMount}
+use Rattle.pblk_world.specs.LegalMounts.{IsLegalMount}
 use Rattle.core_laws.specs.RowsOf.{logs_then, state_in, state_found, width_in, taker_in, row_of_line, rows_of}
 use Rattle.core_laws.specs.Stepping.{after}
 use Rattle.core_laws.specs.ChangedTables.{with_row}

@@ -10,13 +10,13 @@ use Rattle.pblk_model.specs.Shape.{units}
 use Rattle.pblk_model.specs.Chunk.{Chunk}
 use Rattle.pblk_model.specs.Image.{Image, is_online_in}
 use Rattle.pblk_laws.specs.LineBlocks.{chunk_in}
-use Rattle.pblk_layout.specs.Live.{is_in, is_live}
+use Rattle.pblk_layout.specs.Online.{is_in, is_online}
 use Rattle.pblk_world.specs.Events.{ResetDone, Decides}
 use Rattle.pblk_world.specs.World.{World, Logs, log_of}
 use Rattle.pblk_world.specs.Lines.{known_image, is_empty_state, are_empty, is_given_up}
 use Rattle.pblk_world.proofs.Appending.{life_more}
-use Rattle.core_laws.specs.OpenedLines.{bits_of, live_now}
-use Rattle.world_laws.specs.LegalMounts.{IsLegalMount}
+use Rattle.core_laws.specs.OpenedLines.{bits_of, online_now}
+use Rattle.pblk_world.specs.LegalMounts.{IsLegalMount}
 use Rattle.core_laws.specs.Stepping.{after}
 use Rattle.core_laws.proofs.UnitBits.{bit_is, units_below}
 use Rattle.core_laws.proofs.PlacedLines.{get_row as row_there}
@@ -77,38 +77,38 @@ resets_less i logs unit event line knows state named is =
 
 -- the units of a line as bits
 pub live_bits : (i : Image) (w : World) (ls : Logs) (line : ℕ) → IsLegalMount i w
-    → live_now i ls line ≡ bits_of (filter (is_live (known_image i ls) line) (range_with_len 0 (units i.shape)))
+    → online_now i ls line ≡ bits_of (filter (is_online (known_image i ls) line) (range_with_len 0 (units i.shape)))
 live_bits i w ls line mount =
     ap bits_of (units_below (known_image i ls) line (few_units i w ls mount)
-    ∙ ap (λ n. filter (is_live (known_image i ls) line) (range_with_len 0 n)) (known_count i w ls mount))
+    ∙ ap (λ n. filter (is_online (known_image i ls) line) (range_with_len 0 n)) (known_count i w ls mount))
 
 pub was_live : (i : Image) (logs : Logs) (unit event line : ℕ) (knows : List ℕ) (state : ChunkState) → IsNoted i logs unit event line knows state
-    → is_live (known_image i logs) line unit ≡ true
+    → is_online (known_image i logs) line unit ≡ true
 was_live i logs unit event line knows state is = live_is (known_image i logs) line unit ∙ tested_before is_online_in i logs unit event line knows state is
     ∙ used_online is.chunk.state is.used
 
 live_else : (i : Image) (logs : Logs) (unit event line : ℕ) (knows : List ℕ) (state : ChunkState) → IsNoted i logs unit event line knows state → (l u : ℕ)
     → (l ≢ line) ⊎ (u ≢ unit)
-    → is_live (known_image i (after logs (ResetDone unit event) knows)) l u ≡ is_live (known_image i logs) l u
+    → is_online (known_image i (after logs (ResetDone unit event) knows)) l u ≡ is_online (known_image i logs) l u
 live_else i logs unit event line knows state is l u other =
     live_is (known_image i (after logs (ResetDone unit event) knows)) l u ∙ tested_else is_online_in i logs unit event line knows state is l u other
     ∙ sym (live_is (known_image i logs) l u)
 
 live_here : (i : Image) (logs : Logs) (unit event line : ℕ) (knows : List ℕ) (state : ChunkState) → IsNoted i logs unit event line knows state
-    → is_live (known_image i (after logs (ResetDone unit event) knows)) line unit ≡ is_online_in state
+    → is_online (known_image i (after logs (ResetDone unit event) knows)) line unit ≡ is_online_in state
 live_here i logs unit event line knows state is = live_is (known_image i (after logs (ResetDone unit event) knows)) line unit
     ∙ tested_now is_online_in i logs unit event line knows state is
 
-bits_same : (i : Image) (w : World) (ls new : Logs) (l : ℕ) → IsLegalMount i w → ((u : ℕ) → is_live (known_image i new) l u ≡ is_live (known_image i ls) l u)
-    → live_now i new l ≡ live_now i ls l
+bits_same : (i : Image) (w : World) (ls new : Logs) (l : ℕ) → IsLegalMount i w → ((u : ℕ) → is_online (known_image i new) l u ≡ is_online (known_image i ls) l u)
+    → online_now i new l ≡ online_now i ls l
 bits_same i w ls new l mount same =
-    live_bits i w new l mount ∙ ap bits_of (filter_same (is_live (known_image i new) l) (is_live (known_image i ls) l) same (range_with_len 0 (units i.shape)))
+    live_bits i w new l mount ∙ ap bits_of (filter_same (is_online (known_image i new) l) (is_online (known_image i ls) l) same (range_with_len 0 (units i.shape)))
     ∙ sym (live_bits i w ls l mount)
 
 pub units_kept : (i : Image) (w : World) (unit event line : ℕ) (knows : List ℕ) (state : ChunkState) → IsLegalMount i w → IsNamedReset i (log_of w) line unit
     → IsNoted i (log_of w) unit event line knows state
-    → kept_units (map (live_now i (log_of w)) (range_with_len 0 i.shape.chunks)) line unit state ≡ map
-    (live_now i (after (log_of w) (ResetDone unit event) knows)) (range_with_len 0 i.shape.chunks)
+    → kept_units (map (online_now i (log_of w)) (range_with_len 0 i.shape.chunks)) line unit state ≡ map
+    (online_now i (after (log_of w) (ResetDone unit event) knows)) (range_with_len 0 i.shape.chunks)
 units_kept i w unit event line knows state mount named is = go (is_online_in state) refl
   where
     logs : Logs
@@ -118,30 +118,30 @@ units_kept i w unit event line knows state mount named is = go (is_online_in sta
     new = after (log_of w) (ResetDone unit event) knows
 
     old_list : List ℕ
-    old_list = map (live_now i logs) (range_with_len 0 i.shape.chunks)
+    old_list = map (online_now i logs) (range_with_len 0 i.shape.chunks)
 
-    other_line : (l : ℕ) → l ≢ line → live_now i new l ≡ live_now i logs l
+    other_line : (l : ℕ) → l ≢ line → online_now i new l ≡ online_now i logs l
     other_line l other = bits_same i w logs new l mount (λ u. live_else i logs unit event line knows state is l u (inl other))
 
-    online_line : is_online_in state ≡ true → live_now i new line ≡ live_now i logs line
+    online_line : is_online_in state ≡ true → online_now i new line ≡ online_now i logs line
     online_line online = bits_same i w logs new line mount (λ u. by u (nat_eq u unit) refl)
       where
-        by : (u : ℕ) (b : Bool) → nat_eq u unit ≡ b → is_live (known_image i new) line u ≡ is_live (known_image i logs) line u
+        by : (u : ℕ) (b : Bool) → nat_eq u unit ≡ b → is_online (known_image i new) line u ≡ is_online (known_image i logs) line u
         by u true e =
             let same : u ≡ unit = eqb-true u unit e in
-            ap (is_live (known_image i new) line) same ∙ live_here i logs unit event line knows state is ∙ online
-            ∙ sym (ap (is_live (known_image i logs) line) same ∙ was_live i logs unit event line knows state is)
+            ap (is_online (known_image i new) line) same ∙ live_here i logs unit event line knows state is ∙ online
+            ∙ sym (ap (is_online (known_image i logs) line) same ∙ was_live i logs unit event line knows state is)
         by u false e = live_else i logs unit event line knows state is line u (inr (eqb-false u unit e))
 
-    less : is_online_in state ≡ false → live_now i new line ≡ live_now i logs line - 2 ^ unit
+    less : is_online_in state ≡ false → online_now i new line ≡ online_now i logs line - 2 ^ unit
     less offline =
-        let old : live_now i logs line ≡ bits_of (filter (is_live (known_image i logs) line) (range_with_len 0 (units i.shape))) =
+        let old : online_now i logs line ≡ bits_of (filter (is_online (known_image i logs) line) (range_with_len 0 (units i.shape))) =
         live_bits i w logs line mount in
-        let now : live_now i new line ≡ bits_of (filter (is_live (known_image i new) line) (range_with_len 0 (units i.shape))) =
+        let now : online_now i new line ≡ bits_of (filter (is_online (known_image i new) line) (range_with_len 0 (units i.shape))) =
         live_bits i w new line mount in
-        let fewer : bits_of (filter (is_live (known_image i logs) line) (range_with_len 0 (units i.shape))) ≡ bits_of
-        (filter (is_live (known_image i new) line) (range_with_len 0 (units i.shape))) + 2 ^ unit =
-        bits_less (is_live (known_image i logs) line) (is_live (known_image i new) line) (units i.shape) unit named.unit_in_range
+        let fewer : bits_of (filter (is_online (known_image i logs) line) (range_with_len 0 (units i.shape))) ≡ bits_of
+        (filter (is_online (known_image i new) line) (range_with_len 0 (units i.shape))) + 2 ^ unit =
+        bits_less (is_online (known_image i logs) line) (is_online (known_image i new) line) (units i.shape) unit named.unit_in_range
         (was_live i logs unit event line knows state is)
         (live_here i logs unit event line knows state is ∙ offline) (λ u other. live_else i logs unit event line knows state is line u (inr other)) in
         omega arith
@@ -149,28 +149,28 @@ units_kept i w unit event line knows state mount named is = go (is_online_in sta
     from : 0 + line ≡ line
     from = omega arith
 
-    there : slice_get old_list line ≡ Some (live_now i logs line)
-    there = row_there (live_now i logs) i.shape.chunks 0 line named.in_range ∙ ap (λ l. Some (live_now i logs l)) from
+    there : slice_get old_list line ≡ Some (online_now i logs line)
+    there = row_there (online_now i logs) i.shape.chunks 0 line named.in_range ∙ ap (λ l. Some (online_now i logs l)) from
 
     go : (b : Bool) → is_online_in state ≡ b
-        → (if b then old_list else option_map_or (λ us. slice_set old_list line (us - 2 ^ unit)) (slice_get old_list line) old_list) ≡ map (live_now i new)
+        → (if b then old_list else option_map_or (λ us. slice_set old_list line (us - 2 ^ unit)) (slice_get old_list line) old_list) ≡ map (online_now i new)
         (range_with_len 0 i.shape.chunks)
-    go true e = map_same (live_now i logs) (live_now i new) (λ l. by l (nat_eq l line) refl) (range_with_len 0 i.shape.chunks)
+    go true e = map_same (online_now i logs) (online_now i new) (λ l. by l (nat_eq l line) refl) (range_with_len 0 i.shape.chunks)
       where
-        by : (l : ℕ) (b : Bool) → nat_eq l line ≡ b → live_now i logs l ≡ live_now i new l
-        by l true f = let same : l ≡ line = eqb-true l line f in sym (ap (live_now i new) same ∙ online_line e ∙ ap (live_now i logs) (sym same))
+        by : (l : ℕ) (b : Bool) → nat_eq l line ≡ b → online_now i logs l ≡ online_now i new l
+        by l true f = let same : l ≡ line = eqb-true l line f in sym (ap (online_now i new) same ∙ online_line e ∙ ap (online_now i logs) (sym same))
         by l false f = sym (other_line l (eqb-false l line f))
     go false e =
         ap (λ o. option_map_or (λ us. slice_set old_list line (us - 2 ^ unit)) o old_list) there
-        ∙ sym (rows_set (live_now i logs) (live_now i new) i.shape.chunks 0 line (live_now i logs line - 2 ^ unit) named.in_range
-        (ap (live_now i new) from ∙ less e)
+        ∙ sym (rows_set (online_now i logs) (online_now i new) i.shape.chunks 0 line (online_now i logs line - 2 ^ unit) named.in_range
+        (ap (online_now i new) from ∙ less e)
         (λ l other. other_line l (λ same. other (same ∙ sym from))))
 
 -- its unit was one of the line's
 pub unit_was_in : (i : Image) (w : World) (line unit : ℕ) → IsLegalMount i w → IsNamedReset i (log_of w) line unit
-    → is_in (live_now i (log_of w) line) unit ≡ true
+    → is_in (online_now i (log_of w) line) unit ≡ true
 unit_was_in i w line unit mount named = ap (λ n. is_in n unit) (live_bits i w (log_of w) line mount)
-    ∙ bit_is (is_live (known_image i (log_of w)) line) (units i.shape) unit named.unit_in_range
+    ∙ bit_is (is_online (known_image i (log_of w)) line) (units i.shape) unit named.unit_in_range
     ∙ (live_is (known_image i (log_of w)) line unit ∙ ap (test_chunk is_online_in) named.is_chunk ∙ used_online named.chunk.state named.used)
 
 -- ---- a line of which no chunk is used is empty

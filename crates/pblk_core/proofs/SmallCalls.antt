@@ -17,7 +17,7 @@ use Rattle.write_window.specs.Entries.{is_readable, user_count, users_in}
 use Rattle.write_window.specs.Window.{WindowView}
 use Rattle.write_window.specs.Window as view
 use Rattle.stripe_placer.specs.Placing.{Placing, padded_to}
-use Rattle.world_laws.specs.LegalMounts.{IsLegalMount}
+use Rattle.pblk_world.specs.LegalMounts.{IsLegalMount}
 use Rattle.core_laws.specs.PlacerOf.{positions_of, placing_of}
 use Rattle.core_laws.specs.Positions.{AreNumbered}
 use Rattle.core_laws.specs.WindowOf.{HeldSector, HeldSectors, without_frame, sectors_in, class_of, progress_by, is_given_back, held_of, users_below, window_from}

@@ -11,7 +11,7 @@ use Rattle.pblk_world.specs.Fronts.{first_position, taken}
 use Rattle.pblk_world.specs.Space.{freed, is_due, placed_front, room}
 use Rattle.pblk_world.specs.Space as space
 use Rattle.line_table.specs.Rows.{free_addresses}
-use Rattle.world_laws.specs.LegalMounts.{IsLegalMount}
+use Rattle.pblk_world.specs.LegalMounts.{IsLegalMount}
 use Rattle.core_laws.proofs.FreeRows.{addresses_free}
 use Rattle.core_laws.proofs.PlacedInOrder.{ordered, front_within}
 use Rattle.pblk_core.specs.declared.target_core.Core.{Core}

@@ -16,7 +16,7 @@ use Rattle.pblk_world.specs.Space.{unplaced_in, open_addresses}
 use Rattle.pblk_world.specs.Space as space
 use Rattle.pblk_world.specs.Placing.{next_address}
 use Rattle.pblk_world.specs.Legal.{IsDecision}
-use Rattle.world_laws.specs.LegalMounts.{IsLegalMount}
+use Rattle.pblk_world.specs.LegalMounts.{IsLegalMount}
 use Rattle.core_laws.proofs.TakenNumbers.{first_stays}
 use Rattle.core_laws.proofs.KeptByEvents.{IsKept, kept}
 use Rattle.core_laws.proofs.Followed.{follow}

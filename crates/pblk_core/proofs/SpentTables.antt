@@ -16,7 +16,7 @@ use Rattle.pblk_world.specs.Victims.{live, taken_up_to, took_from}
 use Rattle.pblk_world.specs.World.{World, Logs, log_of}
 use Rattle.line_table.specs.declared.row.Row.{Row}
 use Rattle.line_table.specs.Rows.{IsRow, Table}
-use Rattle.world_laws.specs.LegalMounts.{IsLegalMount}
+use Rattle.pblk_world.specs.LegalMounts.{IsLegalMount}
 use Rattle.write_window.specs.Window as view
 use Rattle.core_laws.specs.ClosedLines.{ClosedLine, IsSpentBy, StartNumbers, closed_line}
 use Rattle.core_laws.specs.RowsOf.{row_of_line, taker_by, taker_in}
@@ -86,13 +86,6 @@ rows_standing c standing =
           ∙ length-map-range_with_len (row_of_line standing.image (log_of standing.world)) 0 standing.image.shape.chunks ∙ chunks;
       notes = st.notes.count ∙ chunks;
     }
-
--- no line beyond them is spent
-pub spent_inside : (c : Core) (line : ℕ) → IsStanding c → IsSpentIn c line → line < c.layout.chunks
-spent_inside c line standing spent =
-    let long = (rows_standing c standing).notes in
-    let within : line < length c.notes.rows.items = slice_get_within c.notes.rows.items line spent.note spent.is_note in
-    omega arith
 
 spent_same : (row : LineNote) (newest : Option StartNote) (l m : ℕ) (t u : Option ℕ) (a b : ℕ) → l ≡ m → t ≡ u → a ≡ b
     → IsSpentNote row newest l t a → IsSpentNote row newest m u b

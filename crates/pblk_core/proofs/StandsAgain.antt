@@ -18,10 +18,10 @@ use Rattle.stripe_placer.specs.Placing.{Program, Placing, placed, stopped}
 use Rattle.stripe_placer.specs.Placing.UnitRow.{UnderWay, Stopped}
 use Rattle.write_window.specs.Window as view
 use Rattle.core_laws.specs.Stepping.{after}
-use Rattle.core_laws.specs.OpenedLines.{bits_of, live_now, standing}
+use Rattle.core_laws.specs.OpenedLines.{bits_of, online_now, standing}
 use Rattle.core_laws.specs.PlacerOf.{placing_of, without_unit}
 use Rattle.core_laws.specs.RowsOf.{row_of_line, rows_of}
-use Rattle.world_laws.specs.LegalMounts.{IsLegalMount}
+use Rattle.pblk_world.specs.LegalMounts.{IsLegalMount}
 use Rattle.core_laws.specs.WindowOf.{sectors_in, window_from}
 use Rattle.core_laws.specs.ClosedLines.{closed_line}
 use Rattle.core_laws.proofs.AnsweredTops.{top_kept}
@@ -63,7 +63,7 @@ pub record IsPlacedAgain (old new : Core) (of : Program) : Type 0 where
   pub holds : new.holds ≡ old.holds
   pub open_count : new.open.count ≡ old.open.count
   pub open_slots : new.open.slots.items ≡ old.open.slots.items
-  pub live : new.live ≡ old.live
+  pub online : new.online ≡ old.online
   pub resets : new.resets ≡ old.resets
   pub notes : new.notes ≡ old.notes
   pub start : new.start ≡ old.start
@@ -86,7 +86,7 @@ again_into old mid p kept of same is count slots = record {
   holds = ap (λ (c : Core). c.holds) same;
   open_count = ap (λ (c : Core). c.open.count) same ∙ count;
   open_slots = ap (λ (c : Core). c.open.slots.items) same ∙ slots;
-  live = ap (λ (c : Core). c.live) same;
+  online = ap (λ (c : Core). c.online) same;
   resets = ap (λ (c : Core). c.resets) same;
   notes = ap (λ (c : Core). c.notes) same;
   start = ap (λ (c : Core). c.start) same;
@@ -118,7 +118,7 @@ again_stands i logs old new of st there is = record {
   capacity = ap fin.len is.map ∙ st.capacity;
   slots = λ x within. ap (λ m. fin.get m x) is.map ∙ st.slots x within;
   table = is.lines ∙ st.table;
-  units = ap (λ l. l.items) is.live ∙ st.units;
+  units = ap (λ l. l.items) is.online ∙ st.units;
   resets = ap resets_left is.resets ∙ st.resets;
   used_lines = ap (λ r. length r.used) is.resets ∙ st.used_lines;
   used = subst (AreUsed i logs) (sym is.resets) st.used;
@@ -186,7 +186,7 @@ pub record IsStoppedInto (old new : Core) (of : Program) : Type 0 where
   pub placer : new.placer ≡ stopped old.placer of
   pub holds : new.holds ≡ old.holds
   pub open_same : new.open ≡ old.open
-  pub live : new.live ≡ old.live
+  pub online : new.online ≡ old.online
   pub resets : new.resets ≡ old.resets
   pub notes : new.notes ≡ old.notes
   pub start : new.start ≡ old.start
@@ -206,8 +206,8 @@ its_stop_stands i w event knows old new of mount st there is = record {
   capacity = ap fin.len is.map ∙ st.capacity;
   slots = λ x within. ap (λ m. fin.get m x) is.map ∙ st.slots x within ∙ ap Some (sym (quiet_slot i (log_of w) e knows x quiet));
   table = is.lines ∙ st.table ∙ sym (rows_stopped i w of.unit event knows mount);
-  units = ap (λ us. us.items) is.live ∙ st.units
-      ∙ map_same (live_now i (log_of w)) (live_now i new_logs)
+  units = ap (λ us. us.items) is.online ∙ st.units
+      ∙ map_same (online_now i (log_of w)) (online_now i new_logs)
       (λ line. ap (λ (j : Image). bits_of (line_units j line)) (sym (known_kept i (log_of w) e knows refl (λ unit. refl)))) (range_with_len 0 i.shape.chunks);
   resets = ap resets_left is.resets ∙ st.resets ∙ sym (resets_quiet i (log_of w) e knows refl (λ unit. refl) (λ line. life_more (log_of w 0) l line));
   used_lines = ap (λ r. length r.used) is.resets ∙ st.used_lines;

@@ -21,7 +21,7 @@ use Rattle.stripe_placer.specs.Placing.{Placing}
 use Rattle.core_laws.specs.Stepping.{after}
 use Rattle.core_laws.specs.OpenedLines.{open_line}
 use Rattle.core_laws.specs.PlacerOf.{placing_of, unanswered_on}
-use Rattle.world_laws.specs.LegalMounts.{IsLegalMount}
+use Rattle.pblk_world.specs.LegalMounts.{IsLegalMount}
 use Rattle.core_laws.specs.WindowOf.{sectors_in, window_from, HeldSectors, HeldSector, without_frame}
 use Rattle.world_laws.specs.Finding.{IsFoundOf, NoneOpen}
 use Rattle.world_laws.specs.MountBeginnings.{seq_after, beginning_of}
@@ -141,7 +141,7 @@ made_stands i w knows f c mount none fit found closed is = record {
   capacity = is.capacity;
   slots = λ lba inside. is.slots lba inside ∙ ap Some (sym (slot_is i f new lba begins inside));
   table = table_is i f new c.lines begins is.lines;
-  units = is.live ∙ sym (lines_online i f new begins);
+  units = is.online ∙ sym (lines_online i f new begins);
   resets = is.resets ∙ resets_are;
   used_lines = is.used_lines;
   used = used_begun i f new begins c.resets is.used;

@@ -9,7 +9,7 @@ use Rattle.std.proofs.lemmas.Option.{none-some, same_Some}
 use Rattle.pblk_model.specs.Image.{Image}
 use Rattle.pblk_model.specs.StartRecord.{Row as OlderRow}
 use Rattle.pblk_meta.specs.Records.{start_numbers}
-use Rattle.pblk_layout.specs.Live.{units_in}
+use Rattle.pblk_layout.specs.Online.{units_in}
 use Rattle.pblk_world.specs.EngineLog.{Taken}
 use Rattle.pblk_world.specs.Events.{Decides, Free, Logged}
 use Rattle.pblk_world.specs.Freeing.{MayFree}
@@ -20,11 +20,11 @@ use Rattle.pblk_world.specs.World.{World, Logs, log_of}
 use Rattle.line_table.specs.declared.row.LineState.TheVariants as states
 use Rattle.line_table.specs.declared.row.Row.{Row}
 use Rattle.line_table.specs.Rows.{Changes, IsRow, turned}
-use Rattle.world_laws.specs.LegalMounts.{IsLegalMount}
+use Rattle.pblk_world.specs.LegalMounts.{IsLegalMount}
 use Rattle.write_window.specs.Window as view
 use Rattle.core_laws.specs.ChangedTables.{with_row}
 use Rattle.core_laws.specs.ClosedLines.{ClosedLine, closed_line}
-use Rattle.core_laws.specs.OpenedLines.{live_now}
+use Rattle.core_laws.specs.OpenedLines.{online_now}
 use Rattle.core_laws.specs.PlacerOf.{placing_of}
 use Rattle.core_laws.specs.RowsOf.{row_of_line}
 use Rattle.core_laws.specs.Stepping.{after}
@@ -69,8 +69,8 @@ pub record IsFreedInto (old new : Core) (line : ℕ) : Type 0 where
   pub placer : new.placer ≡ old.placer
   pub holds : new.holds ≡ old.holds
   pub open_same : new.open ≡ old.open
-  pub live : new.live.items ≡ old.live.items
-  pub lines : (live : ℕ) → slice_get old.live.items line ≡ Some live
+  pub online : new.online.items ≡ old.online.items
+  pub lines : (live : ℕ) → slice_get old.online.items line ≡ Some live
       → Changes old.lines new.lines line (turned states.Freed (length (units_in live)))
   pub resets : GetsChunks (resets_left old.resets) (resets_left new.resets) line (units_in (used_in old.resets line))
   pub used : new.resets.used ≡ old.resets.used
@@ -134,7 +134,7 @@ freed_stands i w line knows old new mount st spent own is = record {
       (its_row i w mount st line inside) its_change
       ∙ ap (with_row line (λ (row : Row). turned states.Freed row.width row)) st.table
       ∙ sym (rows_freed i w mount line knows own st.beginning st.has_begun may);
-  units = is.live ∙ st.units ∙ map_same (live_now i (log_of w)) (live_now i new_logs) (λ m. sym (units_freed i (log_of w) line knows m))
+  units = is.online ∙ st.units ∙ map_same (online_now i (log_of w)) (online_now i new_logs) (λ m. sym (units_freed i (log_of w) line knows m))
       (range_with_len 0 i.shape.chunks);
   resets = gets_same (resets_of i (log_of w)) (resets_left new.resets) (resets_of i new_logs) line (used_units (known_image i (log_of w)) line)
       (subst (λ us. GetsChunks (resets_of i (log_of w)) (resets_left new.resets) line us) its_used
@@ -201,22 +201,22 @@ freed_stands i w line knows old new mount st spent own is = record {
     from : 0 + line ≡ line
     from = omega arith
 
-    live_there : slice_get old.live.items line ≡ Some (live_now i (log_of w) line)
-    live_there = ap (λ us. slice_get us line) st.units ∙ row_there (live_now i (log_of w)) i.shape.chunks 0 line inside
-        ∙ ap (λ n. Some (live_now i (log_of w) n)) from
+    live_there : slice_get old.online.items line ≡ Some (online_now i (log_of w) line)
+    live_there = ap (λ us. slice_get us line) st.units ∙ row_there (online_now i (log_of w)) i.shape.chunks 0 line inside
+        ∙ ap (λ n. Some (online_now i (log_of w) n)) from
 
     -- ---- its row
 
     its_change : Changes old.lines new.lines line (λ (row : Row). turned states.Freed row.width row)
     its_change =
-        let turn = is.lines (live_now i (log_of w) line) live_there in
+        let turn = is.lines (online_now i (log_of w) line) live_there in
         record {
           shape = turn.shape;
           lines = turn.lines;
           rows = λ row there. turn.rows row there ∙ ap (λ n. slice_set old.lines.rows line (turned states.Freed n row)) (wide row there);
         }
       where
-        wide : (row : Row) → IsRow old.lines line row → length (units_in (live_now i (log_of w) line)) ≡ row.width
+        wide : (row : Row) → IsRow old.lines line row → length (units_in (online_now i (log_of w) line)) ≡ row.width
         wide row there =
             bits_width i w (log_of w) line mount
             ∙ sym (numbered_width i w mount line st.beginning st.has_begun may.seq may.has_seq)

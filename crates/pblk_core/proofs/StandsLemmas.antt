@@ -1,6 +1,6 @@
 -- Lemmas on the words of Stands.
 use Rattle.std.proofs.Common.{le_trans, ◌≡◌}
-use Rattle.world_laws.specs.LegalMounts.{IsLegalMount}
+use Rattle.pblk_world.specs.LegalMounts.{IsLegalMount}
 use Rattle.core_laws.specs.WindowOf.{users_below}
 use Rattle.core_laws.proofs.UsersEntries.{in_order}
 use Rattle.core_laws.proofs.Growing.{freed_within}

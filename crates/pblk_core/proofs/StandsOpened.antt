@@ -26,9 +26,9 @@ use Rattle.line_table.proofs.Places.{get_within, get_set_same, get_set_other, ea
 use Rattle.stripe_placer.specs.Placing.{begun as line_begun}
 use Rattle.write_window.specs.Window as view
 use Rattle.core_laws.specs.Stepping.{after}
-use Rattle.core_laws.specs.OpenedLines.{bits_of, live_now}
+use Rattle.core_laws.specs.OpenedLines.{bits_of, online_now}
 use Rattle.core_laws.specs.PlacerOf.{placing_of}
-use Rattle.world_laws.specs.LegalMounts.{IsLegalMount}
+use Rattle.pblk_world.specs.LegalMounts.{IsLegalMount}
 use Rattle.core_laws.specs.RowsOf.{rows_of, row_of_line}
 use Rattle.core_laws.specs.WindowOf.{is_given_back, sectors_in, window_from}
 use Rattle.core_laws.proofs.Engine.{prefix_whole}
@@ -59,7 +59,7 @@ use Rattle.pblk_core.specs.LineNotes.{note_opened}
 use Rattle.pblk_core.specs.Stands.{Stands, AreHolds, AreOpenLines, AreUsed, IsOpenLine, left_openings, stripes_left}
 use Rattle.pblk_core.specs.LineRecords.{placed_whole}
 use Rattle.pblk_core.proofs.LineCounts.{left_opened}
-use Rattle.pblk_layout.specs.Live.{units_in}
+use Rattle.pblk_layout.specs.Online.{units_in}
 use Rattle.stripe_placer.specs.OpenLines.{opened}
 use Rattle.pblk_core.specs.Named.{next_line, next_units, next_start}
 use Rattle.pblk_core.proofs.OpeningFacts.{MayOpenNext, IsNextLine, next_line_is, next_may_open}
@@ -138,7 +138,7 @@ pub record IsOpenedInto (old new : Core) : Type 0 where
   pub open_count : new.open.count ≡ old.open.count + 1
   pub open_slots : (line : OpenLine) → IsSlot old.open old.open.count line → new.open.slots.items ≡ slice_set old.open.slots.items old.open.count
       (opened_slot line (next_start old) (next_units old) ((next_start old).width * (old.layout.clba / old.layout.ws_opt)))
-  pub live : new.live ≡ old.live
+  pub online : new.online ≡ old.online
   pub resets : new.resets ≡ old.resets
   pub note_rows : new.notes.rows.items ≡ slice_set old.notes.rows.items (next_line old)
       (note_opened (next_start old).seq (next_start old).front (start_stripes old.layout))
@@ -237,12 +237,12 @@ lines_opened i w knows old new mount st may is = record {
             marks = sym (no_marks i.shape o (placed_whole (new_logs 0) o)
                 (ap (filter (λ (p : Placed). not (has_failed (take p.number (new_logs 0)) o))) none));
           };
-          live = line_is.units_are ∙ ap (λ (ls : Logs). bits_of (line_units (known_image i ls) (next_line old))) (sym (prefix_whole (log_of w) e knows));
+          online = line_is.units_are ∙ ap (λ (ls : Logs). bits_of (line_units (known_image i ls) (next_line old))) (sym (prefix_whole (log_of w) e knows));
           left = ap (λ (s : Shape). (next_start old).width * (s.clba / s.ws_opt)) st.layout
               ∙ ap (λ n. length (units_in n) * (i.shape.clba / i.shape.ws_opt)) line_is.units_are
               ∙ sym (ap stripes_left (new_line i (log_of w) (next_line old) (next_start old) knows)
-              ∙ left_opened (opened i.shape (next_line old) (live_now i (log_of w) (next_line old)))
-              (length (units_in (live_now i (log_of w) (next_line old))) * (i.shape.clba / i.shape.ws_opt)) refl);
+              ∙ left_opened (opened i.shape (next_line old) (online_now i (log_of w) (next_line old)))
+              (length (units_in (online_now i (log_of w) (next_line old))) * (i.shape.clba / i.shape.ws_opt)) refl);
         })
 
 pub opened_stands : (i : Image) (w : World) (knows : List ℕ) (old new : Core) → IsLegalMount i w → Stands i (log_of w) old → MayOpenNext old
@@ -255,8 +255,8 @@ opened_stands i w knows old new mount st may is = record {
   capacity = ap fin.len is.map ∙ st.capacity;
   slots = λ x within. ap (λ m. fin.get m x) is.map ∙ st.slots x within ∙ ap Some (sym (quiet_slot i (log_of w) e knows x quiet));
   table = table_is;
-  units = ap (λ l. l.items) is.live ∙ st.units
-      ∙ map_same (live_now i (log_of w)) (live_now i new_logs)
+  units = ap (λ l. l.items) is.online ∙ st.units
+      ∙ map_same (online_now i (log_of w)) (online_now i new_logs)
       (λ line. ap (λ (j : Image). bits_of (line_units j line)) (sym (known_kept i (log_of w) e knows refl (λ unit. refl)))) (range_with_len 0 i.shape.chunks);
   resets = ap resets_left is.resets ∙ st.resets ∙ sym (resets_opened i (log_of w) (next_line old) (next_start old) knows line_is.least.is_free);
   used_lines = ap (λ r. length r.used) is.resets ∙ st.used_lines;

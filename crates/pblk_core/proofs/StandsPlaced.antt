@@ -38,7 +38,7 @@ use Rattle.pblk_core.proofs.WholeMarks.{marks_all, marks_then, whole_elsewhere, 
 use Rattle.pblk_core.specs.Landing.{new_count}
 use Rattle.pblk_core.specs.LineRecords.{whole_marks}
 use Rattle.core_laws.specs.ClosedLines.{closed_line}
-use Rattle.core_laws.specs.InOrder.{IsInOrder}
+use Rattle.core_laws.specs.InOrder.{AreSoundLogs}
 use Rattle.core_laws.specs.PlacedEntries.{place_entries}
 use Rattle.core_laws.proofs.ClosedKept.{closed_placed}
 use Rattle.core_laws.proofs.ClosedLanded.{closed_as, closed_by_left, closed_if}
@@ -50,9 +50,9 @@ use Rattle.core_laws.proofs.PlacedRows.{rows_placed, rows_beside}
 use Rattle.core_laws.proofs.LeastPositions.{least_rises}
 use Rattle.core_laws.proofs.QuietEvents.{place_kept, place_window, place_slot}
 use Rattle.core_laws.proofs.Untouched.{AreKept, given_kept}
-use Rattle.core_laws.specs.OpenedLines.{bits_of, live_now, open_line, standing}
+use Rattle.core_laws.specs.OpenedLines.{bits_of, online_now, open_line, standing}
 use Rattle.core_laws.specs.PlacerOf.{placing_of, positions_of, positions_in_stripe, entries_of, fresh_entries, lost_entries, IsStripeOf}
-use Rattle.world_laws.specs.LegalMounts.{IsLegalMount}
+use Rattle.pblk_world.specs.LegalMounts.{IsLegalMount}
 use Rattle.core_laws.specs.RowsOf.{rows_of}
 use Rattle.core_laws.specs.Stepping.{after}
 use Rattle.core_laws.specs.WindowOf.{is_given_back, sectors_in, window_from}
@@ -117,7 +117,7 @@ pub record IsPlacedInto (old new : Core) (k : ℕ) (slot : KeptLine) (of : Progr
   pub holds : new.holds.rows.items ≡ placed_rows of.line old.holds.rows.items of.positions
   pub open_count : new.open.count ≡ old.open.count
   pub open_slots : new.open.slots.items ≡ slots_for of.kind old.open.slots.items k slot stripe
-  pub live : new.live ≡ old.live
+  pub online : new.online ≡ old.online
   pub resets : new.resets ≡ old.resets
   pub notes : new.notes ≡ old.notes
   pub start : new.start ≡ old.start
@@ -144,7 +144,7 @@ positions_are s log kinds.End = refl
 
 -- ---- the table
 
-rows_by_kind : (i : Image) (logs : Logs) (stripe : Stripe) (knows : List ℕ) (o : Opening) (kind : StripeKind) → IsInOrder i logs → IsOrdered i.shape (logs 0)
+rows_by_kind : (i : Image) (logs : Logs) (stripe : Stripe) (knows : List ℕ) (o : Opening) (kind : StripeKind) → AreSoundLogs i logs → IsOrdered i.shape (logs 0)
     → IsPlacing (logs 0) stripe o
     → IsOfKind i logs o stripe kind
     → rows_of i (after logs (Place stripe) knows) ≡ place_entries (logs 0) stripe.line (rows_of i logs)
@@ -274,7 +274,7 @@ with_all slot marks = record {
     start = slot.records.start;
     marks = marks;
   };
-  live = slot.live;
+  online = slot.online;
   stripes_left = slot.stripes_left;
 }
 
@@ -366,7 +366,7 @@ line_of_it i w stripe knows o pad of slot mount placing before now its short is 
     start = is.records.start;
     marks = ap (λ ms. ms ++ marks_for of.kind stripe) is.records.marks ∙ sym (marks_by_kind i w stripe knows o pad of mount placing now short);
   };
-  live = is.live ∙ ap bits_of (sym (units_same i (log_of w) (Place stripe) knows o before));
+  online = is.online ∙ ap bits_of (sym (units_same i (log_of w) (Place stripe) knows o before));
   left = is.left ∙ sym (left_of_it i w stripe knows o pad of mount placing now its);
 }
 
@@ -384,7 +384,7 @@ line_of_other i w stripe knows o other pad of slot mount placing before now its 
     marks = is.records.marks ∙ sym
         (marks_then i.shape (log_of w 0) stripe knows other (whole_elsewhere (log_of w 0) stripe knows o other placing.opened apart));
   };
-  live = is.live ∙ ap bits_of (sym (units_same i (log_of w) (Place stripe) knows other before));
+  online = is.online ∙ ap bits_of (sym (units_same i (log_of w) (Place stripe) knows other before));
   left = is.left ∙ ap stripes_left (sym (line_of_others i w stripe knows o other pad of mount placing its stands elsewhere));
 }
 
@@ -493,12 +493,6 @@ none_from front (t ∷ ts) all =
     above_no : (m n : ℕ) → n < m → nat_le m n ≡ false
     above_no m n e = grind arith
 
-all_from : (front n : ℕ) (m : ℕ) → front ≤ m → length (filter (λ q. nat_le front q) (range_with_len m n)) ≡ n
-all_from front zero m low = refl
-all_from front (suc n) m low =
-    ap (λ b. length (cond b (m ∷ filter (λ q. nat_le front q) (range_with_len (m + 1) n)) (filter (λ q. nat_le front q) (range_with_len (m + 1) n))))
-    (le_true front m low) ∙ ap suc (all_from front n (m + 1) (omega arith))
-
 taken_from : (front n k m : ℕ) → front ≤ m → length (filter (λ q. nat_le front q) (take k (range_with_len m n))) ≡ min k n
 taken_from front n zero m low = let z : min 0 n ≡ 0 = omega arith in sym z
 taken_from front zero (suc k) m low = let z : min (suc k) 0 ≡ 0 = omega arith in sym z
@@ -583,7 +577,7 @@ placed_stands i w knows old new o of stripe mount st has now for count is = reco
   slots = λ lba within. ap (λ m. fin.get m lba) is.map ∙ st.slots lba within
       ∙ ap Some (sym (place_slot i (log_of w) w stripe knows lba mount.legal refl here.may));
   table = table_is;
-  units = ap (λ l. l.items) is.live ∙ st.units ∙ map_same (live_now i (log_of w)) (live_now i new_logs)
+  units = ap (λ l. l.items) is.online ∙ st.units ∙ map_same (online_now i (log_of w)) (online_now i new_logs)
       (λ line. sym (ap (λ (j : Image). bits_of (line_units j line)) (known_kept i (log_of w) (Place stripe) knows refl (λ unit. refl))))
       (range_with_len 0 i.shape.chunks);
   resets = ap resets_left is.resets ∙ st.resets
@@ -625,7 +619,7 @@ placed_stands i w knows old new o of stripe mount st has now for count is = reco
     new_logs : Logs
     new_logs = after (log_of w) (Place stripe) knows
 
-    order : IsInOrder i (log_of w)
+    order : AreSoundLogs i (log_of w)
     order = in_order i w mount
 
     ts : List Taken

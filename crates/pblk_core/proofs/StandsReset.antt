@@ -7,7 +7,7 @@ use Rattle.pblk_model.specs.declared.chunk.ChunkState.{ChunkState}
 use Rattle.pblk_model.specs.Shape.{units}
 use Rattle.pblk_model.specs.Image.{Image, width}
 use Rattle.pblk_meta.specs.Records.{start_numbers}
-use Rattle.pblk_layout.specs.Live.{units_in}
+use Rattle.pblk_layout.specs.Online.{units_in}
 use Rattle.pblk_world.specs.Events.{EngineEvent, ResetDone, Decides, Logged}
 use Rattle.pblk_world.specs.World.{World, Logs, log_of}
 use Rattle.pblk_world.specs.EngineLog.{Taken, openings, is_as_found}
@@ -18,9 +18,9 @@ use Rattle.pblk_world.proofs.Appending.{openings_more, life_more}
 use Rattle.line_table.specs.Rows.{Changes, turned}
 use Rattle.write_window.specs.Window as view
 use Rattle.core_laws.specs.Stepping.{after}
-use Rattle.core_laws.specs.OpenedLines.{live_now, open_lines, standing}
-use Rattle.core_laws.specs.PlacerOf.{contains_unit, placing_of, entries_of, row_of}
-use Rattle.world_laws.specs.LegalMounts.{IsLegalMount}
+use Rattle.core_laws.specs.OpenedLines.{online_now, open_lines, standing}
+use Rattle.core_laws.specs.PlacerOf.{contains_unit, placing_of, entries_of, unit_row_in}
+use Rattle.pblk_world.specs.LegalMounts.{IsLegalMount}
 use Rattle.core_laws.specs.RowsOf.{row_of_line, rows_of}
 use Rattle.core_laws.specs.WindowOf.{sectors_in, window_from}
 use Rattle.core_laws.proofs.Engine.{stopped_more}
@@ -71,13 +71,13 @@ pub record IsResetInto (old new : Core) (line unit : ℕ) (state : ChunkState) :
   pub holds : new.holds ≡ old.holds
   pub open_same : new.open ≡ old.open
   pub start : new.start ≡ old.start
-  pub live : new.live.items ≡ kept_units old.live.items line unit state
+  pub online : new.online.items ≡ kept_units old.online.items line unit state
   pub resets : resets_left new.resets ≡ drop 1 (resets_left old.resets)
   pub used_lines : length new.resets.used ≡ length old.resets.used
   pub used : (other : ℕ) → is_of_line other (slice_get (resets_left old.resets) 0) ≡ false → used_in new.resets other ≡ used_in old.resets other
   pub notes : new.notes ≡ old.notes
   pub lines_stay : is_of_line line (slice_get (resets_left new.resets) 0) ≡ true → new.lines ≡ old.lines
-  pub lines_turn : (live : ℕ) → is_of_line line (slice_get (resets_left new.resets) 0) ≡ false → slice_get new.live.items line ≡ Some live
+  pub lines_turn : (live : ℕ) → is_of_line line (slice_get (resets_left new.resets) 0) ≡ false → slice_get new.online.items line ≡ Some live
       → Changes old.lines new.lines line (turned (emptied old.layout (length (units_in live))) (length (units_in live)))
   pub first : new.first ≡ old.first
   pub placed : new.placed ≡ old.placed
@@ -190,15 +190,15 @@ reset_stands i w line unit event knows state old new mount st names to is = reco
         (quiet_notes i w st.beginning e knows old.notes mount st.has_begun refl (λ m. life_more (log_of w 0) l m) closed_is
         (λ m o life. top_reset i (log_of w) unit event knows m o to.may (ap (is_given_up (log_of w 0)) to.chunk ∙ named_is.given_up) life) st.notes)
 
-    units_are : new.live.items ≡ map (live_now i new_logs) (range_with_len 0 i.shape.chunks)
-    units_are = is.live ∙ ap (λ us. kept_units us line unit state) st.units ∙ units_kept i w unit event line knows state mount named_is seen
+    units_are : new.online.items ≡ map (online_now i new_logs) (range_with_len 0 i.shape.chunks)
+    units_are = is.online ∙ ap (λ us. kept_units us line unit state) st.units ∙ units_kept i w unit event line knows state mount named_is seen
 
     from : 0 + line ≡ line
     from = omega arith
 
-    live_there : slice_get new.live.items line ≡ Some (live_now i new_logs line)
-    live_there = ap (λ us. slice_get us line) units_are ∙ row_there (live_now i new_logs) i.shape.chunks 0 line named_is.in_range
-        ∙ ap (λ m. Some (live_now i new_logs m)) from
+    live_there : slice_get new.online.items line ≡ Some (online_now i new_logs line)
+    live_there = ap (λ us. slice_get us line) units_are ∙ row_there (online_now i new_logs) i.shape.chunks 0 line named_is.in_range
+        ∙ ap (λ m. Some (online_now i new_logs m)) from
 
     there : slice_get old.lines.rows line ≡ Some (row_of_line i (log_of w) (0 + line))
     there = ap (λ t. slice_get t.rows line) st.table ∙ row_there (row_of_line i (log_of w)) i.shape.chunks 0 line named_is.in_range
@@ -217,11 +217,11 @@ reset_stands i w line unit event knows state old new mount st names to is = reco
         let none : units_to_reset i new_logs line ≡ [] =
         none_there (units_to_reset i new_logs) i.shape.chunks line named_is.in_range others_before
         (ap (λ rs. is_of_line line (slice_get rs 0)) (sym resets_are) ∙ at) in
-        let wide : length (units_in (live_now i new_logs line)) ≡ width (known_image i new_logs) line = bits_width i w new_logs line mount in
+        let wide : length (units_in (online_now i new_logs line)) ≡ width (known_image i new_logs) line = bits_width i w new_logs line mount in
         changed_is old.lines new.lines line
-        (turned (emptied old.layout (length (units_in (live_now i new_logs line)))) (length (units_in (live_now i new_logs line))))
+        (turned (emptied old.layout (length (units_in (online_now i new_logs line)))) (length (units_in (online_now i new_logs line))))
         (row_of_line i (log_of w) (0 + line)) there
-        (is.lines_turn (live_now i new_logs line) at live_there)
+        (is.lines_turn (online_now i new_logs line) at live_there)
         ∙ ap₂ (λ s n. with_row line (turned (emptied s n) n) old.lines) st.layout wide
         ∙ ap (with_row line (turned (emptied i.shape (width (known_image i new_logs) line)) (width (known_image i new_logs) line))) st.table
         ∙ sym (table_turns i w unit event line knows state st.beginning mount st.has_begun named_is seen
@@ -230,10 +230,10 @@ reset_stands i w line unit event knows state old new mount st names to is = reco
     placing_is : placing_of i new_logs old.placer.entries.pad st.again ≡ placing_of i (log_of w) old.placer.entries.pad st.again
     placing_is =
         same_placing i.shape (entries_of i.shape (new_logs 0) old.placer.entries.pad) (entries_of i.shape (log_of w 0) old.placer.entries.pad)
-        (map (row_of i new_logs st.again) (range_with_len 0 (units i.shape))) (map (row_of i (log_of w) st.again) (range_with_len 0 (units i.shape)))
+        (map (unit_row_in i new_logs st.again) (range_with_len 0 (units i.shape))) (map (unit_row_in i (log_of w) st.again) (range_with_len 0 (units i.shape)))
         (open_lines i new_logs) (open_lines i (log_of w))
         (entries_same i.shape (log_of w 0) (new_logs 0) old.placer.entries.pad alike (quiet_takes (log_of w 0) e knows quiet))
-        (map_same (row_of i new_logs st.again) (row_of i (log_of w) st.again)
+        (map_same (unit_row_in i new_logs st.again) (unit_row_in i (log_of w) st.again)
         (λ u. row_same i (log_of w) e knows st.again st.again u (ap₂ (λ ps ns. unanswered_in ps ns u) alike.placements alike.answers)
         (ap (λ b. b && not (contains_unit st.again u)) (stopped_more (log_of w 0) l u))) (range_with_len 0 (units i.shape)))
         (lines_same i (log_of w) e knows alike same_standing)

@@ -12,7 +12,7 @@ use Rattle.pblk_model.proofs.MarksLemmas.{accepted_small}
 use Rattle.pblk_world.specs.Events.{Take}
 use Rattle.pblk_world.specs.Taking.{IsLatest, IsMarked, MayTake}
 use Rattle.pblk_world.specs.World.{World, log_of}
-use Rattle.world_laws.specs.LegalMounts.{IsLegalMount}
+use Rattle.pblk_world.specs.LegalMounts.{IsLegalMount}
 use Rattle.l2p_map.specs.declared.slot.Slot.{Slot}
 use Rattle.l2p_map.specs.declared.slot.Slot.TheVariants.{Unwritten, Cached, Media}
 use Rattle.sector_pool.specs.declared.entry.Class.{Class}

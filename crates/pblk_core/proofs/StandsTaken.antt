@@ -21,7 +21,7 @@ use Rattle.pblk_world.proofs.Appending.{openings_more, life_more}
 use Rattle.l2p_map.specs.declared.slot.Slot.{Slot}
 use Rattle.l2p_map.specs.declared.slot.Slot.TheVariants.{Unwritten, Cached, Media}
 use Rattle.core_laws.specs.Stepping.{after}
-use Rattle.core_laws.specs.OpenedLines.{bits_of, live_now, standing}
+use Rattle.core_laws.specs.OpenedLines.{bits_of, online_now, standing}
 use Rattle.core_laws.specs.Positions.{AreNumbered, IsUnplaced}
 use Rattle.core_laws.specs.SlotOf.{slot_by, slot_of}
 use Rattle.core_laws.specs.WindowOf.{is_given_back, sectors_in, window_from, HeldSectors, waiting_sector, without_frame, class_of, source_of}
@@ -74,7 +74,7 @@ use Rattle.sector_pool.specs.declared.entry.Entry.{Entry as FramedEntry}
 use Rattle.write_window.specs.declared.held.Progress.TheVariants.{Waiting}
 use Rattle.write_window.specs.Window as view
 use Rattle.stripe_placer.specs.Placing.{waits}
-use Rattle.world_laws.specs.LegalMounts.{IsLegalMount}
+use Rattle.pblk_world.specs.LegalMounts.{IsLegalMount}
 use Rattle.core_laws.proofs.LatestSources.{entry_is_latest, named_is_place}
 use Rattle.core_laws.proofs.LiveSlots.{given_by}
 use Rattle.std.proofs.lemmas.Bool.{eqb-true}
@@ -127,7 +127,7 @@ media_kept m lba x q line at position there = go (eqb_tells lba x) (sym (get-ins
 -- ---- lines
 
 pub units_taken : (i : Image) (logs : Logs) (entry : Entry) (mark : Mark) (knows : List ℕ) (line : ℕ)
-    → live_now i (after logs (Take entry mark) knows) line ≡ live_now i logs line
+    → online_now i (after logs (Take entry mark) knows) line ≡ online_now i logs line
 units_taken i logs entry mark knows line = ap (λ (j : Image). bits_of (line_units j line)) (known_kept i logs (Take entry mark) knows refl (λ unit. refl))
 
 pub openings_taken : (log : List Logged) (entry : Entry) (mark : Mark) (knows : List ℕ) → openings (with_take log entry mark knows) ≡ openings log
@@ -208,7 +208,7 @@ pub record IsKeptInto (old new : Core) (e : FramedEntry) : Type 0 where
   pub window : new.window ≡ record old.window { entries = old.window.entries ++ record { entry = e; progress = Waiting } ∷ [] }
   pub placer : new.placer ≡ waits old.placer e.position false
   pub open_lines : new.open ≡ old.open
-  pub live : new.live ≡ old.live
+  pub online : new.online ≡ old.online
   pub resets : new.resets ≡ old.resets
   pub notes : new.notes ≡ old.notes
   pub start : new.start ≡ old.start
@@ -252,8 +252,8 @@ kept_stands i w knows old new e mark mount st next is tells = record {
   capacity = is.capacity ∙ st.capacity;
   slots = tells.slots;
   table = tells.table;
-  units = ap (λ l. l.items) is.live ∙ st.units
-      ∙ map_same (live_now i (log_of w)) (live_now i new_logs) (λ line. sym (units_taken i (log_of w) (entry_of e) mark knows line))
+  units = ap (λ l. l.items) is.online ∙ st.units
+      ∙ map_same (online_now i (log_of w)) (online_now i new_logs) (λ line. sym (units_taken i (log_of w) (entry_of e) mark knows line))
       (range_with_len 0 i.shape.chunks);
   resets = ap resets_left is.resets ∙ st.resets
       ∙ sym (resets_quiet i (log_of w) (Take (entry_of e) mark) knows refl (λ unit. refl)

@@ -13,7 +13,7 @@ use Rattle.stripe_placer.specs.declared.placement.StripeKind.TheVariants as kind
 use Rattle.stripe_placer.specs.OpenLines.{OpenLine}
 use Rattle.stripe_placer.specs.Placing.{Program}
 use Rattle.core_laws.specs.OpenedLines.{open_line}
-use Rattle.world_laws.specs.LegalMounts.{IsLegalMount}
+use Rattle.pblk_world.specs.LegalMounts.{IsLegalMount}
 use Rattle.core_laws.proofs.Placeable.{kind_in}
 use Rattle.pblk_core.proofs.LandedWay.{IsOnWay}
 use Rattle.pblk_core.proofs.StoppedStripe.{kind_in_line, number_is_place, pad_then}

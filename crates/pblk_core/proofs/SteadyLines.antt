@@ -18,7 +18,7 @@ use Rattle.core_laws.proofs.Steady.{AreAlike, unanswered_in, open_line_same, sta
 use Rattle.core_laws.proofs.LeftLines.{left_before}
 use Rattle.pblk_core.specs.declared.open_lines.OpenLine.{OpenLine}
 use Rattle.pblk_core.specs.declared.open_lines.OpenLines.{OpenLines}
-use Rattle.pblk_core.specs.LineRecords.{AreKept, Records}
+use Rattle.pblk_core.specs.LineRecords.{AreRecordsOf, RecordsView}
 use Rattle.pblk_core.specs.Stands.{left_openings, stripes_left, under_way, IsOpenLine, AreOpenLines}
 use Rattle.lemmas.proofs.Maps.{filter_agree}
 use Rattle.pblk_core.proofs.WholeMarks.{records_kept}
@@ -26,8 +26,8 @@ use Rattle.pblk_core.proofs.WholeMarks.{records_kept}
 pub stripes_same : (old new : List Logged) → AreAlike old new → (o : Opening) → stripes_of new o ≡ stripes_of old o
 stripes_same old new alike o = ap (λ ps. filter (λ (p : Placed). is_life o.number p.life) ps) alike.placements
 
-pub records_same : (s : Shape) (logs : Logs) (e : EngineEvent) (knows : List ℕ) → AreAlike (logs 0) (after logs e knows 0) → (o : Opening) (r : Records)
-    → AreKept s (logs 0) o r → AreKept s (after logs e knows 0) o r
+pub records_same : (s : Shape) (logs : Logs) (e : EngineEvent) (knows : List ℕ) → AreAlike (logs 0) (after logs e knows 0) → (o : Opening) (r : RecordsView)
+    → AreRecordsOf s (logs 0) o r → AreRecordsOf s (after logs e knows 0) o r
 records_same s logs e knows alike o r of =
     records_kept s (logs 0) (record { event = Decides e; knows = knows }) o r (stripes_same (logs 0) (after logs e knows 0) alike o) of
 
@@ -48,7 +48,7 @@ pub open_same : (i : Image) (logs : Logs) (e : EngineEvent) (knows : List ℕ) (
     → IsOpenLine i logs o kept → IsOpenLine i (after logs e knows) o kept
 open_same i logs e knows o kept alike before is = record {
   records = records_same i.shape logs e knows alike o kept.records is.records;
-  live = is.live ∙ ap bits_of (sym (units_same i logs e knows o before));
+  online = is.online ∙ ap bits_of (sym (units_same i logs e knows o before));
   left = is.left ∙ ap stripes_left (sym (open_line_same i logs e knows alike o before));
 }
 

@@ -17,7 +17,7 @@ use Rattle.stripe_placer.specs.Placing.UnitRow.{Stopped}
 use Rattle.write_window.specs.Window as view
 use Rattle.core_laws.specs.OpenedLines.{as_opened}
 use Rattle.core_laws.specs.PlacerOf.{unanswered_on, was_stopped_on}
-use Rattle.world_laws.specs.LegalMounts.{IsLegalMount}
+use Rattle.pblk_world.specs.LegalMounts.{IsLegalMount}
 use Rattle.core_laws.proofs.PartLengths.{ends_before}
 use Rattle.core_laws.proofs.StripesInOrder.{stripe_count}
 use Rattle.pblk_core.specs.Landing.{WasStopped}

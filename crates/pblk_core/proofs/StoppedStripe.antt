@@ -29,7 +29,7 @@ use Rattle.stripe_placer.specs.OpenLines.{OpenLine, kind_of, opened, width}
 use Rattle.stripe_placer.specs.Placing.{Program}
 use Rattle.core_laws.specs.OpenedLines.{as_opened, open_line}
 use Rattle.core_laws.specs.PlacerOf.{number_of, positions_of}
-use Rattle.world_laws.specs.LegalMounts.{IsLegalMount}
+use Rattle.pblk_world.specs.LegalMounts.{IsLegalMount}
 use Rattle.core_laws.proofs.FailedThen.{failed_then}
 use Rattle.core_laws.proofs.LineNumbers.{IsNumbered, numbered}
 use Rattle.core_laws.proofs.StripesByPlace.{one_stripe}

@@ -5,9 +5,9 @@ use Rattle.pblk_model.specs.declared.shape.Shape.{Shape}
 use Rattle.pblk_model.specs.Shape.{units}
 use Rattle.pblk_model.specs.Image.{Image}
 use Rattle.pblk_world.specs.World.{World, Logs}
-use Rattle.world_laws.specs.LegalMounts.{IsLegalMount}
+use Rattle.pblk_world.specs.LegalMounts.{IsLegalMount}
 use Rattle.line_table.specs.Rows.{Table}
-use Rattle.core_laws.specs.OpenedLines.{live_now}
+use Rattle.core_laws.specs.OpenedLines.{online_now}
 use Rattle.core_laws.specs.RowsOf.{row_of_line}
 use Rattle.core_laws.proofs.VictimsAtWork.{victim_is_closed}
 use Rattle.lemmas.proofs.Maps.{length_mapped, row_at}
@@ -23,15 +23,15 @@ each_line {c} i w logs mount st =
     record {
       rows = ap (λ (t : Table). length t.rows) st.table ∙ length_mapped (row_of_line i logs) 0 i.shape.chunks ∙ chunks;
       noted = st.notes.count ∙ chunks;
-      online = ap length st.units ∙ length_mapped (live_now i logs) 0 i.shape.chunks ∙ chunks;
+      online = ap length st.units ∙ length_mapped (online_now i logs) 0 i.shape.chunks ∙ chunks;
       few = λ line live there.
-          let row = row_at (live_now i logs) i.shape.chunks 0 line live (ap (λ us. slice_get us line) (sym st.units) ∙ there) in
+          let row = row_at (online_now i logs) i.shape.chunks 0 line live (ap (λ us. slice_get us line) (sym st.units) ∙ there) in
           subst (λ (s : Shape). live < 2 ^ units s) (sym st.layout)
           (subst (λ n. n < 2 ^ units i.shape) row.1 (known_bits i w logs (0 + line) mount));
     }
 
 -- where the tables have as many rows as they had
-pub each_kept : (old new : Core) → HasEachLine old → new.layout ≡ old.layout → new.live ≡ old.live
+pub each_kept : (old new : Core) → HasEachLine old → new.layout ≡ old.layout → new.online ≡ old.online
     → length new.lines.rows ≡ length old.lines.rows → length new.notes.rows.items ≡ length old.notes.rows.items → HasEachLine new
 each_kept old new each layout live rows notes =
     let chunks = ap (λ (s : Shape). s.chunks) (sym layout) in

@@ -6,7 +6,7 @@ use Rattle.pblk_model.specs.Shape.{units}
 use Rattle.stripe_placer.specs.Placing.{Placing, Program, UnitRow, is_stopped, placed, placed_again, placed_first, with_row}
 use Rattle.stripe_placer.specs.Placing.UnitRow.{Idle, UnderWay}
 use Rattle.lemmas.proofs.Parts.{get_set_other}
-use Rattle.pblk_core.specs.Landing.{IsResting}
+use Rattle.pblk_core.specs.Landing.{NoneUnderWay}
 use Rattle.pblk_core.specs.Made.{IsMadeOn}
 use Rattle.pblk_core.specs.declared.target_core.Core.{Core}
 
@@ -34,5 +34,5 @@ all_idle zero unit of e = absurd cc
 all_idle (suc n) zero of e = absurd cc
 all_idle (suc n) (suc unit) of e = all_idle n unit of e
 
-pub made_resting : (s : _) (f : _) (c : Core) → IsMadeOn s f c → IsResting c
+pub made_resting : (s : _) (f : _) (c : Core) → IsMadeOn s f c → NoneUnderWay c
 made_resting s f c is unit of there = all_idle (units s) unit of (sym (ap (λ (p : Placing). slice_get p.units unit) is.placer) ∙ there)

@@ -8,7 +8,7 @@ use Rattle.std.proofs.lemmas.Nat.Bits.{bit_at-suc, bit_at-trailing_zeros, bit_at
 use Rattle.std.proofs.lemmas.Option.{none-some, same_Some}
 use Rattle.lemmas.proofs.Lists.{nil_cons}
 use Rattle.lemmas.proofs.Maps.{none_kept}
-use Rattle.pblk_layout.specs.Live.{is_in, units_below, units_in}
+use Rattle.pblk_layout.specs.Online.{is_in, units_below, units_in}
 use Rattle.pblk_layout.proofs.Sets.{bit_one, rank_is}
 use Rattle.pblk_core.proofs.FirstReset.{IsFirstPassed, first_passed}
 

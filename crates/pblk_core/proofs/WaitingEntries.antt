@@ -17,7 +17,7 @@ use Rattle.write_window.specs.Window.{WindowView, sector_at}
 use Rattle.write_window.specs.declared.held.Held.{Held}
 use Rattle.core_laws.proofs.EntryHolds.{line_of_waiting}
 use Rattle.core_laws.proofs.PlacedAnew.{IsWaiting as WaitsHere, waiting_wait}
-use Rattle.world_laws.specs.LegalMounts.{IsLegalMount}
+use Rattle.pblk_world.specs.LegalMounts.{IsLegalMount}
 use Rattle.core_laws.specs.PlacerOf.{positions_of, placing_of}
 use Rattle.core_laws.specs.Positions.{AreNumbered}
 use Rattle.core_laws.specs.WindowOf.{HeldSector, HeldSectors, without_frame, held_of, is_given_back}

@@ -7,16 +7,16 @@ use Rattle.std.proofs.lemmas.Bool.{cases_order}
 use Rattle.std.proofs.lemmas.Option.{same_Some}
 use Rattle.pblk_model.specs.Image.{Image}
 use Rattle.pblk_model.specs.LineOrder.{data_len}
-use Rattle.pblk_layout.specs.Live.{units_in}
+use Rattle.pblk_layout.specs.Online.{units_in}
 use Rattle.pblk_world.specs.Lines.{known_image, line_data}
 use Rattle.pblk_world.specs.Victims.{candidate, is_before, is_failed_before, next_victim}
 use Rattle.pblk_world.specs.Victims as logs_say
 use Rattle.pblk_world.specs.World.{World, Logs}
 use Rattle.victim_index.specs.Choice.{AreLevel, Holds, HoldsNone, IsBest, IsPreferred}
 use Rattle.victim_index.specs.declared.candidate.Candidate.{Candidate}
-use Rattle.world_laws.specs.LegalMounts.{IsLegalMount}
+use Rattle.pblk_world.specs.LegalMounts.{IsLegalMount}
 use Rattle.core_laws.specs.CandidateLines.{candidate_by, is_failed_state}
-use Rattle.core_laws.specs.OpenedLines.{live_now}
+use Rattle.core_laws.specs.OpenedLines.{online_now}
 use Rattle.core_laws.specs.RowsOf.{row_of_line}
 use Rattle.core_laws.proofs.CandidateLines.{candidate_by_row}
 use Rattle.core_laws.proofs.ChosenVictims.{is_less, is_next_victim, less_is, none_is_next}
@@ -82,19 +82,19 @@ told note (Some start) failed live ws_opt addresses line = go note.closed
     go true = by (nat_lt note.seq start.seq) (nat_le note.top start.front) (nat_le (live + ws_opt) addresses)
 
 module _ {c : Core} (i : Image) (w : World) (logs : Logs) (mount : IsLegalMount i w) (st : Stands i logs c) where
-  live_is : (line : ℕ) → line < i.shape.chunks → slice_get c.live.items line ≡ Some (live_now i logs line)
+  live_is : (line : ℕ) → line < i.shape.chunks → slice_get c.online.items line ≡ Some (online_now i logs line)
   live_is line inside =
       let from : 0 + line ≡ line = omega arith in
-      ap (λ us. slice_get us line) st.units ∙ row_there (live_now i logs) i.shape.chunks 0 line inside ∙ ap (λ n. Some (live_now i logs n)) from
+      ap (λ us. slice_get us line) st.units ∙ row_there (online_now i logs) i.shape.chunks 0 line inside ∙ ap (λ n. Some (online_now i logs n)) from
 
-  addresses_are : (line : ℕ) → data_len c.layout (length (units_in (live_now i logs line))) ≡ line_data (known_image i logs) line
+  addresses_are : (line : ℕ) → data_len c.layout (length (units_in (online_now i logs line))) ≡ line_data (known_image i logs) line
   addresses_are line = ap₂ data_len st.layout (bits_width i w logs line mount)
 
   by_note : (line : ℕ) (note : LineNote) → slice_get c.notes.rows.items line ≡ Some note
-      → weighed_by c.layout c.notes.newest note (row_of_line i logs line) (live_now i logs line) ≡ option_map without_line (candidate i logs line)
+      → weighed_by c.layout c.notes.newest note (row_of_line i logs line) (online_now i logs line) ≡ option_map without_line (candidate i logs line)
   by_note line note there =
       let row : Row = row_of_line i logs line in
-      told note c.notes.newest (is_failed_state row.state) row.live c.layout.ws_opt (data_len c.layout (length (units_in (live_now i logs line)))) line
+      told note c.notes.newest (is_failed_state row.state) row.live c.layout.ws_opt (data_len c.layout (length (units_in (online_now i logs line)))) line
       ∙ (λ k. option_map without_line (candidate_by (st.notes.closed line note there k) (st.notes.newest k) (is_failed_state row.state) row.live
       (st.layout k).ws_opt (addresses_are line k) line))
       ∙ ap (option_map without_line) (sym (candidate_by_row i logs line))
@@ -228,7 +228,7 @@ none_held c rows tabled each none line = go (cases_order line c.layout.chunks)
     past high =
         let noted : length c.notes.rows.items ≡ c.layout.chunks = tabled.each.noted in
         ap (option_and_then (λ (note : LineNote). option_and_then (λ (row : Row). option_and_then (weighed_by c.layout c.notes.newest note row)
-        (slice_get c.live.items line)) (slice_get c.lines.rows line))) (get_past c.notes.rows.items line (omega arith))
+        (slice_get c.online.items line)) (slice_get c.lines.rows line))) (get_past c.notes.rows.items line (omega arith))
 
     go : (line ≡ c.layout.chunks) ⊎ ((line < c.layout.chunks) ⊎ (c.layout.chunks < line)) → weighed c line ≡ None
     go (inl last) = past (omega arith)

@@ -15,7 +15,7 @@ use Rattle.pblk_world.specs.Events.{Decides, Logged, Place, Stripe}
 use Rattle.pblk_world.specs.EngineLog.{Opened, Opening, is_life, life_of, Placed, placements, stripes_of, has_failed}
 use Rattle.pblk_world.specs.Placing.{data_marks, end_address}
 use Rattle.pblk_world.specs.World.{World, log_of}
-use Rattle.world_laws.specs.LegalMounts.{IsLegalMount}
+use Rattle.pblk_world.specs.LegalMounts.{IsLegalMount}
 use Rattle.world_laws.proofs.EndRecords.{part_of_front}
 use Rattle.world_laws.proofs.HeldSectors.{all_pass}
 use Rattle.world_laws.proofs.LineStripes.{IsSplit, stripes_split}
@@ -26,7 +26,7 @@ use Rattle.core_laws.proofs.StripesInOrder.{whole_then}
 use Rattle.lemmas.proofs.Lists.{all_front, all_imply}
 use Rattle.lemmas.proofs.Maps.{all_filter, filter_agree}
 use Rattle.lemmas.proofs.Tests.{same_number}
-use Rattle.pblk_core.specs.LineRecords.{AreKept, AreOf, Records, placed_whole, whole_marks}
+use Rattle.pblk_core.specs.LineRecords.{AreRecordsOf, AreOf, RecordsView, placed_whole, whole_marks}
 
 stripes_before : (log : List Logged) (o : Opening) → AllByRecursion (λ (p : Placed). p.number < length log) (stripes_of log o)
 stripes_before log o = all_filter (λ (p : Placed). p.number < length log) (λ (p : Placed). is_life o.number p.life) (placements log) (placements_before log)
@@ -50,8 +50,8 @@ pub marks_kept : (s : Shape) (log : List Logged) (l : Logged) (o : Opening) → 
 marks_kept s log l o same =
     ap (λ ps. map (λ b. b.mark) (slice_range (flat_map (λ (p : Placed). p.stripe.blocks) ps) (start_len s) (end_address s o))) (whole_same log l o same)
 
-pub records_kept : (s : Shape) (log : List Logged) (l : Logged) (o : Opening) (r : Records) → stripes_of (log ++ l ∷ []) o ≡ stripes_of log o
-    → AreKept s log o r → AreKept s (log ++ l ∷ []) o r
+pub records_kept : (s : Shape) (log : List Logged) (l : Logged) (o : Opening) (r : RecordsView) → stripes_of (log ++ l ∷ []) o ≡ stripes_of log o
+    → AreRecordsOf s log o r → AreRecordsOf s (log ++ l ∷ []) o r
 records_kept s log l o r same of = record {
   shape = of.shape;
   line = of.line;
@@ -71,7 +71,7 @@ all_whole log o sound = go (stripes_of log o)
         else filter (λ (q : Placed). not (has_failed (take q.number log) o)) ps) (ap not (whole_then log o p.number sound))
         ∙ ap (λ qs. p ∷ qs) (go ps)
 
-pub records_of : (s : Shape) (log : List Logged) (o : Opening) (r : Records) → has_failed log o ≡ false → AreKept s log o r → AreOf s log o r
+pub records_of : (s : Shape) (log : List Logged) (o : Opening) (r : RecordsView) → has_failed log o ≡ false → AreRecordsOf s log o r → AreOf s log o r
 records_of s log o r sound is = record {
   shape = is.shape;
   line = is.line;

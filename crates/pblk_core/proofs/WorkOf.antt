@@ -1,28 +1,26 @@
 -- What a core names as its next work is what the logs name.
-use Rattle.std.proofs.Common.{◌≡◌, ℕ, ◌+◌, ◌-◌, ◌==◌, ◌^◌, ◌&&◌, ◌||◌, not, nat_lt, Bool, true, false, None, Some, Option, List, [], length, refl, sym, ap, ap₂, ◌∙◌}
+use Rattle.std.proofs.Common.{◌≡◌, ◌+◌, ◌==◌, ◌^◌, ◌&&◌, ◌||◌, not, nat_lt, Bool, true, false, None, Some, Option, length, refl, sym, ap, ap₂, ◌∙◌}
 use Rattle.std.specs.Prelude.{position, slice_get}
 use Rattle.std.specs.Option.{is_some, option_map_or}
 use Rattle.std.proofs.lemmas.List.{length-map}
 use Rattle.pblk_model.specs.Image.{Image}
 use Rattle.pblk_model.specs.declared.run.Front.{Front}
-use Rattle.pblk_world.specs.World.{World, Logs, log_of}
+use Rattle.pblk_world.specs.World.{World, log_of}
 use Rattle.pblk_world.specs.EngineLog.{Begun, openings}
 use Rattle.pblk_world.specs.Fronts.{synced, waiting}
 use Rattle.line_table.specs.Rows.{is_free}
 use Rattle.stripe_placer.specs.Entries.{waiting as entries_waiting}
-use Rattle.stripe_placer.specs.Placing.{Placing, next_stripe}
+use Rattle.stripe_placer.specs.Placing.{next_stripe}
 use Rattle.write_window.specs.Window as view
 use Rattle.core_laws.specs.OpenedLines.{open_line, open_lines}
-use Rattle.core_laws.specs.SimpleMounts.{NoneAgain}
 use Rattle.core_laws.proofs.LeftLines.{lines_of_left}
-use Rattle.core_laws.proofs.PlacerOfLemmas.{placing_unstopped}
 use Rattle.pblk_core.specs.declared.target_core.Core.{Core}
-use Rattle.world_laws.specs.LegalMounts.{IsLegalMount}
+use Rattle.pblk_world.specs.LegalMounts.{IsLegalMount}
 use Rattle.pblk_core.specs.Collecting.{Collects}
 use Rattle.pblk_core.specs.Copies.{is_copying}
 use Rattle.pblk_core.specs.Stands.{Stands, left_openings}
-use Rattle.pblk_core.specs.Named.{choice, reset_or, asks_line, has_free, may_open, may_copy, is_busy, named_beside, named, pad_of, work_beside, work_by, work_of, first_seq_of}
-use Rattle.pblk_core.specs.Resets.{resets_left, resets_of}
+use Rattle.pblk_core.specs.Named.{choice, reset_or, asks_line, has_free, may_open, may_copy, is_busy, named_beside, named, pad_of, work_beside, work_of, first_seq_of}
+use Rattle.pblk_core.specs.Resets.{resets_left}
 use Rattle.pblk_core.specs.declared.resets.LineChunk.{LineChunk}
 use Rattle.pblk_core.specs.declared.work.Work.{Work}
 use Rattle.pblk_core.specs.declared.work.Work.TheVariants.{Program}
@@ -79,9 +77,3 @@ beside_reset (Some chunk) otherwise e = absurd cc
 pub program_named : (c : Core) → named c ≡ Program → is_some (next_stripe c.placer 0) ≡ true
 program_named c h = some_stripe (is_some (next_stripe c.placer 0)) (asks_line c) (has_free c) (may_open c) (may_copy c) (is_busy c)
     (beside_reset (slice_get (resets_left c.resets) 0) (named_beside c) h)
-
--- where no stripe was stopped, it is the same whichever programs are under way again
-pub work_unstopped : (i : Image) (logs : Logs) (pad : ℕ) (again : List ℕ) (copying : Bool) → NoneAgain (logs 0)
-    → work_of i logs pad again copying ≡ work_of i logs pad [] copying
-work_unstopped i logs pad again copying none =
-    ap (λ (p : Placing). reset_or (slice_get (resets_of i logs) 0) (work_by i logs p copying)) (placing_unstopped i logs pad again none)

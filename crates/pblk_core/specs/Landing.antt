@@ -25,8 +25,8 @@ abbrev pub IsIdleOn : Core → ℕ → Type 0
 IsIdleOn c unit = slice_get c.placer.units unit ≡ Some Idle
 
 -- no program is under way
-abbrev pub IsResting : Core → Type 0
-IsResting c = (unit : ℕ) (of : Program) → slice_get c.placer.units unit ≢ Some (UnderWay of)
+abbrev pub NoneUnderWay : Core → Type 0
+NoneUnderWay c = (unit : ℕ) (of : Program) → slice_get c.placer.units unit ≢ Some (UnderWay of)
 
 -- no unit has another row than it had, but for this one
 abbrev pub AreKeptBeside : ℕ → Core → Core → Type 0

@@ -15,8 +15,10 @@ pub mod Readable
 pub mod Copies
 pub mod Named
 pub mod Landing
+pub mod Answering
 pub mod Losing
 pub mod OlderLines
 pub mod Freeing
 pub mod Collecting
 pub mod Taking
+pub mod Keeping

@@ -13,7 +13,7 @@ use Rattle.pblk_world.specs.Placing.{record_blocks, data_marks, end_address}
 
 -- What an open line's records are made of: its start record as bytes, and the marks of its data so
 -- far.
-pub record Records : Type 0 where
+pub record RecordsView : Type 0 where
   pub shape : Shape
   pub line : ℕ
   pub width : ℕ
@@ -21,25 +21,25 @@ pub record Records : Type 0 where
   pub start : List ℕ
   pub marks : List Mark
 
-abbrev pub blocks_at_start : Records → List Block
+abbrev pub blocks_at_start : RecordsView → List Block
 blocks_at_start r = record_blocks r.shape r.seq (start_len r.shape) r.start
 
 -- where the end record begins
-abbrev pub end_begins : Records → ℕ
+abbrev pub end_begins : RecordsView → ℕ
 end_begins r = start_len r.shape + data_len r.shape r.width
 
-abbrev pub end_record_of : Records → EndRecord
+abbrev pub end_record_of : RecordsView → EndRecord
 end_record_of r = record { line = r.line; width = r.width; seq = r.seq; pairs = r.marks }
 
-abbrev pub blocks_at_end : Records → List Block
+abbrev pub blocks_at_end : RecordsView → List Block
 blocks_at_end r = record_blocks r.shape r.seq (end_len r.shape r.width) (end_bytes r.shape (end_record_of r))
 
 -- how many data addresses have no entry yet
-abbrev pub data_left : Records → ℕ
+abbrev pub data_left : RecordsView → ℕ
 data_left r = data_len r.shape r.width - length r.marks
 
 -- they are those of an opening whose data so far stand in the engine's log
-pub record AreOf (s : Shape) (log : List Logged) (o : Opening) (r : Records) : Type 0 where
+pub record AreOf (s : Shape) (log : List Logged) (o : Opening) (r : RecordsView) : Type 0 where
   pub shape : r.shape ≡ s
   pub line : r.line ≡ o.line
   pub width : r.width ≡ o.start.width
@@ -56,7 +56,7 @@ abbrev pub whole_marks : Shape → List Logged → Opening → List Mark
 whole_marks s log o = map (λ b. b.mark)
     (slice_range (flat_map (λ p. p.stripe.blocks) (placed_whole log o)) (start_len s) (end_address s o))
 
-pub record AreKept (s : Shape) (log : List Logged) (o : Opening) (r : Records) : Type 0 where
+pub record AreRecordsOf (s : Shape) (log : List Logged) (o : Opening) (r : RecordsView) : Type 0 where
   pub shape : r.shape ≡ s
   pub line : r.line ≡ o.line
   pub width : r.width ≡ o.start.width

@@ -1,12 +1,15 @@
 -- The entries of a stripe that was lost, in the tables of a core.
-use Rattle.std.specs.Prelude.{ℕ, ◌+◌, ◌%◌, ◌≤◌, ◌≡◌, ◌==◌, ◌&&◌, if◌then◌else◌, not, Bool, true, false, List, [], length, slice_get, slice_set, Option, Some, None}
+use Rattle.std.specs.Prelude.{ℕ, ◌+◌, ◌*◌, ◌%◌, ◌≤◌, ◌≡◌, ◌==◌, ◌&&◌, if◌then◌else◌, not, Bool, true, false, List, [], length, slice_get, slice_set, Option, Some, None}
 use Rattle.std.specs.List.{Contains, filter, filter_map, fold}
 use Rattle.std.specs.Option.{is_some, option_map_or}
 use Rattle.pblk_model.specs.declared.chunk.Mark.{Mark}
 use Rattle.pblk_model.specs.declared.shape.Shape.{Shape}
+use Rattle.pblk_model.specs.Image.{Image}
 use Rattle.pblk_model.specs.Marks.{void_lba}
+use Rattle.pblk_world.specs.Answering.{MayLose}
 use Rattle.pblk_world.specs.Events.{Stripe}
 use Rattle.pblk_world.specs.Victims.{position_in}
+use Rattle.pblk_world.specs.World.{Logs}
 use Rattle.line_table.specs.declared.row.LineState.{LineState}
 use Rattle.line_table.specs.declared.row.LineState.TheVariants.{Free, Open, Full, Failed, Freed, Dead}
 use Rattle.line_table.specs.Rows.{Table}
@@ -22,6 +25,11 @@ use Rattle.pblk_core.specs.declared.target_core.Core.{Core}
 abbrev pub HasItsEntries : Core → Stripe → Type 0
 HasItsEntries c stripe = (of : Program) → slice_get c.placer.units stripe.unit ≡ Some (UnderWay of)
     → positions_in_stripe c.layout stripe ≡ of.positions
+
+-- A loss that the engine may note left so many blocks of the stripe written.
+pub record IsLossOf (i : Image) (logs : Logs) (unit number kept : ℕ) : Type 0 where
+  pub may : MayLose logs unit number
+  pub written : kept ≡ may.landed_before * i.shape.ws_min
 
 -- The table of lines.
 

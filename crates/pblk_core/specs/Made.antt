@@ -4,7 +4,7 @@ use Rattle.std.specs.FinMap as fin
 use Rattle.pblk_model.specs.declared.shape.Shape.{Shape}
 use Rattle.pblk_model.specs.declared.found.Found.{Found}
 use Rattle.pblk_model.specs.Shape.{units}
-use Rattle.pblk_layout.specs.Live.{units_in}
+use Rattle.pblk_layout.specs.Online.{units_in}
 use Rattle.pblk_meta.specs.Records.{row_numbers}
 use Rattle.stripe_placer.specs.Placing.{nothing_placed}
 use Rattle.world_laws.specs.MountBeginnings.{seq_after}
@@ -22,7 +22,7 @@ pub record IsMadeOn (s : Shape) (f : Found) (c : Core) : Type 0 where
   pub capacity : fin.len c.map ≡ s.capacity
   pub slots : (lba : ℕ) → lba < s.capacity → fin.get c.map lba ≡ Some (slot_found f.winners lba)
   pub lines : IsOpeningTable s f c.lines
-  pub live : c.live.items ≡ all_online s f s.chunks
+  pub online : c.online.items ≡ all_online s f s.chunks
   pub resets : resets_left c.resets ≡ resets_found s f.chunks f.strays
   pub used : (line : ℕ) → line < s.chunks → units_in (used_in c.resets line) ≡ used_below s f.chunks line (units s)
   pub notes : c.notes.rows.items ≡ map note_found f.lines

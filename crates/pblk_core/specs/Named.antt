@@ -9,10 +9,10 @@ use Rattle.pblk_world.specs.World.{Logs}
 use Rattle.pblk_world.specs.EngineLog.{Begun, begun, openings}
 use Rattle.pblk_world.specs.Fronts.{synced, waiting}
 use Rattle.pblk_world.specs.Space.{open_addresses}
-use Rattle.pblk_layout.specs.Live.{units_in}
+use Rattle.pblk_layout.specs.Online.{units_in}
 use Rattle.line_table.specs.Rows.{is_free}
 use Rattle.stripe_placer.specs.Entries.{waiting as entries_waiting}
-use Rattle.stripe_placer.specs.Placing.{Placing, next_stripe}
+use Rattle.stripe_placer.specs.Placing.{Placing, next_stripe, padded_to}
 use Rattle.write_window.specs.Window as view
 use Rattle.core_laws.specs.OpenedLines.{open_lines}
 use Rattle.core_laws.specs.PlacerOf.{placing_of}
@@ -77,6 +77,10 @@ named c = reset_or (slice_get (resets_left c.resets) 0) (named_beside c)
 abbrev pub pad_of : Core → ℕ
 pad_of c = c.placer.entries.pad
 
+-- the core with its pad target raised to this, and nothing else changed
+abbrev pub padded : Core → ℕ → Core
+padded c to = record c { placer = padded_to c.placer to }
+
 -- By the logs, for a pad target and the units whose stopped programs are under way again.
 abbrev pub first_seq_of : Logs → ℕ
 first_seq_of logs = option_map_or (λ (b : Begun). b.beginning.seq) (begun (logs 0)) 0
@@ -102,7 +106,7 @@ abbrev pub next_line : Core → ℕ
 next_line c = unwrap_or (position is_free c.lines.rows) 0
 
 abbrev pub next_units : Core → ℕ
-next_units c = slice_index_or c.live.items (next_line c) 0
+next_units c = slice_index_or c.online.items (next_line c) 0
 
 abbrev pub next_start : Core → StartRecord
 next_start c = record {

@@ -7,17 +7,17 @@ use Rattle.std.specs.FinMap.{FinMap}
 use Rattle.std.specs.FinMap as fin
 use Rattle.pblk_model.specs.declared.chunk.Mark.{Mark}
 use Rattle.pblk_model.specs.LineOrder.{start_len, line_order}
-use Rattle.pblk_layout.specs.Live.{units_in}
+use Rattle.pblk_layout.specs.Online.{units_in}
 use Rattle.pblk_model.specs.Marks.{pad_lba}
 use Rattle.l2p_map.specs.declared.slot.Slot.{Slot}
 use Rattle.l2p_map.specs.declared.slot.Slot.TheVariants.{Unwritten, Cached, Media}
 use Rattle.write_window.specs.Window.{WindowView, turned}
 use Rattle.write_window.specs.declared.held.Progress.TheVariants.{Readable}
-use Rattle.pblk_core.specs.LineRecords.{Records}
+use Rattle.pblk_core.specs.LineRecords.{RecordsView}
 use Rattle.pblk_core.specs.declared.open_lines.OpenLine.{OpenLine}
 
 -- the mark of a line address, where it is one of the data so far
-abbrev pub data_mark : Records → ℕ → Option Mark
+abbrev pub data_mark : RecordsView → ℕ → Option Mark
 data_mark r at = if nat_le (start_len r.shape) at then slice_get r.marks (at - start_len r.shape) else None
 
 -- where a block stands in a line's order
@@ -33,7 +33,7 @@ pub record ReadBlock : Type 0 where
   pub mark : Mark
 
 -- not one that fills up a stripe
-abbrev pub read_at : Records → ℕ → Option ReadBlock
+abbrev pub read_at : RecordsView → ℕ → Option ReadBlock
 read_at r at = option_and_then (λ (m : Mark). if m.lba == pad_lba then None else Some (record { at = at; mark = m })) (data_mark r at)
 
 -- the slot of a sector that is in the buffer with this entry
@@ -59,7 +59,7 @@ all_readable w blocks = fold (λ v (b : ReadBlock). turned v b.mark.position Rea
 -- another, with their addresses and marks.
 abbrev pub block_reads : OpenLine → ℕ → ℕ → Option ReadBlock
 block_reads l unit block = option_and_then (read_at l.records)
-    (position_of (unit, block) (line_order l.records.shape (units_in l.live)))
+    (position_of (unit, block) (line_order l.records.shape (units_in l.online)))
 
 abbrev pub reads_of : OpenLine → ℕ → ℕ → ℕ → List ReadBlock
 reads_of l unit from to = filter_map (block_reads l unit) (range_with_len from (to - from))

@@ -4,10 +4,10 @@ use Rattle.pblk_model.specs.Accepted.{IsAccepted}
 use Rattle.pblk_model.specs.Shape.{units}
 use Rattle.pblk_model.specs.LineOrder.{start_len, end_len, data_len}
 use Rattle.pblk_model.specs.EndRecord.{end_bytes}
-use Rattle.pblk_core.specs.LineRecords.{Records, end_record_of}
+use Rattle.pblk_core.specs.LineRecords.{RecordsView, end_record_of}
 use Rattle.pblk_core.specs.declared.records.LineRecords.TheInside.{Inside}
 
-abbrev pub records : Inside → Records
+abbrev pub records : Inside → RecordsView
 records a = record {
   shape = a.layout;
   line = a.line;

@@ -14,7 +14,7 @@ use Rattle.pblk_laws.specs.LineBlocks.{chunk_in}
 use Rattle.pblk_world.specs.World.{Logs}
 use Rattle.pblk_world.specs.Answering.{MayNoteReset}
 use Rattle.pblk_world.specs.Lines.{known_image, is_empty_state, is_given_up}
-use Rattle.pblk_layout.specs.Live.{units_in}
+use Rattle.pblk_layout.specs.Online.{units_in}
 use Rattle.line_table.specs.LineSets.{has}
 use Rattle.line_table.specs.declared.row.LineState.{LineState}
 use Rattle.line_table.specs.declared.row.LineState.TheVariants.{Dead, Free}
@@ -75,9 +75,9 @@ resets_found s chunks strays = flat_map (λ line. in_line line (used_below s chu
 
 -- the unit isn't one of the line's if its chunk is Offline
 abbrev pub kept_units : List ℕ → ℕ → ℕ → ChunkState → List ℕ
-kept_units live line unit state =
-    if is_online_in state then live
-    else option_map_or (λ units. slice_set live line (units - 2 ^ unit)) (slice_get live line) live
+kept_units online line unit state =
+    if is_online_in state then online
+    else option_map_or (λ units. slice_set online line (units - 2 ^ unit)) (slice_get online line) online
 
 abbrev pub emptied : Shape → ℕ → LineState
 emptied s width = if data_len s width == 0 then Dead else Free

@@ -15,18 +15,18 @@ use Rattle.pblk_world.specs.Fronts.{first_position, user_takes}
 use Rattle.pblk_world.specs.Lines.{known_image}
 use Rattle.pblk_world.specs.Space.{freed, placed_front, open_addresses}
 use Rattle.pblk_world.specs.Starts.{older_rows}
-use Rattle.pblk_layout.specs.Live.{units_in}
+use Rattle.pblk_layout.specs.Online.{units_in}
 use Rattle.stripe_placer.specs.OpenLines.{OpenLine, has_left, is_to_place, is_unanswered, numbers, stripe_is}
-use Rattle.core_laws.specs.OpenedLines.{opened_units, bits_of, live_now, open_line, standing}
+use Rattle.core_laws.specs.OpenedLines.{opened_units, bits_of, online_now, open_line, standing}
 use Rattle.core_laws.specs.PlacerOf.{placing_of, unanswered_on}
 use Rattle.core_laws.specs.RowsOf.{rows_of}
 use Rattle.core_laws.specs.SlotOf.{slot_of}
 use Rattle.core_laws.specs.WindowOf.{is_given_back, sectors_in, window_from}
 use Rattle.core_laws.specs.ClosedLines.{ClosedLine, closed_line}
 use Rattle.core_laws.specs.Spent.{OpensWhenFull}
-use Rattle.world_laws.specs.LegalMounts.{IsLegalMount}
+use Rattle.pblk_world.specs.LegalMounts.{IsLegalMount}
 use Rattle.pblk_core.specs.Holds.{hold_of}
-use Rattle.pblk_core.specs.LineRecords.{AreKept}
+use Rattle.pblk_core.specs.LineRecords.{AreRecordsOf}
 use Rattle.pblk_core.specs.LineNotes.{AreNotes}
 use Rattle.pblk_core.specs.Resets.{ResetQueue, resets_left, resets_of, used_in, used_units}
 use Rattle.pblk_core.specs.declared.hold.Holds.{Holds}
@@ -53,8 +53,8 @@ abbrev pub stripes_left : OpenLine → ℕ
 stripes_left l = length (filter (is_left l) (numbers l))
 
 pub record IsOpenLine (i : Image) (logs : Logs) (o : Opening) (kept : KeptLine) : Type 0 where
-  pub records : AreKept i.shape (logs 0) o kept.records
-  pub live : kept.live ≡ bits_of (opened_units i logs o)
+  pub records : AreRecordsOf i.shape (logs 0) o kept.records
+  pub online : kept.online ≡ bits_of (opened_units i logs o)
   pub left : kept.stripes_left ≡ stripes_left (open_line i logs o)
 
 pub record AreOpenLines (i : Image) (logs : Logs) (kept : OpenLines) : Type 0 where
@@ -99,7 +99,7 @@ pub record Stands (i : Image) (logs : Logs) (c : Core) : Type 0 where
   pub slots : (lba : ℕ) → lba < i.shape.capacity → map.get c.map lba ≡ Some (slot_of i logs lba)
   -- the lines
   pub table : c.lines ≡ rows_of i logs
-  pub units : c.live.items ≡ map (live_now i logs) (range_with_len 0 i.shape.chunks)
+  pub units : c.online.items ≡ map (online_now i logs) (range_with_len 0 i.shape.chunks)
   pub resets : resets_left c.resets ≡ resets_of i logs
   pub used_lines : length c.resets.used ≡ i.shape.chunks
   pub used : AreUsed i logs c.resets

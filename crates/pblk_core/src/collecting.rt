@@ -3,18 +3,16 @@
 //! project's rules "Which line may be a victim", "Choice of the victim" and "A victim's work" in
 //! docs/TARGET.md.
 
-ghost use Rattle.std.specs.Prelude.{ℕ, ◌≡◌, ◌≢◌, ◌⊎◌, ◌<◌, ◌≤◌, ◌↔◌, ◌&&◌, true, false, not, replicate, length, max, slice_set, Some, None, IfOk, IfSome, IfNone, IsTrue, List};
+ghost use Rattle.std.specs.Prelude.{ℕ, ◌≡◌, ◌≢◌, ◌⊎◌, ◌<◌, ◌≤◌, ◌↔◌, ◌&&◌, true, false, not, replicate, length, max, slice_set, Some, None, IfOk, IfSome, IfNone, IsTrue};
 ghost use Rattle.std.specs.Option.{is_some, option_and_then};
 ghost use Rattle.std.specs.FinMap as fin;
-ghost use Rattle.pblk_model.specs.Image.{Image};
 ghost use Rattle.pblk_world.specs.AtRest.{IsCopyDue};
-ghost use Rattle.pblk_world.specs.World.{World, Logs, log_of};
-ghost use Rattle.world_laws.specs.LegalMounts.{IsLegalMount};
+ghost use Rattle.pblk_world.specs.World.{log_of};
 ghost use Rattle.l2p_map.specs.declared.slot.Slot.TheVariants.{Media};
-ghost use Rattle.pblk_core.specs.Collecting.{Collects, HasPassed, IsBarrenRightly, IsCollecting, IsReady, IsTabled, victim_after, weighed};
+ghost use Rattle.pblk_core.specs.Mounts.{ByItsLogs, CollectsStill, StandsStill, WhereCollecting};
+ghost use Rattle.pblk_core.specs.Collecting.{HasPassed, IsBarrenRightly, IsCollecting, IsCopyReady, IsTabled, victim_after, weighed};
 ghost use Rattle.pblk_core.specs.Copies.{copy_due, is_copying, victim_asks};
 ghost use Rattle.pblk_core.specs.Named.{may_copy, pad_of};
-ghost use Rattle.pblk_core.specs.Stands.{Stands};
 ghost use Rattle.pblk_world.specs.Victims.{next_victim};
 ghost use Rattle.stripe_placer.specs.Placing.{padded_to};
 
@@ -81,13 +79,11 @@ impl Core {
     /// and "When a copy may begin" in docs/TARGET.md).
     pub fn copy_ready(&self) -> Option<CopyJob>
         requires collecting { IsCollecting self.now }
-        ensures ready { IfSome result (IsReady self.now) }
-        ensures due { IfSome result (λ job. (i : Image) (w : World) → IsLegalMount i w
-            → Stands i (log_of w) self.now → Collects i (log_of w) self.now
-            → IsCopyDue i (log_of w)) }
-        ensures none { IfNone result ((i : Image) (w : World) → IsLegalMount i w
-            → Stands i (log_of w) self.now → Collects i (log_of w) self.now
-            → (is_copying self.now ≡ true) ⊎ (¬ IsCopyDue i (log_of w))) }
+        ensures ready { IfSome result (IsCopyReady self.now) }
+        ensures due { IfSome result (λ job.
+            WhereCollecting self.now (λ i w. IsCopyDue i (log_of w))) }
+        ensures none { IfNone result (WhereCollecting self.now (λ i w.
+            (is_copying self.now ≡ true) ⊎ (¬ IsCopyDue i (log_of w)))) }
     {
         if !self.may_copy() {
             return None;
@@ -135,16 +131,11 @@ impl Core {
 
     /// Begins the copy that `copy_ready` names. It is under way until its entry is taken.
     pub fn copy_claimed(&mut self, job: &CopyJob)
-        requires ready { IsReady self.old job.now }
-        ensures stands { (i : Image) (logs : Logs)
-            → Stands i logs self.old → Stands i logs self.new }
-        ensures collects { (i : Image) (logs : Logs)
-            → Collects i logs self.old → Collects i logs self.new }
+        requires ready { IsCopyReady self.old job.now }
+        ensures stands { StandsStill self.old self.new }
+        ensures collects { CollectsStill self.old self.new }
         ensures copying { is_copying self.new ≡ true }
-        ensures map { self.new.map ≡ self.old.map }
-        ensures window { self.new.window ≡ self.old.window }
-        ensures pad { pad_of self.new ≡ pad_of self.old }
-        ensures rows { self.new.placer.units ≡ self.old.placer.units }
+        ensures rest { self.new ≡ record self.old { collection = self.new.collection } }
     {
         self.collection.cursor = job.lba;
         self.collection.under_way = true;
@@ -155,8 +146,7 @@ impl Core {
     /// "A flush sets the pad target" in docs/TARGET.md).
     pub fn may_pad(&self) -> bool
         requires collecting { IsCollecting self.now }
-        ensures { (i : Image) (w : World) → IsLegalMount i w → Stands i (log_of w) self.now
-            → Collects i (log_of w) self.now → IsTrue result ↔ (¬ IsCopyDue i (log_of w)) }
+        ensures { WhereCollecting self.now (λ i w. IsTrue result ↔ (¬ IsCopyDue i (log_of w))) }
     {
         !self.is_copy_due()
     }
@@ -192,22 +182,19 @@ impl Core {
     pub(crate) fn choose(&mut self)
         requires tabled { IsTabled self.old }
         requires barren { IsBarrenRightly self.old }
-        ensures stands { (i : Image) (logs : Logs)
-            → Stands i logs self.old → Stands i logs self.new }
+        ensures stands { StandsStill self.old self.new }
         ensures count { length self.new.collection.lines ≡ length self.old.collection.lines }
-        ensures victim { (i : Image) (w : World) (logs : Logs) → IsLegalMount i w
-            → Stands i logs self.old
-            → self.new.collection.victim ≡ victim_after i logs self.old.collection.victim }
+        ensures victim { ByItsLogs self.old (λ i logs.
+            self.new.collection.victim ≡ victim_after i logs self.old.collection.victim) }
         ensures passed { HasPassed self.old → HasPassed self.new }
         ensures barren { IsBarrenRightly self.new }
         ensures copying { is_copying self.new ≡ is_copying self.old }
         ensures asked { pad_of self.new ≡ max (pad_of self.old) (victim_asks self.new) }
-        ensures map { self.new.map ≡ self.old.map }
-        ensures lines { self.new.lines ≡ self.old.lines }
-        ensures notes { self.new.notes ≡ self.old.notes }
-        ensures window { self.new.window ≡ self.old.window }
-        ensures layout { self.new.layout ≡ self.old.layout }
         ensures rows { self.new.placer.units ≡ self.old.placer.units }
+        ensures rest { self.new ≡ record self.old {
+          placer = self.new.placer;
+          collection = self.new.collection;
+        } }
     {
         if self.collection.victim.is_none() && self.is_due() {
             self.collection.victim = self.next_victim();
@@ -220,8 +207,7 @@ impl Core {
     fn next_victim(&mut self) -> Option<u32>
         requires tabled { IsTabled self.old }
         requires barren { IsBarrenRightly self.old }
-        ensures victim { (i : Image) (w : World) (logs : Logs) → IsLegalMount i w
-            → Stands i logs self.old → result ≡ next_victim i logs }
+        ensures victim { ByItsLogs self.old (λ i logs. result ≡ next_victim i logs) }
         ensures inside { IfSome result (λ line. line < self.old.layout.chunks) }
         ensures barren { IsBarrenRightly self.new }
         ensures unchanged { self.new ≡ record self.old { collection = self.new.collection } }
@@ -242,8 +228,7 @@ impl Core {
     // Weighs all lines, and gives the best of those that may be collected.
     fn best_line(&mut self) -> Option<u32>
         requires tabled { IsTabled self.old }
-        ensures victim { (i : Image) (w : World) (logs : Logs) → IsLegalMount i w
-            → Stands i logs self.old → result ≡ next_victim i logs }
+        ensures victim { ByItsLogs self.old (λ i logs. result ≡ next_victim i logs) }
         ensures inside { IfSome result (λ line. line < self.old.layout.chunks) }
         ensures none { IfNone result ((line : ℕ) → weighed self.old line ≡ None) }
         ensures unchanged { self.new ≡ record self.old { collection = self.new.collection } }
@@ -284,7 +269,7 @@ impl Core {
         ensures { result ≡ weighed self.now line }
     {
         let live = self.lines.live(line);
-        let data = self.layout.data_len(self.live[line as usize].width());
+        let data = self.layout.data_len(self.online[line as usize].width());
         let failed = self.lines.state(line) == LineState::Failed;
         let ws_opt = self.layout.shape().ws_opt;
         let fits = u64::from(live) + u64::from(ws_opt) <= u64::from(data);

@@ -1,22 +1,18 @@
 //! Lines that a core frees.
 
-ghost use Rattle.std.specs.Prelude.{ℕ, ◌≡◌, ◌==◌, ◌<◌, ◌≤◌, ◌↔◌, not, List, map, length, slice_index, IfSome, IfNone, OnSome, IsTrue, max};
+ghost use Rattle.std.specs.Prelude.{ℕ, ◌≡◌, ◌==◌, ◌<◌, ◌↔◌, not, map, length, IfSome, IfNone, OnSome, IsTrue};
 ghost use Rattle.std.specs.List.{filter};
-ghost use Rattle.pblk_model.specs.Image.{Image};
 ghost use Rattle.pblk_model.specs.StartRecord.{Row as OlderRow};
 ghost use Rattle.pblk_meta.specs.Records.{row_numbers};
 ghost use Rattle.pblk_world.specs.Events.{Free};
 ghost use Rattle.pblk_world.specs.Freeing.{MayFree};
-ghost use Rattle.pblk_world.specs.World.{World, log_of};
-ghost use Rattle.world_laws.specs.LegalMounts.{IsLegalMount};
-ghost use Rattle.core_laws.specs.Stepping.{after};
+ghost use Rattle.pblk_world.specs.World.{log_of};
 ghost use Rattle.write_window.specs.Window as view;
-ghost use Rattle.pblk_core.specs.Collecting.{BringsNone, Collects, IsCollecting};
-ghost use Rattle.pblk_core.specs.Copies.{is_copying, victim_asks};
+ghost use Rattle.pblk_core.specs.Keeping.{KeepsStripes};
+ghost use Rattle.pblk_core.specs.Collecting.{BringsNone, IsCollecting};
 ghost use Rattle.pblk_core.specs.Freeing.{IsSpentIn, closed_count, HaveRisen};
-ghost use Rattle.pblk_core.specs.Mounts.{InItsMount};
-ghost use Rattle.pblk_core.specs.Named.{pad_of};
-ghost use Rattle.pblk_core.specs.Stands.{Stands, IsStanding};
+ghost use Rattle.pblk_core.specs.Mounts.{CollectsAfterKnowing, InItsMount, StandsAfterKnowing};
+ghost use Rattle.pblk_core.specs.Stands.{IsStanding};
 
 use crate::target_core::Core;
 use line_table::LineState;
@@ -35,21 +31,13 @@ impl Core {
             InItsMount self.old (λ i w. (m : ℕ) → m < line → ¬ MayFree i (log_of w) m)) }
         ensures none { IfNone result (InItsMount self.old (λ i w.
             (line : ℕ) → ¬ MayFree i (log_of w) line)) }
-        ensures stands { IfSome result (λ line. (i : Image) (w : World) (knows : List ℕ)
-            → IsLegalMount i w → Stands i (log_of w) self.old
-            → slice_index knows 0 ≡ length (log_of w 0)
-            → Stands i (after (log_of w) (Free line) knows) self.new) }
-        ensures collects { IfSome result (λ line. (i : Image) (w : World) (knows : List ℕ)
-            → IsLegalMount i w → Stands i (log_of w) self.old → Collects i (log_of w) self.old
-            → slice_index knows 0 ≡ length (log_of w 0)
-            → Collects i (after (log_of w) (Free line) knows) self.new) }
+        ensures stands { IfSome result (λ line. StandsAfterKnowing self.old (Free line) self.new) }
+        ensures collects { IfSome result (λ line.
+            CollectsAfterKnowing self.old (Free line) self.new) }
         ensures unchanged { IfNone result (self.new ≡ self.old) }
         ensures fewer { OnSome result (closed_count self.new < closed_count self.old) }
         ensures window { self.new.window ≡ self.old.window }
-        ensures copying { is_copying self.new ≡ is_copying self.old }
-        ensures pad { pad_of self.old ≤ pad_of self.new }
-        ensures pad_most { pad_of self.new ≤ max (pad_of self.old) (victim_asks self.new) }
-        ensures rows { self.new.placer.units ≡ self.old.placer.units }
+        ensures kept { KeepsStripes self.old self.new }
     {
         let line = self.free_spent()?;
         if self.collection.victim == Some(line) {
@@ -68,21 +56,19 @@ impl Core {
             InItsMount self.old (λ i w. (m : ℕ) → m < line → ¬ MayFree i (log_of w) m)) }
         ensures none { IfNone result (InItsMount self.old (λ i w.
             (line : ℕ) → ¬ MayFree i (log_of w) line)) }
-        ensures stands { IfSome result (λ line. (i : Image) (w : World) (knows : List ℕ)
-            → IsLegalMount i w → Stands i (log_of w) self.old
-            → slice_index knows 0 ≡ length (log_of w 0)
-            → Stands i (after (log_of w) (Free line) knows) self.new) }
+        ensures stands { IfSome result (λ line. StandsAfterKnowing self.old (Free line) self.new) }
         ensures unchanged { IfNone result (self.new ≡ self.old) }
         ensures fewer { OnSome result (closed_count self.new < closed_count self.old) }
-        ensures window { self.new.window ≡ self.old.window }
-        ensures pad { pad_of self.new ≡ pad_of self.old }
-        ensures rows { self.new.placer.units ≡ self.old.placer.units }
-        ensures map { self.new.map ≡ self.old.map }
-        ensures collection { self.new.collection ≡ self.old.collection }
         ensures brings { BringsNone self.old self.new }
+        ensures rest { self.new ≡ record self.old {
+          lines = self.new.lines;
+          resets = self.new.resets;
+          notes = self.new.notes;
+          start = self.new.start;
+        } }
     {
         let line = self.spent_line()?;
-        let width = self.live[line as usize].width();
+        let width = self.online[line as usize].width();
         self.lines.turn(line, LineState::Freed, width);
         self.notes.free(line);
         self.resets.give_up(line);

@@ -1,6 +1,7 @@
 //! The core of a target: the steps that one session, or an engine's lock, makes over its tables.
 #![tactic(auto)]
 
+mod answering;
 mod collecting;
 mod filling;
 mod freeing;

@@ -3,7 +3,7 @@
 ghost use Rattle.std.specs.Prelude.{ℕ, ◌≡◌, ◌+◌, ◌<◌, ◌^◌};
 ghost use Rattle.pblk_model.specs.Image.{Image};
 ghost use Rattle.pblk_world.specs.World.{World, log_of};
-ghost use Rattle.world_laws.specs.LegalMounts.{IsLegalMount};
+ghost use Rattle.pblk_world.specs.LegalMounts.{IsLegalMount};
 ghost use Rattle.pblk_core.specs.Collecting.{Collects, IsCollecting};
 ghost use Rattle.pblk_core.specs.Copies.{is_copying};
 ghost use Rattle.pblk_core.specs.Named.{asks_line, is_busy, may_open, named, named_beside, pad_of, why, work_of};

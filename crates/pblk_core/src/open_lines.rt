@@ -10,7 +10,7 @@ ghost use Rattle.pblk_meta.specs.Records.{start_numbers};
 ghost use Rattle.pblk_world.specs.Placing.{stripe_at};
 ghost use Rattle.pblk_core.specs.Filling.{followed_by};
 ghost use Rattle.pblk_core.specs.LineRecords.{blocks_at_start, blocks_at_end, end_begins};
-ghost use Rattle.pblk_core.specs.Slots.{IsSlot, opened_slot, with_marks, landed_slot, lost_slot};
+ghost use Rattle.pblk_core.specs.Slots.{IsSlot, opened_slot, with_marks, answered_slot};
 
 use crate::records::LineRecords;
 use crate::stripe::Stripe;
@@ -24,7 +24,7 @@ use std::alloc::{AllocError, Global};
 #[derive(Debug, Drop)]
 pub(crate) struct OpenLine {
     pub(crate) records: LineRecords,
-    pub(crate) live: u64,
+    pub(crate) online: u64,
     pub(crate) stripes_left: u32,
 }
 
@@ -48,7 +48,7 @@ impl OpenLines {
         for _ in 0..2usize {
             slots.push(OpenLine {
                 records: LineRecords::new(alloc, layout)?,
-                live: 0,
+                online: 0,
                 stripes_left: 0,
             })?;
         }
@@ -63,7 +63,7 @@ impl OpenLines {
     }
 
     /// Opens a line with this start record, behind the other one. At most one is open before.
-    pub(crate) fn begin(&mut self, start: &StartRecord, live: u64, stripes_left: u32)
+    pub(crate) fn begin(&mut self, start: &StartRecord, online: u64, stripes_left: u32)
         requires room { self.old.count < length self.old.slots.items }
         requires width { (line : _) → IsSlot self.old self.old.count line
             → start.now.width ≤ units line.records.shape }
@@ -73,11 +73,11 @@ impl OpenLines {
         ensures count { self.new.count ≡ self.old.count + 1 }
         ensures slots { (line : _) → IsSlot self.old self.old.count line
             → self.new.slots.items ≡ slice_set self.old.slots.items self.old.count
-            (opened_slot line (start_numbers start.now) live stripes_left) }
+            (opened_slot line (start_numbers start.now) online stripes_left) }
     {
         let slot = &mut self.slots[self.count];
         slot.records.open(start);
-        slot.live = live;
+        slot.online = online;
         slot.stripes_left = stripes_left;
         self.count += 1;
     }
@@ -155,28 +155,15 @@ impl OpenLines {
         slot.records.end_stripe(at, into);
     }
 
-    /// Notes that one more stripe of a line has landed, and gives how many are left.
-    pub(crate) fn land(&mut self, index: usize) -> u32
-        requires inside { index < length self.old.slots.items }
-        requires some { (slot : _) → IsSlot self.old index slot → 0 < slot.stripes_left }
-        ensures left { (slot : _) → IsSlot self.old index slot → result + 1 ≡ slot.stripes_left }
-        ensures slots { (slot : _) → IsSlot self.old index slot
-            → self.new.slots.items ≡ slice_set self.old.slots.items index (landed_slot slot) }
-        ensures count { self.new.count ≡ self.old.count }
-    {
-        let slot = &mut self.slots[index];
-        slot.stripes_left -= 1;
-        slot.stripes_left
-    }
-
-    /// Notes that so many stripes of a line will not land, and gives how many are left.
-    pub(crate) fn lose(&mut self, index: usize, count: u32) -> u32
+    /// Notes that so many more stripes of a line have landed or will not land, and gives how many
+    /// are left.
+    pub(crate) fn answer(&mut self, index: usize, count: u32) -> u32
         requires inside { index < length self.old.slots.items }
         requires some { (slot : _) → IsSlot self.old index slot → count ≤ slot.stripes_left }
         ensures left { (slot : _) → IsSlot self.old index slot
             → result ≡ slot.stripes_left - count }
-        ensures slots { (slot : _) → IsSlot self.old index slot
-            → self.new.slots.items ≡ slice_set self.old.slots.items index (lost_slot count slot) }
+        ensures slots { (slot : _) → IsSlot self.old index slot → self.new.slots.items
+            ≡ slice_set self.old.slots.items index (answered_slot count slot) }
         ensures count { self.new.count ≡ self.old.count }
     {
         let slot = &mut self.slots[index];

@@ -5,7 +5,7 @@ ghost use Rattle.std.specs.List.{Contains, filter_map, range_with_len};
 ghost use Rattle.std.specs.Option.{option_and_then, option_to_list};
 ghost use Rattle.std.specs.FinMap as fin;
 ghost use Rattle.pblk_model.specs.Shape.{units};
-ghost use Rattle.pblk_layout.specs.Live.{units_in};
+ghost use Rattle.pblk_layout.specs.Online.{units_in};
 ghost use Rattle.write_window.specs.Window.{IsHeld, has_landed_at};
 ghost use Rattle.pblk_core.specs.Readable.{ReadBlock, reads_of, all_moved, all_readable, block_reads};
 
@@ -30,7 +30,7 @@ pub(crate) fn make_readable(
     window: &mut Window,
 )
     requires shape { slot.now.records.shape ≡ layout.now }
-    requires live { slot.now.live < 2 ^ units layout.now }
+    requires online { slot.now.online < 2 ^ units layout.now }
     requires capacity { fin.len map.old ≡ layout.now.capacity }
     requires held { (b : ReadBlock) → Contains (reads_of slot.now unit from to) b
         → IsHeld window.old b.mark.position × (has_landed_at window.old b.mark.position ≡ true) }
@@ -54,7 +54,7 @@ fn make_block_readable(
     window: &mut Window,
 )
     requires shape { slot.now.records.shape ≡ layout.now }
-    requires live { slot.now.live < 2 ^ units layout.now }
+    requires online { slot.now.online < 2 ^ units layout.now }
     requires capacity { fin.len map.old ≡ layout.now.capacity }
     requires held { (b : ReadBlock) → block_reads slot.now unit block ≡ Some b
         → IsHeld window.old b.mark.position × (has_landed_at window.old b.mark.position ≡ true) }
@@ -64,7 +64,7 @@ fn make_block_readable(
         (option_to_list (block_reads slot.now unit block)) }
     ensures capacity { fin.len map.new ≡ fin.len map.old }
 {
-    let at = match layout.addr_of(slot.live, unit, block) {
+    let at = match layout.addr_of(slot.online, unit, block) {
         Some(at) => at,
         None => return,
     };

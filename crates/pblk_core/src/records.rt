@@ -14,7 +14,7 @@ ghost use Rattle.pblk_world.specs.EngineLog.{Opening};
 ghost use Rattle.pblk_world.specs.Placing.{start_blocks, end_blocks, end_address, stripe_at};
 ghost use Rattle.pblk_core.specs.Filling.{followed_by};
 ghost use Rattle.pblk_core.specs.Readable.{data_mark};
-ghost use Rattle.pblk_core.specs.LineRecords.{Records, AreOf, blocks_at_start, blocks_at_end, data_left, end_begins};
+ghost use Rattle.pblk_core.specs.LineRecords.{RecordsView, AreOf, blocks_at_start, blocks_at_end, data_left, end_begins};
 
 use crate::stripe::Stripe;
 use pblk_layout::Layout;
@@ -42,9 +42,9 @@ pub struct LineRecords {
 }
 
 impl Model for LineRecords {
-    ghost use Rattle.pblk_core.specs.LineRecords.{Records};
+    ghost use Rattle.pblk_core.specs.LineRecords.{RecordsView};
 
-    ghost Value = { Records };
+    ghost Value = { RecordsView };
 
     ghost use Rattle.pblk_core.specs.RecordFields.{records, AreRecords};
 
@@ -200,10 +200,10 @@ impl LineRecords {
 /// Records that are made of the numbers of an opening in the engine's log have the blocks that the
 /// log's records have, in each stripe.
 pub fn records_are_an_openings()
-    ensures start { (s : Shape) (log : List Logged) (o : Opening) (r : Records) (a : ℕ)
+    ensures start { (s : Shape) (log : List Logged) (o : Opening) (r : RecordsView) (a : ℕ)
         → AreOf s log o r
         → stripe_at r.shape (blocks_at_start r) 0 a ≡ stripe_at s (start_blocks s o) 0 a }
-    ensures end { (s : Shape) (log : List Logged) (o : Opening) (r : Records) (a : ℕ)
+    ensures end { (s : Shape) (log : List Logged) (o : Opening) (r : RecordsView) (a : ℕ)
         → AreOf s log o r
         → stripe_at r.shape (blocks_at_end r) (end_begins r) a
         ≡ stripe_at s (end_blocks s log o) (end_address s o) a }

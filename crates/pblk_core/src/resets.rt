@@ -5,7 +5,7 @@ ghost use Rattle.std.specs.List.{list_any, slice_index_or};
 ghost use Rattle.pblk_model.specs.Accepted.{IsAccepted};
 ghost use Rattle.pblk_model.specs.Found.{Rise};
 ghost use Rattle.pblk_model.specs.Shape.{units};
-ghost use Rattle.pblk_layout.specs.Live.{units_in};
+ghost use Rattle.pblk_layout.specs.Online.{units_in};
 ghost use Rattle.line_table.specs.LineSets.{has};
 ghost use Rattle.pblk_core.specs.declared.resets.LineChunk.{LineChunk};
 ghost use Rattle.pblk_core.specs.Resets.{is_used_state, used_below, resets_found, resets_left, used_in, is_of_line, HasNoneOf, GetsChunks};

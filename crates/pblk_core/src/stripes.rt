@@ -1,38 +1,37 @@
 //! Stripes that a core places, stripes that have landed, and those whose programs were stopped.
 
-ghost use Rattle.std.specs.Prelude.{ℕ, true, false, ◌≡◌, ◌≢◌, ◌^◌, ◌<◌, ◌+◌, ◌-◌, ◌≤◌, ◌==◌, if◌then◌else◌, List, length, min, Some, slice_get, slice_set, max};
+ghost use Rattle.std.specs.Prelude.{ℕ, true, false, ◌≡◌, ◌^◌, ◌<◌, ◌+◌, ◌-◌, ◌≤◌, ◌==◌, ◌&&◌, if◌then◌else◌, List, length, Some, slice_get};
 ghost use Rattle.pblk_model.specs.Frames.{Region};
 ghost use Rattle.pblk_model.specs.Image.{Image};
 ghost use Rattle.pblk_model.specs.Shape.{units};
-ghost use Rattle.pblk_layout.specs.Live.{units_in};
+ghost use Rattle.pblk_layout.specs.Online.{units_in};
 ghost use Rattle.pblk_world.specs.AtRest.{IsDue};
 ghost use Rattle.pblk_world.specs.Answering.{MayLand, MayOfferAgain};
 ghost use Rattle.pblk_world.specs.Events.{Again, Place, Landed};
 ghost use Rattle.pblk_world.specs.Placing.{MayPlace};
-ghost use Rattle.pblk_world.specs.World.{World, Logs, log_of};
+ghost use Rattle.pblk_world.specs.World.{World, log_of};
 ghost use Rattle.l2p_map.specs.declared.slot.Slot.TheVariants.{Media};
 ghost use Rattle.line_table.specs.Rows.{IsRow};
 ghost use Rattle.line_table.specs.declared.row.Row.{Row};
 ghost use Rattle.std.specs.FinMap as fin;
 ghost use Rattle.write_window.specs.Window as view;
-ghost use Rattle.world_laws.specs.LegalMounts.{IsLegalMount};
+ghost use Rattle.pblk_world.specs.LegalMounts.{IsLegalMount};
 ghost use Rattle.core_laws.specs.ChangedTables.{full_if, with_row};
 ghost use Rattle.core_laws.specs.Stepping.{after};
 ghost use Rattle.stripe_placer.specs.Placing.{program, next_stripe};
 ghost use Rattle.stripe_placer.specs.Placing.UnitRow.{Idle, Stopped};
-ghost use Rattle.pblk_core.specs.Collecting.{BringsNone, Collects, CollectsAfter, HasEachLine, IsCollecting};
-ghost use Rattle.pblk_core.specs.Copies.{is_copying, victim_asks};
+ghost use Rattle.pblk_core.specs.Keeping.{KeepsOtherStripes, KeepsFrames};
+ghost use Rattle.pblk_core.specs.Collecting.{BringsNone, HasEachLine, IsCollecting, KeepsCollecting};
 ghost use Rattle.pblk_core.specs.Landing.{AreKeptBeside, IsIdleOn, IsOfferedOn, IsUnderWayOn, WasStopped, all_landed, is_open, new_count};
 ghost use Rattle.pblk_core.specs.Losing.{HasItsEntries};
 ghost use Rattle.pblk_core.specs.Named.{named, pad_of};
-ghost use Rattle.pblk_core.specs.Mounts.{InItsMount, StandsAfter};
+ghost use Rattle.pblk_core.specs.Mounts.{CollectsAfter, CollectsAfterAnswer, CollectsStill, InItsMount, StandsAfter, StandsAfterAnswer};
 ghost use Rattle.pblk_core.specs.Stands.{Stands, IsStanding, answer_count};
 ghost use Rattle.pblk_core.specs.declared.line_notes.LineNote.{LineNote};
 ghost use Rattle.pblk_core.specs.declared.work.Work.TheVariants as works;
 
+use crate::answering::LineTold;
 use crate::filling::{fill, note_takers, settle_holds, settle_lines};
-use crate::open_lines::OpenLine;
-use crate::reading::make_readable;
 use crate::stripe::Stripe;
 use crate::target_core::Core;
 use line_table::{LineState, Lines};
@@ -62,18 +61,14 @@ impl Core {
             → CollectsAfter self.old (Place into.new.stripe) self.new }
         ensures again { into.new.again ≡ true → InItsMount self.old (λ i w.
             WasStopped (log_of w 0) into.new.stripe × Stands i (log_of w) self.new) }
-        ensures collects_again { into.new.again ≡ true → (i : Image) (logs : Logs)
-            → Collects i logs self.old → Collects i logs self.new }
+        ensures collects_again { into.new.again ≡ true → CollectsStill self.old self.new }
         ensures window { self.new.window ≡ self.old.window }
-        ensures copying { is_copying self.new ≡ is_copying self.old }
-        ensures pad { pad_of self.old ≤ pad_of self.new }
-        ensures pad_most { pad_of self.new ≤ max (pad_of self.old) (victim_asks self.new) }
         ensures under_way { IsUnderWayOn self.new into.new.stripe.unit }
         ensures entries { HasItsEntries self.new into.new.stripe }
-        ensures rows { AreKeptBeside into.new.stripe.unit self.old self.new }
         ensures shape { into.new.shape ≡ into.old.shape }
         ensures turn { InItsMount self.old (λ i w.
             into.new.turn ≡ answer_count (log_of w 0) into.new.stripe.unit) }
+        ensures kept { KeepsOtherStripes into.new.stripe.unit self.old self.new }
     {
         let of = match self.placer.next_stripe(0) {
             Some(of) => of,
@@ -99,16 +94,13 @@ impl Core {
             IsDue i (log_of w) (pad_of self.old) into.new.stripe) }
         ensures stands { StandsAfter self.old (Place into.new.stripe) self.new }
         ensures window { self.new.window ≡ self.old.window }
-        ensures pad { pad_of self.new ≡ pad_of self.old }
         ensures under_way { IsUnderWayOn self.new into.new.stripe.unit }
         ensures entries { HasItsEntries self.new into.new.stripe }
         ensures rows { AreKeptBeside into.new.stripe.unit self.old self.new }
         ensures shape { into.new.shape ≡ into.old.shape }
         ensures turn { InItsMount self.old (λ i w.
             into.new.turn ≡ answer_count (log_of w 0) into.new.stripe.unit) }
-        ensures map { self.new.map ≡ self.old.map }
-        ensures collection { self.new.collection ≡ self.old.collection }
-        ensures brings { BringsNone self.old self.new }
+        ensures collecting { KeepsCollecting self.old self.new }
     {
         self.placer.placed(of);
         let turn = self.answers[of.unit as usize];
@@ -145,16 +137,13 @@ impl Core {
         ensures stripe { InItsMount self.old (λ i w. WasStopped (log_of w 0) into.new.stripe) }
         ensures stands { InItsMount self.old (λ i w. Stands i (log_of w) self.new) }
         ensures window { self.new.window ≡ self.old.window }
-        ensures pad { pad_of self.new ≡ pad_of self.old }
         ensures under_way { IsUnderWayOn self.new into.new.stripe.unit }
         ensures entries { HasItsEntries self.new into.new.stripe }
         ensures rows { AreKeptBeside into.new.stripe.unit self.old self.new }
         ensures shape { into.new.shape ≡ into.old.shape }
         ensures turn { InItsMount self.old (λ i w.
             into.new.turn ≡ answer_count (log_of w 0) into.new.stripe.unit) }
-        ensures map { self.new.map ≡ self.old.map }
-        ensures collection { self.new.collection ≡ self.old.collection }
-        ensures brings { BringsNone self.old self.new }
+        ensures collecting { KeepsCollecting self.old self.new }
     {
         let turn = self.answers[of.unit as usize];
         into.begin(of.line, of.unit, of.block, true, turn);
@@ -177,21 +166,13 @@ impl Core {
     pub fn landed(&mut self, stripe: &Stripe)
         requires collecting { IsCollecting self.old }
         requires under_way { IsUnderWayOn self.old stripe.now.stripe.unit }
-        ensures stands { (i : Image) (w : World) (event : ℕ) (knows : List ℕ) → IsLegalMount i w
-            → Stands i (log_of w) self.old → MayLand (log_of w) stripe.now.stripe.unit event
-            → Stands i (after (log_of w) (Landed stripe.now.stripe.unit event) knows) self.new }
-        ensures collects { (i : Image) (w : World) (event : ℕ) (knows : List ℕ) → IsLegalMount i w
-            → Stands i (log_of w) self.old → Collects i (log_of w) self.old
-            → MayLand (log_of w) stripe.now.stripe.unit event
-            → Collects i (after (log_of w) (Landed stripe.now.stripe.unit event) knows) self.new }
-        ensures own { (r : Region) → view.AreOf r self.old.window.entries
-            → view.AreOf r self.new.window.entries }
-        ensures count { length self.new.window.entries ≡ length self.old.window.entries }
-        ensures copying { is_copying self.new ≡ is_copying self.old }
-        ensures pad { pad_of self.old ≤ pad_of self.new }
-        ensures pad_most { pad_of self.new ≤ max (pad_of self.old) (victim_asks self.new) }
+        ensures stands { StandsAfterAnswer self.old (Landed stripe.now.stripe.unit)
+            (λ i logs. MayLand logs stripe.now.stripe.unit) self.new }
+        ensures collects { CollectsAfterAnswer self.old (Landed stripe.now.stripe.unit)
+            (λ i logs. MayLand logs stripe.now.stripe.unit) self.new }
         ensures idle { IsIdleOn self.new stripe.now.stripe.unit }
-        ensures rows { AreKeptBeside stripe.now.stripe.unit self.old self.new }
+        ensures kept { KeepsOtherStripes stripe.now.stripe.unit self.old self.new }
+        ensures frames { KeepsFrames self.old.window self.new.window }
     {
         let may_be = self.note_landed(stripe);
         self.look_again(may_be);
@@ -221,40 +202,16 @@ impl Core {
         ensures collection { self.new.collection ≡ self.old.collection }
         ensures brings { result ≡ false → BringsNone self.old self.new }
     {
-        let unit = stripe.unit();
-        let of = match self.placer.under_way(unit) {
-            Some(of) => of,
-            None => unreachable!(),
-        };
-        let positions = self.placer.positions(unit);
+        let of = self.place_of(stripe);
+        let positions = self.placer.positions(of.unit);
         land_entries(&mut self.window, positions);
         note_takers(&mut self.lines, &self.holds, of.line, positions);
-        self.notes.add(of.line, positions);
-        let index = self.open.find(of.line);
-        let shape = self.layout.shape();
-        let (from, to) = readable_range(shape, of.block);
-        make_readable(
-            &self.layout,
-            self.open.get(index),
-            of.unit,
-            from,
-            to,
-            &mut self.map,
-            &mut self.window,
-        );
-        self.placer.landed(&of);
-        self.under_way -= 1;
-        add_answer(&mut self.answers, unit);
         let is_newer = self.notes.land(of.line, of.kind == StripeKind::Start);
-        if self.open.land(index) == 0 {
-            fill_line(&mut self.lines, &self.layout, self.open.get(index), of.line);
-            self.resets.set_used(of.line, self.live[of.line as usize]);
-            self.notes.close(of.line);
-            self.open.remove(index);
-            true
-        } else {
-            is_newer
-        }
+        let (from, to) = readable_range(self.layout.shape(), of.block);
+        let told = self.answer(&of, of.count as usize, from, to, 1);
+        fill_line(&mut self.lines, &self.layout, of.line, &told);
+        self.placer.landed(&of);
+        is_newer | told.is_done
     }
 
     /// Notes that the program of a placed stripe was stopped. The stripe hasn't been answered
@@ -263,20 +220,13 @@ impl Core {
     pub fn stopped(&mut self, stripe: &Stripe)
         requires collecting { IsCollecting self.old }
         requires under_way { IsUnderWayOn self.old stripe.now.stripe.unit }
-        ensures stands { (i : Image) (w : World) (event : ℕ) (knows : List ℕ) → IsLegalMount i w
-            → Stands i (log_of w) self.old
-            → MayOfferAgain (log_of w) stripe.now.stripe.unit event
-            → Stands i (after (log_of w) (Again stripe.now.stripe.unit event) knows) self.new }
-        ensures collects { (i : Image) (w : World) (event : ℕ) (knows : List ℕ) → IsLegalMount i w
-            → Stands i (log_of w) self.old → Collects i (log_of w) self.old
-            → MayOfferAgain (log_of w) stripe.now.stripe.unit event
-            → Collects i (after (log_of w) (Again stripe.now.stripe.unit event) knows) self.new }
+        ensures stands { StandsAfterAnswer self.old (Again stripe.now.stripe.unit)
+            (λ i logs. MayOfferAgain logs stripe.now.stripe.unit) self.new }
+        ensures collects { CollectsAfterAnswer self.old (Again stripe.now.stripe.unit)
+            (λ i logs. MayOfferAgain logs stripe.now.stripe.unit) self.new }
         ensures offered { IsOfferedOn self.new stripe.now.stripe.unit }
         ensures window { self.new.window ≡ self.old.window }
-        ensures copying { is_copying self.new ≡ is_copying self.old }
-        ensures pad { pad_of self.old ≤ pad_of self.new }
-        ensures pad_most { pad_of self.new ≤ max (pad_of self.old) (victim_asks self.new) }
-        ensures rows { AreKeptBeside stripe.now.stripe.unit self.old self.new }
+        ensures kept { KeepsOtherStripes stripe.now.stripe.unit self.old self.new }
     {
         self.note_stopped(stripe);
         self.choose();
@@ -286,24 +236,16 @@ impl Core {
     fn note_stopped(&mut self, stripe: &Stripe)
         requires standing { IsStanding self.old }
         requires under_way { IsUnderWayOn self.old stripe.now.stripe.unit }
-        ensures stands { (i : Image) (w : World) (event : ℕ) (knows : List ℕ) → IsLegalMount i w
-            → Stands i (log_of w) self.old
-            → MayOfferAgain (log_of w) stripe.now.stripe.unit event
-            → Stands i (after (log_of w) (Again stripe.now.stripe.unit event) knows) self.new }
+        ensures stands { StandsAfterAnswer self.old (Again stripe.now.stripe.unit)
+            (λ i logs. MayOfferAgain logs stripe.now.stripe.unit) self.new }
         ensures offered { IsOfferedOn self.new stripe.now.stripe.unit }
-        ensures window { self.new.window ≡ self.old.window }
         ensures pad { pad_of self.new ≡ pad_of self.old }
         ensures rows { AreKeptBeside stripe.now.stripe.unit self.old self.new }
-        ensures layout { self.new.layout ≡ self.old.layout }
         ensures each { HasEachLine self.new }
-        ensures map { self.new.map ≡ self.old.map }
-        ensures collection { self.new.collection ≡ self.old.collection }
         ensures brings { BringsNone self.old self.new }
+        ensures rest { self.new ≡ record self.old { placer = self.new.placer } }
     {
-        let of = match self.placer.under_way(stripe.unit()) {
-            Some(of) => of,
-            None => unreachable!(),
-        };
+        let of = self.place_of(stripe);
         self.placer.stopped(&of);
     }
 }
@@ -321,28 +263,32 @@ fn count_new(positions: &[u64], front: u64) -> u64
     count
 }
 
-// One more stripe of a unit was answered.
-pub(crate) fn add_answer(answers: &mut Vec<u64>, unit: u32)
-    requires inside { unit < length answers.old.items }
-    ensures { (n : ℕ) → slice_get answers.old.items unit ≡ Some n
-        → answers.new.items ≡ slice_set answers.old.items unit (min (n + 1) (2 ^ 64 - 1)) }
-{
-    let count = &mut answers[unit as usize];
-    *count = count.saturating_add(1);
-}
-
 // A line of which no stripe is left is Full, if none was lost.
-fn fill_line(lines: &mut Lines, layout: &Layout, slot: &OpenLine, line: u32)
+fn fill_line(lines: &mut Lines, layout: &Layout, line: u32, told: &LineTold)
     requires inside { line < length lines.old.rows }
     requires width { (row : Row) → IsRow lines.old line row
-        → row.width ≡ length (units_in slot.now.live) }
-    requires live { slot.now.live < 2 ^ units layout.now }
+        → row.width ≡ length (units_in told.now.online) }
+    requires online { told.now.online < 2 ^ units layout.now }
+    requires shape { lines.old.shape ≡ layout.now }
+    ensures { (row : Row) → IsRow lines.old line row
+        → lines.new ≡ with_row line (full_if (told.now.is_done && is_open row.state)) lines.old }
+{
+    if told.is_done {
+        turn_full(lines, layout, line, told.online);
+    }
+}
+
+// A line is Full, if it is Open.
+fn turn_full(lines: &mut Lines, layout: &Layout, line: u32, online: u64)
+    requires inside { line < length lines.old.rows }
+    requires width { (row : Row) → IsRow lines.old line row → row.width ≡ length (units_in online) }
+    requires online { online < 2 ^ units layout.now }
     requires shape { lines.old.shape ≡ layout.now }
     ensures { (row : Row) → IsRow lines.old line row
         → lines.new ≡ with_row line (full_if (is_open row.state)) lines.old }
 {
     if lines.state(line) == LineState::Open {
-        lines.turn(line, LineState::Full, layout.width(slot.live));
+        lines.turn(line, LineState::Full, layout.width(online));
     }
 }
 

@@ -1,6 +1,6 @@
 //! Entries that a core takes.
 
-ghost use Rattle.std.specs.Prelude.{ℕ, ◌≡◌, ◌+◌, ◌%◌, ◌<◌, ◌≤◌, ◌^◌, ◌++◌, true, false, [], ◌∷◌, length, slice_set, Some, None, IfSome, max};
+ghost use Rattle.std.specs.Prelude.{ℕ, ◌≡◌, ◌+◌, ◌%◌, ◌<◌, ◌^◌, true, false, length, slice_set, Some, None, IfSome};
 ghost use Rattle.std.specs.List.{All, Contains};
 ghost use Rattle.line_table.specs.declared.row.Row.{Row};
 ghost use Rattle.line_table.specs.Rows.{IsRow};
@@ -9,13 +9,14 @@ ghost use Rattle.pblk_world.specs.Events.{Take};
 ghost use Rattle.sector_pool.specs.declared.entry.Class.TheVariants.{User, Copy};
 ghost use Rattle.l2p_map.specs.declared.slot.Slot.TheVariants.{Cached, Media};
 ghost use Rattle.std.specs.FinMap as fin;
-ghost use Rattle.pblk_core.specs.Collecting.{BringsNone, BringsNoneBut, CollectsAfter, HasPassed, IsCollecting};
-ghost use Rattle.pblk_core.specs.Copies.{is_copying, victim_asks};
+ghost use Rattle.pblk_core.specs.Keeping.{KeepsStripesTaking, still_copying};
+ghost use Rattle.pblk_core.specs.Collecting.{BringsNoneBut, HasPassed, IsCollecting, KeepsCollecting};
+ghost use Rattle.pblk_core.specs.Copies.{is_copying};
 ghost use Rattle.stripe_placer.specs.Placing.{held, waits};
 ghost use Rattle.write_window.specs.Window as view;
 ghost use Rattle.pblk_core.specs.Holds.{has_landed_in, line_of_slot, rows_with_taker};
 ghost use Rattle.pblk_core.specs.Named.{pad_of};
-ghost use Rattle.pblk_core.specs.Mounts.{StandsAfter};
+ghost use Rattle.pblk_core.specs.Mounts.{CollectsAfter, StandsAfter};
 ghost use Rattle.pblk_core.specs.Stands.{IsStanding};
 ghost use Rattle.pblk_core.specs.Taken.{IsClassed, entry_of, is_latest_in, is_source, mark_of, users_in};
 ghost use Rattle.pblk_core.specs.Taking.{CanTake, IsLegalTake, with_waiting};
@@ -109,12 +110,7 @@ impl Core {
             in CollectsAfter self.old (Take (entry_of entry) mark) self.new }
         ensures legal { IsLegalTake self.old entry }
         ensures pushed { self.new.window ≡ with_waiting self.old.window entry }
-        ensures copying { entry.class ≡ Copy → is_copying self.new ≡ false }
-        ensures copying_still { entry.class ≡ User
-            → is_copying self.new ≡ is_copying self.old }
-        ensures pad { pad_of self.old ≤ pad_of self.new }
-        ensures pad_most { pad_of self.new ≤ max (pad_of self.old) (victim_asks self.new) }
-        ensures rows { self.new.placer.units ≡ self.old.placer.units }
+        ensures kept { KeepsStripesTaking entry.class self.old self.new }
     {
         let class = entry.class;
         let loser = self.enter(entry);
@@ -149,12 +145,11 @@ impl Core {
 
     // Notes that an entry of this class was taken: after a copy none is under way.
     fn end_copy(&mut self, class: Class)
-        ensures copy { class ≡ Copy → is_copying self.new ≡ false }
-        ensures user { class ≡ User → is_copying self.new ≡ is_copying self.old }
-        ensures collection { self.new.collection ≡ record self.old.collection {
-          under_way = self.new.collection.under_way;
+        ensures { self.new ≡ record self.old {
+          collection = record self.old.collection {
+            under_way = still_copying class (is_copying self.old);
+          };
         } }
-        ensures unchanged { self.new ≡ record self.old { collection = self.new.collection } }
     {
         if let Class::Copy = class {
             self.collection.under_way = false;
@@ -213,11 +208,8 @@ impl Core {
         ensures stands { let mark = mark_of self.old.map entry
             in StandsAfter self.old (Take (entry_of entry) mark) self.new }
         ensures pushed { self.new.window ≡ with_waiting self.old.window entry }
-        ensures pad { pad_of self.new ≡ pad_of self.old }
         ensures rows { self.new.placer.units ≡ self.old.placer.units }
-        ensures map { self.new.map ≡ self.old.map }
-        ensures collection { self.new.collection ≡ self.old.collection }
-        ensures brings { BringsNone self.old self.new }
+        ensures collecting { KeepsCollecting self.old self.new }
     {
         let mark = Mark {
             lba: Mark::VOID_LBA,

@@ -1,33 +1,29 @@
 //! The core of a target: its tables, and how it begins, answers and ends.
 
-ghost use Rattle.std.specs.Prelude.{ℕ, ◌≡◌, ◌+◌, ◌*◌, ◌<◌, ◌^◌, ◌↔◌, max, true, false, [], List, length, drop, Some, IfOk, IfSome, IsNone, OnSome, IfNone, slice_get};
+ghost use Rattle.std.specs.Prelude.{ℕ, ◌≡◌, ◌+◌, ◌*◌, ◌<◌, ◌^◌, ◌↔◌, true, false, [], length, drop, Some, IfOk, IfSome, IsNone, OnSome, IfNone, slice_get};
 ghost use Rattle.std.specs.FinMap as fin;
 ghost use Rattle.pblk_model.specs.Accepted.{IsAccepted};
 ghost use Rattle.pblk_model.specs.Found.{IsFitFound};
 ghost use Rattle.pblk_model.specs.Image.{Image, IsFit};
 ghost use Rattle.pblk_model.specs.Shape.{units};
 ghost use Rattle.pblk_world.specs.EngineLog.{Placed, answers, is_answered, placements, turn};
-ghost use Rattle.pblk_world.specs.Events.{Begin};
-ghost use Rattle.pblk_world.specs.World.{World, Logs, log_of};
-ghost use Rattle.pblk_world.specs.Lines.{found_image, known_image, is_given_up, are_empty};
-ghost use Rattle.world_laws.specs.Finding.{IsFoundOf, NoneOpen};
-ghost use Rattle.world_laws.specs.MountBeginnings.{beginning_of};
+ghost use Rattle.pblk_world.specs.World.{World, log_of};
+ghost use Rattle.pblk_world.specs.Lines.{known_image, is_given_up, are_empty};
 ghost use Rattle.pblk_world.specs.Fronts.{taken, synced, user_takes};
 ghost use Rattle.write_window.specs.Window as view;
-ghost use Rattle.world_laws.specs.LegalMounts.{IsLegalMount};
+ghost use Rattle.pblk_world.specs.LegalMounts.{IsLegalMount};
 ghost use Rattle.core_laws.specs.SlotOf.{slot_of};
-ghost use Rattle.core_laws.specs.Stepping.{after};
 ghost use Rattle.pblk_core.specs.Resets.{resets_of};
-ghost use Rattle.pblk_core.specs.Named.{pad_of};
-ghost use Rattle.pblk_layout.specs.Live.{units_in};
+ghost use Rattle.pblk_core.specs.Named.{pad_of, padded};
+ghost use Rattle.pblk_layout.specs.Online.{units_in};
 ghost use Rattle.pblk_model.specs.LineOrder.{line_order};
 ghost use Rattle.pblk_model.specs.Frames.{count_out};
 ghost use Rattle.core_laws.specs.WindowOf.{users_below};
 ghost use Rattle.pblk_core.specs.Collecting.{Collects};
 ghost use Rattle.pblk_core.specs.Copies.{is_copying};
 ghost use Rattle.pblk_core.specs.Made.{IsMadeOn};
-ghost use Rattle.pblk_core.specs.Landing.{IsResting};
-ghost use Rattle.pblk_core.specs.Mounts.{InItsMount};
+ghost use Rattle.pblk_core.specs.Landing.{NoneUnderWay};
+ghost use Rattle.pblk_core.specs.Mounts.{BeginsWith, CollectsStill, InItsMount, StandsStill};
 ghost use Rattle.pblk_core.specs.Stands.{Stands, IsStanding, answer_count};
 
 use crate::collecting::Collection;
@@ -62,7 +58,7 @@ pub struct Core {
     pub(crate) holds: Holds,
     pub(crate) open: OpenLines,
     // the online units of each line
-    pub(crate) live: Vec<LineUnits>,
+    pub(crate) online: Vec<LineUnits>,
     // the chunks that are still to be reset, of strays and of lines that were freed, and the used
     // units of each line
     pub(crate) resets: Resets,
@@ -95,19 +91,13 @@ impl Core {
     pub fn new(alloc: Global, shape: &Shape, found: Found) -> Result<Core, AllocError>
         requires accepted { IsAccepted shape.now }
         requires fit { IsFitFound shape.now found }
-        ensures stands { IfOk result (λ core. (i : Image) (w : World) (knows : List ℕ)
-            → i.shape ≡ shape.now → IsLegalMount i w → log_of w 0 ≡ []
-            → IsFoundOf (found_image i (after (log_of w) (Begin (beginning_of found)) knows)) found
-            → NoneOpen (found_image i (after (log_of w) (Begin (beginning_of found)) knows))
-            → Stands i (after (log_of w) (Begin (beginning_of found)) knows) core) }
-        ensures collects { IfOk result (λ core. (i : Image) (w : World) (knows : List ℕ)
-            → i.shape ≡ shape.now → IsLegalMount i w → log_of w 0 ≡ []
-            → IsFoundOf (found_image i (after (log_of w) (Begin (beginning_of found)) knows)) found
-            → NoneOpen (found_image i (after (log_of w) (Begin (beginning_of found)) knows))
-            → Collects i (after (log_of w) (Begin (beginning_of found)) knows) core) }
+        ensures stands { IfOk result (λ core.
+            BeginsWith shape.now found (λ i logs. Stands i logs core)) }
+        ensures collects { IfOk result (λ core.
+            BeginsWith shape.now found (λ i logs. Collects i logs core)) }
         ensures idle { IfOk result (λ core. is_copying core ≡ false) }
         ensures pad { IfOk result (λ core. pad_of core ≡ 0) }
-        ensures resting { IfOk result IsResting }
+        ensures resting { IfOk result NoneUnderWay }
     {
         let mut core = Core::made(alloc, shape, &found)?;
         core.choose();
@@ -127,7 +117,7 @@ impl Core {
         let placer = Placer::new(alloc, &layout)?;
         let holds = Holds::new(alloc, shape.ring)?;
         let open = OpenLines::new(alloc, &layout)?;
-        let live = all_online_units(alloc, &layout, found)?;
+        let online = all_online_units(alloc, &layout, found)?;
         let resets = Resets::new(alloc, shape, states, found.strays.as_slice())?;
         let notes = LineNotes::new(alloc, found.lines.as_slice(), found.head, found.front)?;
         let answers = no_answers(alloc, shape.units())?;
@@ -150,7 +140,7 @@ impl Core {
             placer,
             holds,
             open,
-            live,
+            online,
             resets,
             notes,
             start,
@@ -167,14 +157,9 @@ impl Core {
     /// Raises the pad target: entries that are fewer than a stripe holds are placed with Pad blocks
     /// where one of them lies below it. It never falls.
     pub fn ask_pad(&mut self, to: u64)
-        ensures stands { (i : Image) (logs : Logs)
-            → Stands i logs self.old → Stands i logs self.new }
-        ensures collects { (i : Image) (logs : Logs)
-            → Collects i logs self.old → Collects i logs self.new }
-        ensures copying { is_copying self.new ≡ is_copying self.old }
-        ensures pad { pad_of self.new ≡ max (pad_of self.old) to }
-        ensures rows { self.new.placer.units ≡ self.old.placer.units }
-        ensures window { self.new.window ≡ self.old.window }
+        ensures stands { StandsStill self.old self.new }
+        ensures collects { CollectsStill self.old self.new }
+        ensures raised { self.new ≡ padded self.old to }
     {
         self.placer.pad_to(to);
     }
@@ -235,15 +220,15 @@ impl Core {
     /// The unit and the block of a line address. The line is one of the drive, and the address is
     /// below its width times CLBA.
     pub fn address(&self, line: u32, at: u32) -> (u32, u32)
-        requires line { line < length self.now.live.items }
-        requires live { (live : ℕ) → slice_get self.now.live.items line ≡ Some live
-            → live < 2 ^ units self.now.layout }
-        requires inside { (live : ℕ) → slice_get self.now.live.items line ≡ Some live
-            → at < length (units_in live) * self.now.layout.clba }
-        ensures { (live : ℕ) → slice_get self.now.live.items line ≡ Some live
-            → slice_get (line_order self.now.layout (units_in live)) at ≡ Some result }
+        requires line { line < length self.now.online.items }
+        requires online { (online : ℕ) → slice_get self.now.online.items line ≡ Some online
+            → online < 2 ^ units self.now.layout }
+        requires inside { (online : ℕ) → slice_get self.now.online.items line ≡ Some online
+            → at < length (units_in online) * self.now.layout.clba }
+        ensures { (online : ℕ) → slice_get self.now.online.items line ≡ Some online
+            → slice_get (line_order self.now.layout (units_in online)) at ≡ Some result }
     {
-        self.layout.place(self.live[line as usize].bits(), at)
+        self.layout.place(self.online[line as usize].bits(), at)
     }
 
     /// A frame that the window gives back: that of the position at its front `freed`. None exactly
@@ -252,16 +237,13 @@ impl Core {
         ensures none { let old = self.old.window
             in IsNone result ↔ (view.is_readable_at old old.freed ≡ false) }
         ensures stands { InItsMount self.old (λ i w. Stands i (log_of w) self.new) }
-        ensures collects { (i : Image) (logs : Logs)
-            → Collects i logs self.old → Collects i logs self.new }
-        ensures copying { is_copying self.new ≡ is_copying self.old }
+        ensures collects { CollectsStill self.old self.new }
         ensures frame { let old = self.old.window
             in IfSome result (λ f. view.frame_at old old.freed ≡ Some f) }
         ensures freed { OnSome result (self.new.window.freed ≡ self.old.window.freed + 1) }
         ensures entries { OnSome result (self.new.window.entries ≡ drop 1 self.old.window.entries) }
-        ensures pad { pad_of self.new ≡ pad_of self.old }
-        ensures rows { self.new.placer.units ≡ self.old.placer.units }
         ensures unchanged { IfNone result (self.new ≡ self.old) }
+        ensures rest { self.new ≡ record self.old { window = self.new.window } }
     {
         self.window.pop_free()
     }
@@ -281,7 +263,7 @@ impl Core {
             placer: _,
             holds: _,
             open: _,
-            live: _,
+            online: _,
             resets: _,
             notes: _,
             start: _,

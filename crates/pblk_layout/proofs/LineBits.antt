@@ -4,7 +4,7 @@ use Rattle.std.specs.List.{slice_get, filter, range_with_len, enumerate_from}
 use Rattle.std.specs.Option.{option_map_or}
 use Rattle.pblk_model.specs.Chunk.{Chunk}
 use Rattle.pblk_model.specs.Image.{Image, is_online_in, line_units}
-use Rattle.pblk_layout.specs.Live.{is_in, units_in, HasLiveUnits}
+use Rattle.pblk_layout.specs.Online.{is_in, units_in, HasOnlineUnits}
 use Rattle.lemmas.proofs.Maps.{none_kept}
 use Rattle.pblk_model.proofs.ChunkLemmas.{map_cond}
 
@@ -28,7 +28,7 @@ units_kept line p a (suc n) (unit ∷ units) few h =
     ∙ ap (λ xs. cond (has_chunk line unit) (a ∷ xs) xs) rest
     ∙ sym (map_cond (has_chunk line unit) (a, unit) (filter (λ (u : ℕ × List Chunk). has_chunk line u.1) (enumerate_from (a + 1) units)))
 
-pub line_bits : (i : Image) (line live : ℕ) → length i.units ≤ 64 → HasLiveUnits i line live → units_in live ≡ line_units i line
+pub line_bits : (i : Image) (line online : ℕ) → length i.units ≤ 64 → HasOnlineUnits i line online → units_in online ≡ line_units i line
 unfolding units_in has_chunk
-line_bits i line live few h =
-    units_kept line (is_in live) 0 64 i.units few (λ k l. let place : 0 + k ≡ k = omega arith in ap (is_in live) place ∙ h k l)
+line_bits i line online few h =
+    units_kept line (is_in online) 0 64 i.units few (λ k l. let place : 0 + k ≡ k = omega arith in ap (is_in online) place ∙ h k l)

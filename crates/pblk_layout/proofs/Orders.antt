@@ -7,7 +7,7 @@ use Rattle.pblk_model.specs.declared.shape.Shape.{Shape}
 use Rattle.pblk_model.specs.LineOrder.{line_order, column_of, block_of, address_of}
 use Rattle.pblk_model.specs.Accepted.{IsAccepted}
 use Rattle.pblk_model.specs.Shape.{units}
-use Rattle.pblk_layout.specs.Live.{is_in, units_below, units_in}
+use Rattle.pblk_layout.specs.Online.{is_in, units_below, units_in}
 use Rattle.pblk_layout.proofs.Sizes.{ShortLaw}
 use Rattle.pblk_layout.proofs.Sets.{rank_is, member, get_within}
 use Rattle.lemmas.proofs.Numbers.{some_units}
@@ -70,14 +70,14 @@ at s us a unit b law long addresses ws whole h =
       address = ap (λ x. address_of s (length us) (column_of s (length us) a) x) (sym block_is) ∙ is.2;
     }
 
-pub only : (s : Shape) (live g unit b a : ℕ) → OrderLaw → LengthLaw → AddressLaw → 0 < s.ws_opt → s.clba % s.ws_opt ≡ 0 → g ≡ length (units_in live)
-    → slice_get (line_order s (units_in live)) a ≡ Some (unit, b)
-    → address_of s g (length (units_below live unit)) b ≡ a
-only s live g unit b a law long addresses ws whole g-is h =
-    let is : IsAt s (units_in live) a unit b = at s (units_in live) a unit b law long addresses ws whole h in
-    let rank : column_of s (length (units_in live)) a ≡ length (units_below live unit) =
-    (member live unit (column_of s (length (units_in live)) a) is.unit_is).2 in
-    ap (λ n. address_of s n (length (units_below live unit)) b) g-is ∙ ap (λ k. address_of s (length (units_in live)) k b) (sym rank) ∙ is.address
+pub only : (s : Shape) (online g unit b a : ℕ) → OrderLaw → LengthLaw → AddressLaw → 0 < s.ws_opt → s.clba % s.ws_opt ≡ 0 → g ≡ length (units_in online)
+    → slice_get (line_order s (units_in online)) a ≡ Some (unit, b)
+    → address_of s g (length (units_below online unit)) b ≡ a
+only s online g unit b a law long addresses ws whole g-is h =
+    let is : IsAt s (units_in online) a unit b = at s (units_in online) a unit b law long addresses ws whole h in
+    let rank : column_of s (length (units_in online)) a ≡ length (units_below online unit) =
+    (member online unit (column_of s (length (units_in online)) a) is.unit_is).2 in
+    ap (λ n. address_of s n (length (units_below online unit)) b) g-is ∙ ap (λ k. address_of s (length (units_in online)) k b) (sym rank) ∙ is.address
 
 -- the numbers in between are no greater than the address
 pub address_parts : (q g k w r : ℕ) → 0 < w → (q * g ≤ (q * g + k) * w + r) × (q * g + k ≤ (q * g + k) * w + r) × ((q * g + k) * w ≤ (q * g + k) * w + r)
@@ -86,13 +86,13 @@ address_parts q g k w r some =
     (omega arith, omega arith, omega arith)
 
 -- the address that `addr_of` gives is below 2 ^ 17, and so are the numbers in between
-pub found_short : (s : Shape) (live g k unit b : ℕ) → OrderLaw → BlockLaw → ShortLaw → IsAccepted s → g ≡ length (units_in live) → g ≤ units s
-    → k ≡ length (units_below live unit) → unit < 64 → is_in live unit ≡ true → b < s.clba
-    → (address_of s g k b < 131072) × (b / s.ws_opt * g ≤ address_of s g k b) × (slice_get (line_order s (units_in live)) (address_of s g k b) ≡ Some (unit, b))
+pub found_short : (s : Shape) (online g k unit b : ℕ) → OrderLaw → BlockLaw → ShortLaw → IsAccepted s → g ≡ length (units_in online) → g ≤ units s
+    → k ≡ length (units_below online unit) → unit < 64 → is_in online unit ≡ true → b < s.clba
+    → (address_of s g k b < 131072) × (b / s.ws_opt * g ≤ address_of s g k b) × (slice_get (line_order s (units_in online)) (address_of s g k b) ≡ Some (unit, b))
     × (b / s.ws_opt * g + k ≤ address_of s g k b) × ((b / s.ws_opt * g + k) * s.ws_opt ≤ address_of s g k b)
-found_short s live g k unit b law blocks lines accepted g-is few k-is inside is below =
-    let there : slice_get (units_in live) k ≡ Some unit = ap (slice_get (units_in live)) k-is ∙ rank_is live unit inside is in
-    let f = found s (units_in live) g k unit b law blocks accepted.drive.ws_opt accepted.drive.whole_stripes g-is there below in
+found_short s online g k unit b law blocks lines accepted g-is few k-is inside is below =
+    let there : slice_get (units_in online) k ≡ Some unit = ap (slice_get (units_in online)) k-is ∙ rank_is online unit inside is in
+    let f = found s (units_in online) g k unit b law blocks accepted.drive.ws_opt accepted.drive.whole_stripes g-is there below in
     let short : g * s.clba ≤ 65536 = lines s g accepted few in
     let parts = address_parts (b / s.ws_opt) g k s.ws_opt (b % s.ws_opt) accepted.drive.ws_opt in
     (omega (arith, f.0), parts.0, f.1, parts.1, parts.2)

@@ -9,7 +9,7 @@ use Rattle.std.proofs.lemmas.Bool.{eqb-true}
 use Rattle.std.proofs.lemmas.Nat.{ones_cat, mod-pow-add, mod_below, pow_pos, ones-le}
 use Rattle.std.proofs.lemmas.Nat.Bits.{bit_at-lt, bit_at_above}
 use Rattle.std.proofs.lemmas.Option.{none-some, same_Some}
-use Rattle.pblk_layout.specs.Live.{is_in, units_below, units_in}
+use Rattle.pblk_layout.specs.Online.{is_in, units_below, units_in}
 
 -- ---- numbers that a test keeps
 
@@ -141,81 +141,81 @@ none_above m unit h far = ap (λ b. eqb b 1) (sym (bit_at_above m 64 unit h far)
 
 -- what is left of the units from one on
 abbrev pub units_from : ℕ → ℕ → List ℕ
-units_from live unit = filter (is_in live) (range_with_len unit (64 - unit))
+units_from online unit = filter (is_in online) (range_with_len unit (64 - unit))
 
-one_on : (live unit : ℕ) → unit < 64 → units_from live unit ≡ cond (is_in live unit) (unit ∷ units_from live (unit + 1)) (units_from live (unit + 1))
-one_on live unit h =
+one_on : (online unit : ℕ) → unit < 64 → units_from online unit ≡ cond (is_in online unit) (unit ∷ units_from online (unit + 1)) (units_from online (unit + 1))
+one_on online unit h =
     let k : 64 - unit ≡ suc (64 - (unit + 1)) = omega arith in
-    ap (λ n. filter (is_in live) (range_with_len unit n)) k
+    ap (λ n. filter (is_in online) (range_with_len unit n)) k
 
-pub here : (live unit left n : ℕ) → unit < 64 → is_in live unit ≡ true → left ≡ 0 → slice_get (units_from live unit) left ≡ slice_get (units_in live) n
-    → slice_get (units_in live) n ≡ Some unit
+pub here : (online unit left n : ℕ) → unit < 64 → is_in online unit ≡ true → left ≡ 0 → slice_get (units_from online unit) left ≡ slice_get (units_in online) n
+    → slice_get (units_in online) n ≡ Some unit
 unfolding units_in
-here live unit left n inside is none so_far =
-    sym so_far ∙ ap (slice_get (units_from live unit)) none ∙ ap (λ xs. slice_get xs 0) (one_on live unit inside)
-    ∙ kept_first (is_in live unit) unit (units_from live (unit + 1)) is
+here online unit left n inside is none so_far =
+    sym so_far ∙ ap (slice_get (units_from online unit)) none ∙ ap (λ xs. slice_get xs 0) (one_on online unit inside)
+    ∙ kept_first (is_in online unit) unit (units_from online (unit + 1)) is
 
-pub behind : (live unit left n : ℕ) → unit < 64 → is_in live unit ≡ true → 0 < left → slice_get (units_from live unit) left ≡ slice_get (units_in live) n
-    → slice_get (units_from live (unit + 1)) (left - 1) ≡ slice_get (units_in live) n
-behind live unit left n inside is some so_far =
+pub behind : (online unit left n : ℕ) → unit < 64 → is_in online unit ≡ true → 0 < left → slice_get (units_from online unit) left ≡ slice_get (units_in online) n
+    → slice_get (units_from online (unit + 1)) (left - 1) ≡ slice_get (units_in online) n
+behind online unit left n inside is some so_far =
     let k : left ≡ suc (left - 1) = omega arith in
-    let now : slice_get (units_from live unit) left ≡ slice_get (units_from live (unit + 1)) (left - 1) =
-    ap (slice_get (units_from live unit)) k ∙ ap (λ xs. slice_get xs (suc (left - 1))) (one_on live unit inside)
-    ∙ ap (λ b. slice_get (cond b (unit ∷ units_from live (unit + 1)) (units_from live (unit + 1))) (suc (left - 1))) is in
+    let now : slice_get (units_from online unit) left ≡ slice_get (units_from online (unit + 1)) (left - 1) =
+    ap (slice_get (units_from online unit)) k ∙ ap (λ xs. slice_get xs (suc (left - 1))) (one_on online unit inside)
+    ∙ ap (λ b. slice_get (cond b (unit ∷ units_from online (unit + 1)) (units_from online (unit + 1))) (suc (left - 1))) is in
     sym now ∙ so_far
 
-pub without : (live unit left n : ℕ) → unit < 64 → is_in live unit ≡ false → slice_get (units_from live unit) left ≡ slice_get (units_in live) n
-    → slice_get (units_from live (unit + 1)) left ≡ slice_get (units_in live) n
-without live unit left n inside is so_far =
-    let now : slice_get (units_from live unit) left ≡ slice_get (units_from live (unit + 1)) left =
-    ap (λ xs. slice_get xs left) (one_on live unit inside)
-    ∙ ap (λ b. slice_get (cond b (unit ∷ units_from live (unit + 1)) (units_from live (unit + 1))) left) is in
+pub without : (online unit left n : ℕ) → unit < 64 → is_in online unit ≡ false → slice_get (units_from online unit) left ≡ slice_get (units_in online) n
+    → slice_get (units_from online (unit + 1)) left ≡ slice_get (units_in online) n
+without online unit left n inside is so_far =
+    let now : slice_get (units_from online unit) left ≡ slice_get (units_from online (unit + 1)) left =
+    ap (λ xs. slice_get xs left) (one_on online unit inside)
+    ∙ ap (λ b. slice_get (cond b (unit ∷ units_from online (unit + 1)) (units_from online (unit + 1))) left) is in
     sym now ∙ so_far
 
-pub from_first : (live n : ℕ) → slice_get (units_from live 0) n ≡ slice_get (units_in live) n
+pub from_first : (online n : ℕ) → slice_get (units_from online 0) n ≡ slice_get (units_in online) n
 unfolding units_in
-from_first live n = refl
+from_first online n = refl
 
 -- how many there are
-pub count_is : (live : ℕ) → live < 2 ^ 64 → count_ones live ≡ length (units_in live)
+pub count_is : (online : ℕ) → online < 2 ^ 64 → count_ones online ≡ length (units_in online)
 unfolding units_in
-count_is live h = let same : live % 2 ^ 64 ≡ live = mod-eq_of_lt h in ap count_ones (sym same) ∙ ones_below live 64
+count_is online h = let same : online % 2 ^ 64 ≡ online = mod-eq_of_lt h in ap count_ones (sym same) ∙ ones_below online 64
 
 -- ---- ranks
 
-pub rank_is : (live unit : ℕ) → unit < 64 → is_in live unit ≡ true → slice_get (units_in live) (length (units_below live unit)) ≡ Some unit
+pub rank_is : (online unit : ℕ) → unit < 64 → is_in online unit ≡ true → slice_get (units_in online) (length (units_below online unit)) ≡ Some unit
 unfolding units_in
-rank_is live unit below is = at_rank (is_in live) 0 64 unit below (ap (is_in live) (omega arith) ∙ is) ∙ ap Some (omega arith)
+rank_is online unit below is = at_rank (is_in online) 0 64 unit below (ap (is_in online) (omega arith) ∙ is) ∙ ap Some (omega arith)
 
-pub member : (live unit j : ℕ) → slice_get (units_in live) j ≡ Some unit → (unit < 64) × (is_in live unit ≡ true) × (j ≡ length (units_below live unit))
+pub member : (online unit j : ℕ) → slice_get (units_in online) j ≡ Some unit → (unit < 64) × (is_in online unit ≡ true) × (j ≡ length (units_below online unit))
 unfolding units_in
-member live unit j h =
-    let r : IsKept (is_in live) 0 64 unit j = kept_at (is_in live) 0 64 unit j h in
+member online unit j h =
+    let r : IsKept (is_in online) 0 64 unit j = kept_at (is_in online) 0 64 unit j h in
     let k : r.k ≡ unit = omega (arith, r.is) in
-    (omega (arith, r.below), r.kept, r.rank ∙ ap (λ x. length (units_below live x)) k)
+    (omega (arith, r.below), r.kept, r.rank ∙ ap (λ x. length (units_below online x)) k)
 
 pub get_within : (xs : List ℕ) (k : ℕ) → k < length xs → (x : ℕ) × (slice_get xs k ≡ Some x)
 get_within [] k h = absurd (omega arith)
 get_within (x ∷ xs) zero h = (x, refl)
 get_within (x ∷ xs) (suc k) h = get_within xs k (omega arith)
 
-pub none_left : (live unit left n : ℕ) → 64 ≤ unit → n < length (units_in live) → slice_get (units_from live unit) left ≡ slice_get (units_in live) n → ⊥
+pub none_left : (online unit left n : ℕ) → 64 ≤ unit → n < length (units_in online) → slice_get (units_from online unit) left ≡ slice_get (units_in online) n → ⊥
 unfolding units_in
-none_left live unit left n far inside so_far =
+none_left online unit left n far inside so_far =
     let k : 64 - unit ≡ 0 = omega arith in
-    let there = get_within (units_in live) n inside in
-    let none : slice_get (units_from live unit) left ≡ None = ap (λ m. slice_get (filter (is_in live) (range_with_len unit m)) left) k in
+    let there = get_within (units_in online) n inside in
+    let none : slice_get (units_from online unit) left ≡ None = ap (λ m. slice_get (filter (is_in online) (range_with_len unit m)) left) k in
     none-some there.0 (sym none ∙ so_far ∙ there.1)
 
-pub bit_zero : (live unit : ℕ) → is_in live unit ≡ false → bit_at live unit ≡ 0
-bit_zero live unit h = no_one (bit_at live unit) (bit_at-lt live unit) h where
+pub bit_zero : (online unit : ℕ) → is_in online unit ≡ false → bit_at online unit ≡ 0
+bit_zero online unit h = no_one (bit_at online unit) (bit_at-lt online unit) h where
   no_one : (b : ℕ) → b < 2 → eqb b 1 ≡ false → b ≡ 0
   no_one zero l e = refl
   no_one (suc zero) l e = absurd cc
   no_one (suc (suc b)) l e = absurd (omega arith)
 
-pub bit_one : (live unit : ℕ) → is_in live unit ≡ true → bit_at live unit ≡ 1
-bit_one live unit h = eqb-true (bit_at live unit) 1 h
+pub bit_one : (online unit : ℕ) → is_in online unit ≡ true → bit_at online unit ≡ 1
+bit_one online unit h = eqb-true (bit_at online unit) 1 h
 
-pub few_units : (live n : ℕ) → live < 2 ^ 64 → live < 2 ^ n → length (units_in live) ≤ n
-few_units live n word below = omega (arith, count_is live word, ones-le n live below)
+pub few_units : (online n : ℕ) → online < 2 ^ 64 → online < 2 ^ n → length (units_in online) ≤ n
+few_units online n word below = omega (arith, count_is online word, ones-le n online below)

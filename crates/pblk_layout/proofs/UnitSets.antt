@@ -14,10 +14,10 @@ use Rattle.pblk_model.specs.declared.shape.Shape.{Shape}
 use Rattle.pblk_model.specs.declared.chunk.ChunkState.{ChunkState}
 use Rattle.pblk_model.specs.declared.chunk.ChunkState.TheVariants.{Free, Open, Closed, Offline}
 use Rattle.pblk_model.specs.declared.found.Found.{Found}
-use Rattle.pblk_model.specs.Found.{live_unit, live_units, state_at}
+use Rattle.pblk_model.specs.Found.{online_unit, online_units, state_at}
 use Rattle.pblk_model.specs.Image.{is_online_in}
 use Rattle.pblk_model.specs.Shape.{units}
-use Rattle.pblk_layout.specs.Live.{is_in, units_in}
+use Rattle.pblk_layout.specs.Online.{is_in, units_in}
 use Rattle.pblk_layout.proofs.Sets.{shorter, bit_zero}
 
 -- a bit that is set, and the others
@@ -39,7 +39,7 @@ bit_added n unit u inside =
 
 -- the set has just the units below n that pass a test
 abbrev pub HasBelow : (ℕ → Bool) → ℕ → ℕ → Type 0
-HasBelow p n live = (unit : ℕ) → is_in live unit ≡ (nat_lt unit n && p unit)
+HasBelow p n online = (unit : ℕ) → is_in online unit ≡ (nat_lt unit n && p unit)
 
 pub no_units : (p : ℕ → Bool) → HasBelow p 0 0
 no_units p unit = ap (λ b. eqb b 1) (bit_at-zero unit) ∙ sym (ap (λ b. b && p unit) (not_before unit 0 (omega arith)))
@@ -67,21 +67,21 @@ without_unit p n old fails before unit = before unit ∙ go (eqb unit n) refl �
     go false e = refl
 
 -- the units of the set
-pub all_units : (p : ℕ → Bool) (n live : ℕ) → n ≤ 64 → HasBelow p n live → units_in live ≡ filter p (range_with_len 0 n)
+pub all_units : (p : ℕ → Bool) (n online : ℕ) → n ≤ 64 → HasBelow p n online → units_in online ≡ filter p (range_with_len 0 n)
 unfolding units_in
-all_units p n live few has =
+all_units p n online few has =
     let all : n + (64 - n) ≡ 64 = omega arith in
-    ap (λ k. filter (is_in live) (range_with_len 0 k)) (sym all)
-    ∙ shorter (is_in live) n (64 - n) (λ unit past. has unit ∙ ap (λ b. b && p unit) (not_before unit n past))
-    ∙ filter_agree (λ unit. unit < n) (is_in live) p (λ unit inside. has unit ∙ ap (λ b. b && p unit) (lt_true unit n inside)) (range_with_len 0 n)
+    ap (λ k. filter (is_in online) (range_with_len 0 k)) (sym all)
+    ∙ shorter (is_in online) n (64 - n) (λ unit past. has unit ∙ ap (λ b. b && p unit) (not_before unit n past))
+    ∙ filter_agree (λ unit. unit < n) (is_in online) p (λ unit inside. has unit ∙ ap (λ b. b && p unit) (lt_true unit n inside)) (range_with_len 0 n)
     (all_in_range 0 n n (omega arith))
 
-pub units_low : (p : ℕ → Bool) (n live : ℕ) → HasBelow p n live → live < 2 ^ n
-units_low p n live has =
-    let none : live / 2 ^ n ≡ 0 = same_from_bits (live / 2 ^ n) 0 (λ k.
-    ap (λ m. m % 2) (shr-shr live n k) ∙ bit_zero live (n + k) (has (n + k) ∙ ap (λ b. b && p (n + k)) (not_before (n + k) n (omega arith)))
+pub units_low : (p : ℕ → Bool) (n online : ℕ) → HasBelow p n online → online < 2 ^ n
+units_low p n online has =
+    let none : online / 2 ^ n ≡ 0 = same_from_bits (online / 2 ^ n) 0 (λ k.
+    ap (λ m. m % 2) (shr-shr online n k) ∙ bit_zero online (n + k) (has (n + k) ∙ ap (λ b. b && p (n + k)) (not_before (n + k) n (omega arith)))
     ∙ sym (bit_at-zero k)) in
-    omega (arith, ap (λ q. 2 ^ n * q) none, mod_below live (2 ^ n) (pow_pos n))
+    omega (arith, ap (λ q. 2 ^ n * q) none, mod_below online (2 ^ n) (pow_pos n))
 
 -- ---- by the states that were found
 
@@ -90,22 +90,22 @@ abbrev pub is_found : Shape → Found → ℕ → ℕ → Bool
 is_found s f line unit = option_map_or (λ state. is_online_in state) (state_at s f line unit) false
 
 by_state : (o : Option ChunkState) (unit : ℕ) (rest : List ℕ)
-    → cond (option_map_or (λ state. is_online_in state) o false) (unit ∷ rest) rest ≡ cons_option (live_unit o unit) rest
+    → cond (option_map_or (λ state. is_online_in state) o false) (unit ∷ rest) rest ≡ cons_option (online_unit o unit) rest
 by_state None unit rest = refl
 by_state (Some Free) unit rest = refl
 by_state (Some Open) unit rest = refl
 by_state (Some Closed) unit rest = refl
 by_state (Some Offline) unit rest = refl
 
-online_are : (s : Shape) (f : Found) (line : ℕ) (us : List ℕ) → filter (is_found s f line) us ≡ filter_map (λ unit. live_unit (state_at s f line unit) unit) us
+online_are : (s : Shape) (f : Found) (line : ℕ) (us : List ℕ) → filter (is_found s f line) us ≡ filter_map (λ unit. online_unit (state_at s f line unit) unit) us
 online_are s f line [] = refl
 online_are s f line (u ∷ us) =
-    by_state (state_at s f line u) u (filter (is_found s f line) us) ∙ ap (cons_option (live_unit (state_at s f line u) u)) (online_are s f line us)
+    by_state (state_at s f line u) u (filter (is_found s f line) us) ∙ ap (cons_option (online_unit (state_at s f line u) u)) (online_are s f line us)
 
-pub found_all : (s : Shape) (f : Found) (line n live : ℕ) → n ≡ units s → n ≤ 64 → HasBelow (is_found s f line) n live → units_in live ≡ live_units s f line
-found_all s f line n live n-is few has =
-    all_units (is_found s f line) n live few has ∙ online_are s f line (range_with_len 0 n)
-    ∙ ap (λ k. filter_map (λ unit. live_unit (state_at s f line unit) unit) (range_with_len 0 k)) n-is
+pub found_all : (s : Shape) (f : Found) (line n online : ℕ) → n ≡ units s → n ≤ 64 → HasBelow (is_found s f line) n online → units_in online ≡ online_units s f line
+found_all s f line n online n-is few has =
+    all_units (is_found s f line) n online few has ∙ online_are s f line (range_with_len 0 n)
+    ∙ ap (λ k. filter_map (λ unit. online_unit (state_at s f line unit) unit) (range_with_len 0 k)) n-is
 
 -- where a unit's chunk stands among all
 pub place_inside : (u n c line : ℕ) → u < n → line < c → u * c + line < n * c

@@ -3,13 +3,13 @@
 ghost use Rattle.std.specs.Prelude.{◌≡◌, ◌*◌, ◌<◌, ◌≤◌, ◌^◌, ◌↔◌, ◌⊎◌, ℕ, length, slice_get, Some, IfSome, IsNone};
 ghost use Rattle.std.specs.Int.{bit_at};
 ghost use Rattle.pblk_model.specs.Accepted.{IsAccepted};
-ghost use Rattle.pblk_model.specs.Found.{live_units};
+ghost use Rattle.pblk_model.specs.Found.{online_units};
 ghost use Rattle.pblk_model.specs.Shape.{units};
 ghost use Rattle.pblk_model.specs.LineOrder.{line_order, start_len, end_len, data_len, HoldsStart, HoldsEnd};
-ghost use Rattle.pblk_layout.specs.Live.{units_in};
+ghost use Rattle.pblk_layout.specs.Online.{units_in};
 
 use crate::line_units::{LineUnits, found_units};
-use crate::{live, places};
+use crate::{online, places};
 use pblk_model::{Found, Shape};
 use std::marker::Model;
 
@@ -106,49 +106,49 @@ impl Layout {
     pub fn online_units(&self, found: &Found, line: u32) -> LineUnits
         requires chunks { length found.now.chunks ≡ units self.now * self.now.chunks }
         requires line { line < self.now.chunks }
-        ensures units { units_in result ≡ live_units self.now found.now line }
+        ensures units { units_in result ≡ online_units self.now found.now line }
         ensures below { result < 2 ^ units self.now }
     {
         found_units(&self.shape, found, line)
     }
 
-    /// The width of a line: how many units are in `live`. Bit `u` of `live` is that of unit `u`.
-    pub fn width(&self, live: u64) -> u32
-        requires { live < 2 ^ units self.now }
-        ensures width { result ≡ length (units_in live) }
+    /// The width of a line: how many units are in `online`. Bit `u` of it is that of unit `u`.
+    pub fn width(&self, online: u64) -> u32
+        requires { online < 2 ^ units self.now }
+        ensures width { result ≡ length (units_in online) }
         ensures few { result ≤ units self.now }
     {
-        live::width(live)
+        online::width(online)
     }
 
     /// The block at a line address, as its unit and its number in the unit's chunk.
     ///
-    /// Bit `u` of `live` is set for each unit `u` of the drive whose chunk of the line isn't Offline, and no
+    /// Bit `u` of `online` is set for each unit `u` of the drive whose chunk of the line isn't Offline, and no
     /// other bit is. The address is below the line's width times the number of blocks of a chunk.
     ///
     /// With chunks of 24 blocks in stripes of 4 and units 0 and 1, address 13 is block 5 of unit 1. With
     /// unit 1 alone it is block 13 of unit 1.
-    pub fn place(&self, live: u64, at: u32) -> (u32, u32)
-        requires live { live < 2 ^ units self.now }
-        requires inside { at < length (units_in live) * self.now.clba }
-        ensures { slice_get (line_order self.now (units_in live)) at ≡ Some result }
+    pub fn place(&self, online: u64, at: u32) -> (u32, u32)
+        requires online { online < 2 ^ units self.now }
+        requires inside { at < length (units_in online) * self.now.clba }
+        ensures { slice_get (line_order self.now (units_in online)) at ≡ Some result }
     {
-        places::place(&self.shape, live, at)
+        places::place(&self.shape, online, at)
     }
 
     /// The line address of a block of a unit's chunk, the inverse of `place`.
     ///
-    /// `None` exactly where the unit isn't in `live`, or the chunk has no block of this number. `live` is as
+    /// `None` exactly where the unit isn't in `online`, or the chunk has no block of this number. `online` is as
     /// for `place`.
-    pub fn addr_of(&self, live: u64, unit: u32, block: u32) -> Option<u32>
-        requires { live < 2 ^ units self.now }
+    pub fn addr_of(&self, online: u64, unit: u32, block: u32) -> Option<u32>
+        requires { online < 2 ^ units self.now }
         ensures found { IfSome result (λ a.
-            slice_get (line_order self.now (units_in live)) a ≡ Some (unit, block)) }
+            slice_get (line_order self.now (units_in online)) a ≡ Some (unit, block)) }
         ensures only { (a : ℕ)
-            → slice_get (line_order self.now (units_in live)) a ≡ Some (unit, block)
+            → slice_get (line_order self.now (units_in online)) a ≡ Some (unit, block)
             → result ≡ Some a }
-        ensures none { IsNone result ↔ ((bit_at live unit ≡ 0) ⊎ (self.now.clba ≤ block)) }
+        ensures none { IsNone result ↔ ((bit_at online unit ≡ 0) ⊎ (self.now.clba ≤ block)) }
     {
-        places::addr_of(&self.shape, live, unit, block)
+        places::addr_of(&self.shape, online, unit, block)
     }
 }

@@ -4,9 +4,9 @@
 mod image_units;
 mod layout;
 mod line_units;
-mod live;
+mod online;
 mod places;
 
-pub use image_units::live_units_are_the_lines;
+pub use image_units::online_units_are_the_lines;
 pub use layout::Layout;
 pub use line_units::{LineUnits, is_online};

@@ -2,12 +2,12 @@
 
 ghost use Rattle.std.specs.Prelude.{◌≡◌, ◌==◌, ◌||◌, ◌-◌, ◌*◌, ◌<◌, ◌≤◌, ◌^◌, ℕ, true, length};
 ghost use Rattle.pblk_model.specs.Accepted.{IsAccepted};
-ghost use Rattle.pblk_model.specs.Found.{live_units};
+ghost use Rattle.pblk_model.specs.Found.{online_units};
 ghost use Rattle.pblk_model.specs.Image.{is_online_in};
 ghost use Rattle.pblk_model.specs.Shape.{units};
-ghost use Rattle.pblk_layout.specs.Live.{is_in, units_in};
+ghost use Rattle.pblk_layout.specs.Online.{is_in, units_in};
 
-use crate::live;
+use crate::online;
 use pblk_model::{ChunkState, Found, Shape};
 use std::marker::Model;
 
@@ -69,10 +69,10 @@ impl LineUnits {
         ensures width { result ≡ length (units_in self) }
         ensures few { (n : ℕ) → self < 2 ^ n → result ≤ n }
     {
-        live::width(self.bits)
+        online::width(self.bits)
     }
 
-    /// The units as bits, bit `u` for unit `u`: what `Layout` takes as `live`.
+    /// The units as bits, bit `u` for unit `u`: what `Layout` takes as `online`.
     pub fn bits(self) -> u64
         ensures { result ≡ self }
     {
@@ -85,7 +85,7 @@ pub(crate) fn found_units(shape: &Shape, found: &Found, line: u32) -> LineUnits
     requires accepted { IsAccepted shape.now }
     requires chunks { length found.now.chunks ≡ units shape.now * shape.now.chunks }
     requires line { line < shape.now.chunks }
-    ensures units { units_in result ≡ live_units shape.now found.now line }
+    ensures units { units_in result ≡ online_units shape.now found.now line }
     ensures below { result < 2 ^ units shape.now }
 {
     let chunks = found.chunks.as_slice();

@@ -33,15 +33,15 @@ abbrev pub HasUsed : Shape → Found → ℕ → Type 0
 HasUsed s f line = (unit : ℕ) × (state : ChunkState) × (unit < units s) × (state_at s f line unit ≡ Some state) × IsUsed state
 
 -- the units of a line whose chunks aren't Offline, rising
-abbrev pub live_unit : Option ChunkState → ℕ → Option ℕ
-live_unit None unit = None
-live_unit (Some states.Free) unit = Some unit
-live_unit (Some states.Open) unit = Some unit
-live_unit (Some states.Closed) unit = Some unit
-live_unit (Some states.Offline) unit = None
+abbrev pub online_unit : Option ChunkState → ℕ → Option ℕ
+online_unit None unit = None
+online_unit (Some states.Free) unit = Some unit
+online_unit (Some states.Open) unit = Some unit
+online_unit (Some states.Closed) unit = Some unit
+online_unit (Some states.Offline) unit = None
 
-abbrev pub live_units : Shape → Found → ℕ → List ℕ
-live_units s f line = filter_map (λ unit. live_unit (state_at s f line unit) unit) (range_with_len 0 (units s))
+abbrev pub online_units : Shape → Found → ℕ → List ℕ
+online_units s f line = filter_map (λ unit. online_unit (state_at s f line unit) unit) (range_with_len 0 (units s))
 
 -- what is found of a line with a sequence number, and of one without
 abbrev pub RowFits : Shape → Found → ℕ → LineRow → Option ℕ → Type 0
@@ -56,9 +56,9 @@ pub record WinnerFits (s : Shape) (f : Found) (w : Winner) : Type 0 where
   pub seq : ℕ
   pub seq_is : row.seq ≡ Some seq
   pub below_top : w.position < row.top
-  pub at : w.at < length (live_units s f w.line) * s.clba
+  pub at : w.at < length (online_units s f w.line) * s.clba
   pub unit : ℕ
-  pub unit_is : slice_get (live_units s f w.line) (column_of s (length (live_units s f w.line)) w.at) ≡ Some unit
+  pub unit_is : slice_get (online_units s f w.line) (column_of s (length (online_units s f w.line)) w.at) ≡ Some unit
   pub closed : state_at s f w.line unit ≡ Some states.Closed
 
 -- no line has a greater sequence number than the head, nor the same in a lesser line

@@ -128,7 +128,8 @@ fn is_sector(bytes: u32) -> bool
 // Whether all sectors of the drive have at most 256 MiB.
 fn is_small(shape: &Shape) -> bool
     requires { IsMeasured shape.now }
-    ensures { result ≡ nat_le (units shape.now * shape.now.chunks * shape.now.clba * shape.now.sector) 268435456 }
+    ensures { result ≡ nat_le
+        (units shape.now * shape.now.chunks * shape.now.clba * shape.now.sector) 268435456 }
 {
     let chunks = u64::from(shape.units()) * u64::from(shape.chunks);
     chunks * u64::from(shape.clba) * u64::from(shape.sector) <= 268_435_456
@@ -137,7 +138,8 @@ fn is_small(shape: &Shape) -> bool
 // Whether twice the data of a line is at least `(16 + WS_OPT) * WS_OPT` blocks.
 fn has_room(shape: &Shape) -> bool
     requires { IsMeasured shape.now }
-    ensures { result ≡ nat_le ((16 + shape.now.ws_opt) * shape.now.ws_opt) (2 * data_len shape.now (units shape.now)) }
+    ensures { result ≡ nat_le ((16 + shape.now.ws_opt) * shape.now.ws_opt)
+        (2 * data_len shape.now (units shape.now)) }
 {
     let stripe = u64::from(shape.ws_opt);
     (16 + stripe) * stripe <= 2 * data_blocks(shape, shape.units())
@@ -147,7 +149,8 @@ fn has_room(shape: &Shape) -> bool
 fn has_spare(shape: &Shape) -> bool
     requires { IsMeasured shape.now }
     ensures { result ≡ (nat_le 1 shape.now.capacity && nat_lt shape.now.capacity (2 ^ 40)
-        && nat_le (4 * shape.now.capacity) (3 * (shape.now.chunks - 5) * data_len shape.now (units shape.now))) }
+        && nat_le (4 * shape.now.capacity)
+        (3 * (shape.now.chunks - 5) * data_len shape.now (units shape.now))) }
 {
     1 <= shape.capacity
         && shape.capacity < 1 << 40

@@ -44,6 +44,7 @@ impl<T> Items<T> {
         self.list
     }
 
+    /// The values, in their order.
     pub fn as_slice(&self) -> &[T]
         ensures { result.now ≡ self.now }
     {

@@ -29,6 +29,7 @@ impl PostName {
         PostName { text }
     }
 
+    /// The name as text.
     pub fn as_str(&self) -> &str
         ensures { result.now ≡ self.now }
     {
@@ -85,6 +86,7 @@ impl Commands {
         Ok(())
     }
 
+    /// The commands, in their order.
     pub fn as_slice(&self) -> &[Command]
         ensures { result.now ≡ self.now }
     {
@@ -126,6 +128,7 @@ impl Script {
         Ok(())
     }
 
+    /// The threads' commands, by the thread's number.
     pub fn as_slice(&self) -> &[Commands]
         ensures { result.now ≡ self.now }
     {

@@ -10,6 +10,7 @@ pub struct FaultCount {
 }
 
 impl FaultCount {
+    /// No fault yet.
     pub fn new() -> Self
         ensures { result.count ≡ 0 }
     {

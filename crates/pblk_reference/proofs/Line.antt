@@ -13,7 +13,7 @@ use Rattle.pblk_model.specs.Accepted.{IsAccepted}
 use Rattle.pblk_model.specs.LineOrder.{column_of, block_of}
 use Rattle.pblk_model.specs.Shape.{units}
 use Rattle.std.proofs.lemmas.List.{length-map}
-use Rattle.pblk_reference.specs.Ready.{IsReady}
+use Rattle.pblk_reference.specs.Ready.{IsOfAcceptedShape}
 use Rattle.pblk_reference.specs.Line.{online_chunk, online_chunks}
 
 -- one more unit
@@ -60,13 +60,13 @@ pub some_width : (g : ℕ) → (g ≡ 0 → ⊥) → 0 < g
 some_width g h = omega arith
 
 -- a line is no wider than there are units
-pub fewer_units : (i : Image) (us : List (Vec Chunk)) (n : ℕ) → i.units ≡ map (λ u. u.items) us → IsReady i → n ≤ length us → n ≤ units i.shape
+pub fewer_units : (i : Image) (us : List (Vec Chunk)) (n : ℕ) → i.units ≡ map (λ u. u.items) us → IsOfAcceptedShape i → n ≤ length us → n ≤ units i.shape
 fewer_units i us n e ready few =
     let same : length us ≡ length i.units = sym (length-map us (λ u. u.items)) ∙ ap length (sym e) in
     let bound : length i.units ≤ units i.shape = ready.units in
     omega (arith, same, bound, few)
 
-pub few_units : (i : Image) (us : List (Vec Chunk)) → i.units ≡ map (λ u. u.items) us → IsReady i → length us < 2 ^ 32
+pub few_units : (i : Image) (us : List (Vec Chunk)) → i.units ≡ map (λ u. u.items) us → IsOfAcceptedShape i → length us < 2 ^ 32
 few_units i us e ready =
     let same : length us ≡ length i.units = sym (length-map us (λ u. u.items)) ∙ ap length (sym e) in
     let bound : length i.units ≤ units i.shape = ready.units in

@@ -4,6 +4,6 @@ use Rattle.pblk_model.specs.Accepted.{IsAccepted}
 use Rattle.pblk_model.specs.Shape.{units}
 use Rattle.pblk_model.specs.Image.{Image}
 
-pub record IsReady (i : Image) : Type 0 where
+pub record IsOfAcceptedShape (i : Image) : Type 0 where
   pub shape : IsAccepted i.shape
   pub units : length i.units ≤ units i.shape

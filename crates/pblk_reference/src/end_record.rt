@@ -6,7 +6,7 @@ ghost use Rattle.std.specs.Option.{option_map};
 ghost use Rattle.pblk_model.specs.Accepted.{IsAccepted};
 ghost use Rattle.pblk_model.specs.Shape.{units};
 ghost use Rattle.pblk_model.specs.EndRecord.{end_bytes, pairs_in, end_of};
-ghost use Rattle.pblk_reference.specs.Ready.{IsReady};
+ghost use Rattle.pblk_reference.specs.Ready.{IsOfAcceptedShape};
 ghost use Rattle.pblk_reference.specs.Words.{pair_words};
 ghost use Rattle.pblk_reference.specs.Reading.{end_fields, end_read, end_among, end_run};
 
@@ -151,7 +151,7 @@ fn end_run(
     line: u32,
     width: u32,
 ) -> Result<Option<Vec<Block>>, AllocError>
-    requires ready { IsReady image.now }
+    requires ready { IsOfAcceptedShape image.now }
     requires width { width ≤ units image.now.shape }
     ensures { IfOk result (λ o. option_map (λ v. v.items) o ≡ end_run image.now line width) }
 {
@@ -167,7 +167,7 @@ pub fn end_of(
     line: u32,
     start: &StartRecord,
 ) -> Result<Option<EndRecord>, AllocError>
-    requires { IsReady image.now }
+    requires { IsOfAcceptedShape image.now }
     ensures { IfOk result (λ o. o ≡ end_of image.now line start.now) }
 {
     let width = width(image, line);

@@ -6,7 +6,7 @@ ghost use Rattle.pblk_model.specs.Accepted.{IsAccepted};
 ghost use Rattle.pblk_model.specs.Shape.{units};
 ghost use Rattle.pblk_model.specs.LineOrder.{start_len, end_len, data_len};
 ghost use Rattle.pblk_model.specs.Image.{width, block_at, is_online_in};
-ghost use Rattle.pblk_reference.specs.Ready.{IsReady};
+ghost use Rattle.pblk_reference.specs.Ready.{IsOfAcceptedShape};
 ghost use Rattle.pblk_reference.specs.Line.{online_chunk, online_chunks};
 
 use crate::image::{Block, Chunk, Image};
@@ -106,7 +106,7 @@ fn block_in(chunk: &Chunk, n: u32) -> Option<&Block>
 
 /// How many chunks of the line aren't Offline.
 pub fn width(image: &Image, line: u32) -> u32
-    requires { IsReady image.now }
+    requires { IsOfAcceptedShape image.now }
     ensures width { result ≡ width image.now line }
     ensures few { result ≤ units image.now.shape }
 {
@@ -132,7 +132,7 @@ fn block_of(at: u32, ws_opt: u32, width: u32) -> u32
 
 /// The block at a line address, where it is written.
 pub fn block_at(image: &Image, line: u32, at: u32) -> Option<&Block>
-    requires { IsReady image.now }
+    requires { IsOfAcceptedShape image.now }
     ensures { option_copied result ≡ block_at image.now line at }
 {
     let width = width(image, line);

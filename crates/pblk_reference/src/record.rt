@@ -5,7 +5,7 @@ ghost use Rattle.std.specs.List.{filter_map, range_with_len};
 ghost use Rattle.pblk_model.specs.Accepted.{IsAccepted};
 ghost use Rattle.pblk_model.specs.Image.{width};
 ghost use Rattle.pblk_model.specs.Records.{named, mark_at, bears, records};
-ghost use Rattle.pblk_reference.specs.Ready.{IsReady};
+ghost use Rattle.pblk_reference.specs.Ready.{IsOfAcceptedShape};
 ghost use Rattle.pblk_reference.specs.Reading.{record_with, records_on};
 
 use crate::end_record::{EndRecord, end_of};
@@ -127,7 +127,7 @@ fn record_at(
     end: &Option<EndRecord>,
     at: u32,
 ) -> Result<Option<Record>, AllocError>
-    requires { IsReady image.now }
+    requires { IsOfAcceptedShape image.now }
     ensures { IfOk result (λ o. o ≡ record_with image.now line seq end.now at) }
 {
     let Some(block) = block_at(image, line, at) else {
@@ -146,7 +146,7 @@ fn records_with(
     seq: u64,
     end: &Option<EndRecord>,
 ) -> Result<Vec<Record>, AllocError>
-    requires { IsReady image.now }
+    requires { IsOfAcceptedShape image.now }
     ensures records { IfOk result (λ v. v.items
         ≡ filter_map (record_with image.now line seq end.now)
         (range_with_len 0 (width image.now line * image.now.shape.clba))) }
@@ -162,7 +162,7 @@ fn records_with(
 }
 
 fn line_records(alloc: Global, image: &Image, line: u32) -> Result<Vec<Record>, AllocError>
-    requires { IsReady image.now }
+    requires { IsOfAcceptedShape image.now }
     ensures records { IfOk result (λ v. v.items ≡ records_on image.now line) }
     ensures few { IfOk result (λ v. vec_len v ≤ 65536) }
 {
@@ -175,7 +175,7 @@ fn line_records(alloc: Global, image: &Image, line: u32) -> Result<Vec<Record>, 
 
 /// All records of an image, by line and then in line order. They are at most 2^26.
 pub fn records(alloc: Global, image: &Image) -> Result<Vec<Record>, AllocError>
-    requires { IsReady image.now }
+    requires { IsOfAcceptedShape image.now }
     ensures records { IfOk result (λ v. v.items ≡ records image.now) }
     ensures few { IfOk result (λ v. vec_len v ≤ 67108864) }
 {

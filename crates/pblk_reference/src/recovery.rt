@@ -4,7 +4,7 @@ ghost use Rattle.std.specs.Prelude.{◌≡◌, ◌+◌, ◌<◌, ◌≤◌, ◌^
 ghost use Rattle.std.specs.List.{filter, list_any};
 ghost use Rattle.std.specs.Option.{option_copied};
 ghost use Rattle.pblk_model.specs.Contents.{later_start, head, is_borne, least_missing, end_after, end, counts, counted_after, counted, is_newer, newer, is_of, winner, contents};
-ghost use Rattle.pblk_reference.specs.Ready.{IsReady};
+ghost use Rattle.pblk_reference.specs.Ready.{IsOfAcceptedShape};
 ghost use Rattle.pblk_reference.specs.Reading.{sector_at};
 
 use crate::image::Image;
@@ -26,7 +26,7 @@ fn later_start(best: Option<StartRecord>, start: StartRecord) -> StartRecord
 /// The start record of greatest sequence number, and of those the one of the least line. Its front is below
 /// 2^61.
 pub fn head(alloc: Global, image: &Image) -> Result<Option<StartRecord>, AllocError>
-    requires { IsReady image.now }
+    requires { IsOfAcceptedShape image.now }
     ensures head { IfOk result (λ o. o ≡ head image.now) }
     ensures low { IfOk result (λ o. IfSome o (λ r. r.front < 2 ^ 61)) }
 {
@@ -79,7 +79,7 @@ fn end_after(records: &[Record], head: &Option<StartRecord>) -> u64
 /// The least position from the head's front on that no record bears in a line of the head's mount, and 0
 /// without a head.
 pub fn end(alloc: Global, image: &Image) -> Result<u64, AllocError>
-    requires { IsReady image.now }
+    requires { IsOfAcceptedShape image.now }
     ensures { IfOk result (λ p. p ≡ end image.now) }
 {
     let all = records(alloc, image)?;
@@ -139,7 +139,7 @@ fn counted_after(
 
 /// The records that count.
 pub fn counted(alloc: Global, image: &Image) -> Result<Vec<Record>, AllocError>
-    requires { IsReady image.now }
+    requires { IsOfAcceptedShape image.now }
     ensures { IfOk result (λ v. v.items ≡ counted image.now) }
 {
     let all = records(alloc, image)?;
@@ -211,7 +211,7 @@ fn sector_at(
 
 /// The user sectors, by address: of each the newest of the records that count, and zeros where there is none.
 pub fn contents(alloc: Global, image: &Image) -> Result<Vec<Vec<u8>>, AllocError>
-    requires { IsReady image.now }
+    requires { IsOfAcceptedShape image.now }
     ensures { IfOk result (λ v. map (λ s. s.items) v.items ≡ contents image.now) }
 {
     let kept = counted(alloc, image)?;

@@ -7,7 +7,7 @@ ghost use Rattle.std.specs.Option.{option_map};
 ghost use Rattle.pblk_model.specs.Accepted.{IsAccepted};
 ghost use Rattle.pblk_model.specs.LineOrder.{start_len};
 ghost use Rattle.pblk_model.specs.StartRecord.{start_bytes, rows_fit, start_fits, rows_in, start_in, read_start, written_run, have_meta, marked_start, start_of};
-ghost use Rattle.pblk_reference.specs.Ready.{IsReady};
+ghost use Rattle.pblk_reference.specs.Ready.{IsOfAcceptedShape};
 ghost use Rattle.pblk_reference.specs.Words.{row_words};
 ghost use Rattle.pblk_reference.specs.Reading.{start_fields, start_read};
 
@@ -220,7 +220,7 @@ pub fn written_run(
     at: u32,
     n: u32,
 ) -> Result<Option<Vec<Block>>, AllocError>
-    requires ready { IsReady image.now }
+    requires ready { IsOfAcceptedShape image.now }
     requires room { at + n < 2 ^ 32 }
     ensures { IfOk result (λ o. option_map (λ v. v.items) o ≡ written_run image.now line at n) }
 {
@@ -271,7 +271,7 @@ fn marked_start(blocks: &[Block], start: Option<StartRecord>) -> Option<StartRec
 
 /// The start record of a line, where it is whole. Its front is below 2^61.
 pub fn start_of(alloc: Global, image: &Image, line: u32) -> Result<Option<StartRecord>, AllocError>
-    requires { IsReady image.now }
+    requires { IsOfAcceptedShape image.now }
     ensures whole { IfOk result (λ o. o ≡ start_of image.now line) }
     ensures low { IfOk result (λ o. IfSome o (λ r. r.front < 2 ^ 61)) }
 {

@@ -17,3 +17,6 @@ pub mod Seen
 pub mod Space
 pub mod Victims
 pub mod AtRest
+pub mod LegalMounts
+pub mod Reasons
+pub mod Orders

@@ -5,10 +5,10 @@ use Rattle.stripe_placer.specs.Placing.UnitRow.{Idle, UnderWay, Stopped}
 use Rattle.plain_placer.specs.declared.row.State.{State}
 use Rattle.plain_placer.specs.declared.row.State.TheVariants as state
 
-abbrev pub row_of : State → List ℕ → UnitRow
-row_of state.Idle positions = Idle
-row_of (state.UnderWay of) positions = UnderWay (program_with of positions)
-row_of (state.Stopped of) positions = Stopped (program_with of positions)
+abbrev pub plain_row : State → List ℕ → UnitRow
+plain_row state.Idle positions = Idle
+plain_row (state.UnderWay of) positions = UnderWay (program_with of positions)
+plain_row (state.Stopped of) positions = Stopped (program_with of positions)
 
 abbrev pub is_idle : UnitRow → Bool
 is_idle Idle = true

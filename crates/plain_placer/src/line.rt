@@ -4,7 +4,7 @@ ghost use Rattle.std.specs.Prelude.{◌≡◌, ◌≢◌, ◌<◌, ◌^◌, leng
 ghost use Rattle.std.specs.List.{list_any};
 ghost use Rattle.pblk_model.specs.Shape.{units};
 ghost use Rattle.pblk_model.specs.LineOrder.{data_len};
-ghost use Rattle.pblk_layout.specs.Live.{is_in, units_in};
+ghost use Rattle.pblk_layout.specs.Online.{is_in, units_in};
 ghost use Rattle.stripe_placer.specs.OpenLines.{opened, width, unit_of, in_one_chunk, stripe_is, numbers, is_unplaced, is_unanswered, is_lost};
 ghost use Rattle.stripe_placer.specs.OpenLines.{has_failed, is_closed, is_to_place, next_of, has_left, kind_of};
 ghost use Rattle.stripe_placer.specs.OpenLines.{start_has_landed, data_has_landed, in_line};
@@ -23,8 +23,8 @@ use stripe_placer::StripeKind;
 #[derive(Drop)]
 pub(crate) struct PlainLine {
     line: u32,
-    live: u64,
-    // those of `live`, rising
+    online: u64,
+    // those of `online`, rising
     units: Vec<u32>,
     start_count: u32,
     data_count: u32,
@@ -33,7 +33,7 @@ pub(crate) struct PlainLine {
 
 impl Model for PlainLine {
     ghost use Rattle.std.specs.Prelude.{◌≡◌, ◌<◌, length};
-    ghost use Rattle.pblk_layout.specs.Live.{units_in};
+    ghost use Rattle.pblk_layout.specs.Online.{units_in};
     ghost use Rattle.stripe_placer.specs.OpenLines.{OpenLine};
     ghost use Rattle.plain_placer.specs.LineView.{open_line};
 
@@ -41,7 +41,7 @@ impl Model for PlainLine {
 
     ghost view = { open_line };
 
-    ghost invariant = { λ l. (l.units.items ≡ units_in l.live) × (0 < length l.units.items) };
+    ghost invariant = { λ l. (l.units.items ≡ units_in l.online) × (0 < length l.units.items) };
 }
 
 /// Whether a unit is in the set.
@@ -52,7 +52,7 @@ pub(crate) fn is_in(set: u64, unit: u32) -> bool
 }
 
 // The units of a set, rising.
-#[tactic(auto, unfolding(pblk_layout::specs::Live::units_in))]
+#[tactic(auto, unfolding(pblk_layout::specs::Online::units_in))]
 fn units_in(alloc: Global, set: u64) -> Result<Vec<u32>, AllocError>
     ensures { IfOk result (λ units. units.items ≡ units_in set) }
 {
@@ -76,22 +76,22 @@ impl PlainLine {
         alloc: Global,
         layout: &Layout,
         line: u32,
-        live: u64,
+        online: u64,
     ) -> Result<PlainLine, AllocError>
-        requires units { live < 2 ^ units layout.now }
-        requires data { data_len layout.now (length (units_in live)) ≢ 0 }
-        ensures opened { IfOk result (λ l. l ≡ opened layout.now line live) }
+        requires units { online < 2 ^ units layout.now }
+        requires data { data_len layout.now (length (units_in online)) ≢ 0 }
+        ensures opened { IfOk result (λ l. l ≡ opened layout.now line online) }
         ensures short { IfOk result (FitsLine layout.now) }
     {
         a_line_is_short();
         let shape = layout.shape();
-        let units = units_in(alloc, live)?;
-        let width = layout.width(live);
+        let units = units_in(alloc, online)?;
+        let width = layout.width(online);
         let data_count = layout.data_len(width) / shape.ws_opt;
         let count = width as usize * (shape.clba / shape.ws_opt) as usize;
         Ok(PlainLine {
             line,
-            live,
+            online,
             units,
             start_count: layout.start_len() / shape.ws_opt,
             data_count,

@@ -6,7 +6,7 @@ ghost use Rattle.std.specs.Option.{option_map, option_map_or};
 ghost use Rattle.std.specs.Bool.{OnTrue};
 ghost use Rattle.pblk_model.specs.Shape.{units};
 ghost use Rattle.pblk_model.specs.LineOrder.{data_len};
-ghost use Rattle.pblk_layout.specs.Live.{units_in};
+ghost use Rattle.pblk_layout.specs.Online.{units_in};
 ghost use Rattle.stripe_placer.specs.OpenLines.{has_left, in_line};
 ghost use Rattle.stripe_placer.specs.Placing.{nothing_placed, held, waits, padded_to, begun};
 ghost use Rattle.stripe_placer.specs.Placing.{Program, placement, program, next_stripe, IsUnderWay};
@@ -279,19 +279,19 @@ impl PlainPlacer {
 
     /// Whether a line can be begun: it is one of the drive's and isn't open, its units are some of the drive's
     /// and leave room for data, and at most one line is open.
-    pub fn can_begin(&self, line: u32, live: u64) -> bool
+    pub fn can_begin(&self, line: u32, online: u64) -> bool
         ensures line { OnTrue result (line < self.now.shape.chunks) }
         ensures another { OnTrue result (All (λ l. l.line ≢ line) self.now.lines) }
-        ensures units { OnTrue result (live < 2 ^ units self.now.shape) }
-        ensures data { OnTrue result (data_len self.now.shape (length (units_in live)) ≢ 0) }
+        ensures units { OnTrue result (online < 2 ^ units self.now.shape) }
+        ensures data { OnTrue result (data_len self.now.shape (length (units_in online)) ≢ 0) }
         ensures few { OnTrue result (length self.now.lines ≤ 1) }
     {
         let shape = self.layout.shape();
         line < shape.chunks
             && self.lines.len() <= 1
             && are_others(&self.lines, line)
-            && are_units(shape.units(), live)
-            && self.layout.data_len(self.layout.width(live)) != 0
+            && are_units(shape.units(), online)
+            && self.layout.data_len(self.layout.width(online)) != 0
     }
 
     /// Whether this stripe's program is under way.
@@ -319,15 +319,15 @@ impl PlainPlacer {
         self.entries.pad_to(position);
     }
 
-    /// Notes that a line of the drive was opened. It has data. Bit `u` of `live` is set for each unit `u` whose
+    /// Notes that a line of the drive was opened. It has data. Bit `u` of `online` is set for each unit `u` whose
     /// chunk isn't Offline.
-    pub fn begin(&mut self, alloc: Global, line: u32, live: u64) -> Result<(), AllocError>
-        requires units { live < 2 ^ units self.old.shape }
-        requires data { data_len self.old.shape (length (units_in live)) ≢ 0 }
-        ensures ok { OnOk result (self.new ≡ begun self.old line live) }
+    pub fn begin(&mut self, alloc: Global, line: u32, online: u64) -> Result<(), AllocError>
+        requires units { online < 2 ^ units self.old.shape }
+        requires data { data_len self.old.shape (length (units_in online)) ≢ 0 }
+        ensures ok { OnOk result (self.new ≡ begun self.old line online) }
         ensures err { OnErr result (self.new ≡ self.old) }
     {
-        let opened = PlainLine::open(alloc, &self.layout, line, live)?;
+        let opened = PlainLine::open(alloc, &self.layout, line, online)?;
         self.lines.push(opened)?;
         Ok(())
     }

@@ -30,11 +30,11 @@ pub(crate) struct PlainRow {
 
 impl Model for PlainRow {
     ghost use Rattle.stripe_placer.specs.Placing.{UnitRow};
-    ghost use Rattle.plain_placer.specs.Rows.{row_of};
+    ghost use Rattle.plain_placer.specs.Rows.{plain_row};
 
     ghost Value = { UnitRow };
 
-    ghost view = { λ r. row_of r.state r.positions.items };
+    ghost view = { λ r. plain_row r.state r.positions.items };
 }
 
 impl PlainRow {

@@ -184,7 +184,8 @@ impl PlainPort {
         ensures first { result.first ≡ max self.old.taken self.old.seen }
         ensures count { result.count ≡ count }
         ensures written { let sectors = sectors_of self.old.sector count bytes.now in
-            self.new ≡ with_write (record { place = result; lba = lba; sectors = sectors }) self.old }
+            self.new
+            ≡ with_write (record { place = result; lba = lba; sectors = sectors }) self.old }
     {
         let place = Place {
             first: self.next(),

@@ -13,7 +13,7 @@ use Rattle.lemmas.proofs.Lists.{IsAmong, all_of, among_all, among_contained}
 use Rattle.lemmas.proofs.Maps.{filter_agree, filter_none, in_filter}
 use Rattle.lemmas.proofs.Parts.{all_at, contained_among, get_below}
 use Rattle.lemmas.proofs.Tests.{and_false, lt_true, no_both, not_both, same_number}
-use Rattle.world_laws.specs.LegalMounts.{is_losing, decides, NoneLost}
+use Rattle.pblk_world.specs.LegalMounts.{is_losing, decides, NoStripeLost}
 use Rattle.world_laws.proofs.Fronts.{at_landed}
 use Rattle.prefix_law.specs.PlacedAgain.{ArePlacedAgain}
 use Rattle.prefix_law.proofs.Among.{made_from}
@@ -31,13 +31,13 @@ loses unit event (Decides (Landed other number)) is = absurd (go (other == unit)
 loses unit event (Decides e) is = absurd (none-some (WasLost event) is)
 loses unit event (Does e maker) is = absurd (none-some (WasLost event) is)
 
-none_is_loss : (log : List Logged) (p : Placed) (event : ℕ) → NoneLost log → answer_of log p ≡ Some (WasLost event) → ⊥
+none_is_loss : (log : List Logged) (p : Placed) (event : ℕ) → NoStripeLost log → answer_of log p ≡ Some (WasLost event) → ⊥
 none_is_loss log p event none is =
     let made = made_from (λ (l : Logged). answer_by p.stripe.unit l.event) log (WasLost event) (turn log p, is) in
     let not : decides is_losing made.1.event ≡ false = all_at (λ (l : Logged). decides is_losing l.event ≡ false) log made.0 made.1 made.2 none in
     no_both (decides is_losing made.1.event) (loses p.stripe.unit event made.1.event made.3) not
 
-none_was : (log : List Logged) (p : Placed) → NoneLost log → was_lost log p ≡ false
+none_was : (log : List Logged) (p : Placed) → NoStripeLost log → was_lost log p ≡ false
 none_was log p none = go (answer_of log p) refl
   where
     go : (o : Option Answer) → answer_of log p ≡ o → is_loss o ≡ false
@@ -46,7 +46,7 @@ none_was log p none = go (answer_of log p) refl
     go (Some (WasLost event)) is = absurd (none_is_loss log p event none is)
 
 -- so an entry that waits was never placed
-pub unlost_again : (s : Shape) (log : List Logged) → NoneLost log → ArePlacedAgain s log
+pub unlost_again : (s : Shape) (log : List Logged) → NoStripeLost log → ArePlacedAgain s log
 unlost_again s log none t there waits_ =
     let never : filter (λ (p : Placed). was_lost log p && holds_position s t.entry.position p) (placements log) ≡ [] =
     filter_none (λ (p : Placed). was_lost log p && holds_position s t.entry.position p) (placements log)

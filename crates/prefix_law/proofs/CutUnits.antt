@@ -9,7 +9,7 @@ use Rattle.pblk_world.specs.Legal.{IsAllowed, IsLegalStep, IsLegal}
 use Rattle.pblk_world.proofs.WorldLemmas.{log_here, log_elsewhere}
 use Rattle.lemmas.proofs.Numbers.{fun_same}
 use Rattle.lemmas.proofs.Tests.{same}
-use Rattle.world_laws.specs.LegalMounts.{IsLegalMount}
+use Rattle.pblk_world.specs.LegalMounts.{IsLegalMount}
 use Rattle.prefix_law.specs.Cuts.{AreCuts}
 
 -- ---- logs with more steps

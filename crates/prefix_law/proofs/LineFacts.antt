@@ -12,7 +12,7 @@ use Rattle.pblk_world.specs.EngineLog.{Begun, begun, Opening, AsFound, Opened, F
 use Rattle.pblk_world.specs.Fronts.{history, user_positions}
 use Rattle.pblk_world.specs.Lines.{found_image}
 use Rattle.pblk_world.specs.Starts.{has_landed_start}
-use Rattle.world_laws.specs.LegalMounts.{IsLegalMount}
+use Rattle.pblk_world.specs.LegalMounts.{IsLegalMount}
 use Rattle.world_laws.proofs.NewLines.{IsPlacedRecord, IsTakenRecord, last_start, last_entry, last_placed, stands_clause, landed_clause}
 use Rattle.world_laws.proofs.UnopenedLines.{as_found, freed_old}
 

@@ -21,7 +21,7 @@ use Rattle.lemmas.proofs.Lists.{IsAmong, among_contained, last_in}
 use Rattle.lemmas.proofs.Maps.{all_mapped, all_passed, from_filter, in_filter}
 use Rattle.lemmas.proofs.Parts.{all_at, all_by_get, contained_among}
 use Rattle.lemmas.proofs.Tests.{same_number}
-use Rattle.world_laws.specs.LegalMounts.{IsLegalMount}
+use Rattle.pblk_world.specs.LegalMounts.{IsLegalMount}
 use Rattle.world_laws.proofs.Fronts.{IsLandedAt, landed_at, synced_from}
 use Rattle.world_laws.proofs.LandedRecords.{freed_below_front}
 use Rattle.world_laws.proofs.Latest.{IsLatestBelow, IsStandingAt, latest_stands}

@@ -19,7 +19,7 @@ use Rattle.pblk_laws.proofs.MarkNames.{sector_exactly}
 use Rattle.lemmas.proofs.Lists.{IsAmong}
 use Rattle.lemmas.proofs.Maps.{get_mapped}
 use Rattle.lemmas.proofs.Options.{map_some}
-use Rattle.world_laws.specs.LegalMounts.{IsLegalMount}
+use Rattle.pblk_world.specs.LegalMounts.{IsLegalMount}
 use Rattle.world_laws.proofs.Fronts.{synced_from}
 use Rattle.world_laws.proofs.Lives.{life_is_known}
 use Rattle.world_laws.proofs.Positions.{position_of}

@@ -16,7 +16,7 @@ use Rattle.lemmas.proofs.Lists.{among_contained}
 use Rattle.lemmas.proofs.Parts.{contained_among}
 use Rattle.world_laws.proofs.FoundCounts.{bound_within, seq_older}
 use Rattle.prefix_law.specs.Assembled.{Given, Entries, IsEntry, IsEntryOf, by_row, CountsOld, HoldsUnder, IsAssembled}
-use Rattle.prefix_law.specs.AfterMount.{rows_of, IsOldLine, IsAfterMount, IsBorneAnew, StandsUnder, HasNewHead}
+use Rattle.prefix_law.specs.AfterMount.{start_rows, IsOldLine, IsAfterMount, IsBorneAnew, StandsUnder, HasNewHead}
 use Rattle.prefix_law.proofs.OldRows.{IsByRow, by_row_is, is_by_row, IsRowFound, row_from, counts_still, IsOldCounted, counted_by_row}
 use Rattle.prefix_law.proofs.RecordLines.{IsAt, record_is_at}
 use Rattle.prefix_law.proofs.Reduced.{old_record}
@@ -55,16 +55,16 @@ module _ (found now : Image) (es : Entries) (front : ℕ) (c : IsAfterMount foun
 
     record IsRowThere (x : Record) : Type 0 where
       row : Row
-      by_it : IsByRow (rows_of found) x row
+      by_it : IsByRow (start_rows found) x row
       is_found : IsRowFound found row
 
     row_there : (x : Record) → by_row h x ≡ true → IsRowThere x
     row_there x is =
         let at = by_row_is h x is in
-        let there : Contains (rows_of found) at.0 = n.start.rows at.0 (contained_among h.rows at.0 at.1.there) in record {
+        let there : Contains (start_rows found) at.0 = n.start.rows at.0 (contained_among h.rows at.0 at.1.there) in record {
           row = at.0;
-          by_it = record { there = among_contained (rows_of found) at.0 there; line = at.1.line; seq = at.1.seq; below = at.1.below };
-          is_found = row_from found at.0 (among_contained (rows_of found) at.0 there);
+          by_it = record { there = among_contained (start_rows found) at.0 there; line = at.1.line; seq = at.1.seq; below = at.1.below };
+          is_found = row_from found at.0 (among_contained (start_rows found) at.0 there);
         }
 
     no_rows : (x : Record) → Contains (records now) x → h.first_seq ≤ x.seq → by_row h x ≡ false
@@ -106,7 +106,7 @@ module _ (found now : Image) (es : Entries) (front : ℕ) (c : IsAfterMount foun
         let low : at.start.seq < next_seq (head found) = seq_older found x.line at.start at.in_range at.whole in
         let same : x.seq ≡ at.start.seq = at.seq in
         let first = first_seq in
-        let row : Contains h.rows of.row = stands.rows of.row (contained_among (rows_of found) of.row of.by_it.there) of.by_it.line in record {
+        let row : Contains h.rows of.row = stands.rows of.row (contained_among (start_rows found) of.row of.by_it.there) of.by_it.line in record {
           there = stands.there;
           old = omega arith;
           row = is_by_row h x of.row (record { there = among_contained h.rows of.row row; line = of.by_it.line; seq = of.by_it.seq; below = of.by_it.below });

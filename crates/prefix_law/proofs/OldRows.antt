@@ -15,7 +15,7 @@ use Rattle.pblk_world.specs.Starts.{row_bound, bound_by}
 use Rattle.pblk_laws.proofs.Heads.{head_is_head}
 use Rattle.pblk_laws.proofs.Starts.{numbers, found_is}
 use Rattle.prefix_law.specs.Assembled.{by_row}
-use Rattle.prefix_law.specs.AfterMount.{row_of, rows_of}
+use Rattle.prefix_law.specs.AfterMount.{start_row, start_rows}
 use Rattle.prefix_law.proofs.Among.{made_into, made_from}
 use Rattle.prefix_law.proofs.Assembly.{filtered_from, filtered_into, CountsBy, counts_by, counts_young, counts_row}
 use Rattle.prefix_law.proofs.RecordLines.{range_is, IsAt, record_is_at}
@@ -140,28 +140,28 @@ module _ (b : Image) where
     pub whole : start_of b line ≡ Some start
     pub is : row_with line start ≡ row
 
-  pub row_from : (row : Row) → IsAmong (rows_of b) row → IsRowFound row
+  pub row_from : (row : Row) → IsAmong (start_rows b) row → IsRowFound row
   row_from row at =
-      let made = made_from (λ line. row_of b line (start_of b line)) (range_with_len 0 b.shape.chunks) row at in
+      let made = made_from (λ line. start_row b line (start_of b line)) (range_with_len 0 b.shape.chunks) row at in
       let which = range_is b.shape.chunks made.0 made.1 made.2 in
       let same : made.1 ≡ made.0 = which.0 in
       let low : made.0 < b.shape.chunks = which.1 in
       by made.1 (omega arith) (start_of b made.1) refl made.3 where
-        by : (line : ℕ) → line < b.shape.chunks → (o : Option StartRecord) → start_of b line ≡ o → row_of b line o ≡ Some row → IsRowFound row
+        by : (line : ℕ) → line < b.shape.chunks → (o : Option StartRecord) → start_of b line ≡ o → start_row b line o ≡ Some row → IsRowFound row
         by line range None e is = absurd (none-some row is)
         by line range (Some start) e is = record { line = line; start = start; in_range = range; whole = e; is = same_Some (row_with line start) row is }
 
-  row_into : (line : ℕ) (start : StartRecord) → line < b.shape.chunks → start_of b line ≡ Some start → IsAmong (rows_of b) (row_with line start)
+  row_into : (line : ℕ) (start : StartRecord) → line < b.shape.chunks → start_of b line ≡ Some start → IsAmong (start_rows b) (row_with line start)
   row_into line start range e =
-      made_into (λ l. row_of b l (start_of b l)) (range_with_len 0 b.shape.chunks) line line (row_with line start)
-      (range_get 0 b.shape.chunks line range ∙ ap (λ m. Some m) (zero-add line)) (ap (row_of b line) e)
+      made_into (λ l. start_row b l (start_of b l)) (range_with_len 0 b.shape.chunks) line line (row_with line start)
+      (range_get 0 b.shape.chunks line range ∙ ap (λ m. Some m) (zero-add line)) (ap (start_row b line) e)
 
   -- ---- what counts by a row counts in the found image, and the other way round
 
   counted_are : (h : StartRecord) → head b ≡ Some h → counted b ≡ filter (counts h (end b)) (records b)
   counted_are h is = ap (counted_after (records b)) is ∙ ap (λ p. filter (counts h p) (records b)) (sym (ap (end_after (records b)) is))
 
-  pub counts_still : (r : Record) (row : Row) → Contains (records b) r → IsByRow (rows_of b) r row → Contains (counted b) r
+  pub counts_still : (r : Record) (row : Row) → Contains (records b) r → IsByRow (start_rows b) r row → Contains (counted b) r
   counts_still r row there by_it = by (head b) refl below where
     found : IsRowFound row
     found = row_from row by_it.there
@@ -205,7 +205,7 @@ module _ (b : Image) where
   pub record IsOldCounted (r : Record) : Type 0 where
     pub there : Contains (records b) r
     pub row : Row
-    pub by_it : IsByRow (rows_of b) r row
+    pub by_it : IsByRow (start_rows b) r row
 
   pub counted_by_row : (r : Record) → Contains (counted b) r → IsOldCounted r
   counted_by_row r there = by (head b) refl where

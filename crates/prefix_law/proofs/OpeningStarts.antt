@@ -25,7 +25,7 @@ use Rattle.world_laws.proofs.StartRecords.{IsNthOpening, nth_opening, seq_of_nth
 use Rattle.world_laws.proofs.Stripes.{IsOpening, opening_is}
 use Rattle.world_laws.proofs.ToldImages.{found_then}
 use Rattle.world_laws.proofs.KeptChunks.{found_before}
-use Rattle.prefix_law.specs.AfterMount.{row_of, rows_of, IsNewStart}
+use Rattle.prefix_law.specs.AfterMount.{start_row, start_rows, IsNewStart}
 use Rattle.prefix_law.proofs.Among.{made_into, made_from}
 use Rattle.prefix_law.proofs.RecordLines.{range_is}
 
@@ -37,21 +37,21 @@ first_found i w b legal begins = first_is (log_of w 0) b begins ∙ (begun_with 
 -- ---- the row of a line at a length of the log
 
 row_now : (i : Image) (logs : Logs) (found : Image) (line : ℕ) → found_image i logs ≡ found → first_position (logs 0) ≡ end found
-    → (o : Option StartRecord) → found_row i logs line o ≡ row_of found line o
+    → (o : Option StartRecord) → found_row i logs line o ≡ start_row found line o
 row_now i logs found line same first None = refl
 row_now i logs found line same first (Some start) =
     ap (λ n. Some (record { line = line; seq = start.seq; bound = bound_by (head (found_image i logs)) n line start.seq })) first
     ∙ ap (λ (j : Image). Some (record { line = line; seq = start.seq; bound = bound_by (head j) (end found) line start.seq })) same
 
 row_then : (i : Image) (logs : Logs) (found : Image) (line : ℕ) → found_image i logs ≡ found → first_position (logs 0) ≡ end found
-    → older_row i logs line ≡ (if is_as_found (life_of (logs 0) line) then row_of found line (start_of found line) else None)
+    → older_row i logs line ≡ (if is_as_found (life_of (logs 0) line) then start_row found line (start_of found line) else None)
 row_then i logs found line same first =
     ap (λ (o : Option Row). if is_as_found (life_of (logs 0) line) then o else None)
-    (row_now i logs found line same first (start_of (found_image i logs) line) ∙ ap (λ (j : Image). row_of found line (start_of j line)) same)
+    (row_now i logs found line same first (start_of (found_image i logs) line) ∙ ap (λ (j : Image). start_row found line (start_of j line)) same)
 
 -- a row of the record is one of the found image's
 row_found : (i : Image) (logs : Logs) (found : Image) (row : Row) → i.shape ≡ found.shape → found_image i logs ≡ found
-    → first_position (logs 0) ≡ end found → Contains (older_rows i logs) row → Contains (rows_of found) row
+    → first_position (logs 0) ≡ end found → Contains (older_rows i logs) row → Contains (start_rows found) row
 row_found i logs found row shape same first there =
     let made = made_from (older_row i logs) (range_with_len 0 i.shape.chunks) row (among_contained (older_rows i logs) row there) in
     let which = range_is i.shape.chunks made.0 made.1 made.2 in
@@ -61,26 +61,26 @@ row_found i logs found row shape same first there =
     (is_as_found (life_of (logs 0) made.1)) (sym (row_then i logs found made.1 same first) ∙ made.3)
   where
     go : (line : ℕ) → IsAmong (range_with_len 0 found.shape.chunks) line → (b : Bool)
-        → (if b then row_of found line (start_of found line) else None) ≡ Some row → Contains (rows_of found) row
+        → (if b then start_row found line (start_of found line) else None) ≡ Some row → Contains (start_rows found) row
     go line at false is = absurd (none-some row is)
-    go line at true is = contained_among (rows_of found) row
-        (made_into (λ l. row_of found l (start_of found l)) (range_with_len 0 found.shape.chunks) at.0 line row at.1 is)
+    go line at true is = contained_among (start_rows found) row
+        (made_into (λ l. start_row found l (start_of found l)) (range_with_len 0 found.shape.chunks) at.0 line row at.1 is)
 
 -- the other way, where the line was still as it was found
 found_row_there : (i : Image) (logs : Logs) (found : Image) (row : Row) → i.shape ≡ found.shape → found_image i logs ≡ found
     → first_position (logs 0) ≡ end found
-    → life_of (logs 0) row.line ≡ AsFound → Contains (rows_of found) row → Contains (older_rows i logs) row
+    → life_of (logs 0) row.line ≡ AsFound → Contains (start_rows found) row → Contains (older_rows i logs) row
 found_row_there i logs found row shape same first life there =
-    let made = made_from (λ l. row_of found l (start_of found l)) (range_with_len 0 found.shape.chunks) row (among_contained (rows_of found) row there) in
+    let made = made_from (λ l. start_row found l (start_of found l)) (range_with_len 0 found.shape.chunks) row (among_contained (start_rows found) row there) in
     let line : made.1 ≡ row.line = its_line made.1 (start_of found made.1) made.3 in
     contained_among (older_rows i logs) row
     (made_into (older_row i logs) (range_with_len 0 i.shape.chunks) made.0 made.1 row
     (ap (λ (s : Shape). slice_get (range_with_len 0 s.chunks) made.0) shape ∙ made.2)
     (row_then i logs found made.1 same first
-    ∙ ap (λ life. if is_as_found life then row_of found made.1 (start_of found made.1) else None) (ap (life_of (logs 0)) line ∙ life)
+    ∙ ap (λ life. if is_as_found life then start_row found made.1 (start_of found made.1) else None) (ap (life_of (logs 0)) line ∙ life)
     ∙ made.3))
   where
-    its_line : (line : ℕ) (o : Option StartRecord) → row_of found line o ≡ Some row → line ≡ row.line
+    its_line : (line : ℕ) (o : Option StartRecord) → start_row found line o ≡ Some row → line ≡ row.line
     its_line line None is = absurd (none-some row is)
     its_line line (Some start) is = ap (λ (o : Option Row). option_map_or (λ (r : Row). r.line) o 0) is
 
@@ -105,7 +105,7 @@ pub record IsStarted (i : Image) (w : World) (o : Opening) : Type 0 where
   pub start : IsNewStart (found_image i (log_of w)) (synced i.shape (log_of w 0)) o.start
   pub in_range : o.line < i.shape.chunks
   -- a row of the found image is one of the record's, where its line is still as it was found
-  pub rows : (row : Row) → Contains (rows_of (found_image i (log_of w))) row → life_of (log_of w 0) row.line ≡ AsFound → Contains o.start.rows row
+  pub rows : (row : Row) → Contains (start_rows (found_image i (log_of w))) row → life_of (log_of w 0) row.line ≡ AsFound → Contains o.start.rows row
 
 found_earlier : (log : List Logged) (line n : ℕ) → n ≤ length log → life_of log line ≡ AsFound → life_of (take n log) line ≡ AsFound
 found_earlier log line n within is =

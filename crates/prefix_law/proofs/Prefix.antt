@@ -29,7 +29,7 @@ use Rattle.lemmas.proofs.Lists.{among_contained}
 use Rattle.lemmas.proofs.Maps.{from_filter}
 use Rattle.lemmas.proofs.Parts.{contained_among, same_lists, take_nothing}
 use Rattle.lemmas.proofs.Tests.{not_both}
-use Rattle.world_laws.specs.LegalMounts.{IsLegalMount}
+use Rattle.pblk_world.specs.LegalMounts.{IsLegalMount}
 use Rattle.world_laws.proofs.Beginnings.{has_begun}
 use Rattle.world_laws.proofs.NewLines.{IsTakenRecord}
 use Rattle.world_laws.proofs.WinnerBlocks.{contents_at}

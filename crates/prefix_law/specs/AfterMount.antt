@@ -10,12 +10,12 @@ use Rattle.pblk_world.specs.Starts.{bound_by}
 use Rattle.prefix_law.specs.Assembled.{Given, Entries, IsEntry, IsEntryOf, IsLastOf}
 
 -- the row that a line with a start record has in those of the next mount
-abbrev pub row_of : Image → ℕ → Option StartRecord → Option Row
-row_of found line None = None
-row_of found line (Some start) = Some (record { line = line; seq = start.seq; bound = bound_by (head found) (end found) line start.seq })
+abbrev pub start_row : Image → ℕ → Option StartRecord → Option Row
+start_row found line None = None
+start_row found line (Some start) = Some (record { line = line; seq = start.seq; bound = bound_by (head found) (end found) line start.seq })
 
-abbrev pub rows_of : Image → List Row
-rows_of found = filter_map (λ line. row_of found line (start_of found line)) (range_with_len 0 found.shape.chunks)
+abbrev pub start_rows : Image → List Row
+start_rows found = filter_map (λ line. start_row found line (start_of found line)) (range_with_len 0 found.shape.chunks)
 
 -- A line has the start record that was found in it, and no record that wasn't.
 pub record IsOldLine (found now : Image) (line : ℕ) (r : StartRecord) : Type 0 where
@@ -29,7 +29,7 @@ pub record IsNewStart (found : Image) (front : ℕ) (r : StartRecord) : Type 0 w
   pub seq : next_seq (head found) ≤ r.seq
   pub from : end found ≤ r.front
   pub within : r.front ≤ front
-  pub rows : (row : Row) → Contains r.rows row → Contains (rows_of found) row
+  pub rows : (row : Row) → Contains r.rows row → Contains (start_rows found) row
 
 -- A line has such a start record, and each of its records is of an entry.
 pub record IsNewLine (found now : Image) (es : Entries) (front line : ℕ) (r : StartRecord) : Type 0 where
@@ -57,7 +57,7 @@ pub record IsBorneAnew (found now : Image) (p : ℕ) (x : Record) : Type 0 where
 -- the record is there, and each row that was due to its line is one of the start record's
 pub record StandsUnder (found now : Image) (h : StartRecord) (x : Record) : Type 0 where
   pub there : Contains (records now) x
-  pub rows : (row : Row) → Contains (rows_of found) row → row.line ≡ x.line → Contains h.rows row
+  pub rows : (row : Row) → Contains (start_rows found) row → row.line ≡ x.line → Contains h.rows row
 
 -- The head is a start record of the mount.
 pub record HasNewHead (found now : Image) (es : Entries) (front : ℕ) (h : StartRecord) : Type 0 where

@@ -12,7 +12,7 @@ ghost use Rattle.pblk_world.specs.World.{World, log_of, media};
 ghost use Rattle.pblk_world.specs.EngineLog.{Begun, begun, Placed, placements, is_answered};
 ghost use Rattle.pblk_world.specs.EngineLog.{holds_position};
 ghost use Rattle.pblk_world.specs.Fronts.{taken, synced, history, user_positions};
-ghost use Rattle.world_laws.specs.LegalMounts.{IsLegalMount};
+ghost use Rattle.pblk_world.specs.LegalMounts.{IsLegalMount};
 ghost use Rattle.prefix_law.specs.Cuts.{AreCuts};
 ghost use Rattle.prefix_law.specs.PlacedAgain.{ArePlacedAgain};
 

@@ -28,7 +28,7 @@ use Rattle.lemmas.proofs.Maps.{all_filter, all_mapped, all_passed, any_fail, any
 use Rattle.lemmas.proofs.Options.{split_then}
 use Rattle.lemmas.proofs.Parts.{all_at, contained_among, none_past}
 use Rattle.lemmas.proofs.Tests.{first_of, not_both, not_true, same, same_number}
-use Rattle.world_laws.specs.LegalMounts.{IsLegalMount}
+use Rattle.pblk_world.specs.LegalMounts.{IsLegalMount}
 use Rattle.world_laws.specs.UnitChunks.{chunk_after}
 use Rattle.world_laws.proofs.FoundCounts.{counted_below, seq_older}
 use Rattle.world_laws.proofs.FoundImages.{found_closed, found_first, found_seq, found_strays}

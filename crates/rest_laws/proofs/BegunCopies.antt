@@ -19,8 +19,8 @@ use Rattle.pblk_world.specs.Taking.{Copies, CopiesStale, IsMarked, IsPlaceOfLate
 use Rattle.pblk_world.specs.Victims.{comes_to_work, engine_prefix, is_freed, stays_at_work, victim}
 use Rattle.pblk_world.specs.World.{World, Logs, log_of, prefixes}
 use Rattle.lemmas.proofs.Lists.{IsAmong}
-use Rattle.world_laws.specs.LegalMounts.{IsLegalMount}
-use Rattle.world_laws.specs.Reasons.{AreBegun, WasBegun}
+use Rattle.pblk_world.specs.LegalMounts.{IsLegalMount}
+use Rattle.pblk_world.specs.Reasons.{AreBegun, WasBegun}
 use Rattle.world_laws.proofs.KeptChunks.{found_before}
 use Rattle.world_laws.proofs.NextLives.{IsDecided, IsOpenSince, decided, open_since}
 use Rattle.world_laws.proofs.Positions.{position_below}

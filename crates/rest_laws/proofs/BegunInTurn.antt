@@ -13,8 +13,8 @@ use Rattle.pblk_world.specs.Taking.{IsPlaceOfLatest, MayTake}
 use Rattle.pblk_world.specs.Victims.{engine_prefix, is_live_in, victim}
 use Rattle.pblk_world.specs.World.{World, Logs, log_of, prefixes}
 use Rattle.lemmas.proofs.Parts.{get_taken, get_whole_within}
-use Rattle.world_laws.specs.LegalMounts.{IsLegalMount}
-use Rattle.world_laws.specs.Reasons.{AreBegun, WasBegun, WasRoom}
+use Rattle.pblk_world.specs.LegalMounts.{IsLegalMount}
+use Rattle.pblk_world.specs.Reasons.{AreBegun, WasBegun, WasRoom}
 use Rattle.world_laws.proofs.NextLives.{IsDecided, decided}
 use Rattle.world_laws.proofs.ToldImages.{told_then}
 use Rattle.world_laws.proofs.ToldTables.{live_in_told}

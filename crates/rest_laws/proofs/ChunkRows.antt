@@ -20,12 +20,12 @@ use Rattle.lemmas.proofs.Lists.{IsAmong, among_contained}
 use Rattle.lemmas.proofs.Maps.{from_filter, in_filter}
 use Rattle.lemmas.proofs.Parts.{all_by_get, contained_among, get_below, got_within}
 use Rattle.lemmas.proofs.Tests.{or_right, same_number}
-use Rattle.world_laws.specs.LegalMounts.{IsLegalMount}
+use Rattle.pblk_world.specs.LegalMounts.{IsLegalMount}
 use Rattle.world_laws.proofs.LineStarts.{landed_of}
 use Rattle.world_laws.proofs.LineStripes.{next_fits}
 use Rattle.world_laws.proofs.StripePlaces.{kth_place}
-use Rattle.core_laws.specs.InOrder.{HasRoom}
-use Rattle.core_laws.specs.SimpleMounts.{IsSimpleMount}
+use Rattle.core_laws.specs.InOrder.{FitsItsLine}
+use Rattle.core_laws.proofs.LosslessMounts.{IsLosslessMount}
 use Rattle.core_laws.proofs.EachChunk.{all_hold}
 use Rattle.core_laws.proofs.Followed.{follow}
 use Rattle.core_laws.proofs.FreedWidths.{opened_width}
@@ -53,7 +53,7 @@ module _ (s : Shape) (log : List Logged) (o : Opening) (landed : (p : Placed) �
       or_right (list_any (was_lost log) (stripes_on log o unit)) (landed_blocks s log o unit == s.clba)
       (ap (λ n. n == s.clba) (blocks_landed unit ∙ full) ∙ same_number s.clba)
 
-module _ (i : Image) (w : World) (simple : IsSimpleMount i w) (o : Opening) (is_open : life_of (log_of w 0) o.line ≡ Opened o) where
+module _ (i : Image) (w : World) (lossless : IsLosslessMount i w) (o : Opening) (is_open : life_of (log_of w 0) o.line ≡ Opened o) where
   abbrev log : List Logged
   log = log_of w 0
 
@@ -61,7 +61,7 @@ module _ (i : Image) (w : World) (simple : IsSimpleMount i w) (o : Opening) (is_
   s = i.shape
 
   mount : IsLegalMount i w
-  mount = simple.mount
+  mount = lossless.mount
 
   -- the line's units
   abbrev pub us : List ℕ
@@ -72,7 +72,7 @@ module _ (i : Image) (w : World) (simple : IsSimpleMount i w) (o : Opening) (is_
 
   order : IsInOrder i (line_units (known_image i (log_of w))) (log_of w 0) o.line o
   order = in_order i (line_units (known_image i (log_of w))) w (follow i w mount) o.line o is_open
-      (none_failed (log_of w 0) simple.engine.lost o)
+      (none_failed (log_of w 0) lossless.none_lost o)
 
   -- where the k-th stripe of the line stands
   pub record IsInRow (k : ℕ) (p : Placed) : Type 0 where
@@ -131,7 +131,7 @@ module _ (i : Image) (w : World) (simple : IsSimpleMount i w) (o : Opening) (is_
     pub all_landed : (p : Placed) → Contains (stripes_of (log_of w 0) o) p → has_landed (log_of w 0) p ≡ true
     all_landed p its =
         let at : IsAmong (stripes_of log o) p = among_contained (stripes_of log o) p its in
-        let room : HasRoom s log o = has_room i w o.line o mount is_open in
+        let room : FitsItsLine s log o = has_room i w o.line o mount is_open in
         let few : length (stripes_of log o) ≤ line_end s o / s.ws_opt =
         few_stripes (length (stripes_of log o)) (line_end s o) s.ws_opt mount.accepted.drive.ws_opt room.within in
         let below : at.0 < length (stripes_of log o) = get_below (stripes_of log o) at.0 p at.1 in

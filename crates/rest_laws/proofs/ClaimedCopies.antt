@@ -15,8 +15,8 @@ use Rattle.pblk_world.specs.Taking.{MayTake}
 use Rattle.pblk_world.specs.World.{World, log_of, prefixes}
 use Rattle.pblk_world.proofs.EngineLogLemmas.{takes_more}
 use Rattle.lemmas.proofs.Parts.{get_whole_within, got_within, take_next}
-use Rattle.world_laws.specs.LegalMounts.{IsLegalMount}
-use Rattle.world_laws.specs.Reasons.{AreBegun, WasBegun, WasRoom}
+use Rattle.pblk_world.specs.LegalMounts.{IsLegalMount}
+use Rattle.pblk_world.specs.Reasons.{AreBegun, WasBegun, WasRoom}
 use Rattle.world_laws.proofs.NextLives.{IsDecided, decided}
 use Rattle.world_laws.proofs.Positions.{position_of}
 use Rattle.world_laws.proofs.TakenEvents.{IsTakenAt, taken_at}

@@ -6,7 +6,7 @@ use Rattle.pblk_world.specs.AtRest.{victim_now}
 use Rattle.pblk_world.specs.Lines.{known_image, line_data}
 use Rattle.pblk_world.specs.Victims.{engine_prefix, live}
 use Rattle.pblk_world.specs.World.{World, log_of}
-use Rattle.world_laws.specs.LegalMounts.{IsLegalMount}
+use Rattle.pblk_world.specs.LegalMounts.{IsLegalMount}
 use Rattle.rest_laws.specs.AtWork.{AreCopiesOf, IsAtWorkFrom}
 use Rattle.rest_laws.proofs.CameToWork.{CameToWork, came_to_work, had_room}
 use Rattle.rest_laws.proofs.CountedCopies.{copies_fit}

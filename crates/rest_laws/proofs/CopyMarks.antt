@@ -14,7 +14,7 @@ use Rattle.pblk_world.specs.World.{World, log_of, prefixes}
 use Rattle.lemmas.proofs.Lists.{IsAmong, among_contained, among_more}
 use Rattle.lemmas.proofs.Parts.{take_and_drop}
 use Rattle.lemmas.proofs.Tests.{not_both}
-use Rattle.world_laws.specs.LegalMounts.{IsLegalMount}
+use Rattle.pblk_world.specs.LegalMounts.{IsLegalMount}
 use Rattle.world_laws.proofs.Later.{takes_joined}
 use Rattle.world_laws.proofs.Positions.{position_below}
 use Rattle.world_laws.proofs.ToldTables.{live_in_told}

@@ -16,8 +16,8 @@ use Rattle.pblk_world.specs.Victims.{engine_prefix, live}
 use Rattle.pblk_world.specs.World.{World, Logs, log_of}
 use Rattle.lemmas.proofs.Maps.{given_at}
 use Rattle.lemmas.proofs.Parts.{contained_among, get_taken}
-use Rattle.world_laws.specs.LegalMounts.{IsLegalMount}
-use Rattle.world_laws.specs.Reasons.{WasBegun}
+use Rattle.pblk_world.specs.LegalMounts.{IsLegalMount}
+use Rattle.pblk_world.specs.Reasons.{WasBegun}
 use Rattle.world_laws.proofs.NextLives.{IsDecided, decided}
 use Rattle.rest_laws.specs.Copies.{TookCopy}
 use Rattle.rest_laws.specs.AtWork.{AreCopiesOf, IsAtWorkFrom, IsCopyOf, WasTakenSince}

@@ -24,7 +24,7 @@ use Rattle.lemmas.proofs.Lists.{IsAmong, among_contained, among_more}
 use Rattle.lemmas.proofs.Maps.{any_member, range_get}
 use Rattle.lemmas.proofs.Parts.{all_at, contained_among, take_and_drop}
 use Rattle.lemmas.proofs.Tests.{and_both, not_both, same, same_number}
-use Rattle.world_laws.specs.LegalMounts.{IsLegalMount}
+use Rattle.pblk_world.specs.LegalMounts.{IsLegalMount}
 use Rattle.world_laws.proofs.Entries.{marks_bear}
 use Rattle.world_laws.proofs.KeptChunks.{found_before}
 use Rattle.world_laws.proofs.Later.{lost_later, placed_within, takes_joined}

@@ -13,7 +13,7 @@ use Rattle.pblk_world.specs.Opening.{MayOpen}
 use Rattle.pblk_world.specs.Space.{free_addresses}
 use Rattle.pblk_world.specs.World.{World, Logs, log_of, prefixes, unit_event_at, unit_event_of}
 use Rattle.pblk_world.proofs.Appending.{life_more}
-use Rattle.world_laws.specs.LegalMounts.{IsLegalMount}
+use Rattle.pblk_world.specs.LegalMounts.{IsLegalMount}
 use Rattle.world_laws.proofs.ToldDecisions.{opening_told}
 use Rattle.world_laws.proofs.ToldImages.{told_back}
 use Rattle.world_laws.proofs.ToldTables.{free_addresses_told}

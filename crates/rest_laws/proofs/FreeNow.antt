@@ -9,8 +9,8 @@ use Rattle.pblk_world.specs.Space.{full_data}
 use Rattle.pblk_world.specs.World.{World, log_of}
 use Rattle.std.specs.Prelude.{List, Option}
 use Rattle.lemmas.proofs.Tests.{lt_true}
-use Rattle.world_laws.specs.LegalMounts.{IsLegalMount}
-use Rattle.world_laws.specs.Orders.{AreReset}
+use Rattle.pblk_world.specs.LegalMounts.{IsLegalMount}
+use Rattle.pblk_world.specs.Orders.{AreReset}
 use Rattle.rest_laws.specs.Tidy.{AreWide}
 use Rattle.rest_laws.proofs.AsFoundLines.{found_empty}
 use Rattle.rest_laws.proofs.RoomyShapes.{eight_stripes}

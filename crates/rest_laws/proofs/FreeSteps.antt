@@ -18,7 +18,7 @@ use Rattle.pblk_world.specs.World.{World, Logs, log_of, unit_event_at, unit_even
 use Rattle.pblk_world.proofs.Appending.{life_more}
 use Rattle.pblk_world.proofs.LinesLemmas.{free_unopened}
 use Rattle.lemmas.proofs.Tests.{not_both, other_number, same_number}
-use Rattle.world_laws.specs.LegalMounts.{IsLegalMount}
+use Rattle.pblk_world.specs.LegalMounts.{IsLegalMount}
 use Rattle.world_laws.specs.UnitPrograms.{IsProgramOfStripe}
 use Rattle.world_laws.proofs.NextLives.{IsPlacedIn, placed_in}
 use Rattle.world_laws.proofs.Programs.{program_of_stripe}

@@ -11,7 +11,7 @@ use Rattle.pblk_world.specs.Freeing.{HasLandedIn, IsAnswered, IsLandedRecord, Is
 use Rattle.pblk_world.specs.Lines.{known_image, place_of}
 use Rattle.pblk_world.specs.World.{World, Logs, log_of, media}
 use Rattle.lemmas.proofs.Options.{split_then}
-use Rattle.world_laws.specs.LegalMounts.{IsLegalMount, NoneLost}
+use Rattle.pblk_world.specs.LegalMounts.{IsLegalMount, NoStripeLost}
 use Rattle.world_laws.specs.SameTold.{AreSameTold}
 use Rattle.world_laws.proofs.Freeing.{landed_in_told}
 use Rattle.world_laws.proofs.LifePlaces.{units_now}
@@ -23,7 +23,7 @@ use Rattle.core_laws.proofs.LandedNow.{opened_now}
 use Rattle.core_laws.proofs.PlainLogs.{never_lost}
 use Rattle.rest_laws.proofs.ToldRest.{answered_told, may_free_told}
 
-module _ (i : Image) (w : World) (mount : IsLegalMount i w) (none_lost : NoneLost (log_of w 0)) (b : Logs) (h : AreSameTold i (log_of w) b) (line : ℕ)
+module _ (i : Image) (w : World) (mount : IsLegalMount i w) (none_lost : NoStripeLost (log_of w 0)) (b : Logs) (h : AreSameTold i (log_of w) b) (line : ℕ)
     (may : MayFree i b line) where
   answered : IsAnswered (log_of w) (life_of (log_of w 0) line)
   answered = answered_told i b (log_of w) (told_back i (log_of w) b h) line may.answered

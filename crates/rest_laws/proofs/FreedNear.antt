@@ -21,12 +21,12 @@ use Rattle.lemmas.proofs.Lists.{IsAmong, among_contained}
 use Rattle.lemmas.proofs.Maps.{any_member, enumerate_get, in_filter}
 use Rattle.lemmas.proofs.Parts.{contained_among, get_below, take_and_drop}
 use Rattle.lemmas.proofs.Tests.{and_both, either_false, le_of_lt_false, le_true, lt_true, not_both, same_number}
-use Rattle.world_laws.specs.LegalMounts.{IsLegalMount}
+use Rattle.pblk_world.specs.LegalMounts.{IsLegalMount}
 use Rattle.world_laws.proofs.Later.{placed_later, placed_within}
 use Rattle.world_laws.proofs.LineStripes.{stripe_count}
 use Rattle.world_laws.proofs.NextPrograms.{landed_of_answered}
 use Rattle.world_laws.proofs.Stripes.{one_opening, stripe_is}
-use Rattle.core_laws.specs.SimpleMounts.{IsSimpleMount}
+use Rattle.core_laws.proofs.LosslessMounts.{IsLosslessMount}
 use Rattle.core_laws.specs.Spent.{OpensWhenFull}
 use Rattle.core_laws.proofs.Distinct.{passing}
 use Rattle.core_laws.proofs.PlacedInOrder.{IsOrdered, count_is, front_within, ordered, some_hold_below, waiting_are_last}
@@ -40,13 +40,13 @@ use Rattle.rest_laws.proofs.PlacedSince.{placed_since}
 
 -- ---- what was taken and not placed waits
 
-pub taken_waits : (i : Image) (w : World) → IsSimpleMount i w
+pub taken_waits : (i : Image) (w : World) → IsLosslessMount i w
     → taken (log_of w 0) ≡ placed_front i.shape (log_of w 0) + length (waiting i.shape (log_of w 0))
-taken_waits i w simple =
+taken_waits i w lossless =
     let log : List Logged = log_of w 0 in
-    let order : IsOrdered i.shape log = ordered i w simple.mount in
+    let order : IsOrdered i.shape log = ordered i w lossless.mount in
     let left : length (waiting i.shape log) ≡ length (takes log) - order.order.count =
-    ap (λ (ts : List Taken). length ts) (waiting_are_last i.shape log (never_lost log simple.engine.lost) order)
+    ap (λ (ts : List Taken). length ts) (waiting_are_last i.shape log (never_lost log lossless.none_lost) order)
     ∙ length-drop order.order.count (takes log) in
     let count : length (filter (was_placed i.shape log) (takes log)) ≡ order.order.count = count_is i.shape log order in
     let few : order.order.count ≤ length (takes log) = order.order.within in
@@ -81,7 +81,7 @@ row_bound t j m r c u w index mw long here near inside = go (cases_lt r m)
         let last : u * (e * w) ≤ u * (mw + (w - 1)) = mul-le-mul_left u near_end in
         omega arith
 
-module _ (i : Image) (w : World) (simple : IsSimpleMount i w) (full : OpensWhenFull i (log_of w)) (n : Opening) (last : IsLastOpened (log_of w 0) n)
+module _ (i : Image) (w : World) (lossless : IsLosslessMount i w) (full : OpensWhenFull i (log_of w)) (n : Opening) (last : IsLastOpened (log_of w 0) n)
     (wide : width (known_image i (log_of w)) n.line ≡ units i.shape)
     (answered : (p : Placed) → Contains (placements (log_of w 0)) p → is_answered (log_of w 0) p ≡ true)
     (over : (o : Opening) → o.number < n.number → life_of (log_of w 0) o.line ≡ Opened o → are_over i (log_of w) o.line ≡ true) where
@@ -92,13 +92,13 @@ module _ (i : Image) (w : World) (simple : IsSimpleMount i w) (full : OpensWhenF
   s = i.shape
 
   mount : IsLegalMount i w
-  mount = simple.mount
+  mount = lossless.mount
 
   order : IsOrdered i.shape (log_of w 0)
-  order = ordered i w simple.mount
+  order = ordered i w lossless.mount
 
   not_lost : (p : Placed) → was_lost (log_of w 0) p ≡ false
-  not_lost p = never_lost log simple.engine.lost p
+  not_lost p = never_lost log lossless.none_lost p
 
   landed : (p : Placed) → Contains (placements (log_of w 0)) p → has_landed (log_of w 0) p ≡ true
   landed p there = landed_of_answered log p (answered p there) (not_lost p)
@@ -165,10 +165,10 @@ module _ (i : Image) (w : World) (simple : IsSimpleMount i w) (full : OpensWhenF
       go (inr few) = few
       go (inl more) =
           let then_ : List Logged = take p.number log in
-          let first : first_position then_ ≡ first_position log = first_then i w simple full p.number some in
+          let first : first_position then_ ≡ first_position log = first_then i w lossless full p.number some in
           let from : first_position log ≤ q = (freed_is_least s log).from in
           let also : list_any (holds_position s q) (placements then_) ≡ true =
-          some_hold_below s then_ (ordered_then i w simple full p h.there) q
+          some_hold_below s then_ (ordered_then i w lossless full p h.there) q
           ∙ and_both (nat_le (first_position then_) q) (nat_lt q (placed_front s then_)) (le_true (first_position then_) q (omega arith))
           (lt_true q (placed_front s then_) more) in
           let other = passing (holds_position s q) (placements then_) also in
@@ -177,23 +177,23 @@ module _ (i : Image) (w : World) (simple : IsSimpleMount i w) (full : OpensWhenF
           subst (λ (xs : List Logged). Contains (placements xs) other.0) (take_and_drop p.number log) (placed_later then_ (drop p.number log) other.0 there) in
           let low : other.0.number < length then_ = placed_within then_ other.0 there in
           let short : length then_ ≤ p.number = omega (arith, length-take p.number log) in
-          absurd (placed_before i w simple full other.0 p q q now h.there other.2 h.holds from (omega arith) (omega arith))
+          absurd (placed_before i w lossless full other.0 p q q now h.there other.2 h.holds from (omega arith) (omega arith))
 
   pub front_near : placed_front i.shape (log_of w 0) ≤ freed i.shape (log_of w 0) + units i.shape * (i.shape.mw_cunits + (i.shape.ws_opt - 1))
   front_near = go (cases_lt q (placed_front s log))
     where
-      in_last : (p : Placed) → IsHeldIn p → (its : IsOf i w simple full p n)
+      in_last : (p : Placed) → IsHeldIn p → (its : IsOf i w lossless full p n)
           → placed_front i.shape (log_of w 0) ≤ freed i.shape (log_of w 0) + units i.shape * (i.shape.mw_cunits + (i.shape.ws_opt - 1))
       in_last p h its =
-          let is_open : life_of log n.line ≡ Opened n = last_stands i w simple n last in
+          let is_open : life_of log n.line ≡ Opened n = last_stands i w lossless n last in
           let at : IsAmong (stripes_of log n) p =
           in_filter (λ (y : Placed). is_life n.number y.life) (placements log) p (among_contained (placements log) p h.there)
           (ap (is_life n.number) its.life ∙ same_number n.number) in
           let j : ℕ = at.0 in
           let us : List ℕ = line_units (known_image i (log_of w)) n.line in
-          let row : IsInRow i w simple n is_open j p = in_row i w simple n is_open j p at.1 in
+          let row : IsInRow i w lossless n is_open j p = in_row i w lossless n is_open j p at.1 in
           let m : ℕ = length (stripes_on log n p.stripe.unit) in
-          let few : length (stripes_of log n) ≤ m * length us + j % length us = few_rows i w simple n is_open (j % length us) p.stripe.unit row.unit in
+          let few : length (stripes_of log n) ≤ m * length us + j % length us = few_rows i w lossless n is_open (j % length us) p.stripe.unit row.unit in
           let here : j ≡ j / length us * length us + j % length us = sym (div-add-mod' j (length us)) in
           let blocks : landed_blocks s log n p.stripe.unit ≡ m * s.ws_opt =
           blocks_landed s log n (λ y y_its. landed y (stripe_is i w n y mount.legal last.opened y_its).0) p.stripe.unit in
@@ -212,7 +212,7 @@ module _ (i : Image) (w : World) (simple : IsSimpleMount i w) (full : OpensWhenF
           (below_by low long) in
           let all_units : length us ≡ units s = line_units_count (known_image i (log_of w)) n.line ∙ wide in
           let since : placed_front s log ≤ placed_front s (take p.number log) + s.ws_opt * (length (stripes_of log n) - j) =
-          placed_since i w simple full n last j p at.1 h.there its.before in
+          placed_since i w lossless full n last j p at.1 h.there its.before in
           let was : placed_front s (take p.number log) ≤ q = not_beyond p h (above its.before) in
           joined since was (subst (λ u. s.ws_opt * (length (stripes_of log n) - j) ≤ u * (s.mw_cunits + (s.ws_opt - 1))) all_units bound)
         where
@@ -228,20 +228,20 @@ module _ (i : Image) (w : World) (simple : IsSimpleMount i w) (full : OpensWhenF
           joined : {a b c d e : ℕ} → a ≤ b + c → b ≤ d → c ≤ e → a ≤ d + e
           joined x y z = omega (arith, x, y, z)
 
-      by_opening : (p : Placed) → IsHeldIn p → (x : Opening) → IsOf i w simple full p x
+      by_opening : (p : Placed) → IsHeldIn p → (x : Opening) → IsOf i w lossless full p x
           → placed_front i.shape (log_of w 0) ≤ freed i.shape (log_of w 0) + units i.shape * (i.shape.mw_cunits + (i.shape.ws_opt - 1))
       by_opening p h x its = by (cases_order x.number n.number)
         where
           by : (x.number ≡ n.number) ⊎ ((x.number < n.number) ⊎ (n.number < x.number))
               → placed_front i.shape (log_of w 0) ≤ freed i.shape (log_of w 0) + units i.shape * (i.shape.mw_cunits + (i.shape.ws_opt - 1))
-          by (inl same) = in_last p h (subst (IsOf i w simple full p) (one_opening log x n its.opened last.opened same) its)
+          by (inl same) = in_last p h (subst (IsOf i w lossless full p) (one_opening log x n its.opened last.opened same) its)
           by (inr (inr after)) = let few : x.number ≤ n.number = last.last x its.opened in absurd (omega arith)
           by (inr (inl older)) =
               let mine : IsAmong (stripes_of log x) p =
               in_filter (λ (y : Placed). is_life x.number y.life) (placements log) p (among_contained (placements log) p h.there)
               (ap (is_life x.number) its.life ∙ same_number x.number) in
               let closed : is_closed_in s log x p.stripe.unit ≡ true =
-              closed_chunk i w simple x its.opened (over x older) p (contained_among (stripes_of log x) p mine) in
+              closed_chunk i w lossless x its.opened (over x older) p (contained_among (stripes_of log x) p mine) in
               let unread : (is_closed_in s log x p.stripe.unit || nat_lt (p.stripe.at + h.index + s.mw_cunits) (landed_blocks s log x p.stripe.unit)) ≡ false =
               ap (is_readable_in s log p.stripe.unit (p.stripe.at + h.index)) (sym its.life) ∙ h.unread in
               absurd (not_both (is_closed_in s log x p.stripe.unit) closed
@@ -255,13 +255,13 @@ module _ (i : Image) (w : World) (simple : IsSimpleMount i w) (full : OpensWhenF
           longer c x = omega (arith, x)
       go (inl below) =
           let h = held below in
-          let x = of i w simple full h.0 h.1.there in
+          let x = of i w lossless full h.0 h.1.there in
           by_opening h.0 h.1 x.0 x.1
 
   pub taken_near : taken (log_of w 0) ≤ freed i.shape (log_of w 0) + units i.shape * (i.shape.mw_cunits + (i.shape.ws_opt - 1))
       + length (waiting i.shape (log_of w 0))
   taken_near =
-      by (taken log) (placed_front s log) (length (waiting s log)) q (units s * (s.mw_cunits + (s.ws_opt - 1))) (taken_waits i w simple) front_near
+      by (taken log) (placed_front s log) (length (waiting s log)) q (units s * (s.mw_cunits + (s.ws_opt - 1))) (taken_waits i w lossless) front_near
     where
       by : (t p n f b : ℕ) → t ≡ p + n → p ≤ f + b → t ≤ f + b + n
       by t p n f b x y = omega arith

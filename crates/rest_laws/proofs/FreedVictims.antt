@@ -14,8 +14,8 @@ use Rattle.pblk_world.specs.Space.{placed_front}
 use Rattle.pblk_world.specs.Victims.{engine_prefix, live, taken_up_to, victim}
 use Rattle.pblk_world.specs.World.{World, Logs, log_of, prefixes}
 use Rattle.lemmas.proofs.Parts.{all_taken}
-use Rattle.world_laws.specs.LegalMounts.{IsLegalMount, NoneLost, decides, is_losing}
-use Rattle.world_laws.specs.Reasons.{AreBegun, WasBegun}
+use Rattle.pblk_world.specs.LegalMounts.{IsLegalMount, NoStripeLost, decides, is_losing}
+use Rattle.pblk_world.specs.Reasons.{AreBegun, WasBegun}
 use Rattle.world_laws.specs.SameTold.{AreSameTold}
 use Rattle.world_laws.proofs.Made.{made}
 use Rattle.world_laws.proofs.NextLives.{IsDecided, decided}
@@ -28,7 +28,7 @@ use Rattle.rest_laws.proofs.LengthLogs.{IsWorldAt, victim_then, world_at}
 use Rattle.rest_laws.proofs.OneCopy.{count_clause, count_under_way_clause, freeable_emptied, synced_within_placed}
 use Rattle.rest_laws.proofs.VictimStripes.{mount_at, victim_there}
 
-module _ (i : Image) (w : World) (mount : IsLegalMount i w) (none_lost : NoneLost (log_of w 0)) (n : ℕ) (l : Logged)
+module _ (i : Image) (w : World) (mount : IsLegalMount i w) (none_lost : NoStripeLost (log_of w 0)) (n : ℕ) (l : Logged)
     (there : slice_get (log_of w 0) n ≡ Some l) (line : ℕ) (at : victim i (log_of w) n ≡ Some line) (frees : l.event ≡ Decides (Free line)) where
   abbrev log : List Logged
   log = log_of w 0
@@ -55,7 +55,7 @@ module _ (i : Image) (w : World) (mount : IsLegalMount i w) (none_lost : NoneLos
 
   may : MayFree i (log_of (made i w 0 n l mount.legal there).before) line
   may = may_free_now i before (mount_before i w n l mount there)
-      (subst NoneLost (sym own) (all_taken (λ m. decides is_losing m.event ≡ false) n (log_of w 0) none_lost))
+      (subst NoStripeLost (sym own) (all_taken (λ m. decides is_losing m.event ≡ false) n (log_of w 0) none_lost))
       (prefixes l (log_of before)) (told_when_made i w n l (made i w 0 n l mount.legal there)) line
       (subst (λ (logs : Logs). MayFree i logs line) (view_same i w n l mount there) d.allowed.2)
 

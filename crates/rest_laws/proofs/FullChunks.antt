@@ -14,7 +14,7 @@ use Rattle.pblk_world.specs.Starts.{have_landed}
 use Rattle.pblk_world.specs.World.{World, log_of, prefixes}
 use Rattle.pblk_world.proofs.LegalLemmas.{whole_own}
 use Rattle.lemmas.proofs.Parts.{contained_among, get_below, get_right, take_and_drop}
-use Rattle.world_laws.specs.LegalMounts.{IsLegalMount}
+use Rattle.pblk_world.specs.LegalMounts.{IsLegalMount}
 use Rattle.world_laws.specs.SameTold.{AreSameTold}
 use Rattle.world_laws.proofs.Later.{landed_later}
 use Rattle.world_laws.proofs.LineStripes.{IsSplit, stripes_split}
@@ -24,18 +24,18 @@ use Rattle.world_laws.proofs.Openings.{allowed_by}
 use Rattle.world_laws.proofs.Stripes.{placed_before_freed}
 use Rattle.world_laws.proofs.ToldImages.{image_same}
 use Rattle.world_laws.proofs.ToldSince.{told_when_made}
-use Rattle.core_laws.specs.SimpleMounts.{IsSimpleMount}
+use Rattle.core_laws.proofs.LosslessMounts.{IsLosslessMount}
 use Rattle.core_laws.proofs.LandedOver.{over_is}
-use Rattle.core_laws.proofs.SimpleMounts.{simple_made}
+use Rattle.core_laws.proofs.LosslessMounts.{lossless_made}
 use Rattle.core_laws.proofs.PlainLogs.{none_failed}
 use Rattle.rest_laws.proofs.ChunkRows.{all_landed, closed_when, count_full}
 
-module _ (i : Image) (w : World) (simple : IsSimpleMount i w) (o : Opening) (opened : Contains (openings (log_of w 0)) o) where
+module _ (i : Image) (w : World) (lossless : IsLosslessMount i w) (o : Opening) (opened : Contains (openings (log_of w 0)) o) where
   abbrev log : List Logged
   log = log_of w 0
 
   mount : IsLegalMount i w
-  mount = simple.mount
+  mount = lossless.mount
 
   module _ (f : IsFreedLife (log_of w 0) o) where
     h : IsMade i w 0 f.number f.logged
@@ -44,8 +44,8 @@ module _ (i : Image) (w : World) (simple : IsSimpleMount i w) (o : Opening) (ope
     own : log_of h.before 0 ≡ take f.number (log_of w 0)
     own = own_then i w 0 f.number f.logged h
 
-    earlier : IsSimpleMount i h.before
-    earlier = simple_made i w f.number f.logged simple h
+    earlier : IsLosslessMount i h.before
+    earlier = lossless_made i w f.number f.logged lossless h
 
     was_open : life_of (log_of h.before 0) o.line ≡ Opened o
     was_open = ap (λ (xs : List Logged). life_of xs o.line) own ∙ f.was
@@ -59,7 +59,7 @@ module _ (i : Image) (w : World) (simple : IsSimpleMount i w) (o : Opening) (ope
         (ap (λ (xs : List Logged). life_of xs o.line) (whole_own i (step_by 0 f.logged) h.before h.step))) ∙ may.over
 
     was_landed : have_landed (log_of h.before 0) o (line_end i.shape o / i.shape.ws_opt) ≡ true
-    was_landed = sym (over_is i h.before earlier.mount o was_open (none_failed (log_of h.before 0) earlier.engine.lost o)) ∙ was_over
+    was_landed = sym (over_is i h.before earlier.mount o was_open (none_failed (log_of h.before 0) earlier.none_lost o)) ∙ was_over
 
     all_before : length (take f.number (log_of w 0)) ≡ f.number
     all_before = let far : f.number < length log = get_below log f.number f.logged f.there in omega (arith, length-take f.number log)
@@ -108,5 +108,5 @@ module _ (i : Image) (w : World) (simple : IsSimpleMount i w) (o : Opening) (ope
       go (inr f) = freed_full f p its
       go (inl stands) =
           let landed : have_landed log o (line_end i.shape o / i.shape.ws_opt) ≡ true =
-          sym (over_is i w mount o stands (none_failed (log_of w 0) simple.engine.lost o)) ∙ over stands in
-          closed_when i.shape log o (all_landed i w simple o stands landed) p.stripe.unit (count_full i w simple o stands landed p its)
+          sym (over_is i w mount o stands (none_failed (log_of w 0) lossless.none_lost o)) ∙ over stands in
+          closed_when i.shape log o (all_landed i w lossless o stands landed) p.stripe.unit (count_full i w lossless o stands landed p its)

@@ -20,7 +20,7 @@ use Rattle.pblk_world.specs.Lines.{is_empty_state}
 use Rattle.pblk_world.specs.World.{World, cut_logs, known, knows_engine, log_of, media}
 use Rattle.pblk_world.proofs.WorldLemmas.{length_media}
 use Rattle.lemmas.proofs.Parts.{got_within, is_in}
-use Rattle.world_laws.specs.LegalMounts.{IsLegalMount}
+use Rattle.pblk_world.specs.LegalMounts.{IsLegalMount}
 use Rattle.world_laws.specs.UnitChunks.{chunk_after}
 use Rattle.world_laws.specs.SameTold.{AreSameTold}
 use Rattle.world_laws.proofs.FirstEvent.{IsBeginning, beginning_of}

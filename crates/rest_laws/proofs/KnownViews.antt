@@ -15,8 +15,8 @@ use Rattle.pblk_world.specs.World.{World, Logs, known, log_of, prefixes}
 use Rattle.lemmas.proofs.Lists.{IsAmong, among_contained, among_more}
 use Rattle.lemmas.proofs.Numbers.{fun_same}
 use Rattle.lemmas.proofs.Parts.{contained_among, get_taken, got_within, is_in, take_and_drop}
-use Rattle.world_laws.specs.LegalMounts.{IsLegalMount}
-use Rattle.world_laws.specs.Reasons.{WasBegun}
+use Rattle.pblk_world.specs.LegalMounts.{IsLegalMount}
+use Rattle.pblk_world.specs.Reasons.{WasBegun}
 use Rattle.world_laws.proofs.Later.{takes_joined}
 use Rattle.world_laws.proofs.Made.{IsMade, known_part, log_then, made, own_then}
 use Rattle.world_laws.proofs.NextLives.{IsDecided, decided}

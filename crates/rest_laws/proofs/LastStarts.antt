@@ -17,34 +17,34 @@ use Rattle.pblk_world.specs.World.{World, log_of}
 use Rattle.lemmas.proofs.Lists.{among_contained, last_in}
 use Rattle.lemmas.proofs.Maps.{all_filter, all_mapped, filter_both, map_last}
 use Rattle.lemmas.proofs.Parts.{all_by_get, contained_among, get_below, got_within, take_all, take_more}
-use Rattle.world_laws.specs.LegalMounts.{IsLegalMount}
+use Rattle.pblk_world.specs.LegalMounts.{IsLegalMount}
 use Rattle.world_laws.proofs.FoundImages.{found_seq}
 use Rattle.world_laws.proofs.HeldSectors.{last_last}
 use Rattle.world_laws.proofs.LineStripes.{start_whole}
 use Rattle.world_laws.proofs.Lives.{IsFreedLife, standing_or_freed}
 use Rattle.world_laws.proofs.Newest.{IsOlder, older_when_freed}
 use Rattle.world_laws.proofs.StartRecords.{IsNthOpening, nth_opening, numbers_rise, seq_of_nth}
-use Rattle.core_laws.specs.SimpleMounts.{IsSimpleMount}
+use Rattle.core_laws.proofs.LosslessMounts.{IsLosslessMount}
 use Rattle.core_laws.proofs.LandedNow.{opened_now}
 use Rattle.rest_laws.specs.NewestOpened.{IsLastOpened}
 use Rattle.rest_laws.proofs.NextPlaces.{first_landed, stripe_with}
 
 -- An opened line has begun where its stripes are answered and no stripe of its start record is to
 -- be placed.
-pub start_landed : (i : Image) (w : World) (simple : IsSimpleMount i w) (o : Opening) → life_of (log_of w 0) o.line ≡ Opened o
+pub start_landed : (i : Image) (w : World) (lossless : IsLosslessMount i w) (o : Opening) → life_of (log_of w 0) o.line ≡ Opened o
     → ((p : Placed) → Contains (placements (log_of w 0)) p → is_answered (log_of w 0) p ≡ true)
     → ((stripe : Stripe) → stripe.line ≡ o.line → ¬ IsStart i (log_of w) o stripe)
     → has_landed_start i.shape (log_of w 0) o ≡ true
-start_landed i w simple o is_open answered none = go (cases_lt (length (stripes_of (log_of w 0) o)) (start_stripes i.shape))
+start_landed i w lossless o is_open answered none = go (cases_lt (length (stripes_of (log_of w 0) o)) (start_stripes i.shape))
   where
     some : 0 < i.shape.ws_opt
-    some = simple.mount.accepted.drive.ws_opt
+    some = lossless.mount.accepted.drive.ws_opt
 
     go : (length (stripes_of (log_of w 0) o) < start_stripes i.shape) ⊎ (start_stripes i.shape ≤ length (stripes_of (log_of w 0) o))
         → has_landed_start i.shape (log_of w 0) o ≡ true
-    go (inr enough) = first_landed i w simple o (opened_now i w simple.mount o.line o is_open).0 answered (start_stripes i.shape) enough
+    go (inr enough) = first_landed i w lossless o (opened_now i w lossless.mount o.line o is_open).0 answered (start_stripes i.shape) enough
     go (inl few) =
-        let stripe = stripe_with i w simple o is_open (stripe_at i.shape (start_blocks i.shape o) 0 (next_address i.shape (log_of w 0) o)) in
+        let stripe = stripe_with i w lossless o is_open (stripe_at i.shape (start_blocks i.shape o) 0 (next_address i.shape (log_of w 0) o)) in
         absurd (none stripe.0 stripe.1 (record {
           next = stripe.2;
           within = subst (λ m. next_address i.shape (log_of w 0) o < m) (sym (start_whole i.shape some)) (mul-lt-mul_of_pos_right few some);
@@ -79,9 +79,9 @@ module _ (i : Image) (w : World) (n : Opening) (last : IsLastOpened (log_of w 0)
       ∙ ap (last_or (head (found_image i (log_of w)))) (map_last (λ (o : Opening). o.start) (filter test (take at.0 os)) n)
       ∙ last_last (head (found_image i (log_of w))) (map (λ (o : Opening). o.start) (filter test (take at.0 os))) n.start
 
-module _ (i : Image) (w : World) (simple : IsSimpleMount i w) (n : Opening) (last : IsLastOpened (log_of w 0) n) where
+module _ (i : Image) (w : World) (lossless : IsLosslessMount i w) (n : Opening) (last : IsLastOpened (log_of w 0) n) where
   mount : IsLegalMount i w
-  mount = simple.mount
+  mount = lossless.mount
 
   nth : IsNthOpening i w (at i w n last).0 n
   nth = nth_opening i w (at i w n last).0 n mount.legal (at i w n last).1
@@ -130,4 +130,4 @@ module _ (i : Image) (w : World) (simple : IsSimpleMount i w) (n : Opening) (las
   pub last_landed : ((p : Placed) → Contains (placements (log_of w 0)) p → is_answered (log_of w 0) p ≡ true)
       → ((stripe : Stripe) → stripe.line ≡ n.line → ¬ IsStart i (log_of w) n stripe)
       → has_landed_start i.shape (log_of w 0) n ≡ true
-  last_landed = start_landed i w simple n last_stands
+  last_landed = start_landed i w lossless n last_stands

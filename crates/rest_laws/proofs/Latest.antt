@@ -26,7 +26,7 @@ use Rattle.lemmas.proofs.Lists.{IsAmong, among_more}
 use Rattle.lemmas.proofs.Maps.{any_member}
 use Rattle.lemmas.proofs.Parts.{all_at, get_first, take_and_drop}
 use Rattle.lemmas.proofs.Tests.{and_both, same_number}
-use Rattle.world_laws.specs.LegalMounts.{IsLegalMount}
+use Rattle.pblk_world.specs.LegalMounts.{IsLegalMount}
 use Rattle.world_laws.proofs.Entries.{marks_bear}
 use Rattle.world_laws.proofs.Later.{landed_later, placed_later, placed_within, takes_joined}
 use Rattle.world_laws.proofs.Made.{IsMade, log_then, made, own_then}

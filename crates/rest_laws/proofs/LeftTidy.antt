@@ -21,7 +21,7 @@ use Rattle.lemmas.proofs.Maps.{given_at}
 use Rattle.lemmas.proofs.Options.{split_then}
 use Rattle.lemmas.proofs.Parts.{all_at, get_below}
 use Rattle.world_laws.specs.KnownChunks.{IsChange}
-use Rattle.world_laws.specs.LegalMounts.{IsLegalMount}
+use Rattle.pblk_world.specs.LegalMounts.{IsLegalMount}
 use Rattle.world_laws.specs.UnitChunks.{chunk_after}
 use Rattle.world_laws.proofs.FitMedia.{media_fit}
 use Rattle.world_laws.proofs.KnownPrefixes.{known_prefix, named_there}

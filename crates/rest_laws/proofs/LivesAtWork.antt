@@ -15,7 +15,7 @@ use Rattle.pblk_world.specs.Victims.{is_freed, victim}
 use Rattle.pblk_world.specs.World.{World, log_of}
 use Rattle.lemmas.proofs.Options.{map_some}
 use Rattle.lemmas.proofs.Tests.{not_both, same_number}
-use Rattle.world_laws.specs.LegalMounts.{IsLegalMount}
+use Rattle.pblk_world.specs.LegalMounts.{IsLegalMount}
 use Rattle.world_laws.proofs.KeptChunks.{found_before}
 use Rattle.world_laws.proofs.NextLives.{IsFreedAt, life_next, open_or_freed}
 use Rattle.world_laws.proofs.ToldImages.{found_at}

@@ -13,7 +13,7 @@ use Rattle.pblk_world.specs.Legal.{IsLegal}
 use Rattle.pblk_world.specs.World.{World, Logs, known, log_of, prefixes, unit_event_at, unit_event_of}
 use Rattle.lemmas.proofs.Parts.{all_by_get, get_whole}
 use Rattle.lemmas.proofs.Tests.{same_number}
-use Rattle.world_laws.specs.LegalMounts.{NoneLost, decides, is_losing}
+use Rattle.pblk_world.specs.LegalMounts.{NoStripeLost, decides, is_losing}
 use Rattle.world_laws.proofs.KnownPrefixes.{named_there}
 use Rattle.world_laws.proofs.NextLives.{IsDecided, decided}
 
@@ -57,5 +57,5 @@ module _ (i : Image) (w : World) (legal : IsLegal i w) where
     not_losing q l there (Decides (Free line)) is = refl
     not_losing q l there (Does e maker) is = refl
 
-    pub none_lost : NoneLost (log_of w 0)
+    pub none_lost : NoStripeLost (log_of w 0)
     none_lost = all_by_get (λ (l : Logged). decides is_losing l.event ≡ false) (log_of w 0) (λ q l there. not_losing q l there l.event refl)

@@ -28,7 +28,7 @@ use Rattle.lemmas.proofs.Lists.{IsAmong, among_contained}
 use Rattle.lemmas.proofs.Maps.{in_filter}
 use Rattle.lemmas.proofs.Parts.{all_by_get, contained_among, get_below, get_first, get_whole_within, got_within, take_and_drop}
 use Rattle.lemmas.proofs.Tests.{and_both, le_true}
-use Rattle.world_laws.specs.LegalMounts.{IsLegalMount, NoneLost}
+use Rattle.pblk_world.specs.LegalMounts.{IsLegalMount, NoStripeLost}
 use Rattle.world_laws.proofs.FoundImages.{found_seq}
 use Rattle.world_laws.proofs.LineStarts.{landed_of}
 use Rattle.world_laws.proofs.LineStripes.{enough_placed, start_whole}
@@ -39,14 +39,14 @@ use Rattle.world_laws.proofs.StartRecords.{IsNthOpening, nth_opening, numbers_ri
 use Rattle.world_laws.proofs.Stripes.{IsOpening, opening_is}
 use Rattle.world_laws.proofs.ToldSince.{told_up_to}
 use Rattle.world_laws.proofs.ToldTables.{left_told, newest_told}
-use Rattle.core_laws.specs.InOrder.{HasRoom}
-use Rattle.core_laws.specs.SimpleMounts.{IsSimpleMount}
+use Rattle.core_laws.specs.InOrder.{FitsItsLine}
+use Rattle.core_laws.proofs.LosslessMounts.{IsLosslessMount}
 use Rattle.core_laws.proofs.BegunOnce.{begun_once}
 use Rattle.core_laws.proofs.EachChunk.{all_hold}
 use Rattle.core_laws.proofs.LandedOver.{over_is}
 use Rattle.core_laws.proofs.LineRoom.{has_room}
 use Rattle.core_laws.proofs.PlainLogs.{none_failed}
-use Rattle.core_laws.proofs.SimpleMounts.{simple_made}
+use Rattle.core_laws.proofs.LosslessMounts.{lossless_made}
 use Rattle.prefix_law.specs.AfterMount.{IsReduced}
 use Rattle.prefix_law.proofs.LineFacts.{HasFacts, facts}
 use Rattle.prefix_law.proofs.MountHead.{AsBefore, IsNewestBy, newest_is, newest_there, OfMount, reduced, which, WhichHead}
@@ -81,13 +81,13 @@ start_within s g some = go (nat_lt (g * s.clba - start_len s - end_len s g) s.ws
         let all : data_len s g ≡ g * s.clba - start_len s - end_len s g = ap (λ t. if t then 0 else g * s.clba - start_len s - end_len s g) e in
         omega arith
 
-over_started : (i : Image) (w : World) (simple : IsSimpleMount i w) (o : Opening) → life_of (log_of w 0) o.line ≡ Opened o
+over_started : (i : Image) (w : World) (lossless : IsLosslessMount i w) (o : Opening) → life_of (log_of w 0) o.line ≡ Opened o
     → are_over i (log_of w) o.line ≡ true → has_landed_start i.shape (log_of w 0) o ≡ true
-over_started i w simple o is_open over =
-    let some : 0 < i.shape.ws_opt = simple.mount.accepted.drive.ws_opt in
+over_started i w lossless o is_open over =
+    let some : 0 < i.shape.ws_opt = lossless.mount.accepted.drive.ws_opt in
     let landed : have_landed (log_of w 0) o (line_end i.shape o / i.shape.ws_opt) ≡ true =
-    sym (over_is i w simple.mount o is_open (none_failed (log_of w 0) simple.engine.lost o)) ∙ over in
-    let room : HasRoom i.shape (log_of w 0) o = has_room i w o.line o simple.mount is_open in
+    sym (over_is i w lossless.mount o is_open (none_failed (log_of w 0) lossless.none_lost o)) ∙ over in
+    let room : FitsItsLine i.shape (log_of w 0) o = has_room i w o.line o lossless.mount is_open in
     let low : start_len i.shape ≤ line_end i.shape o = start_within i.shape o.start.width room.some in
     let whole : start_len i.shape ≡ start_stripes i.shape * i.shape.ws_opt = start_whole i.shape some in
     let fits : start_stripes i.shape * i.shape.ws_opt ≤ line_end i.shape o = subst (λ n. n ≤ line_end i.shape o) whole low in
@@ -96,7 +96,7 @@ over_started i w simple o is_open over =
 
 -- ---- three lines that were opened one after another
 
-module _ (i : Image) (w : World) (simple : IsSimpleMount i w) (k : ℕ) (x y z : Opening) (x_at : slice_get (openings (log_of w 0)) k ≡ Some x)
+module _ (i : Image) (w : World) (lossless : IsLosslessMount i w) (k : ℕ) (x y z : Opening) (x_at : slice_get (openings (log_of w 0)) k ≡ Some x)
     (y_at : slice_get (openings (log_of w 0)) (k + 1) ≡ Some y) (z_at : slice_get (openings (log_of w 0)) (k + 2) ≡ Some z) where
   abbrev log : List Logged
   log = log_of w 0
@@ -106,10 +106,10 @@ module _ (i : Image) (w : World) (simple : IsSimpleMount i w) (k : ℕ) (x y z :
 
   -- the world in which the third was opened
   h : IsMade i w 0 z.number is.logged
-  h = made i w 0 z.number is.logged simple.mount.legal is.there
+  h = made i w 0 z.number is.logged lossless.mount.legal is.there
 
-  earlier : IsSimpleMount i h.before
-  earlier = simple_made i w z.number is.logged simple h
+  earlier : IsLosslessMount i h.before
+  earlier = lossless_made i w z.number is.logged lossless h
 
   own : log_of h.before 0 ≡ take z.number (log_of w 0)
   own = own_then i w 0 z.number is.logged h
@@ -175,9 +175,9 @@ module _ (i : Image) (w : World) (simple : IsSimpleMount i w) (k : ℕ) (x y z :
 
   seqs : x.start.seq + 1 ≡ y.start.seq
   seqs =
-      let nth : IsNthOpening i w k x = nth_opening i w k x simple.mount.legal x_at in
-      let first : x.start.seq ≡ nth.g.beginning.seq + k = seq_of_nth i w k x nth.g simple.mount.legal nth.is_begun x_at in
-      let second : y.start.seq ≡ nth.g.beginning.seq + (k + 1) = seq_of_nth i w (k + 1) y nth.g simple.mount.legal nth.is_begun y_at in
+      let nth : IsNthOpening i w k x = nth_opening i w k x lossless.mount.legal x_at in
+      let first : x.start.seq ≡ nth.g.beginning.seq + k = seq_of_nth i w k x nth.g lossless.mount.legal nth.is_begun x_at in
+      let second : y.start.seq ≡ nth.g.beginning.seq + (k + 1) = seq_of_nth i w (k + 1) y nth.g lossless.mount.legal nth.is_begun y_at in
       omega arith
 
   left : (o : Opening) → life_of (log_of h.before 0) o.line ≡ Opened o → are_over i (log_of h.before) o.line ≡ false
@@ -189,9 +189,10 @@ module _ (i : Image) (w : World) (simple : IsSimpleMount i w) (k : ℕ) (x y z :
   two_left : life_of (log_of h.before 0) x.line ≡ Opened x → are_over i (log_of h.before) x.line ≡ false
       → are_over i (log_of h.before) y.line ≡ false → ⊥
   two_left x_stands x_left y_left =
-      let may : MayOpen i (engine_prefix z.number (log_of w)) _ z.line z.start = (nth_opening i w (k + 2) z simple.mount.legal z_at).may in
+      let may : MayOpen i (engine_prefix z.number (log_of w)) _ z.line z.start = (nth_opening i w (k + 2) z lossless.mount.legal z_at).may in
       let same : x.line ≡ y.line =
-      may.one_other x.line y.line (nth_opening i w k x simple.mount.legal x_at).may.in_range (nth_opening i w (k + 1) y simple.mount.legal y_at).may.in_range
+      may.one_other x.line y.line (nth_opening i w k x lossless.mount.legal x_at).may.in_range
+      (nth_opening i w (k + 1) y lossless.mount.legal y_at).may.in_range
       (left x x_stands x_left) (left y y_stands y_left) in
       let one : x ≡ y = same_Some x y (ap last_opening (sym x_stands ∙ ap (life_of (log_of h.before 0)) same ∙ y_stands)) in
       let number : x.number ≡ y.number = ap (λ (o : Opening). o.number) one in
@@ -215,7 +216,7 @@ module _ (i : Image) (w : World) (simple : IsSimpleMount i w) (k : ℕ) (x y z :
 
   -- and the newest one now is as new or newer
   pub newest_near : (s : StartRecord) × (newest_start i (log_of w) ≡ Some s) × (x.start.seq ≤ s.seq)
-  newest_near = go z.number refl (opened_later i w (k + 2) z simple.mount.legal z_at)
+  newest_near = go z.number refl (opened_later i w (k + 2) z lossless.mount.legal z_at)
     where
       go : (n : ℕ) → z.number ≡ n → 0 < z.number → (s : StartRecord) × (newest_start i (log_of w) ≡ Some s) × (x.start.seq ≤ s.seq)
       go zero e later = absurd (omega arith)
@@ -224,7 +225,7 @@ module _ (i : Image) (w : World) (simple : IsSimpleMount i w) (k : ℕ) (x y z :
           let then_ : newest_start i (engine_prefix (suc a) (log_of w)) ≡ Some s.0 =
           ap (λ n. newest_start i (engine_prefix n (log_of w))) (sym e)
           ∙ newest_told i (log_of h.before) (engine_prefix z.number (log_of w)) (told_up_to i w z.number is.logged h) ∙ s.1.is_newest in
-          let newest : IsNewest i w s.0 = newest_grows i w a s.0 simple.mount.legal then_ in
+          let newest : IsNewest i w s.0 = newest_grows i w a s.0 lossless.mount.legal then_ in
           let low : x.start.seq ≤ s.0.seq = s.1.seq in
           let high : s.0.seq ≤ newest.newest.seq = newest.seq in
           (newest.newest, newest.is_newest, omega arith)
@@ -303,7 +304,7 @@ module _ (i : Image) (w : World) (b : Begun) (mount : IsLegalMount i w) (sealed 
           omega arith
       go (AsBefore all) = by_head (reduced i w b mount has begins all) (head found) refl
 
-pub next_near : (i : Image) (w : World) (b : Begun) → IsLegalMount i w → NoneLost (log_of w 0) → IsSealed i → begun (log_of w 0) ≡ Some b
+pub next_near : (i : Image) (w : World) (b : Begun) → IsLegalMount i w → NoStripeLost (log_of w 0) → IsSealed i → begun (log_of w 0) ≡ Some b
     → b.beginning.seq + length (openings (log_of w 0)) ≤ next_seq (head (media i (log_of w))) + 2
 next_near i w b mount none_lost sealed begins = go (cases_lt 2 (length (openings (log_of w 0))))
   where
@@ -318,7 +319,7 @@ next_near i w b mount none_lost sealed begins = go (cases_lt 2 (length (openings
         let x = got_within (openings (log_of w 0)) k (omega arith) in
         let y = got_within (openings (log_of w 0)) (k + 1) (omega arith) in
         let z = got_within (openings (log_of w 0)) (k + 2) (omega arith) in
-        let s = newest_near i w (record { mount = mount; engine = record { lost = none_lost } }) k x.0 y.0 z.0 x.1 y.1 z.1 in
+        let s = newest_near i w (record { mount = mount; none_lost = none_lost }) k x.0 y.0 z.0 x.1 y.1 z.1 in
         let seq : x.0.start.seq ≡ b.beginning.seq + k = seq_of_nth i w k x.0 b mount.legal begins x.1 in
         let far : x.0.start.seq ≤ s.0.seq = s.2 in
         let low : s.0.seq < next_seq (head (media i (log_of w))) = newest_low i w b mount sealed begins s.0 s.1 (omega arith) in
@@ -330,7 +331,7 @@ low_head : (o : Option StartRecord) → ((h : StartRecord) → o ≡ Some h → 
 low_head None low = omega arith
 low_head (Some h) low = let seq : h.seq < 2 ^ 60 = low h refl in omega arith
 
-pub numbers_left : (i : Image) (w : World) → IsLegalMount i w → NoneLost (log_of w 0) → IsSealed i → 0 < length (log_of w 0)
+pub numbers_left : (i : Image) (w : World) → IsLegalMount i w → NoStripeLost (log_of w 0) → IsSealed i → 0 < length (log_of w 0)
     → end (media i (log_of w)) < 2 ^ 60 → ((h : StartRecord) → head (media i (log_of w)) ≡ Some h → h.seq < 2 ^ 60)
     → HasNumbersLeft i.shape (log_of w 0)
 numbers_left i w mount none_lost sealed some low low_seq =

@@ -14,7 +14,7 @@ use Rattle.pblk_world.specs.Victims.{engine_prefix, victim}
 use Rattle.pblk_world.specs.World.{World, Logs, log_of}
 use Rattle.pblk_world.proofs.VictimsLemmas.{whole_prefix}
 use Rattle.lemmas.proofs.Parts.{got_within}
-use Rattle.world_laws.specs.Orders.{AreReset}
+use Rattle.pblk_world.specs.Orders.{AreReset}
 use Rattle.world_laws.specs.SameTold.{AreSameTold}
 use Rattle.world_laws.proofs.ToldTables.{addresses_told}
 use Rattle.room_law.specs.Counting.{State, waiting_count}

@@ -19,23 +19,23 @@ use Rattle.lemmas.proofs.Lists.{all_of}
 use Rattle.lemmas.proofs.Maps.{any_fail}
 use Rattle.lemmas.proofs.Parts.{all_by_get, all_taken, contained_among, got_within}
 use Rattle.lemmas.proofs.Tests.{and_both, le_true, lt_true}
-use Rattle.world_laws.specs.LegalMounts.{IsLegalMount}
+use Rattle.pblk_world.specs.LegalMounts.{IsLegalMount}
 use Rattle.world_laws.proofs.LineStripes.{some_data}
 use Rattle.world_laws.proofs.NextPrograms.{landed_of_answered}
 use Rattle.world_laws.proofs.Stripes.{stripe_is}
-use Rattle.core_laws.specs.SimpleMounts.{IsSimpleMount}
+use Rattle.core_laws.proofs.LosslessMounts.{IsLosslessMount}
 use Rattle.core_laws.proofs.EachChunk.{all_hold}
 use Rattle.core_laws.proofs.FreedWidths.{opened_width}
 use Rattle.core_laws.proofs.LandedNow.{opened_now}
 use Rattle.core_laws.proofs.OpenedRows.{has_width}
 use Rattle.core_laws.proofs.PlainLogs.{never_lost}
 
-module _ (i : Image) (w : World) (simple : IsSimpleMount i w) (o : Opening) where
+module _ (i : Image) (w : World) (lossless : IsLosslessMount i w) (o : Opening) where
   mount : IsLegalMount i w
-  mount = simple.mount
+  mount = lossless.mount
 
   not_lost : (p : Placed) → was_lost (log_of w 0) p ≡ false
-  not_lost p = never_lost (log_of w 0) simple.engine.lost p
+  not_lost p = never_lost (log_of w 0) lossless.none_lost p
 
   -- ---- landed
 

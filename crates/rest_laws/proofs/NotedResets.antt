@@ -6,8 +6,8 @@ use Rattle.pblk_world.specs.EngineLog.{Begun, begun}
 use Rattle.pblk_world.specs.Lines.{are_empty, known_image}
 use Rattle.pblk_world.specs.World.{World, log_of}
 use Rattle.lemmas.proofs.Tests.{not_both}
-use Rattle.world_laws.specs.LegalMounts.{IsLegalMount}
-use Rattle.world_laws.specs.Orders.{AreReset}
+use Rattle.pblk_world.specs.LegalMounts.{IsLegalMount}
+use Rattle.pblk_world.specs.Orders.{AreReset}
 use Rattle.rest_laws.proofs.UsedResets.{IsUnheardReset, in_range, still_given, unempty_now, unnoted}
 
 module _ (i : Image) (w : World) (mount : IsLegalMount i w) (b : Begun) (begins : begun (log_of w 0) ≡ Some b) (unit number : ℕ) where

@@ -22,7 +22,7 @@ use Rattle.pblk_world.proofs.LinesLemmas.{length_known}
 use Rattle.pblk_world.proofs.VictimsLemmas.{whole_prefix}
 use Rattle.lemmas.proofs.Options.{split_then}
 use Rattle.lemmas.proofs.Parts.{all_at, all_by_get, get_below, got_within}
-use Rattle.world_laws.specs.LegalMounts.{IsLegalMount, NoneLost}
+use Rattle.pblk_world.specs.LegalMounts.{IsLegalMount, NoStripeLost}
 use Rattle.world_laws.proofs.FitMedia.{media_fit}
 use Rattle.world_laws.proofs.KnownChunks.{IsKnownTo, known_first, known_later}
 use Rattle.world_laws.proofs.LifeUnits.{begun_within, chunk_known}
@@ -34,7 +34,7 @@ use Rattle.rest_laws.proofs.WholeChunks.{known_whole}
 
 -- ---- nothing was lost
 
-pub faultless_kept : (i : Image) (w : World) → IsLegal i w → IsFaultless (log_of w) → NoneLost (log_of w 0)
+pub faultless_kept : (i : Image) (w : World) → IsLegal i w → IsFaultless (log_of w) → NoStripeLost (log_of w 0)
 faultless_kept i w legal fine =
     none_lost i w legal (λ unit number h. fine.none_failed unit number h.landed_before h.program h.named h.there h.failed)
 

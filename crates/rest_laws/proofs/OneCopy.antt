@@ -21,8 +21,8 @@ use Rattle.lemmas.proofs.Lists.{among_contained}
 use Rattle.lemmas.proofs.Maps.{fewer_taken, given_at, in_filter}
 use Rattle.lemmas.proofs.Parts.{all_by_get, contained_among, get_taken, get_whole_within, got_within}
 use Rattle.lemmas.proofs.Tests.{lt_true}
-use Rattle.world_laws.specs.LegalMounts.{IsLegalMount}
-use Rattle.world_laws.specs.Reasons.{AreBegun, TakesCopy, WasBegun}
+use Rattle.pblk_world.specs.LegalMounts.{IsLegalMount}
+use Rattle.pblk_world.specs.Reasons.{AreBegun, TakesCopy, WasBegun}
 use Rattle.world_laws.proofs.Fronts.{IsLandedAt, landed_at, synced_from}
 use Rattle.world_laws.proofs.HeldSectors.{all_pass}
 use Rattle.world_laws.proofs.Positions.{position_below, position_of}

@@ -17,12 +17,12 @@ use Rattle.lemmas.proofs.Lists.{all_of, among_contained}
 use Rattle.lemmas.proofs.Maps.{any_fail}
 use Rattle.lemmas.proofs.Parts.{get_below}
 use Rattle.lemmas.proofs.Tests.{not_both}
-use Rattle.world_laws.specs.LegalMounts.{IsLegalMount}
+use Rattle.pblk_world.specs.LegalMounts.{IsLegalMount}
 use Rattle.world_laws.proofs.LineStripes.{IsSplit, failed_later, some_data, stripes_split}
 use Rattle.world_laws.proofs.NextLives.{IsOpenSince, open_since}
 use Rattle.world_laws.proofs.StartRecords.{nth_opening}
 use Rattle.world_laws.proofs.Stripes.{IsOpening, opening_is}
-use Rattle.core_laws.specs.SimpleMounts.{IsSimpleMount}
+use Rattle.core_laws.proofs.LosslessMounts.{IsLosslessMount}
 use Rattle.core_laws.specs.Spent.{OpensWhenFull}
 use Rattle.core_laws.proofs.LandedNow.{opened_now}
 use Rattle.core_laws.proofs.LandedOver.{over_is}
@@ -30,7 +30,7 @@ use Rattle.rest_laws.proofs.NextPlaces.{first_landed, stripe_with}
 use Rattle.core_laws.proofs.LaterLines.{none_in_sum}
 use Rattle.core_laws.proofs.PlainLogs.{never_lost, none_failed}
 
-module _ (i : Image) (w : World) (simple : IsSimpleMount i w) (full : OpensWhenFull i (log_of w)) (n : Opening)
+module _ (i : Image) (w : World) (lossless : IsLosslessMount i w) (full : OpensWhenFull i (log_of w)) (n : Opening)
     (opened : Contains (openings (log_of w 0)) n) (o : Opening) (before : o.number < n.number) (is_open : life_of (log_of w 0) o.line ≡ Opened o)
     (answered : (p : Placed) → Contains (placements (log_of w 0)) p → is_answered (log_of w 0) p ≡ true)
     (none : (stripe : Stripe) → stripe.line ≡ o.line → ¬ IsEnd i (log_of w) o stripe) where
@@ -38,7 +38,7 @@ module _ (i : Image) (w : World) (simple : IsSimpleMount i w) (full : OpensWhenF
   log = log_of w 0
 
   mount : IsLegalMount i w
-  mount = simple.mount
+  mount = lossless.mount
 
   -- its data was placed before
   data_placed : end_address i.shape o ≤ next_address i.shape (log_of w 0) o
@@ -75,7 +75,7 @@ module _ (i : Image) (w : World) (simple : IsSimpleMount i w) (full : OpensWhenF
           go false e = e
           go true e = absurd (not_both (has_failed log o) (failed_later log o n.number e)
               (any_fail (was_lost log) (stripes_of log o) (all_of (λ p. was_lost log p ≡ false)
-              (λ p. never_lost log simple.engine.lost p) (stripes_of log o))))
+              (λ p. never_lost log lossless.none_lost p) (stripes_of log o))))
 
   pub others_over : are_over i (log_of w) o.line ≡ true
   others_over = go (cases_lt (next_address i.shape log o) (line_end i.shape o))
@@ -90,15 +90,15 @@ module _ (i : Image) (w : World) (simple : IsSimpleMount i w) (full : OpensWhenF
       go : (next_address i.shape (log_of w 0) o < line_end i.shape o) ⊎ (line_end i.shape o ≤ next_address i.shape (log_of w 0) o)
           → are_over i (log_of w) o.line ≡ true
       go (inr past) =
-          over_is i w mount o is_open (none_failed (log_of w 0) simple.engine.lost o)
-          ∙ first_landed i w simple o own answered (line_end i.shape o / i.shape.ws_opt) (fit (line_end i.shape o) past)
+          over_is i w mount o is_open (none_failed (log_of w 0) lossless.none_lost o)
+          ∙ first_landed i w lossless o own answered (line_end i.shape o / i.shape.ws_opt) (fit (line_end i.shape o) past)
       go (inl more) =
-          let stripe = stripe_with i w simple o is_open
+          let stripe = stripe_with i w lossless o is_open
           (stripe_at i.shape (end_blocks i.shape log o) (end_address i.shape o) (next_address i.shape log o)) in
           absurd (none stripe.0 stripe.1 (record {
             next = stripe.2;
             from = data_placed;
             within = more;
-            data_landed = first_landed i w simple o own answered (end_address i.shape o / i.shape.ws_opt) (fit (end_address i.shape o) data_placed);
+            data_landed = first_landed i w lossless o own answered (end_address i.shape o / i.shape.ws_opt) (fit (end_address i.shape o) data_placed);
             blocks = stripe.3;
           }))

@@ -21,7 +21,7 @@ use Rattle.pblk_world.specs.Victims.{engine_prefix, positions_in}
 use Rattle.pblk_world.specs.World.{World, log_of}
 use Rattle.lemmas.proofs.Lists.{IsAmong, all_contains, among_contained}
 use Rattle.lemmas.proofs.Parts.{contained_among, get_below, take_and_drop}
-use Rattle.world_laws.specs.LegalMounts.{IsLegalMount}
+use Rattle.pblk_world.specs.LegalMounts.{IsLegalMount}
 use Rattle.world_laws.proofs.LineStarts.{landed_of}
 use Rattle.world_laws.proofs.LineStripes.{stripe_then}
 use Rattle.world_laws.proofs.Made.{IsMade, made, own_then}
@@ -31,8 +31,8 @@ use Rattle.world_laws.proofs.StartRecords.{IsNthOpening, nth_opening}
 use Rattle.world_laws.proofs.Stripes.{IsOpening, opening_is, opening_of_prefix}
 use Rattle.world_laws.proofs.ToldSince.{told_up_to}
 use Rattle.world_laws.proofs.ToldTables.{left_told}
-use Rattle.core_laws.specs.InOrder.{HasRoom}
-use Rattle.core_laws.specs.SimpleMounts.{IsSimpleMount}
+use Rattle.core_laws.specs.InOrder.{FitsItsLine}
+use Rattle.core_laws.proofs.LosslessMounts.{IsLosslessMount}
 use Rattle.core_laws.specs.Spent.{OpensWhenFull}
 use Rattle.core_laws.proofs.Engine.{openings_before}
 use Rattle.core_laws.proofs.FreedWidths.{opened_width}
@@ -41,18 +41,18 @@ use Rattle.core_laws.proofs.LandedOver.{over_is}
 use Rattle.core_laws.proofs.LaterLines.{seq_rises}
 use Rattle.core_laws.proofs.LineRoom.{few_stripes, has_room}
 use Rattle.core_laws.proofs.OverLines.{IsOfStripe, of_stripe, positions_written}
-use Rattle.core_laws.proofs.SimpleMounts.{simple_made}
+use Rattle.core_laws.proofs.LosslessMounts.{lossless_made}
 use Rattle.core_laws.proofs.PlainLogs.{none_failed}
 use Rattle.rest_laws.specs.BehindLines.{IsBehind}
 use Rattle.rest_laws.proofs.OverSynced.{below_synced}
 
-module _ (i : Image) (w : World) (simple : IsSimpleMount i w) (full : OpensWhenFull i (log_of w)) (n : Opening)
+module _ (i : Image) (w : World) (lossless : IsLosslessMount i w) (full : OpensWhenFull i (log_of w)) (n : Opening)
     (opened : Contains (openings (log_of w 0)) n) where
   abbrev log : List Logged
   log = log_of w 0
 
   mount : IsLegalMount i w
-  mount = simple.mount
+  mount = lossless.mount
 
   pub nth : (k : ℕ) × IsNthOpening i w k n × IsOpening (log_of w 0) k n
   nth = let at = among_contained (openings log) n opened in
@@ -69,8 +69,8 @@ module _ (i : Image) (w : World) (simple : IsSimpleMount i w) (full : OpensWhenF
   own : log_of h.before 0 ≡ take n.number (log_of w 0)
   own = own_then i w 0 n.number nth.2.logged h
 
-  earlier : IsSimpleMount i h.before
-  earlier = simple_made i w n.number nth.2.logged simple h
+  earlier : IsLosslessMount i h.before
+  earlier = lossless_made i w n.number nth.2.logged lossless h
 
   full_then : OpensWhenFull i (log_of h.before)
   full_then x there =
@@ -97,13 +97,13 @@ module _ (i : Image) (w : World) (simple : IsSimpleMount i w) (full : OpensWhenF
 
     module _ (over : are_over i (log_of h.before) o.line ≡ true) where
       landed_then : have_landed (log_of h.before 0) o (line_end i.shape o / i.shape.ws_opt) ≡ true
-      landed_then = sym (over_is i h.before earlier.mount o open_then (none_failed (log_of h.before 0) earlier.engine.lost o)) ∙ over
+      landed_then = sym (over_is i h.before earlier.mount o open_then (none_failed (log_of h.before 0) earlier.none_lost o)) ∙ over
 
       over_now : are_over i (log_of w) o.line ≡ true
       over_now =
           let count : ℕ = line_end i.shape o / i.shape.ws_opt in
           let first : have_landed (take n.number log) o count ≡ true = ap (λ (xs : List Logged). have_landed xs o count) (sym own) ∙ landed_then in
-          over_is i w mount o is_open (none_failed (log_of w 0) simple.engine.lost o)
+          over_is i w mount o is_open (none_failed (log_of w 0) lossless.none_lost o)
           ∙ subst (λ (xs : List Logged). have_landed xs o count ≡ true) (take_and_drop n.number log)
           (have_landed_later (take n.number log) (drop n.number log) o count first)
 
@@ -112,7 +112,7 @@ module _ (i : Image) (w : World) (simple : IsSimpleMount i w) (full : OpensWhenF
       placed_then p its =
           let count : ℕ = line_end i.shape o / i.shape.ws_opt in
           let at : IsAmong (stripes_of log o) p = among_contained (stripes_of log o) p its in
-          let room : HasRoom i.shape log o = has_room i w o.line o mount is_open in
+          let room : FitsItsLine i.shape log o = has_room i w o.line o mount is_open in
           let few : length (stripes_of log o) ≤ line_end i.shape o / i.shape.ws_opt =
           few_stripes (length (stripes_of log o)) (line_end i.shape o) i.shape.ws_opt mount.accepted.drive.ws_opt room.within in
           let below : at.0 < length (stripes_of log o) = get_below (stripes_of log o) at.0 p at.1 in

@@ -27,7 +27,7 @@ use Rattle.lemmas.proofs.Lists.{IsAmong, among_contained}
 use Rattle.lemmas.proofs.Maps.{any_member, in_filter}
 use Rattle.lemmas.proofs.Parts.{contained_among, get_below, take_and_drop}
 use Rattle.lemmas.proofs.Tests.{and_both, below_of, both, le_true, lt_true, not_both, same_number}
-use Rattle.world_laws.specs.LegalMounts.{IsLegalMount}
+use Rattle.pblk_world.specs.LegalMounts.{IsLegalMount}
 use Rattle.world_laws.proofs.Fronts.{synced_from}
 use Rattle.world_laws.proofs.Later.{answered_later, placed_later, placed_within}
 use Rattle.world_laws.proofs.LineStarts.{landed_of}
@@ -35,9 +35,8 @@ use Rattle.world_laws.proofs.Made.{IsMade, made, own_then}
 use Rattle.world_laws.proofs.NextPrograms.{landed_of_answered}
 use Rattle.world_laws.proofs.Openings.{placed_at}
 use Rattle.world_laws.proofs.Stripes.{IsPlaced, life_of_stripe, one_opening, opening_then, placed_is, stripe_is}
-use Rattle.core_laws.specs.SimpleMounts.{IsSimpleMount}
+use Rattle.core_laws.proofs.LosslessMounts.{IsLosslessMount}
 use Rattle.core_laws.specs.Spent.{OpensWhenFull}
-use Rattle.core_laws.specs.PlainLogs.{NoStripeLost}
 use Rattle.core_laws.proofs.Distinct.{passing}
 use Rattle.core_laws.proofs.FreedWidths.{opened_width}
 use Rattle.core_laws.proofs.KeptLines.{on_drive}
@@ -45,15 +44,15 @@ use Rattle.core_laws.proofs.LandedNow.{opened_now}
 use Rattle.core_laws.proofs.LineRoom.{few_stripes}
 use Rattle.core_laws.proofs.PlacedAnew.{earlier_stripe, one_kept, one_number}
 use Rattle.core_laws.proofs.PlacedInOrder.{IsOrdered, front_within, ordered, some_hold_below}
-use Rattle.core_laws.proofs.SimpleMounts.{simple_made}
+use Rattle.core_laws.proofs.LosslessMounts.{lossless_made}
 use Rattle.core_laws.proofs.LaterLines.{none_in_older}
-use Rattle.core_laws.proofs.PlainLogs.{never_lost}
+use Rattle.core_laws.proofs.PlainLogs.{NoPlacementLost, never_lost}
 use Rattle.rest_laws.proofs.ChunkRows.{IsInRow, all_landed, in_row}
 use Rattle.rest_laws.proofs.WideLines.{column_of_unit}
 use Rattle.lemmas.proofs.Tests.{same}
 use Rattle.std.proofs.Common.{◌==◌}
 
-module _ (i : Image) (w : World) (simple : IsSimpleMount i w) (full : OpensWhenFull i (log_of w)) where
+module _ (i : Image) (w : World) (lossless : IsLosslessMount i w) (full : OpensWhenFull i (log_of w)) where
   abbrev log : List Logged
   log = log_of w 0
 
@@ -61,13 +60,13 @@ module _ (i : Image) (w : World) (simple : IsSimpleMount i w) (full : OpensWhenF
   s = i.shape
 
   mount : IsLegalMount i w
-  mount = simple.mount
+  mount = lossless.mount
 
   order : IsOrdered i.shape (log_of w 0)
-  order = ordered i w simple.mount
+  order = ordered i w lossless.mount
 
   not_lost : (p : Placed) → was_lost (log_of w 0) p ≡ false
-  not_lost p = never_lost log simple.engine.lost p
+  not_lost p = never_lost log lossless.none_lost p
 
   -- how a stripe's line had been opened when it was placed
   pub record IsOf (p : Placed) (o : Opening) : Type 0 where
@@ -86,14 +85,14 @@ module _ (i : Image) (w : World) (simple : IsSimpleMount i w) (full : OpensWhenF
   ordered_then p there =
       let is : IsPlaced log p = placed_is log p there in
       let h : IsMade i w 0 p.number is.logged = made i w 0 p.number is.logged mount.legal is.there in
-      subst (IsOrdered s) (own_then i w 0 p.number is.logged h) (ordered i h.before (simple_made i w p.number is.logged simple h).mount)
+      subst (IsOrdered s) (own_then i w 0 p.number is.logged h) (ordered i h.before (lossless_made i w p.number is.logged lossless h).mount)
 
-  pub lost_then : (p : Placed) → Contains (placements (log_of w 0)) p → NoStripeLost (take p.number (log_of w 0))
+  pub lost_then : (p : Placed) → Contains (placements (log_of w 0)) p → NoPlacementLost (take p.number (log_of w 0))
   lost_then p there =
       let is : IsPlaced log p = placed_is log p there in
       let h : IsMade i w 0 p.number is.logged = made i w 0 p.number is.logged mount.legal is.there in
-      subst NoStripeLost (own_then i w 0 p.number is.logged h)
-      (never_lost (log_of h.before 0) (simple_made i w p.number is.logged simple h).engine.lost)
+      subst NoPlacementLost (own_then i w 0 p.number is.logged h)
+      (never_lost (log_of h.before 0) (lossless_made i w p.number is.logged lossless h).none_lost)
 
   pub first_then : (n : ℕ) → 0 < n → first_position (take n (log_of w 0)) ≡ first_position (log_of w 0)
   first_then n some = ap (λ (b : Option Begun). option_map_or (λ (x : Begun). x.beginning.first) b 0) (begun_taken n (log_of w 0) some)
@@ -131,7 +130,7 @@ module _ (i : Image) (w : World) (simple : IsSimpleMount i w) (full : OpensWhenF
       (wide : width (known_image i (log_of w)) o.line ≡ units i.shape) where
     -- each of its stripes has landed
     has_landed_whole : (p : Placed) → Contains (stripes_of (log_of w 0) o) p → has_landed (log_of w 0) p ≡ true
-    has_landed_whole = all_landed i w simple o is_open landed
+    has_landed_whole = all_landed i w lossless o is_open landed
 
     -- it has a stripe on each unit
     column : (unit : ℕ) → unit < units i.shape → (c : ℕ) × (slice_get (line_units (known_image i (log_of w)) o.line) c ≡ Some unit)
@@ -149,7 +148,7 @@ module _ (i : Image) (w : World) (simple : IsSimpleMount i w) (full : OpensWhenF
         let rows : o.start.width * s.ws_opt ≤ line_end s o = mul-le-mul_left o.start.width (one_stripe (cases_lt s.clba s.ws_opt)) in
         let few : o.start.width ≤ line_end s o / s.ws_opt = few_stripes o.start.width (line_end s o) s.ws_opt mount.accepted.drive.ws_opt rows in
         let stripe = landed_of log o (line_end s o / s.ws_opt) c landed (omega arith) in
-        let row : IsInRow i w simple o is_open c stripe.0 = in_row i w simple o is_open c stripe.0 stripe.1 in
+        let row : IsInRow i w lossless o is_open c stripe.0 = in_row i w lossless o is_open c stripe.0 stripe.1 in
         let turn : c % length us ≡ c = mod-eq_of_lt early in (
           stripe.0,
           contained_among (stripes_of log o) stripe.0 (c, stripe.1),

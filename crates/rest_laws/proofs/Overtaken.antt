@@ -20,7 +20,7 @@ use Rattle.lemmas.proofs.Lists.{IsAmong, among_more}
 use Rattle.lemmas.proofs.Numbers.{fun_same}
 use Rattle.lemmas.proofs.Parts.{get_last, take_front}
 use Rattle.lemmas.proofs.Tests.{and_both, lt_true, not_both, same_number}
-use Rattle.world_laws.specs.LegalMounts.{IsLegalMount}
+use Rattle.pblk_world.specs.LegalMounts.{IsLegalMount}
 use Rattle.world_laws.proofs.Freeing.{IsFreeable, freed_at}
 use Rattle.world_laws.proofs.Fronts.{synced_later}
 use Rattle.world_laws.proofs.Later.{takes_joined}

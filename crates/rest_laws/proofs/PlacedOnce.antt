@@ -13,7 +13,7 @@ use Rattle.lemmas.proofs.Tests.{either, or_left, or_right}
 use Rattle.world_laws.proofs.UnitTurns.{Rises, rise_all}
 use Rattle.core_laws.specs.Placed.{placed_count, placed_positions}
 use Rattle.core_laws.specs.PlacerOf.{positions_in_stripe}
-use Rattle.core_laws.specs.PlainLogs.{NoStripeLost}
+use Rattle.core_laws.proofs.PlainLogs.{NoPlacementLost}
 use Rattle.core_laws.proofs.Distinct.{Distinct, IsIn, distinct_few, distinct_joined, passing}
 use Rattle.core_laws.proofs.HeldPositions.{distinct_rising}
 use Rattle.core_laws.proofs.Placed.{in_range, is_in_list, some_hold, stripe_holds}
@@ -65,7 +65,7 @@ of_stripe : (s : Shape) (ps : List Placed) (q : ℕ) → IsIn (flat_map (λ (p :
     → (p : Placed) × IsAmong ps p × (holds_position s q p ≡ true)
 of_stripe s ps q e = passing (holds_position s q) ps (some_hold s q ps ∙ e)
 
-module _ (s : Shape) (log : List Logged) (none : NoStripeLost log) (is : IsOrdered s log) where
+module _ (s : Shape) (log : List Logged) (none : NoPlacementLost log) (is : IsOrdered s log) where
   distinct_in : (ps : List Placed) → Rises ps → ((p : Placed) → IsAmong ps p → IsAmong (placements log) p)
       → Distinct (flat_map (λ (p : Placed). positions_in_stripe s p.stripe) ps)
   distinct_in [] rise among = tt

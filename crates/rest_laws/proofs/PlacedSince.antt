@@ -18,17 +18,16 @@ use Rattle.lemmas.proofs.Lists.{IsAmong, among_contained}
 use Rattle.lemmas.proofs.Maps.{filter_both, in_filter}
 use Rattle.lemmas.proofs.Parts.{all_at, all_by_get, contained_among, get_right, take_and_drop}
 use Rattle.lemmas.proofs.Tests.{same_number}
-use Rattle.world_laws.specs.LegalMounts.{IsLegalMount}
+use Rattle.pblk_world.specs.LegalMounts.{IsLegalMount}
 use Rattle.world_laws.proofs.Later.{placed_within, placements_joined}
 use Rattle.world_laws.proofs.LineStripes.{stripe_count, turn_of_stripe}
 use Rattle.core_laws.specs.Placed.{placed_positions}
 use Rattle.core_laws.specs.PlacerOf.{positions_in_stripe}
-use Rattle.core_laws.specs.SimpleMounts.{IsSimpleMount}
+use Rattle.core_laws.proofs.LosslessMounts.{IsLosslessMount}
 use Rattle.core_laws.specs.Spent.{OpensWhenFull}
 use Rattle.core_laws.proofs.Placed.{is_in_list, stripe_holds}
 use Rattle.core_laws.proofs.PlacedInOrder.{IsOrdered, ordered}
-use Rattle.core_laws.specs.PlainLogs.{NoStripeLost}
-use Rattle.core_laws.proofs.PlainLogs.{never_lost}
+use Rattle.core_laws.proofs.PlainLogs.{NoPlacementLost, never_lost}
 use Rattle.rest_laws.proofs.PlacedOnce.{placed_once}
 use Rattle.rest_laws.specs.NewestOpened.{IsLastOpened}
 use Rattle.core_laws.proofs.LaterLines.{none_in_older}
@@ -67,7 +66,7 @@ made_by_passing {X} test f m (x ∷ xs) all =
 
 -- ---- stripes
 
-module _ (i : Image) (w : World) (simple : IsSimpleMount i w) (full : OpensWhenFull i (log_of w)) (n : Opening) (last : IsLastOpened (log_of w 0) n) where
+module _ (i : Image) (w : World) (lossless : IsLosslessMount i w) (full : OpensWhenFull i (log_of w)) (n : Opening) (last : IsLastOpened (log_of w 0) n) where
   abbrev log : List Logged
   log = log_of w 0
 
@@ -75,14 +74,14 @@ module _ (i : Image) (w : World) (simple : IsSimpleMount i w) (full : OpensWhenF
   s = i.shape
 
   mount : IsLegalMount i w
-  mount = simple.mount
+  mount = lossless.mount
 
   -- after the line was opened, stripes of other lines have no entry
   since : (p : Placed) → Contains (placements (log_of w 0)) p → n.number < p.number
       → ((is_life n.number p.life ≡ true) × (length (positions_in_stripe i.shape p.stripe) ≤ i.shape.ws_opt)) ⊎ (positions_in_stripe i.shape p.stripe ≡ [])
-  since p there later = by_opening (of i w simple full p there).0 (of i w simple full p there).1
+  since p there later = by_opening (of i w lossless full p there).0 (of i w lossless full p there).1
     where
-      by_opening : (x : Opening) → IsOf i w simple full p x
+      by_opening : (x : Opening) → IsOf i w lossless full p x
           → ((is_life n.number p.life ≡ true) × (length (positions_in_stripe i.shape p.stripe) ≤ i.shape.ws_opt)) ⊎ (positions_in_stripe i.shape p.stripe ≡ [])
       by_opening x its = by (cases_order x.number n.number)
         where
@@ -108,7 +107,7 @@ module _ (i : Image) (w : World) (simple : IsSimpleMount i w) (full : OpensWhenF
                   absurd (none_in_older i w mount full n x p r last.opened there its.life holds later older)
 
   -- the front placed is as far from the first position as positions are placed
-  placed_length : (xs : List Logged) → NoStripeLost xs → IsOrdered i.shape xs
+  placed_length : (xs : List Logged) → NoPlacementLost xs → IsOrdered i.shape xs
       → placed_front i.shape xs ≡ first_position xs + length (placed_positions i.shape xs)
   placed_length xs none is =
       let count : length (placed_positions s xs) ≡ length (filter (was_placed s xs) (takes xs)) = placed_once s xs none is in
@@ -141,10 +140,10 @@ module _ (i : Image) (w : World) (simple : IsSimpleMount i w) (full : OpensWhenF
       ap (λ (xs : List Placed). length (flat_map f xs)) split ∙ ap (λ (xs : List ℕ). length xs) (flat_map-append f (placements then_) ps)
       ∙ length-append (flat_map f (placements then_)) (flat_map f ps) in
       let now : placed_front s log ≡ first_position log + length (placed_positions s log) =
-      placed_length log (never_lost log simple.engine.lost) (ordered i w simple.mount) in
+      placed_length log (never_lost log lossless.none_lost) (ordered i w lossless.mount) in
       let was : placed_front s then_ ≡ first_position then_ + length (placed_positions s then_) =
-      placed_length then_ (lost_then i w simple full p there) order_then in
-      let first : first_position then_ ≡ first_position log = first_then i w simple full m (omega arith) in
+      placed_length then_ (lost_then i w lossless full p there) order_then in
+      let first : first_position then_ ≡ first_position log = first_then i w lossless full m (omega arith) in
       let left : length (filter test ps) ≡ length (stripes_of log n) - j = omega arith in
       let most : length (flat_map f ps) ≤ s.ws_opt * (length (stripes_of log n) - j) = subst (λ k. length (flat_map f ps) ≤ s.ws_opt * k) left made_few in
       by_numbers (placed_front s log) (placed_front s then_) (length (placed_positions s log)) (length (placed_positions s then_)) (length (flat_map f ps))
@@ -154,7 +153,7 @@ module _ (i : Image) (w : World) (simple : IsSimpleMount i w) (full : OpensWhenF
       m = p.number
 
       order_then : IsOrdered i.shape (take p.number (log_of w 0))
-      order_then = ordered_then i w simple full p there
+      order_then = ordered_then i w lossless full p there
 
       by_numbers : (a b c d e f g k : ℕ) → a ≡ f + c → b ≡ g + d → c ≡ d + e → g ≡ f → e ≤ k → a ≤ b + k
       by_numbers a b c d e f g k x y z t u = omega arith

@@ -13,7 +13,7 @@ use Rattle.pblk_world.specs.Space.{addresses, free_addresses, freed, full_data, 
 use Rattle.pblk_world.specs.World.{World, log_of}
 use Rattle.lemmas.proofs.Lists.{among_contained}
 use Rattle.world_laws.proofs.StartRecords.{nth_opening}
-use Rattle.core_laws.specs.SimpleMounts.{IsSimpleMount}
+use Rattle.core_laws.proofs.LosslessMounts.{IsLosslessMount}
 use Rattle.rest_laws.specs.RestingMounts.{IsRestingMount}
 use Rattle.rest_laws.specs.Tidy.{has_free_chunks}
 use Rattle.rest_laws.proofs.FreedNear.{taken_near, taken_waits}
@@ -46,8 +46,8 @@ module _ (i : Image) (w : World) (asked : ℕ) (r : IsRestingMount i w asked) wh
   abbrev s : Shape
   s = i.shape
 
-  simple : IsSimpleMount i w
-  simple = record { mount = r.mount; engine = record { lost = r.none_lost } }
+  lossless : IsLosslessMount i w
+  lossless = record { mount = r.mount; none_lost = r.none_lost }
 
   -- less than a stripe waits
   pub few_wait : 0 < addresses i (log_of w) → length (waiting i.shape (log_of w 0)) < i.shape.ws_opt
@@ -88,7 +88,7 @@ module _ (i : Image) (w : World) (asked : ℕ) (r : IsRestingMount i w asked) wh
 
     space : taken (log_of w 0) + 16 ≤ space_limit i (log_of w)
     space = space_numbers (taken (log_of w 0)) (placed_front s (log_of w 0)) (length (waiting s (log_of w 0))) (addresses i (log_of w)) (full_data s) s.ws_opt
-        (taken_waits i w simple) (few_wait some) (longer (4 * full_data s) (open_addresses i (log_of w)) (free_addresses i (log_of w)) free_many)
+        (taken_waits i w lossless) (few_wait some) (longer (4 * full_data s) (open_addresses i (log_of w)) (free_addresses i (log_of w)) free_many)
         r.mount.accepted.target.room r.mount.accepted.drive.ws_opt
       where
         longer : (a b c : ℕ) → a ≤ c → a ≤ b + c
@@ -101,15 +101,15 @@ module _ (i : Image) (w : World) (asked : ℕ) (r : IsRestingMount i w asked) wh
         go : (os : List Opening) → openings (log_of w 0) ≡ os → taken (log_of w 0) ≤ freed i.shape (log_of w 0)
             + units i.shape * (i.shape.mw_cunits + (i.shape.ws_opt - 1)) + length (waiting i.shape (log_of w 0))
         go [] e = further (taken (log_of w 0)) (freed s (log_of w 0)) (units s * (s.mw_cunits + (s.ws_opt - 1))) (length (waiting s (log_of w 0)))
-            (unopened_waits i w simple e)
+            (unopened_waits i w lossless e)
           where
             further : (t f k n : ℕ) → t ≤ f + n → t ≤ f + k + n
             further t f k n x = omega arith
         go (o ∷ os) e =
             let last = last_of_some (log_of w 0) (length os) (ap (λ (xs : List Opening). length xs) e) in
             let at = among_contained (openings (log_of w 0)) last.0 last.1.opened in
-            taken_near i w simple r.full last.0 last.1 (r.wide last.0.line (nth_opening i w at.0 last.0 r.mount.legal at.1).may.in_range) r.resting.stripes
-            (λ x before is_open. others_over i w simple r.full last.0 last.1.opened x before is_open r.resting.stripes (λ stripe its end.
+            taken_near i w lossless r.full last.0 last.1 (r.wide last.0.line (nth_opening i w at.0 last.0 r.mount.legal at.1).may.in_range) r.resting.stripes
+            (λ x before is_open. others_over i w lossless r.full last.0 last.1.opened x before is_open r.resting.stripes (λ stripe its end.
             r.resting.no_work.no_program stripe (record { opening = x; is_open = ap (life_of (log_of w 0)) its ∙ is_open; kind = inr (inl end) })))
 
     ring : taken (log_of w 0) + 16 ≤ ring_limit i.shape (log_of w 0)

@@ -21,8 +21,8 @@ use Rattle.lemmas.proofs.Lists.{among_contained, among_more}
 use Rattle.lemmas.proofs.Maps.{enumerate_append}
 use Rattle.lemmas.proofs.Options.{split_then}
 use Rattle.lemmas.proofs.Parts.{contained_among, get_below, get_more, take_and_drop}
-use Rattle.world_laws.specs.LegalMounts.{IsLegalMount, NoneLost}
-use Rattle.world_laws.specs.Orders.{AreReset}
+use Rattle.pblk_world.specs.LegalMounts.{IsLegalMount, NoStripeLost}
+use Rattle.pblk_world.specs.Orders.{AreReset}
 use Rattle.world_laws.specs.SameTold.{AreSameTold}
 use Rattle.world_laws.proofs.Fronts.{synced_later}
 use Rattle.world_laws.proofs.Later.{takes_joined}
@@ -132,7 +132,7 @@ module _ (i : Image) (w : World) (is : IsTidyMount i w) where
             ap (option_and_then (λ (l : Logged). unit_event_of l.event)) (ap (λ (xs : List Logged). slice_get xs number) parts
             ∙ get_more (now (suc unit)) more number from.0 from.1) ∙ from.2
 
-    none_lost : NoneLost (log_of (world_at i w n is.mount.legal within).world 0)
+    none_lost : NoStripeLost (log_of (world_at i w n is.mount.legal within).world 0)
     none_lost = faultless_kept i (world_at i w n is.mount.legal within).world v.legal faultless
 
     wide : AreWide (known_image i (log_of (world_at i w n is.mount.legal within).world))

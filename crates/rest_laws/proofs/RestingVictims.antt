@@ -18,7 +18,7 @@ use Rattle.lemmas.proofs.Options.{map_some}
 use Rattle.lemmas.proofs.Parts.{all_at}
 use Rattle.world_laws.proofs.Newest.{IsNewest, newest_grows}
 use Rattle.core_laws.specs.ClosedLines.{ClosedLine, IsSpentBy, StartNumbers}
-use Rattle.core_laws.specs.SimpleMounts.{IsSimpleMount}
+use Rattle.core_laws.proofs.LosslessMounts.{IsLosslessMount}
 use Rattle.core_laws.proofs.FreeLines.{may_free}
 use Rattle.core_laws.proofs.LastTakes.{taken_within}
 use Rattle.core_laws.proofs.LatestStarts.{numbers_of}
@@ -37,8 +37,8 @@ module _ (i : Image) (w : World) (asked : ℕ) (r : IsRestingMount i w asked) wh
   abbrev log : List Logged
   log = log_of w 0
 
-  simple : IsSimpleMount i w
-  simple = record { mount = r.mount; engine = record { lost = r.none_lost } }
+  lossless : IsLosslessMount i w
+  lossless = record { mount = r.mount; none_lost = r.none_lost }
 
   module _ (some : 0 < addresses i (log_of w)) (due : is_due i (log_of w) ≡ true) where
     -- a victim at work has a live sector
@@ -61,7 +61,7 @@ module _ (i : Image) (w : World) (asked : ℕ) (r : IsRestingMount i w asked) wh
       takers : taken_up_to i (log_of w) line ≤ synced i.shape (log_of w 0)
       takers = target_synced i w asked r (taken_up_to i (log_of w) line) some asks
           (taken_within i w r.mount.legal line (taken log) (λ t there took.
-          all_at (λ (u : Taken). u.entry.position < taken log) (takes log) there.0 t there.1 (all_below log (ordered i w simple.mount).numbered)))
+          all_at (λ (u : Taken). u.entry.position < taken log) (takes log) there.0 t there.1 (all_below log (ordered i w lossless.mount).numbered)))
 
       newer : (n : ℕ) → v.from ≡ n → IsSpentBy i (log_of w) line
       newer zero e = let more : 0 < v.from = v.some in absurd (omega arith)
@@ -123,8 +123,8 @@ module _ (i : Image) (w : World) (asked : ℕ) (r : IsRestingMount i w asked) wh
       go : (t : Bool) → is_due i (log_of w) ≡ t → is_due i (log_of w) ≡ false
       go false e = e
       go true e =
-          let started = begun_line i w asked r last (last_stands i w simple last is) in
-          let next = victim_exists i w simple r.full r.wide r.resting.no_work.no_reset last is (landed_is_newest i w last is started) e in
+          let started = begun_line i w asked r last (last_stands i w lossless last is) in
+          let next = victim_exists i w lossless r.full r.wide r.resting.no_work.no_reset last is (landed_is_newest i w last is started) e in
           let long : 0 < length log = begun_knows (length log) log r.beginning (ap begun (take-length log) ∙ r.begins) in
           let victim = victim_at_work i (log_of w) next.0 long e next.1 in
           absurd (no_victim (omega arith) e position address victim.0 victim.1)

@@ -26,7 +26,7 @@ use Rattle.world_laws.proofs.Fronts.{synced_from}
 use Rattle.world_laws.proofs.NextPrograms.{landed_of_answered}
 use Rattle.world_laws.proofs.Positions.{position_of}
 use Rattle.world_laws.proofs.Stripes.{one_opening}
-use Rattle.core_laws.specs.SimpleMounts.{IsSimpleMount}
+use Rattle.core_laws.proofs.LosslessMounts.{IsLosslessMount}
 use Rattle.core_laws.proofs.Distinct.{passing}
 use Rattle.core_laws.proofs.LandedNow.{opened_now}
 use Rattle.core_laws.proofs.PlacedInOrder.{IsOrdered, count_is, ordered, some_hold_below, waiting_are_last}
@@ -72,8 +72,8 @@ module _ (i : Image) (w : World) (asked : ℕ) (r : IsRestingMount i w asked) wh
   abbrev s : Shape
   s = i.shape
 
-  simple : IsSimpleMount i w
-  simple = record { mount = r.mount; engine = record { lost = r.none_lost } }
+  lossless : IsLosslessMount i w
+  lossless = record { mount = r.mount; none_lost = r.none_lost }
 
   target : ℕ
   target = pad_target i (log_of w) asked
@@ -84,7 +84,7 @@ module _ (i : Image) (w : World) (asked : ℕ) (r : IsRestingMount i w asked) wh
   -- ---- lines
 
   pub begun_line : (o : Opening) → life_of (log_of w 0) o.line ≡ Opened o → has_landed_start i.shape (log_of w 0) o ≡ true
-  begun_line o is_open = start_landed i w simple o is_open r.resting.stripes (λ stripe its start.
+  begun_line o is_open = start_landed i w lossless o is_open r.resting.stripes (λ stripe its start.
       r.resting.no_work.no_program stripe (record { opening = o; is_open = ap (life_of log) its ∙ is_open; kind = inl start }))
 
   -- a stripe of data could be placed in a line with an address left
@@ -106,7 +106,7 @@ module _ (i : Image) (w : World) (asked : ℕ) (r : IsRestingMount i w asked) wh
           go : (t : Bool) → 0 < (if t then 0 else end_address i.shape o - max (start_len i.shape) (next_address i.shape (log_of w 0) o)) → ⊥
           go true none = absurd (omega arith)
           go false left =
-              let stripe = stripe_with i w simple o is_open (data_blocks s log) in
+              let stripe = stripe_with i w lossless o is_open (data_blocks s log) in
               let is_data : IsData i (log_of w) o stripe.0 = record {
                 next = stripe.2;
                 within = below (start_len s) (next_address s log o) (end_address s o) left;
@@ -144,7 +144,7 @@ module _ (i : Image) (w : World) (asked : ℕ) (r : IsRestingMount i w asked) wh
               order (inr (inl before)) =
                   let is_open : life_of log o.line ≡ Opened o = ap (life_of log) now.1 ∙ is in
                   let over : are_over i (log_of w) o.line ≡ true =
-                  others_over i w simple r.full last last_is.opened o before is_open r.resting.stripes (λ stripe its end.
+                  others_over i w lossless r.full last last_is.opened o before is_open r.resting.stripes (λ stripe its end.
                   r.resting.no_work.no_program stripe (record { opening = o; is_open = ap (life_of log) its ∙ is_open; kind = inr (inl end) })) in
                   absurd (not_both (are_over i (log_of w) line) (ap (are_over i (log_of w)) (sym now.1) ∙ over)
                   (not_true (are_over i (log_of w) line) (both (is_opened (life_of log line)) (not (are_over i (log_of w) line)) left).1))
@@ -253,7 +253,7 @@ module _ (i : Image) (w : World) (asked : ℕ) (r : IsRestingMount i w asked) wh
   target_synced position some low within = go (cases_lt (synced s log) position)
     where
       order : IsOrdered i.shape (log_of w 0)
-      order = ordered i w simple.mount
+      order = ordered i w lossless.mount
 
       m : ℕ
       m = synced i.shape (log_of w 0)

@@ -27,14 +27,14 @@ use Rattle.pblk_world.proofs.LegalLemmas.{whole_own}
 use Rattle.pblk_world.proofs.LinesLemmas.{free_unopened}
 use Rattle.pblk_world.proofs.WorldLemmas.{log_elsewhere}
 use Rattle.lemmas.proofs.Parts.{get_whole, get_whole_within}
-use Rattle.world_laws.specs.LegalMounts.{IsLegalMount, NoneLost}
+use Rattle.pblk_world.specs.LegalMounts.{IsLegalMount, NoStripeLost}
 use Rattle.world_laws.specs.SameTold.{AreSameTold}
 use Rattle.world_laws.proofs.Made.{IsMade, known_within, step_by}
 use Rattle.world_laws.proofs.ToldDecisions.{opening_told, placing_told}
 use Rattle.world_laws.proofs.ToldImages.{image_same, told_back}
 use Rattle.world_laws.proofs.ToldSince.{same_told, told_when_made}
 use Rattle.world_laws.proofs.ToldTables.{addresses_told, seq_told}
-use Rattle.core_laws.specs.SimpleMounts.{IsSimpleMount}
+use Rattle.core_laws.proofs.LosslessMounts.{IsLosslessMount}
 use Rattle.core_laws.specs.Stepping.{after}
 use Rattle.core_laws.proofs.EngineLogs.{logs_after}
 use Rattle.core_laws.proofs.FreedLines.{free_freed, open_freed}
@@ -217,9 +217,9 @@ module _ (i : Image) (s : Step) (w : World) (mount : IsLegalMount i (s ∷ w)) w
         quiet_event (Free line) is (open_freed i w before line knows it.2) (free_freed i w before line knows it.2 b begins it.0 it.3)
 
     -- a stripe
-    module _ (none : NoneLost (log_of w 0)) where
-      simple : IsSimpleMount i w
-      simple = record { mount = before; engine = record { lost = none } }
+    module _ (none : NoStripeLost (log_of w 0)) where
+      lossless : IsLosslessMount i w
+      lossless = record { mount = before; none_lost = none }
 
       pub stripe_takes : (stripe : Stripe) → s.logged.event ≡ Decides (Place stripe)
           → addresses i (log_of w) ≡ addresses i (log_of (s ∷ w)) + (if has_entry i.shape stripe then i.shape.ws_opt else 0)
@@ -274,7 +274,7 @@ module _ (i : Image) (s : Step) (w : World) (mount : IsLegalMount i (s ∷ w)) w
               (free_addresses i (after (log_of w) (Place stripe) knows)) i.shape.ws_opt
               (data_addresses i (log_of w) stripe knows now.opening before.accepted.drive placing now.in_range data_is) free_same
               ∙ ap (λ n. addresses i (after (log_of w) (Place stripe) knows) + n)
-              (ap (λ t. if t then i.shape.ws_opt else 0) (sym (data_have_one i w now.opening stripe simple data_is)))
+              (ap (λ t. if t then i.shape.ws_opt else 0) (sym (data_have_one i w now.opening stripe lossless data_is)))
 
     -- a reset
     pub reset_gives : (unit number : ℕ) (u : UnitEvent) → s.logged.event ≡ Decides (ResetDone unit number)

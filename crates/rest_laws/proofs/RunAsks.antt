@@ -12,13 +12,13 @@ use Rattle.pblk_world.specs.Victims.{engine_prefix, live, taken_up_to, victim}
 use Rattle.pblk_world.specs.World.{World, Logs, log_of}
 use Rattle.lemmas.proofs.Parts.{all_taken}
 use Rattle.lemmas.proofs.Tests.{other_number}
-use Rattle.world_laws.specs.LegalMounts.{IsLegalMount, NoneLost, decides, is_losing}
-use Rattle.world_laws.specs.Reasons.{WasAsked}
+use Rattle.pblk_world.specs.LegalMounts.{IsLegalMount, NoStripeLost, decides, is_losing}
+use Rattle.pblk_world.specs.Reasons.{WasAsked}
 use Rattle.world_laws.specs.SameTold.{AreSameTold}
 use Rattle.world_laws.proofs.Positions.{position_below}
 use Rattle.world_laws.proofs.ToldTables.{addresses_told, due_told, live_told, takers_told}
 use Rattle.core_laws.proofs.LastTakes.{taken_within}
-use Rattle.room_law.specs.Counting.{AskCalm, AskUrgent, ByStep, IsReached, State, Victim, live_of, waiting_count}
+use Rattle.room_law.specs.Counting.{AskBeforeDue, AskWhileDue, ByStep, IsReached, State, Victim, live_of, waiting_count}
 use Rattle.room_law.specs.Counting as counting
 use Rattle.rest_laws.specs.RoomRuns.{HasNumbers, IsCopyAt, IsReasonedMount, IsRoomRun, IsRoomState, IsVictimOf, sizes_of}
 use Rattle.rest_laws.specs.RoomSteps.{free_lines}
@@ -59,7 +59,7 @@ module _ (i : Image) (w : World) (is : IsReasonedMount i w) where
     waiting_at = subst (λ (xs : List Logged). taken xs ≡ placed_front i.shape xs + length (waiting i.shape xs)) v.own
         (taken_waits i v.world (record {
           mount = mount_at i w mount m within;
-          engine = record { lost = subst NoneLost (sym v.own) (all_taken (λ x. decides is_losing x.event ≡ false) m log is.none_lost) };
+          none_lost = subst NoStripeLost (sym v.own) (all_taken (λ x. decides is_losing x.event ≡ false) m log is.none_lost);
         }))
 
     -- positions aren't near their end
@@ -161,9 +161,9 @@ module _ (i : Image) (w : World) (is : IsReasonedMount i w) where
 
     -- the state where nothing more is asked for, or up to what was taken
     made : (new : State) → HasNumbers i (engine_prefix (suc n) (log_of w)) new → new.victim ≡ s.victim → new.copy ≡ s.copy → new.users ≡ s.users
-        → s.reach ≤ new.reach → max s.calm s.urgent ≤ max new.calm new.urgent → IsReached (sizes_of i) new
+        → s.reach ≤ new.reach → max s.before_due s.while_due ≤ max new.before_due new.while_due → IsReached (sizes_of i) new
         → ((position : ℕ) → ((position ≤ taken (take (suc n) (log_of w 0))) × (¬ IsCopyDue i (logs_at (suc n) (log_of w))))
-        ⊎ (position ≤ pad_target i (logs_at (suc n) (log_of w)) 0) → position ≤ max new.calm new.urgent)
+        ⊎ (position ≤ pad_target i (logs_at (suc n) (log_of w)) 0) → position ≤ max new.before_due new.while_due)
         → IsRoomRun i (log_of w) at (suc n) new
     made new its same_victim same_copy users reach asks reached here = record {
       numbers = its;
@@ -175,12 +175,12 @@ module _ (i : Image) (w : World) (is : IsReasonedMount i w) where
       reached = reached;
     }
       where
-        all : (position : ℕ) → WasAsked i (log_of w) (suc n) position → position ≤ max new.calm new.urgent
+        all : (position : ℕ) → WasAsked i (log_of w) (suc n) position → position ≤ max new.before_due new.while_due
         all position a = go (cases_lt n a.at)
           where
-            go : (n < a.at) ⊎ (a.at ≤ n) → position ≤ max new.calm new.urgent
+            go : (n < a.at) ⊎ (a.at ≤ n) → position ≤ max new.before_due new.while_due
             go (inr early) =
-                let low : position ≤ max s.calm s.urgent = was.asks position (record { at = a.at; has_begun = a.has_begun; within = early; why = a.why }) in
+                let low : position ≤ max s.before_due s.while_due = was.asks position (record { at = a.at; has_begun = a.has_begun; within = early; why = a.why }) in
                 omega arith
             go (inl late) =
                 let same : a.at ≡ suc n = omega (arith, a.within) in
@@ -200,12 +200,12 @@ module _ (i : Image) (w : World) (is : IsReasonedMount i w) where
       new,
       made new (has_numbers i (engine_prefix (suc n) (log_of w)) new (numbers_are i (engine_prefix (suc n) (log_of w)) s numbers))
           refl refl refl (omega arith) (omega arith)
-          (ByStep s (AskCalm s.taken) was.reached (record { calm = calm; within = omega arith }))
+          (ByStep s (AskBeforeDue s.taken) was.reached (record { before_due = calm; within = omega arith }))
           (λ position why. let low : position ≤ s.taken = asks_low position why in omega arith),
     )
       where
         new : State
-        new = counting.after (sizes_of i) s (AskCalm s.taken)
+        new = counting.after (sizes_of i) s (AskBeforeDue s.taken)
 
         calm : 3 < s.free
         calm = let more : 3 < free_lines i (engine_prefix (suc n) (log_of w)) = more_free i w (suc n) is (omega arith) within not_due in
@@ -218,12 +218,12 @@ module _ (i : Image) (w : World) (is : IsReasonedMount i w) where
       new,
       made new (has_numbers i (engine_prefix (suc n) (log_of w)) new (numbers_are i (engine_prefix (suc n) (log_of w)) s numbers))
           refl refl refl (omega arith) (omega arith)
-          (ByStep s (AskUrgent s.taken) was.reached (record { due = few; within = omega arith; no_copy = none }))
+          (ByStep s (AskWhileDue s.taken) was.reached (record { due = few; within = omega arith; no_copy = none }))
           (λ position why. let low : position ≤ s.taken = asks_low position why in omega arith),
     )
       where
         new : State
-        new = counting.after (sizes_of i) s (AskUrgent s.taken)
+        new = counting.after (sizes_of i) s (AskWhileDue s.taken)
 
         few : s.free ≤ 3
         few = let most : free_lines i (engine_prefix (suc n) (log_of w)) ≤ 3 = few_free i w (suc n) is (omega arith) within due in
@@ -233,7 +233,7 @@ module _ (i : Image) (w : World) (is : IsReasonedMount i w) where
         → waiting_count s < counting.addresses (sizes_of i) s → (new : State) × IsRoomRun i (log_of w) at (suc n) new
     silently due more room = (
       s,
-      made s numbers refl refl refl (le_refl s.reach) (le_refl (max s.calm s.urgent)) was.reached
+      made s numbers refl refl refl (le_refl s.reach) (le_refl (max s.before_due s.while_due)) was.reached
           (λ position why.
           let low : position ≤ 0 = asks_none (suc n) (omega arith) within position there.0 due there.1 there.2 room_there why in
           omega arith),

@@ -22,8 +22,8 @@ use Rattle.lemmas.proofs.Lists.{IsAmong, among_contained}
 use Rattle.lemmas.proofs.Maps.{all_passed, from_filter}
 use Rattle.lemmas.proofs.Parts.{all_at, all_taken, contained_among, from_last}
 use Rattle.lemmas.proofs.Tests.{le_of_lt_false, not_both, not_true, same, same_number}
-use Rattle.world_laws.specs.LegalMounts.{IsLegalMount, NoneLost, decides, is_freeing, is_losing}
-use Rattle.world_laws.specs.Reasons.{WasRoom, WasUrgent}
+use Rattle.pblk_world.specs.LegalMounts.{IsLegalMount, NoStripeLost, decides, is_freeing, is_losing}
+use Rattle.pblk_world.specs.Reasons.{WasRoom, WasUrgent}
 use Rattle.world_laws.proofs.Made.{IsMade, made}
 use Rattle.world_laws.proofs.NextLives.{IsDecided, decided, life_next}
 use Rattle.world_laws.proofs.Positions.{position_below}
@@ -115,7 +115,7 @@ module _ (i : Image) (w : World) (is : IsReasonedMount i w) (at : ℕ → ℕ) (
   stepped : (after : State) (line : Option ℕ) → still_at_work (engine_prefix (suc n) (log_of w)) (victim i (log_of w) n) ≡ line
       → AreNumbers i (engine_prefix (suc n) (log_of w)) after.left after.free after.resetting after.placed after.taken
       → IsVictimOf i (engine_prefix (suc n) (log_of w)) line after.victim → IsCopyAt i (log_of w) at n (suc n) after.copy → AreUsersBelow after.users
-      → s.reach ≤ after.reach → max after.calm after.urgent ≡ max s.calm s.urgent → IsReached (sizes_of i) after → Next
+      → s.reach ≤ after.reach → max after.before_due after.while_due ≡ max s.before_due s.while_due → IsReached (sizes_of i) after → Next
   stepped after line stays now at_work copy users reach asks reached = (
     after,
     subst (λ o. IsRoomState i (log_of w) at (suc n) n n o after) (sym stays)
@@ -128,7 +128,7 @@ module _ (i : Image) (w : World) (is : IsReasonedMount i w) (at : ℕ → ℕ) (
   beside : (after : State) → KeepsVictim → taken_by l.event ≡ None
       → AreNumbers i (engine_prefix (suc n) (log_of w)) after.left after.free after.resetting after.placed after.taken
       → after.victim ≡ s.victim → after.copy ≡ s.copy → after.users ≡ s.users
-      → s.reach ≤ after.reach → max after.calm after.urgent ≡ max s.calm s.urgent → IsReached (sizes_of i) after → Next
+      → s.reach ≤ after.reach → max after.before_due after.while_due ≡ max s.before_due s.while_due → IsReached (sizes_of i) after → Next
   beside after kept none now at_work copy users =
       stepped after (victim i (log_of w) n) (still kept) now
       (subst (IsVictimOf i (engine_prefix (suc n) (log_of w)) (victim i (log_of w) n)) (sym at_work)
@@ -350,8 +350,8 @@ module _ (i : Image) (w : World) (is : IsReasonedMount i w) (at : ℕ → ℕ) (
         order : IsOrdered i.shape xs
         order = ordered i v.world (mount_at i w mount n (omega (arith, inside)))
 
-        none_lost : NoneLost xs
-        none_lost = subst NoneLost (sym v.own) (all_taken (λ m. decides is_losing m.event ≡ false) n (log_of w 0) is.none_lost)
+        none_lost : NoStripeLost xs
+        none_lost = subst NoStripeLost (sym v.own) (all_taken (λ m. decides is_losing m.event ≡ false) n (log_of w 0) is.none_lost)
 
         fresh : Contains (fresh_entries i.shape xs) t
         fresh = subst (λ (ts : List Taken). Contains (ts ++ fresh_entries i.shape xs) t) (lost_are_none i.shape xs (never_lost xs none_lost))
@@ -398,14 +398,14 @@ module _ (i : Image) (w : World) (is : IsReasonedMount i w) (at : ℕ → ℕ) (
 
         -- a full stripe waits, or what waits was asked for
         by : IsUrgent i.shape (take n (log_of w 0)) why.upto
-            → (1 ≤ s.taken - s.placed) × ((i.shape.ws_opt ≤ s.taken - s.placed) ⊎ (s.placed < max s.calm s.urgent))
+            → (1 ≤ s.taken - s.placed) × ((i.shape.ws_opt ≤ s.taken - s.placed) ⊎ (s.placed < max s.before_due s.while_due))
         by (inl full) = let one : 0 < i.shape.ws_opt = mount.accepted.drive.ws_opt in (omega (arith, wait), inl (omega (arith, wait)))
         by (inr (t, held, below)) =
             let among = among_contained (waiting i.shape (take n log)) t held in
             let few : among.0 < length (waiting i.shape (take n log)) =
             slice_get_within (waiting i.shape (take n log)) among.0 t among.1 in
             let from : placed_front i.shape (take n log) ≤ t.entry.position = waiting_from t held in
-            let asked : why.upto ≤ max s.calm s.urgent = run.asks why.upto (why.asked (omega arith)) in
+            let asked : why.upto ≤ max s.before_due s.while_due = run.asks why.upto (why.asked (omega arith)) in
             (omega (arith, wait), inr (omega (arith, run.numbers.placed)))
 
         all_reset : s.resetting ≡ 0

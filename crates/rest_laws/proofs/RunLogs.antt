@@ -19,8 +19,8 @@ use Rattle.pblk_world.proofs.WorldLemmas.{log_here}
 use Rattle.lemmas.proofs.Maps.{filter_same, none_kept}
 use Rattle.lemmas.proofs.Parts.{take_next}
 use Rattle.lemmas.proofs.Tests.{within_is}
-use Rattle.world_laws.specs.LegalMounts.{IsLegalMount}
-use Rattle.world_laws.specs.Orders.{AreReset}
+use Rattle.pblk_world.specs.LegalMounts.{IsLegalMount}
+use Rattle.pblk_world.specs.Orders.{AreReset}
 use Rattle.world_laws.specs.SameTold.{AreSameTold}
 use Rattle.world_laws.proofs.Made.{IsMade, known_within, made, own_then, step_by}
 use Rattle.world_laws.proofs.ToldImages.{image_same}

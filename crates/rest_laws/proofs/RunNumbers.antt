@@ -22,7 +22,7 @@ use Rattle.pblk_world.specs.Space.{addresses, free_addresses, full_data, open_ad
 use Rattle.pblk_world.specs.Victims.{engine_prefix}
 use Rattle.pblk_world.specs.World.{World, Logs, log_of, prefixes, unit_event_at, unit_event_of}
 use Rattle.lemmas.proofs.Parts.{all_taken}
-use Rattle.world_laws.specs.LegalMounts.{IsLegalMount, NoneLost, decides, is_losing}
+use Rattle.pblk_world.specs.LegalMounts.{IsLegalMount, NoStripeLost, decides, is_losing}
 use Rattle.world_laws.specs.SameTold.{AreSameTold}
 use Rattle.world_laws.proofs.Made.{step_by}
 use Rattle.world_laws.proofs.ToldImages.{image_same, told_back}
@@ -114,8 +114,8 @@ module _ (i : Image) (w : World) (is : IsReasonedMount i w) (n : ℕ) (some : 0 
   b : (b : Begun) × (begun (log_of (step_at i w n l is.mount there).before 0) ≡ Some b)
   b = begun_once i v was.legal has_one
 
-  none_lost : NoneLost (log_of (step_at i w n l is.mount there).before 0)
-  none_lost = subst NoneLost st.was.own (all_taken (λ m. decides is_losing m.event ≡ false) n (log_of w 0) is.none_lost)
+  none_lost : NoStripeLost (log_of (step_at i w n l is.mount there).before 0)
+  none_lost = subst NoStripeLost st.was.own (all_taken (λ m. decides is_losing m.event ≡ false) n (log_of w 0) is.none_lost)
 
   wide_old : AreWide (known_image i (engine_prefix n (log_of w)))
   wide_old = is.wide n some (omega (arith, inside))
@@ -182,7 +182,7 @@ module _ (i : Image) (w : World) (is : IsReasonedMount i w) (n : ℕ) (some : 0 
     pub waiting_is : taken_ ≡ placed + length (waiting i.shape (take n (log_of w 0)))
     waiting_is =
         let all : taken (log_of v 0) ≡ placed_front i.shape (log_of v 0) + length (waiting i.shape (log_of v 0)) =
-        taken_waits i v (record { mount = was; engine = record { lost = none_lost } }) in
+        taken_waits i v (record { mount = was; none_lost = none_lost }) in
         h.taken_is ∙ ap taken st.was.own ∙ all
         ∙ ap₂ (λ a b. a + b) (ap (placed_front i.shape) (sym st.was.own) ∙ sym h.placed_is)
         (ap (λ (xs : List Logged). length (waiting i.shape xs)) (sym st.was.own))

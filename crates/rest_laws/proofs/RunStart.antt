@@ -158,8 +158,8 @@ module _ (i : Image) (w : World) (is : IsReasonedMount i w) (some : 1 ≤ length
     taken = taken (take 1 (log_of w 0));
     reach = 0;
     users = 0;
-    calm = 0;
-    urgent = 0;
+    before_due = 0;
+    while_due = 0;
     victim = None;
     copy = NoCopy;
   }
@@ -182,8 +182,8 @@ module _ (i : Image) (w : World) (is : IsReasonedMount i w) (some : 1 ≤ length
     none_waits = none_taken;
     reach = omega arith;
     users = omega arith;
-    calm = omega arith;
-    urgent = omega arith;
+    before_due = omega arith;
+    while_due = omega arith;
     no_victim = refl;
     no_copy = refl;
   }

@@ -19,7 +19,7 @@ use Rattle.pblk_world.specs.Victims.{engine_prefix, victim}
 use Rattle.pblk_world.specs.World.{World, Logs, log_of}
 use Rattle.pblk_world.proofs.EngineLogLemmas.{takes_more}
 use Rattle.lemmas.proofs.Parts.{take_next}
-use Rattle.world_laws.specs.Reasons.{WasRoom}
+use Rattle.pblk_world.specs.Reasons.{WasRoom}
 use Rattle.world_laws.proofs.ToldTables.{room_told}
 use Rattle.room_law.specs.Counting.{AreSizes, IsReached, State}
 use Rattle.room_law.specs.Counting as counting
@@ -137,7 +137,7 @@ module _ (i : Image) (w : World) (is : IsReasonedMount i w) where
         → HasNumbers i (engine_prefix (suc n) (log_of w)) new
         → IsVictimOf i (engine_prefix (suc n) (log_of w)) line new.victim → IsCopyAt i (log_of w) at n (suc n) new.copy
         → ((t : Taken) → Contains (takes (take (suc n) (log_of w 0))) t → t.entry.source ≡ None → t.entry.position < new.users)
-        → s.reach ≤ new.reach → max s.calm s.urgent ≤ max new.calm new.urgent → IsReached (sizes_of i) new
+        → s.reach ≤ new.reach → max s.before_due s.while_due ≤ max new.before_due new.while_due → IsReached (sizes_of i) new
         → IsRoomState i (log_of w) at (suc n) n n line new
     next_state n line s new some within run numbers victim copy users reach asks reached = record {
       numbers = numbers;
@@ -149,7 +149,7 @@ module _ (i : Image) (w : World) (is : IsReasonedMount i w) where
           let limit : space_limit i (engine_prefix (suc n) (log_of w)) ≡ counting.space_limit (sizes_of i) new =
           limit_is (suc n) (omega arith) within new numbers in
           omega arith);
-      asks = λ position a. let low : position ≤ max s.calm s.urgent = run.asks position a in omega arith;
+      asks = λ position a. let low : position ≤ max s.before_due s.while_due = run.asks position a in omega arith;
       reached = reached;
     }
 

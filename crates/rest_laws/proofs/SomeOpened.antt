@@ -30,8 +30,8 @@ use Rattle.lemmas.proofs.Lists.{IsAmong, among_contained, contains_none}
 use Rattle.lemmas.proofs.Maps.{all_in_range, filter_at, from_given}
 use Rattle.lemmas.proofs.Parts.{all_at, contained_among, get_below, got_within}
 use Rattle.lemmas.proofs.Tests.{same_number, within_is}
-use Rattle.world_laws.specs.LegalMounts.{IsLegalMount}
-use Rattle.world_laws.specs.Orders.{AreReset}
+use Rattle.pblk_world.specs.LegalMounts.{IsLegalMount}
+use Rattle.pblk_world.specs.Orders.{AreReset}
 use Rattle.world_laws.proofs.Beginnings.{first_begins}
 use Rattle.world_laws.proofs.FitMedia.{found_fit}
 use Rattle.world_laws.proofs.FoundEmpty.{all_pass}

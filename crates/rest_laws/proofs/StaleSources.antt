@@ -26,7 +26,7 @@ use Rattle.lemmas.proofs.Maps.{in_filter}
 use Rattle.lemmas.proofs.Options.{some_value}
 use Rattle.lemmas.proofs.Parts.{all_at, contained_among, take_and_drop}
 use Rattle.lemmas.proofs.Tests.{same_number}
-use Rattle.world_laws.specs.LegalMounts.{IsLegalMount}
+use Rattle.pblk_world.specs.LegalMounts.{IsLegalMount}
 use Rattle.world_laws.specs.SameTold.{AreSameTold}
 use Rattle.world_laws.specs.UnitChunks.{chunk_after}
 use Rattle.world_laws.proofs.Entries.{marks_bear}

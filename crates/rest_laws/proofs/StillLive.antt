@@ -23,7 +23,7 @@ use Rattle.lemmas.proofs.Lists.{IsAmong, among_contained}
 use Rattle.lemmas.proofs.Maps.{in_filter}
 use Rattle.lemmas.proofs.Parts.{contained_among, from_last, get_last, take_and_drop, take_next}
 use Rattle.lemmas.proofs.Tests.{not_both, same, same_number}
-use Rattle.world_laws.specs.LegalMounts.{IsLegalMount}
+use Rattle.pblk_world.specs.LegalMounts.{IsLegalMount}
 use Rattle.world_laws.proofs.Later.{landed_later, placed_later, placed_within}
 use Rattle.world_laws.proofs.Latest.{one_entry}
 use Rattle.world_laws.proofs.NextPrograms.{landed_of_answered}

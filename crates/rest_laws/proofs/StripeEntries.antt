@@ -16,7 +16,7 @@ use Rattle.lemmas.proofs.Lists.{zipped}
 use Rattle.lemmas.proofs.Maps.{any_member}
 use Rattle.lemmas.proofs.Parts.{all_dropped, all_taken}
 use Rattle.lemmas.proofs.Tests.{and_both, both, not_both, same_number}
-use Rattle.core_laws.specs.SimpleMounts.{IsSimpleMount}
+use Rattle.core_laws.proofs.LosslessMounts.{IsLosslessMount}
 use Rattle.core_laws.proofs.Distinct.{passing}
 use Rattle.core_laws.proofs.LogOrders.{small_capacity}
 use Rattle.core_laws.proofs.PlainLogs.{never_lost}
@@ -44,18 +44,18 @@ others_have_none i logs o stripe small kind = go (has_entry i.shape stripe) refl
         let at = some_position i.shape stripe e in
         absurd (not_both (list_any (bears_position i.shape at.0) stripe.blocks) at.1 (others_bear i logs o stripe small kind at.0))
 
-pub data_have_one : (i : Image) (w : World) (o : Opening) (stripe : Stripe) → IsSimpleMount i w → IsData i (log_of w) o stripe
+pub data_have_one : (i : Image) (w : World) (o : Opening) (stripe : Stripe) → IsLosslessMount i w → IsData i (log_of w) o stripe
     → has_entry i.shape stripe ≡ true
 unfolding BearsThese
-data_have_one i w o stripe simple is = go (waiting i.shape (log_of w 0)) refl is.has_entry
+data_have_one i w o stripe lossless is = go (waiting i.shape (log_of w 0)) refl is.has_entry
   where
     order : IsOrdered i.shape (log_of w 0)
-    order = ordered i w simple.mount
+    order = ordered i w lossless.mount
 
     all_named : AllByRecursion (IsNamed i.shape) (take i.shape.ws_opt (waiting i.shape (log_of w 0)))
     all_named =
         subst (λ (ts : List Taken). AllByRecursion (IsNamed i.shape) (take i.shape.ws_opt ts))
-        (sym (waiting_are_last i.shape (log_of w 0) (never_lost (log_of w 0) simple.engine.lost) order))
+        (sym (waiting_are_last i.shape (log_of w 0) (never_lost (log_of w 0) lossless.none_lost) order))
         (all_taken (IsNamed i.shape) i.shape.ws_opt (drop order.order.count (takes (log_of w 0)))
         (all_dropped (IsNamed i.shape) order.order.count (takes (log_of w 0))
         (zipped (λ (t : Taken). is_some (named i.shape t.mark) ≡ true) (λ (t : Taken). t.mark.position ≡ t.entry.position) (IsNamed i.shape)
@@ -63,10 +63,10 @@ data_have_one i w o stripe simple is = go (waiting i.shape (log_of w 0)) refl is
 
     bears : (q : ℕ) → list_any (bears_position i.shape q) stripe.blocks
         ≡ list_any (λ (t : Taken). q == t.entry.position) (take i.shape.ws_opt (waiting i.shape (log_of w 0)))
-    bears = data_bears i (log_of w) o stripe (small_capacity i simple.mount.accepted) is all_named
+    bears = data_bears i (log_of w) o stripe (small_capacity i lossless.mount.accepted) is all_named
 
     some : 0 < i.shape.ws_opt
-    some = simple.mount.accepted.drive.ws_opt
+    some = lossless.mount.accepted.drive.ws_opt
 
     go : (ts : List Taken) → waiting i.shape (log_of w 0) ≡ ts → 0 < length ts → has_entry i.shape stripe ≡ true
     go [] e more = absurd (omega arith)

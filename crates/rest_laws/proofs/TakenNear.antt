@@ -29,8 +29,8 @@ use Rattle.lemmas.proofs.Lists.{IsAmong, among_contained}
 use Rattle.lemmas.proofs.Maps.{in_filter, range_get}
 use Rattle.lemmas.proofs.Parts.{all_at, all_by_get, all_taken, contained_among, got_within}
 use Rattle.lemmas.proofs.Tests.{and_both, le_true, lt_true, same_number}
-use Rattle.world_laws.specs.LegalMounts.{decides, is_losing, IsLegalMount, NoneLost}
-use Rattle.world_laws.specs.Reasons.{AreGranted, WasRoom}
+use Rattle.pblk_world.specs.LegalMounts.{decides, is_losing, IsLegalMount, NoStripeLost}
+use Rattle.pblk_world.specs.Reasons.{AreGranted, WasRoom}
 use Rattle.world_laws.proofs.Fronts.{synced_from}
 use Rattle.world_laws.proofs.LineStripes.{stripe_count}
 use Rattle.world_laws.proofs.NextPrograms.{landed_of_answered}
@@ -39,9 +39,9 @@ use Rattle.world_laws.proofs.StartFits.{opening_narrow, width_few}
 use Rattle.world_laws.proofs.StartRecords.{synced_by_now}
 use Rattle.world_laws.proofs.Stripes.{opening_then}
 use Rattle.world_laws.proofs.TakenEvents.{IsTakenAt, taken_at}
-use Rattle.core_laws.specs.InOrder.{HasRoom, IsInPlace}
+use Rattle.core_laws.specs.InOrder.{FitsItsLine, IsInPlace}
 use Rattle.core_laws.specs.PlacerOf.{positions_in_stripe}
-use Rattle.core_laws.specs.SimpleMounts.{IsSimpleMount}
+use Rattle.core_laws.proofs.LosslessMounts.{IsLosslessMount}
 use Rattle.core_laws.proofs.Distinct.{in_made, IsIn, passing}
 use Rattle.core_laws.proofs.Growing.{freed_within}
 use Rattle.core_laws.proofs.LandedNow.{opened_now}
@@ -157,12 +157,12 @@ module _ (i : Image) (w : World) (mount : IsLegalMount i w) (at : ℕ) where
 
 -- ---- what was placed
 
-module _ (i : Image) (w : World) (simple : IsSimpleMount i w) where
+module _ (i : Image) (w : World) (lossless : IsLosslessMount i w) where
   abbrev log : List Logged
   log = log_of w 0
 
   mount : IsLegalMount i w
-  mount = simple.mount
+  mount = lossless.mount
 
   abbrev in_stripe : Placed → List ℕ
   in_stripe p = positions_in_stripe i.shape p.stripe
@@ -183,17 +183,17 @@ module _ (i : Image) (w : World) (simple : IsSimpleMount i w) where
       go AsFound e = omega arith
       go (Freed was knows) e = omega arith
       go (Opened o) e =
-          let opened : Contains (openings log) o = (opened_now i w simple.mount line o e).0 in
+          let opened : Contains (openings log) o = (opened_now i w lossless.mount line o e).0 in
           let stripes : length (flat_map in_stripe (stripes_of log o)) ≤ length (stripes_of log o) * i.shape.ws_opt =
           made_most in_stripe i.shape.ws_opt (stripes_of log o) (all_by_get (λ p. length (in_stripe p) ≤ i.shape.ws_opt) (stripes_of log o) (λ k p there.
           let size : length p.stripe.blocks ≡ i.shape.ws_opt =
-          stripe_count i w o p simple.mount.accepted simple.mount.legal opened (contained_among (stripes_of log o) p (k, there)) in
+          stripe_count i w o p lossless.mount.accepted lossless.mount.legal opened (contained_among (stripes_of log o) p (k, there)) in
           let fewer : length (in_stripe p) ≤ length p.stripe.blocks = filter_map_length (position_in i.shape) p.stripe.blocks in
           omega arith)) in
-          let room : HasRoom i.shape log o = has_room i w line o simple.mount e in
+          let room : FitsItsLine i.shape log o = has_room i w line o lossless.mount e in
           let within : length (stripes_of log o) * i.shape.ws_opt ≤ line_end i.shape o = room.within in
           let narrow : line_end i.shape o ≤ line_blocks i.shape =
-          mul-le-mul_right i.shape.clba (opening_narrow i w o simple.mount.fit simple.mount.legal opened) in
+          mul-le-mul_right i.shape.clba (opening_narrow i w o lossless.mount.fit lossless.mount.legal opened) in
           omega arith
 
   -- A stripe whose line is as it was when it was placed has its positions among those.
@@ -215,7 +215,7 @@ module _ (i : Image) (w : World) (simple : IsSimpleMount i w) where
       at : (p : Placed) × IsAmong (placements (log_of w 0)) p × (holds_position i.shape q p ≡ true)
       at = let first : first_position log ≤ synced i.shape log = synced_from i.shape log in
           passing (holds_position i.shape q) (placements log)
-          (some_hold_below i.shape log (ordered i w simple.mount) q
+          (some_hold_below i.shape log (ordered i w lossless.mount) q
           ∙ and_both (nat_le (first_position log) q) (nat_lt q (placed_front i.shape log)) (le_true (first_position log) q (omega arith))
           (lt_true q (placed_front i.shape log) below))
 
@@ -227,7 +227,7 @@ module _ (i : Image) (w : World) (simple : IsSimpleMount i w) where
           among = among_contained (placements log) p there
 
           place : IsInPlace i (log_of w 0) p
-          place = all_at (IsInPlace i log) (placements log) among.0 p among.1 (in_order i w simple.mount).placed
+          place = all_at (IsInPlace i log) (placements log) among.0 p among.1 (in_order i w lossless.mount).placed
 
           landed : (life_of (log_of w 0) p.stripe.line ≡ p.life) ⊎ (q < synced i.shape (log_of w 0))
               → IsIn (flat_map in_line (range_with_len 0 i.shape.chunks)) q
@@ -237,7 +237,7 @@ module _ (i : Image) (w : World) (simple : IsSimpleMount i w) where
           go : (t : Bool) → is_answered (log_of w 0) p ≡ t → IsIn (flat_map in_line (range_with_len 0 i.shape.chunks)) q
           go false e = stands_in p place.opening q there place.life (place.stands e) place.in_range holds
           go true e =
-              landed (standing_or_synced i w simple.mount p q there (landed_of_answered log p e (never_lost log simple.engine.lost p)) holds)
+              landed (standing_or_synced i w lossless.mount p q there (landed_of_answered log p e (never_lost log lossless.none_lost p)) holds)
 
   pub placed_near : placed_front i.shape (log_of w 0) ≤ synced i.shape (log_of w 0) + drive_blocks i.shape
   placed_near = go (cases_lt (synced i.shape log) (placed_front i.shape log))
@@ -258,7 +258,7 @@ module _ (i : Image) (w : World) (simple : IsSimpleMount i w) where
 
 -- ---- what was taken
 
-module _ (i : Image) (w : World) (mount : IsLegalMount i w) (none_lost : NoneLost (log_of w 0)) (granted : AreGranted i (log_of w))
+module _ (i : Image) (w : World) (mount : IsLegalMount i w) (none_lost : NoStripeLost (log_of w 0)) (granted : AreGranted i (log_of w))
     (begun : AreBegunInTurn i (log_of w)) where
   -- what there was room for is near
   room_near : (n upto : ℕ) → WasRoom i (log_of w) n upto → upto ≤ synced i.shape (log_of w 0) + i.shape.ring
@@ -278,14 +278,14 @@ module _ (i : Image) (w : World) (mount : IsLegalMount i w) (none_lost : NoneLos
       → taken (take at (log_of w 0)) ≤ synced i.shape (log_of w 0) + 3 * drive_blocks i.shape
   due_near at within few =
       let v : IsWorldAt i w at = world_at i w at mount.legal within in
-      let simple : IsSimpleMount i v.world = record {
+      let lossless : IsLosslessMount i v.world = record {
         mount = record { accepted = mount.accepted; fit = mount.fit; legal = v.legal };
-        engine = record { lost = subst NoneLost (sym v.own) (all_taken (λ (x : Logged). decides is_losing x.event ≡ false) at (log_of w 0) none_lost) };
+        none_lost = subst NoStripeLost (sym v.own) (all_taken (λ (x : Logged). decides is_losing x.event ≡ false) at (log_of w 0) none_lost);
       } in
       let all : taken (take at (log_of w 0)) ≡ placed_front i.shape (take at (log_of w 0)) + length (waiting i.shape (take at (log_of w 0))) =
-      subst (λ (xs : List Logged). taken xs ≡ placed_front i.shape xs + length (waiting i.shape xs)) v.own (taken_waits i v.world simple) in
+      subst (λ (xs : List Logged). taken xs ≡ placed_front i.shape xs + length (waiting i.shape xs)) v.own (taken_waits i v.world lossless) in
       let placed : placed_front i.shape (take at (log_of w 0)) ≤ synced i.shape (take at (log_of w 0)) + drive_blocks i.shape =
-      subst (λ (xs : List Logged). placed_front i.shape xs ≤ synced i.shape xs + drive_blocks i.shape) v.own (placed_near i v.world simple) in
+      subst (λ (xs : List Logged). placed_front i.shape xs ≤ synced i.shape xs + drive_blocks i.shape) v.own (placed_near i v.world lossless) in
       let rise : synced i.shape (take at (log_of w 0)) ≤ synced i.shape (log_of w 0) = synced_by_now i.shape at (log_of w 0) in
       let more : addresses i (logs_at at (log_of w)) ≤ drive_blocks i.shape + drive_blocks i.shape = addresses_few i w mount at in
       omega arith

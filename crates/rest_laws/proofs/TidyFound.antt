@@ -19,7 +19,7 @@ use Rattle.lemmas.proofs.Maps.{given_at}
 use Rattle.lemmas.proofs.Options.{split_then}
 use Rattle.lemmas.proofs.Parts.{all_by_get}
 use Rattle.lemmas.proofs.Tests.{both, not_both, not_true}
-use Rattle.world_laws.specs.LegalMounts.{IsLegalMount}
+use Rattle.pblk_world.specs.LegalMounts.{IsLegalMount}
 use Rattle.world_laws.specs.Padding.{ArePadded, IsPaddedAt}
 use Rattle.world_laws.specs.EarlyLogs.{ArePrefixes}
 use Rattle.world_laws.proofs.FoundEmpty.{all_pass}

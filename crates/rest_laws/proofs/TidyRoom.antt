@@ -10,8 +10,8 @@ use Rattle.pblk_world.specs.Fronts.{taken}
 use Rattle.pblk_world.specs.Lines.{found_by, found_image}
 use Rattle.pblk_world.specs.Space.{position_limit}
 use Rattle.pblk_world.specs.World.{World, log_of}
-use Rattle.world_laws.specs.Orders.{AreAfterResets}
-use Rattle.world_laws.specs.Reasons.{HasReasons}
+use Rattle.pblk_world.specs.Orders.{AreAfterResets}
+use Rattle.pblk_world.specs.Reasons.{HasReasons}
 use Rattle.core_laws.proofs.BegunOnce.{begun_once}
 use Rattle.rest_laws.specs.RoomRuns.{IsReasonedMount}
 use Rattle.rest_laws.specs.Tidy.{has_free_chunks, IsTidy}

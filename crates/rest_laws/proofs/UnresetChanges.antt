@@ -21,7 +21,7 @@ use Rattle.pblk_world.proofs.Appending.{life_more}
 use Rattle.pblk_world.proofs.LinesLemmas.{not_given_up}
 use Rattle.lemmas.proofs.Maps.{filter_same}
 use Rattle.lemmas.proofs.Tests.{lt_true, not_both}
-use Rattle.world_laws.specs.LegalMounts.{IsLegalMount}
+use Rattle.pblk_world.specs.LegalMounts.{IsLegalMount}
 use Rattle.world_laws.specs.SameTold.{AreSameTold}
 use Rattle.world_laws.proofs.ToldDecisions.{opening_told}
 use Rattle.world_laws.proofs.ToldImages.{image_same, told_back}

@@ -19,7 +19,7 @@ use Rattle.pblk_world.proofs.Appending.{life_more}
 use Rattle.pblk_world.proofs.EngineLogLemmas.{begun_stays}
 use Rattle.pblk_world.proofs.LinesLemmas.{not_given_up}
 use Rattle.lemmas.proofs.Tests.{both, not_both, other_number, same_number}
-use Rattle.world_laws.specs.LegalMounts.{IsLegalMount}
+use Rattle.pblk_world.specs.LegalMounts.{IsLegalMount}
 use Rattle.core_laws.specs.Stepping.{after}
 use Rattle.core_laws.proofs.FreedLives.{known_freed, life_beside, life_freed}
 use Rattle.core_laws.proofs.FreedWidths as widths

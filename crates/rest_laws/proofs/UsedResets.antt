@@ -28,7 +28,7 @@ use Rattle.pblk_world.proofs.VictimsLemmas.{whole_prefix}
 use Rattle.lemmas.proofs.Options.{split_then}
 use Rattle.lemmas.proofs.Parts.{all_at, contained_among, get_below, get_taken, got_within}
 use Rattle.lemmas.proofs.Tests.{not_both}
-use Rattle.world_laws.specs.LegalMounts.{IsLegalMount}
+use Rattle.pblk_world.specs.LegalMounts.{IsLegalMount}
 use Rattle.world_laws.specs.UnitChunks.{NoProgram, chunk_after, first_events}
 use Rattle.world_laws.proofs.Deeds.{IsDeed, deed}
 use Rattle.world_laws.proofs.FitMedia.{media_fit}

@@ -24,11 +24,11 @@ use Rattle.rest_laws.specs.Tidy.{AreWide}
 use Rattle.lemmas.proofs.Lists.{all_imply, among_contained}
 use Rattle.lemmas.proofs.Maps.{all_in_range}
 use Rattle.lemmas.proofs.Tests.{and_both, le_true, lt_true, not_both, or_left, or_right, same, same_number, within_is}
-use Rattle.world_laws.specs.LegalMounts.{IsLegalMount}
-use Rattle.world_laws.specs.Orders.{AreReset}
+use Rattle.pblk_world.specs.LegalMounts.{IsLegalMount}
+use Rattle.pblk_world.specs.Orders.{AreReset}
 use Rattle.world_laws.proofs.StartRecords.{front_from_first, seq_of_nth}
 use Rattle.world_laws.proofs.Stripes.{one_opening}
-use Rattle.core_laws.specs.SimpleMounts.{IsSimpleMount}
+use Rattle.core_laws.proofs.LosslessMounts.{IsLosslessMount}
 use Rattle.core_laws.specs.Spent.{OpensWhenFull}
 use Rattle.core_laws.proofs.ChosenVictims.{no_candidate}
 use Rattle.core_laws.proofs.EachChunk.{all_hold}
@@ -50,7 +50,7 @@ pub data Standing (i : Image) (logs : Logs) (n : Opening) (line : ℕ) : Type 0 
   WasLeft : has_stripe_left i (engine_prefix n.number logs) line ≡ true → Standing i logs n line
   Behind : IsBehind i logs n.start line → Standing i logs n line
 
-module _ (i : Image) (w : World) (simple : IsSimpleMount i w) (full : OpensWhenFull i (log_of w)) (wide : AreWide (known_image i (log_of w)))
+module _ (i : Image) (w : World) (lossless : IsLosslessMount i w) (full : OpensWhenFull i (log_of w)) (wide : AreWide (known_image i (log_of w)))
     (reset : AreReset i (log_of w)) (n : Opening) (last : IsLastOpened (log_of w 0) n) where
   abbrev log : List Logged
   log = log_of w 0
@@ -59,7 +59,7 @@ module _ (i : Image) (w : World) (simple : IsSimpleMount i w) (full : OpensWhenF
   logs = log_of w
 
   mount : IsLegalMount i w
-  mount = simple.mount
+  mount = lossless.mount
 
   some_data : (line : ℕ) → line < i.shape.chunks → line_data (known_image i (log_of w)) line ≡ full_data i.shape
   some_data = all_data i w mount wide
@@ -77,7 +77,7 @@ module _ (i : Image) (w : World) (simple : IsSimpleMount i w) (full : OpensWhenF
           by_number : (o.number ≡ n.number) ⊎ ((o.number < n.number) ⊎ (n.number < o.number)) → Standing i (log_of w) n line
           by_number (inl equal) = IsNewest (sym now.1 ∙ ap (λ (x : Opening). x.line) (one_opening log o n now.0 last.opened equal))
           by_number (inr (inr later)) = let few : o.number ≤ n.number = last.last o now.0 in absurd (omega arith)
-          by_number (inr (inl before)) = go (left_or_behind i w simple full n last.opened o (ap (life_of log) now.1 ∙ is) before
+          by_number (inr (inl before)) = go (left_or_behind i w lossless full n last.opened o (ap (life_of log) now.1 ∙ is) before
               (subst (λ m. width (known_image i logs) m ≡ units i.shape) (sym now.1) (wide line inside)))
             where
               go : (has_stripe_left i (engine_prefix n.number (log_of w)) o.line ≡ true) ⊎ IsBehind i (log_of w) n.start o.line
@@ -90,10 +90,10 @@ module _ (i : Image) (w : World) (simple : IsSimpleMount i w) (full : OpensWhenF
           at = among_contained (openings log) n last.opened
 
           g : Begun
-          g = (nth i w simple full n last.opened).1.g
+          g = (nth i w lossless full n last.opened).1.g
 
-          begins : begun (log_of w 0) ≡ Some (nth i w simple full n last.opened).1.g
-          begins = (nth i w simple full n last.opened).1.is_begun
+          begins : begun (log_of w 0) ≡ Some (nth i w lossless full n last.opened).1.g
+          begins = (nth i w lossless full n last.opened).1.is_begun
 
           by_start : (o : Option StartRecord) → start_of (found_image i (log_of w)) line ≡ o → Standing i (log_of w) n line
           by_start (Some start) starts =
@@ -109,7 +109,7 @@ module _ (i : Image) (w : World) (simple : IsSimpleMount i w) (full : OpensWhenF
       → is_free_line i (log_of w) other ≡ false → line ≢ n.line → other ≢ n.line → ¬ IsBehind i (log_of w) n.start line
       → ¬ IsBehind i (log_of w) n.start other → line ≡ other
   one_not_behind line other line_in other_in line_used other_used line_old other_old line_needed other_needed =
-      (may_open i w simple full n last.opened).one_other line other line_in other_in (left line line_in line_used line_old line_needed)
+      (may_open i w lossless full n last.opened).one_other line other line_in other_in (left line line_in line_used line_old line_needed)
       (left other other_in other_used other_old other_needed)
     where
       left : (m : ℕ) → m < i.shape.chunks → is_free_line i (log_of w) m ≡ false → m ≢ n.line → ¬ IsBehind i (log_of w) n.start m
@@ -217,7 +217,7 @@ module _ (i : Image) (w : World) (simple : IsSimpleMount i w) (full : OpensWhenF
 
         one_left : length (filter was_left (range_with_len 0 i.shape.chunks)) ≤ 1
         one_left = one_in_range was_left 0 i.shape.chunks (λ j k j_from j_below k_from k_below a b.
-            (may_open i w simple full n last.opened).one_other j k (omega arith) (omega arith) a b)
+            (may_open i w lossless full n last.opened).one_other j k (omega arith) (omega arith) a b)
 
         too_many : next_victim i (log_of w) ≡ None → ⊥
         too_many none =

@@ -9,7 +9,7 @@ use Rattle.pblk_world.specs.Events.{Decides, Event, Free, Logged, Open}
 use Rattle.pblk_world.specs.Victims.{comes_to_work, engine_prefix, is_freed, stays_at_work, victim}
 use Rattle.pblk_world.specs.World.{World, log_of}
 use Rattle.lemmas.proofs.Tests.{same}
-use Rattle.world_laws.specs.LegalMounts.{IsLegalMount}
+use Rattle.pblk_world.specs.LegalMounts.{IsLegalMount}
 use Rattle.world_laws.proofs.NextLives.{life_next}
 use Rattle.rest_laws.proofs.LengthLogs.{IsWorldAt, world_at}
 use Rattle.rest_laws.proofs.LivesAtWork.{is_victim}

@@ -20,7 +20,7 @@ use Rattle.lemmas.proofs.Maps.{in_filter, from_filter}
 use Rattle.lemmas.proofs.Numbers.{fun_same}
 use Rattle.lemmas.proofs.Parts.{contained_among, get_past, got_within, take_next}
 use Rattle.lemmas.proofs.Tests.{not_both, same_number}
-use Rattle.world_laws.specs.LegalMounts.{IsLegalMount}
+use Rattle.pblk_world.specs.LegalMounts.{IsLegalMount}
 use Rattle.world_laws.proofs.Later.{placed_within}
 use Rattle.world_laws.proofs.NextLives.{life_next}
 use Rattle.world_laws.proofs.Placements.{still_placed}

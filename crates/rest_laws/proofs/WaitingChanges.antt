@@ -22,14 +22,14 @@ use Rattle.pblk_world.proofs.Appending.{placements_more}
 use Rattle.pblk_world.proofs.EngineLogLemmas.{takes_more}
 use Rattle.lemmas.proofs.Lists.{all_append}
 use Rattle.lemmas.proofs.Tests.{not_both}
-use Rattle.world_laws.specs.LegalMounts.{IsLegalMount, NoneLost, decides, is_losing}
+use Rattle.pblk_world.specs.LegalMounts.{IsLegalMount, NoStripeLost, decides, is_losing}
 use Rattle.world_laws.proofs.ToldDecisions.{placing_told}
 use Rattle.world_laws.proofs.ToldImages.{told_back}
 use Rattle.core_laws.specs.OpenAddresses.{keeps_placed}
 use Rattle.core_laws.specs.Placed.{placed_count, placed_positions}
 use Rattle.core_laws.specs.PlacerOf.{positions_in_stripe, positions_of}
 use Rattle.core_laws.specs.Positions.{IsUnplaced}
-use Rattle.core_laws.specs.SimpleMounts.{IsSimpleMount}
+use Rattle.core_laws.proofs.LosslessMounts.{IsLosslessMount}
 use Rattle.core_laws.specs.Stepping.{after}
 use Rattle.core_laws.proofs.BlockPositions.{data_positions}
 use Rattle.core_laws.proofs.LogOrders.{small_capacity}
@@ -108,23 +108,21 @@ module _ (i : Image) (s : Step) (w : World) (mount : IsLegalMount i (s ∷ w)) (
       (λ ls. (taken (ls 0) ≡ taken (log_of w 0) + 1) × (placed_front i.shape (ls 0) ≡ placed_front i.shape (log_of w 0)))
       (taken_with (Take entry mark) (record { entry = entry; mark = mark } ∷ []) refl, front_taken i.shape (log_of w 0) entry mark knows free)
 
-  module _ (none : NoneLost (log_of w 0)) (stripe : Stripe) (is : s.logged.event ≡ Decides (Place stripe)) where
+  module _ (none : NoStripeLost (log_of w 0)) (stripe : Stripe) (is : s.logged.event ≡ Decides (Place stripe)) where
     abbrev new : List Logged
     new = after (log_of w) (Place stripe) s.logged.knows 0
 
-    simple : IsSimpleMount i w
-    simple = record { mount = was; engine = record { lost = none } }
+    lossless : IsLosslessMount i w
+    lossless = record { mount = was; none_lost = none }
 
     new_is : log_of (s ∷ w) 0 ≡ after (log_of w) (Place stripe) s.logged.knows 0
     new_is = by_logs i s w mount (Place stripe) own is b begins (λ ls. ls 0 ≡ after (log_of w) (Place stripe) s.logged.knows 0) refl
 
-    simple_now : IsSimpleMount i (s ∷ w)
-    simple_now = record {
+    lossless_now : IsLosslessMount i (s ∷ w)
+    lossless_now = record {
       mount = mount;
-      engine = record {
-        lost = subst NoneLost (sym new_is) (all_append (λ (l : Logged). decides is_losing l.event ≡ false) (log_of w 0)
-            (record { event = Decides (Place stripe); knows = s.logged.knows } ∷ []) none (refl, tt));
-      };
+      none_lost = subst NoStripeLost (sym new_is) (all_append (λ (l : Logged). decides is_losing l.event ≡ false) (log_of w 0)
+          (record { event = Decides (Place stripe); knows = s.logged.knows } ∷ []) none (refl, tt));
     }
 
     now : MayPlace i (log_of w) stripe
@@ -153,22 +151,23 @@ module _ (i : Image) (s : Step) (w : World) (mount : IsLegalMount i (s ∷ w)) (
             ∙ ap (λ (qs : List ℕ). length qs) (data_positions i w (small_capacity i was.accepted) was.legal)
             ∙ length-take i.shape.ws_opt (positions_of (waiting i.shape (log_of w 0)))
             ∙ ap (min i.shape.ws_opt) (length-map (waiting i.shape (log_of w 0)) (λ (t : Taken). t.entry.position))
-            ∙ ap (λ t. if t then min i.shape.ws_opt (length (waiting i.shape (log_of w 0))) else 0) (sym (data_have_one i w now.opening stripe simple data_is))
+            ∙ ap (λ t. if t then min i.shape.ws_opt (length (waiting i.shape (log_of w 0))) else 0)
+            (sym (data_have_one i w now.opening stripe lossless data_is))
 
-    count_of : (x : World) → IsSimpleMount i x → length (placed_positions i.shape (log_of x 0)) ≡ placed_count i.shape (log_of x 0)
+    count_of : (x : World) → IsLosslessMount i x → length (placed_positions i.shape (log_of x 0)) ≡ placed_count i.shape (log_of x 0)
     count_of x is =
-        placed_once i.shape (log_of x 0) (never_lost (log_of x 0) is.engine.lost) (ordered i x is.mount)
+        placed_once i.shape (log_of x 0) (never_lost (log_of x 0) is.none_lost) (ordered i x is.mount)
 
     counts : placed_count i.shape (log_of (s ∷ w) 0) ≡ placed_count i.shape (log_of w 0) + length (positions_in_stripe i.shape stripe)
     counts =
-        sym (count_of (s ∷ w) simple_now) ∙ ap (λ (xs : List Logged). length (placed_positions i.shape xs)) new_is
+        sym (count_of (s ∷ w) lossless_now) ∙ ap (λ (xs : List Logged). length (placed_positions i.shape xs)) new_is
         ∙ ap (λ (ps : List Placed). length (flat_map (λ (p : Placed). positions_in_stripe i.shape p.stripe) ps))
         (placements_more (log_of w 0) (record { event = Decides (Place stripe); knows = knows }))
         ∙ ap (λ (qs : List ℕ). length qs) (flat_map-append (λ (p : Placed). positions_in_stripe i.shape p.stripe) (placements log)
         (option_to_list (placed_by log (length log) (Decides (Place stripe)))))
         ∙ length-append (placed_positions i.shape log) (flat_map (λ (p : Placed). positions_in_stripe i.shape p.stripe)
         (option_to_list (placed_by log (length log) (Decides (Place stripe)))))
-        ∙ ap₂ (λ m n. m + n) (count_of w simple) (ap (λ (qs : List ℕ). length qs) (append-nil (positions_in_stripe i.shape stripe)))
+        ∙ ap₂ (λ m n. m + n) (count_of w lossless) (ap (λ (qs : List ℕ). length qs) (append-nil (positions_in_stripe i.shape stripe)))
 
     pub stripe_placed : (taken (log_of (s ∷ w) 0) ≡ taken (log_of w 0))
         × (placed_front i.shape (log_of (s ∷ w) 0)

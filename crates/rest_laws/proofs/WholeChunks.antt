@@ -23,7 +23,7 @@ use Rattle.pblk_world.specs.World.{World, log_of, media, unit_event_at, unit_eve
 use Rattle.lemmas.proofs.Options.{split_then}
 use Rattle.lemmas.proofs.Parts.{all_at, got_within}
 use Rattle.world_laws.specs.KnownChunks.{IsChange}
-use Rattle.world_laws.specs.LegalMounts.{IsLegalMount}
+use Rattle.pblk_world.specs.LegalMounts.{IsLegalMount}
 use Rattle.world_laws.specs.UnitChunks.{chunk_after, first_events}
 use Rattle.world_laws.proofs.Deeds.{IsDeed, deed, fetch_leaves}
 use Rattle.world_laws.proofs.KnownPrefixes.{known_prefix}

@@ -24,7 +24,7 @@ use Rattle.pblk_world.proofs.Growing.{knowledge_rises}
 use Rattle.pblk_world.proofs.WorldLemmas.{length_media, media_same}
 use Rattle.lemmas.proofs.Options.{split_then}
 use Rattle.lemmas.proofs.Parts.{get_below, get_more, get_whole, got_within, is_in}
-use Rattle.world_laws.specs.LegalMounts.{IsLegalMount}
+use Rattle.pblk_world.specs.LegalMounts.{IsLegalMount}
 use Rattle.world_laws.specs.UnitChunks.{chunk_after}
 use Rattle.world_laws.proofs.Deeds.{deed, IsDeed}
 use Rattle.world_laws.proofs.LifePlaces.{began}

@@ -3,17 +3,24 @@ use Rattle.std.specs.Prelude.{ℕ, suc, ◌≤◌, ◌≡◌, ⊤, List, [], ◌
 use Rattle.std.specs.List.{Contains}
 use Rattle.pblk_model.specs.declared.chunk.Mark.{Mark}
 use Rattle.pblk_model.specs.Image.{Image}
+use Rattle.pblk_world.specs.AtRest.{logs_at}
 use Rattle.pblk_world.specs.EngineLog.{Taken, takes}
-use Rattle.pblk_world.specs.Events.{Entry, Logged}
-use Rattle.pblk_world.specs.Fronts.{taken}
+use Rattle.pblk_world.specs.Events.{Entry, Logged, Source}
+use Rattle.pblk_world.specs.Fronts.{last_take, taken}
+use Rattle.pblk_world.specs.Taking.{IsPlaceOfLatest}
 use Rattle.pblk_world.specs.Victims.{victim}
 use Rattle.pblk_world.specs.World.{Logs}
-use Rattle.world_laws.specs.Reasons.{WasBegun}
+use Rattle.pblk_world.specs.Reasons.{WasBegun}
 use Rattle.rest_laws.specs.Copies.{TookCopy}
 
 -- The line is at work as the victim from this length of the engine's log on.
 pub record IsAtWorkFrom (i : Image) (logs : Logs) (from line : ℕ) : Type 0 where
   pub each : (n : ℕ) → from ≤ n → n ≤ length (logs 0) → victim i logs n ≡ Some line
+
+-- At this length of the engine's log the source was the place of the sector's latest.
+abbrev pub WasLatestAt : Image → Logs → (from lba : ℕ) → Source → Type 0
+WasLatestAt i logs from lba source =
+    IsPlaceOfLatest i (logs_at from logs) lba source (last_take (take from (logs 0)) lba)
 
 -- An entry of the sector was taken from this length of the log on, a user's or a copy that isn't
 -- Void.

@@ -4,6 +4,7 @@ pub mod BehindLines
 pub mod NewestOpened
 pub mod Untroubled
 pub mod RoomSteps
+pub mod EngineSteps
 pub mod RestingMounts
 pub mod Copies
 pub mod AtWork

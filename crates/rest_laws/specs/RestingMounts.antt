@@ -6,7 +6,7 @@ use Rattle.pblk_world.specs.EngineLog.{Begun, begun, openings}
 use Rattle.pblk_world.specs.Fronts.{synced}
 use Rattle.pblk_world.specs.Lines.{known_image}
 use Rattle.pblk_world.specs.World.{World, log_of}
-use Rattle.world_laws.specs.LegalMounts.{IsLegalMount, NoneLost}
+use Rattle.pblk_world.specs.LegalMounts.{IsLegalMount, NoStripeLost}
 use Rattle.core_laws.specs.Spent.{OpensWhenFull}
 use Rattle.rest_laws.specs.Tidy.{AreWide}
 
@@ -15,7 +15,7 @@ use Rattle.rest_laws.specs.Tidy.{AreWide}
 -- its sequence number and its front are not too great.
 pub record IsRestingMount (i : Image) (w : World) (asked : ℕ) : Type 0 where
   pub mount : IsLegalMount i w
-  pub none_lost : NoneLost (log_of w 0)
+  pub none_lost : NoStripeLost (log_of w 0)
   pub full : OpensWhenFull i (log_of w)
   pub wide : AreWide (known_image i (log_of w))
   pub resting : IsResting i (log_of w) asked

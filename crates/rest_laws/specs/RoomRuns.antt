@@ -12,9 +12,9 @@ use Rattle.pblk_world.specs.Lines.{found_image, known_image}
 use Rattle.pblk_world.specs.Space.{full_data, open_addresses, placed_front, position_limit}
 use Rattle.pblk_world.specs.Victims.{engine_prefix, is_freed, is_live_in, live, victim}
 use Rattle.pblk_world.specs.World.{World, Logs, log_of}
-use Rattle.world_laws.specs.LegalMounts.{IsLegalMount, NoneLost}
-use Rattle.world_laws.specs.Orders.{AreAfterResets, AreOpenedFull}
-use Rattle.world_laws.specs.Reasons.{HasReasons, WasAsked, WasBegun, WasRoom}
+use Rattle.pblk_world.specs.LegalMounts.{IsLegalMount, NoStripeLost}
+use Rattle.pblk_world.specs.Orders.{AreAfterResets, AreOpenedFull}
+use Rattle.pblk_world.specs.Reasons.{HasReasons, WasAsked, WasBegun, WasRoom}
 use Rattle.room_law.specs.Counting.{Copy, Fresh, IsReached, NoCopy, Outlived, Sizes, Stale, State, Victim}
 use Rattle.rest_laws.specs.AtWork.{WasTakenSince}
 use Rattle.rest_laws.specs.Copies.{TookCopy}
@@ -29,7 +29,7 @@ use Rattle.rest_laws.specs.Tidy.{AreWide, has_free_chunks}
 -- its reason.
 pub record IsReasonedMount (i : Image) (w : World) : Type 0 where
   pub mount : IsLegalMount i w
-  pub none_lost : NoneLost (log_of w 0)
+  pub none_lost : NoStripeLost (log_of w 0)
   pub wide : (n : ℕ) → 0 < n → n ≤ length (log_of w 0)
       → AreWide (known_image i (engine_prefix n (log_of w)))
   pub some_free : 2 ≤ length (filter (has_free_chunks (found_image i (log_of w)))
@@ -132,7 +132,7 @@ pub record IsRoomState (i : Image) (logs : Logs) (at : ℕ → ℕ) (n upto aske
   pub users : (t : Taken) → Contains (takes (take n (logs 0))) t → t.entry.source ≡ None
       → t.entry.position < s.users
   pub reach : (position : ℕ) → WasRoom i logs n position → position ≤ s.reach
-  pub asks : (position : ℕ) → WasAsked i logs asked position → position ≤ max s.calm s.urgent
+  pub asks : (position : ℕ) → WasAsked i logs asked position → position ≤ max s.before_due s.while_due
   pub reached : IsReached (sizes_of i) s
 
 -- All that is done at length n of the log is done.

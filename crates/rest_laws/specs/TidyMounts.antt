@@ -9,8 +9,8 @@ use Rattle.pblk_world.specs.Events.{Logged}
 use Rattle.pblk_world.specs.Fronts.{synced, waiting}
 use Rattle.pblk_world.specs.Space.{addresses}
 use Rattle.pblk_world.specs.World.{World, Logs, log_of, unit_event_at}
-use Rattle.world_laws.specs.LegalMounts.{IsLegalMount}
-use Rattle.world_laws.specs.Orders.{AreOpenedFull, AreReset}
+use Rattle.pblk_world.specs.LegalMounts.{IsLegalMount}
+use Rattle.pblk_world.specs.Orders.{AreOpenedFull, AreReset}
 use Rattle.rest_laws.specs.Tidy.{IsFaultless, IsFoundFaultless, IsTidy}
 
 -- At each length of the engine's log, once the mount has begun, at which no reset is left to be

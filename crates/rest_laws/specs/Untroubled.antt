@@ -3,8 +3,8 @@
 use Rattle.pblk_model.specs.Image.{Image}
 use Rattle.pblk_world.specs.Lines.{known_image}
 use Rattle.pblk_world.specs.World.{World, log_of}
-use Rattle.world_laws.specs.LegalMounts.{IsLegalMount, NoneLost}
-use Rattle.world_laws.specs.Orders.{AreReset}
+use Rattle.pblk_world.specs.LegalMounts.{IsLegalMount, NoStripeLost}
+use Rattle.pblk_world.specs.Orders.{AreReset}
 use Rattle.core_laws.specs.Spent.{OpensWhenFull}
 use Rattle.rest_laws.specs.Tidy.{AreWide}
 
@@ -12,7 +12,7 @@ use Rattle.rest_laws.specs.Tidy.{AreWide}
 -- No line is narrower than the drive, and no reset is left to be made.
 pub record IsUntroubled (i : Image) (w : World) : Type 0 where
   pub mount : IsLegalMount i w
-  pub none_lost : NoneLost (log_of w 0)
+  pub none_lost : NoStripeLost (log_of w 0)
   pub full : OpensWhenFull i (log_of w)
   pub wide : AreWide (known_image i (log_of w))
   pub reset : AreReset i (log_of w)

@@ -16,9 +16,9 @@ ghost use Rattle.pblk_world.specs.Lines.{known_image, next_seq};
 ghost use Rattle.pblk_world.specs.Space.{is_due, position_limit};
 ghost use Rattle.pblk_world.specs.Victims.{engine_prefix};
 ghost use Rattle.pblk_world.specs.World.{World, Logs, log_of, media};
-ghost use Rattle.world_laws.specs.LegalMounts.{IsLegalMount, NoneLost};
-ghost use Rattle.world_laws.specs.Orders.{AreAfterResets};
-ghost use Rattle.world_laws.specs.Reasons.{AreBegun, AreGranted, HasReasons};
+ghost use Rattle.pblk_world.specs.LegalMounts.{IsLegalMount, NoStripeLost};
+ghost use Rattle.pblk_world.specs.Orders.{AreAfterResets};
+ghost use Rattle.pblk_world.specs.Reasons.{AreBegun, AreGranted, HasReasons};
 ghost use Rattle.core_laws.specs.FaultlessMounts.{IsFaultlessMount};
 ghost use Rattle.rest_laws.specs.Tidy.{AreWide, HasWholeChunks, IsFaultless};
 ghost use Rattle.rest_laws.specs.Tidy.{IsFoundFaultless, IsTidy};
@@ -92,15 +92,15 @@ pub fn a_tidy_image_is_left_tidy()
 /// taken is near the front synced, where all that was taken had its reason (clause `taken`). Then
 /// positions are left too (clause `positions`).
 pub fn the_numbers_left_are_told_by_the_image()
-    ensures near { (i : Image) (w : World) (b : Begun) → IsLegalMount i w → NoneLost (log_of w 0)
-        → IsSealed i → begun (log_of w 0) ≡ Some b
+    ensures near { (i : Image) (w : World) (b : Begun) → IsLegalMount i w
+        → NoStripeLost (log_of w 0) → IsSealed i → begun (log_of w 0) ≡ Some b
         → b.beginning.seq + length (openings (log_of w 0))
         ≤ next_seq (head (media i (log_of w))) + 2 }
-    ensures numbers { (i : Image) (w : World) → IsLegalMount i w → NoneLost (log_of w 0)
+    ensures numbers { (i : Image) (w : World) → IsLegalMount i w → NoStripeLost (log_of w 0)
         → IsSealed i → 0 < length (log_of w 0) → end (media i (log_of w)) < 2 ^ 60
         → ((h : StartRecord) → head (media i (log_of w)) ≡ Some h → h.seq < 2 ^ 60)
         → HasNumbersLeft i.shape (log_of w 0) }
-    ensures taken { (i : Image) (w : World) → IsLegalMount i w → NoneLost (log_of w 0)
+    ensures taken { (i : Image) (w : World) → IsLegalMount i w → NoStripeLost (log_of w 0)
         → AreGranted i (log_of w) → AreBegun i (log_of w)
         → taken (log_of w 0) ≤ synced i.shape (log_of w 0) + 2 ^ 30 }
     ensures positions { (i : Image) (w : World) → IsLegalMount i w → IsSealed i

@@ -18,7 +18,7 @@ ghost use Rattle.pblk_world.specs.Space.{full_data, is_due};
 ghost use Rattle.pblk_world.specs.Starts.{has_landed_start, have_landed, newest_start};
 ghost use Rattle.pblk_world.specs.Victims.{engine_prefix, live, next_victim};
 ghost use Rattle.pblk_world.specs.World.{World, Logs, log_of};
-ghost use Rattle.world_laws.specs.LegalMounts.{IsLegalMount, NoneLost};
+ghost use Rattle.pblk_world.specs.LegalMounts.{IsLegalMount, NoStripeLost};
 ghost use Rattle.core_laws.specs.Spent.{OpensWhenFull};
 ghost use Rattle.rest_laws.specs.BehindLines.{IsBehind};
 ghost use Rattle.rest_laws.specs.NewestOpened.{IsLastOpened};
@@ -40,7 +40,7 @@ pub fn a_sector_is_live_in_one_line()
 /// synced.
 pub fn what_has_landed_whole_is_synced()
     ensures { (i : Image) (w : World) (o : Opening) (p : Placed) (position : ℕ)
-        → IsLegalMount i w → NoneLost (log_of w 0) → OpensWhenFull i (log_of w)
+        → IsLegalMount i w → NoStripeLost (log_of w 0) → OpensWhenFull i (log_of w)
         → life_of (log_of w 0) o.line ≡ Opened o
         → width (known_image i (log_of w)) o.line ≡ units i.shape
         → have_landed (log_of w 0) o (line_end i.shape o / i.shape.ws_opt) ≡ true
@@ -53,7 +53,7 @@ pub fn what_has_landed_whole_is_synced()
 /// that record: the one that was opened last, and at most one other (clause `others`).
 pub fn all_but_two_lines_are_behind()
     ensures opened { (i : Image) (w : World) (last o : Opening)
-        → IsLegalMount i w → NoneLost (log_of w 0) → OpensWhenFull i (log_of w)
+        → IsLegalMount i w → NoStripeLost (log_of w 0) → OpensWhenFull i (log_of w)
         → IsLastOpened (log_of w 0) last → life_of (log_of w 0) o.line ≡ Opened o
         → o.number < last.number → width (known_image i (log_of w)) o.line ≡ units i.shape
         → (has_stripe_left i (engine_prefix last.number (log_of w)) o.line ≡ true)
@@ -93,10 +93,10 @@ pub fn the_last_line_has_begun()
         (range_with_len 0 i.shape.chunks))
         → is_due i (log_of w) ≡ true → (last : Opening) × IsLastOpened (log_of w 0) last }
     ensures stands { (i : Image) (w : World) (last : Opening)
-        → IsLegalMount i w → NoneLost (log_of w 0) → IsLastOpened (log_of w 0) last
+        → IsLegalMount i w → NoStripeLost (log_of w 0) → IsLastOpened (log_of w 0) last
         → life_of (log_of w 0) last.line ≡ Opened last }
     ensures landed { (i : Image) (w : World) (last : Opening)
-        → IsLegalMount i w → NoneLost (log_of w 0) → IsLastOpened (log_of w 0) last
+        → IsLegalMount i w → NoStripeLost (log_of w 0) → IsLastOpened (log_of w 0) last
         → ((p : Placed) → Contains (placements (log_of w 0)) p → is_answered (log_of w 0) p ≡ true)
         → ((stripe : Stripe) → stripe.line ≡ last.line → ¬ IsStart i (log_of w) last stripe)
         → has_landed_start i.shape (log_of w 0) last ≡ true }

@@ -8,20 +8,21 @@ ghost use Rattle.pblk_model.specs.declared.shape.Shape.{Shape};
 ghost use Rattle.pblk_model.specs.Chunk.{Block};
 ghost use Rattle.pblk_model.specs.Image.{Image};
 ghost use Rattle.pblk_model.specs.Marks.{sector_mark, void_mark};
-ghost use Rattle.pblk_world.specs.AtRest.{logs_at, victim_now};
+ghost use Rattle.pblk_world.specs.AtRest.{victim_now};
 ghost use Rattle.pblk_world.specs.EngineLog.{Taken, life_of, taken_by, takes};
 ghost use Rattle.pblk_world.specs.Events.{Entry, Logged, Source};
 ghost use Rattle.pblk_world.specs.Freeing.{MayFree};
-ghost use Rattle.pblk_world.specs.Fronts.{first_position, last_take, synced, taken, was_placed};
+ghost use Rattle.pblk_world.specs.Fronts.{first_position, synced, taken, was_placed};
 ghost use Rattle.pblk_world.specs.Lines.{known_image, line_data};
 ghost use Rattle.pblk_world.specs.Space.{placed_front};
-ghost use Rattle.pblk_world.specs.Taking.{IsLatest, IsPlaceOfLatest};
+ghost use Rattle.pblk_world.specs.Taking.{IsLatest};
 ghost use Rattle.pblk_world.specs.Victims.{engine_prefix, is_live_in, live, victim};
 ghost use Rattle.pblk_world.specs.World.{World, Logs, log_of, prefixes};
-ghost use Rattle.world_laws.specs.LegalMounts.{IsLegalMount};
-ghost use Rattle.world_laws.specs.Reasons.{AreBegun, WasBegun};
-ghost use Rattle.rest_laws.specs.AtWork.{AreCopiesOf, IsAtWorkFrom, WasTakenSince};
+ghost use Rattle.pblk_world.specs.LegalMounts.{IsLegalMount};
+ghost use Rattle.pblk_world.specs.Reasons.{AreBegun, WasBegun};
+ghost use Rattle.rest_laws.specs.AtWork.{AreCopiesOf, IsAtWorkFrom, WasLatestAt, WasTakenSince};
 ghost use Rattle.rest_laws.specs.Copies.{IsEmptied, TookCopy};
+ghost use Rattle.rest_laws.specs.EngineSteps.{IsAtWorkOver};
 
 /// A victim at work that may be freed is emptied.
 pub fn a_victim_that_may_be_freed_is_emptied()
@@ -126,8 +127,7 @@ pub fn live_sectors_of_the_victim_fall()
     ensures by_one { (i : Image) (w : World) (line from n lba : ℕ) (source : Source)
         → IsLegalMount i w → 0 < from → IsAtWorkFrom i (log_of w) from line → from ≤ n
         → n ≤ length (log_of w 0) → lba < i.shape.capacity → source.line ≡ line
-        → IsPlaceOfLatest i (logs_at from (log_of w)) lba source
-        (last_take (take from (log_of w 0)) lba)
+        → WasLatestAt i (log_of w) from lba source
         → WasTakenSince (take n (log_of w 0)) lba from
         → live i (engine_prefix n (log_of w)) line + 1
         ≤ live i (engine_prefix from (log_of w)) line }
@@ -138,32 +138,24 @@ pub fn live_sectors_of_the_victim_fall()
 /// an event that takes none.
 pub fn an_entry_takes_one_live_sector()
     ensures one { (i : Image) (w : World) (line number : ℕ) (l : Logged) (t : Taken)
-        → IsLegalMount i w → 0 < number → suc number ≤ length (log_of w 0)
-        → victim i (log_of w) number ≡ Some line → victim i (log_of w) (suc number) ≡ Some line
-        → slice_get (log_of w 0) number ≡ Some l
+        → IsAtWorkOver i w line number l
         → taken_by l.event ≡ Some t → t.mark.lba < i.shape.capacity
         → is_live_in i (engine_prefix number (log_of w)) line t.mark.lba ≡ true
         → live i (engine_prefix number (log_of w)) line
         ≡ live i (engine_prefix (suc number) (log_of w)) line + 1 }
     ensures elsewhere { (i : Image) (w : World) (line number : ℕ) (l : Logged) (t : Taken)
-        → IsLegalMount i w → 0 < number → suc number ≤ length (log_of w 0)
-        → victim i (log_of w) number ≡ Some line → victim i (log_of w) (suc number) ≡ Some line
-        → slice_get (log_of w 0) number ≡ Some l
+        → IsAtWorkOver i w line number l
         → taken_by l.event ≡ Some t
         → is_live_in i (engine_prefix number (log_of w)) line t.mark.lba ≡ false
         → live i (engine_prefix (suc number) (log_of w)) line
         ≡ live i (engine_prefix number (log_of w)) line }
     ensures void { (i : Image) (w : World) (line number : ℕ) (l : Logged) (t : Taken)
-        → IsLegalMount i w → 0 < number → suc number ≤ length (log_of w 0)
-        → victim i (log_of w) number ≡ Some line → victim i (log_of w) (suc number) ≡ Some line
-        → slice_get (log_of w 0) number ≡ Some l
+        → IsAtWorkOver i w line number l
         → taken_by l.event ≡ Some t → i.shape.capacity ≤ t.mark.lba
         → live i (engine_prefix (suc number) (log_of w)) line
         ≡ live i (engine_prefix number (log_of w)) line }
     ensures none { (i : Image) (w : World) (line number : ℕ) (l : Logged)
-        → IsLegalMount i w → 0 < number → suc number ≤ length (log_of w 0)
-        → victim i (log_of w) number ≡ Some line → victim i (log_of w) (suc number) ≡ Some line
-        → slice_get (log_of w 0) number ≡ Some l
+        → IsAtWorkOver i w line number l
         → taken_by l.event ≡ None
         → live i (engine_prefix (suc number) (log_of w)) line
         ≡ live i (engine_prefix number (log_of w)) line }
@@ -175,20 +167,21 @@ pub fn a_copied_sector_is_live_until_it_is_taken()
     ensures fresh { (i : Image) (w : World) (line from lba : ℕ) (source : Source)
         → IsLegalMount i w → 0 < from → from ≤ length (log_of w 0)
         → IsAtWorkFrom i (log_of w) from line → lba < i.shape.capacity → source.line ≡ line
-        → IsPlaceOfLatest i (logs_at from (log_of w)) lba source
-        (last_take (take from (log_of w 0)) lba)
+        → WasLatestAt i (log_of w) from lba source
         → ¬ WasTakenSince (log_of w 0) lba from → is_live_in i (log_of w) line lba ≡ true }
     ensures stale { (i : Image) (w : World) (line from lba : ℕ) → IsLegalMount i w → 0 < from
         → from ≤ length (log_of w 0) → IsAtWorkFrom i (log_of w) from line
         → WasTakenSince (log_of w 0) lba from → is_live_in i (log_of w) line lba ≡ false }
 {}
 
-/// The copies that were made of a line since it is at work as the victim, and its live sectors, are
-/// no more than its live sectors were. A copy that isn't Void takes its sector itself. Where the
-/// source of a copy that was begun isn't the latest any more, while its line has the life that it
-/// had then, an entry of the sector was taken since. So it is also by what the engine knew when it
-/// took the copy. So for each copy of the victim at work an entry of its sector was taken since it
-/// was begun.
+/// Let a line be at work as the victim. The copies of it since then and its live sectors are no more
+/// than its live sectors were (clause `fit`). For each of these copies an entry of its sector was
+/// taken since it was begun (clause `copy`). A copy that isn't Void is such an entry itself (clause
+/// `itself`).
+///
+/// Let a source have held its sector's latest, and let its line have the life that it had then. If
+/// it doesn't hold the latest any more, an entry of the sector was taken since (clause `stale`). The
+/// same holds of what the engine knew as it decided an event (clause `known`).
 pub fn copies_of_a_victim_were_live()
     ensures fit { (i : Image) (w : World) (line from : ℕ) (numbers : List ℕ) → IsLegalMount i w
         → 0 < from → from ≤ length (log_of w 0) → IsAtWorkFrom i (log_of w) from line
@@ -202,16 +195,14 @@ pub fn copies_of_a_victim_were_live()
     ensures stale { (i : Image) (w : World) (from lba : ℕ) (source : Source) → IsLegalMount i w
         → 0 < from → from ≤ length (log_of w 0)
         → life_of (log_of w 0) source.line ≡ life_of (take from (log_of w 0)) source.line
-        → IsPlaceOfLatest i (logs_at from (log_of w)) lba source
-        (last_take (take from (log_of w 0)) lba)
+        → WasLatestAt i (log_of w) from lba source
         → ((block : Block) → ¬ IsLatest i (log_of w) lba source block)
         → WasTakenSince (log_of w 0) lba from }
     ensures known { (i : Image) (w : World) (number from lba : ℕ) (l : Logged) (source : Source)
         → IsLegalMount i w → slice_get (log_of w 0) number ≡ Some l
         → 0 < from → from ≤ number → life_of (take number (log_of w 0)) source.line
         ≡ life_of (take from (log_of w 0)) source.line
-        → IsPlaceOfLatest i (logs_at from (log_of w)) lba source
-        (last_take (take from (log_of w 0)) lba)
+        → WasLatestAt i (log_of w) from lba source
         → ((block : Block) → ¬ IsLatest i (prefixes l (log_of w)) lba source block)
         → WasTakenSince (take (suc number) (log_of w 0)) lba from }
     ensures copy { (i : Image) (w : World) (line from number : ℕ) (entry : Entry) (mark : Mark)

@@ -7,7 +7,7 @@ ghost use Rattle.pblk_world.specs.Legal.{IsLegal};
 ghost use Rattle.pblk_world.specs.Lines.{found_image, known_image};
 ghost use Rattle.pblk_world.specs.Space.{is_due};
 ghost use Rattle.pblk_world.specs.World.{World, log_of};
-ghost use Rattle.world_laws.specs.LegalMounts.{IsLegalMount, NoneLost};
+ghost use Rattle.pblk_world.specs.LegalMounts.{IsLegalMount, NoStripeLost};
 ghost use Rattle.rest_laws.specs.Tidy.{AreWide, HasWholeChunks, IsFaultless};
 ghost use Rattle.rest_laws.specs.Tidy.{IsFoundFaultless, IsTidy, has_free_chunks};
 
@@ -17,7 +17,7 @@ ghost use Rattle.rest_laws.specs.Tidy.{IsFoundFaultless, IsTidy, has_free_chunks
 /// are known to have Free chunks alone (clause `free`).
 pub fn a_faultless_mount_loses_nothing()
     ensures lost { (i : Image) (w : World) → IsLegal i w → IsFaultless (log_of w)
-        → NoneLost (log_of w 0) }
+        → NoStripeLost (log_of w 0) }
     ensures whole { (i : Image) (w : World) → IsLegalMount i w → 0 < length (log_of w 0)
         → IsFaultless (log_of w) → HasWholeChunks (found_image i (log_of w))
         → HasWholeChunks (known_image i (log_of w)) }

@@ -8,7 +8,7 @@ ghost use Rattle.pblk_world.specs.Fronts.{waiting};
 ghost use Rattle.pblk_world.specs.Space.{addresses};
 ghost use Rattle.pblk_world.specs.Victims.{engine_prefix};
 ghost use Rattle.pblk_world.specs.World.{World, log_of};
-ghost use Rattle.world_laws.specs.Orders.{AreReset};
+ghost use Rattle.pblk_world.specs.Orders.{AreReset};
 ghost use Rattle.rest_laws.specs.RoomRuns.{IsReasonedMount};
 
 /// Where no reset is left to be made, fewer entries wait than data addresses are left. So it is at

@@ -13,7 +13,7 @@ ghost use Rattle.pblk_world.specs.Lines.{are_over, found_image, known_image};
 ghost use Rattle.pblk_world.specs.Placing.{IsEnd};
 ghost use Rattle.pblk_world.specs.Space.{addresses, freed, is_due, position_limit, room};
 ghost use Rattle.pblk_world.specs.World.{World, log_of};
-ghost use Rattle.world_laws.specs.LegalMounts.{IsLegalMount, NoneLost};
+ghost use Rattle.pblk_world.specs.LegalMounts.{IsLegalMount, NoStripeLost};
 ghost use Rattle.core_laws.specs.Spent.{OpensWhenFull};
 ghost use Rattle.rest_laws.specs.NewestOpened.{IsLastOpened};
 ghost use Rattle.rest_laws.specs.RestingMounts.{IsRestingMount};
@@ -23,7 +23,7 @@ ghost use Rattle.rest_laws.specs.Tidy.{has_free_chunks};
 /// is written to that line before it is reset, unless it was opened last.
 pub fn only_the_last_line_is_open()
     ensures { (i : Image) (w : World) (last o : Opening)
-        → IsLegalMount i w → NoneLost (log_of w 0) → OpensWhenFull i (log_of w)
+        → IsLegalMount i w → NoStripeLost (log_of w 0) → OpensWhenFull i (log_of w)
         → IsLastOpened (log_of w 0) last → o.number < last.number
         → life_of (log_of w 0) o.line ≡ Opened o
         → ((p : Placed) → Contains (placements (log_of w 0)) p → is_answered (log_of w 0) p ≡ true)
@@ -38,7 +38,7 @@ pub fn only_the_last_line_is_open()
 /// `unopened`.
 pub fn the_front_freed_is_near()
     ensures near { (i : Image) (w : World) (last : Opening)
-        → IsLegalMount i w → NoneLost (log_of w 0) → OpensWhenFull i (log_of w)
+        → IsLegalMount i w → NoStripeLost (log_of w 0) → OpensWhenFull i (log_of w)
         → IsLastOpened (log_of w 0) last
         → width (known_image i (log_of w)) last.line ≡ units i.shape
         → ((p : Placed) → Contains (placements (log_of w 0)) p → is_answered (log_of w 0) p ≡ true)
@@ -47,7 +47,7 @@ pub fn the_front_freed_is_near()
         → taken (log_of w 0) ≤ freed i.shape (log_of w 0)
         + units i.shape * (i.shape.mw_cunits + (i.shape.ws_opt - 1))
         + length (waiting i.shape (log_of w 0)) }
-    ensures unopened { (i : Image) (w : World) → IsLegalMount i w → NoneLost (log_of w 0)
+    ensures unopened { (i : Image) (w : World) → IsLegalMount i w → NoStripeLost (log_of w 0)
         → openings (log_of w 0) ≡ []
         → taken (log_of w 0) ≤ freed i.shape (log_of w 0) + length (waiting i.shape (log_of w 0)) }
 {}

@@ -1,7 +1,7 @@
 //! Laws on the room of a drive: each is the contract of a function that does nothing.
 
 ghost use Rattle.std.specs.Prelude.{◌≡◌, ◌+◌, ◌*◌, ◌<◌, ℕ, suc, if◌then◌else◌, true, false};
-ghost use Rattle.std.specs.Prelude.{◌∷◌, List, Some, length, min};
+ghost use Rattle.std.specs.Prelude.{◌∷◌, length, min};
 ghost use Rattle.pblk_model.specs.declared.chunk.Mark.{Mark};
 ghost use Rattle.pblk_model.specs.Image.{Image};
 ghost use Rattle.pblk_model.specs.LineOrder.{data_len};
@@ -9,15 +9,16 @@ ghost use Rattle.pblk_model.specs.StartRecord.{StartRecord};
 ghost use Rattle.pblk_model.specs.UnitLog.{UnitEvent};
 ghost use Rattle.pblk_world.specs.Answering.{MayNoteReset};
 ghost use Rattle.pblk_world.specs.AtRest.{IsUnnotedReset};
-ghost use Rattle.pblk_world.specs.Events.{Decides, EngineEvent, Entry, Free, Open, Place};
-ghost use Rattle.pblk_world.specs.Events.{ResetDone, Step, Stripe, Take};
+ghost use Rattle.pblk_world.specs.Events.{EngineEvent, Entry, Free, Open, Place};
+ghost use Rattle.pblk_world.specs.Events.{Step, Stripe, Take};
 ghost use Rattle.pblk_world.specs.Fronts.{taken, waiting};
 ghost use Rattle.pblk_world.specs.Lines.{are_empty, is_given_up, known_image};
 ghost use Rattle.pblk_world.specs.Space.{addresses, free_addresses, full_data, placed_front};
-ghost use Rattle.pblk_world.specs.World.{Logs, World, log_of, unit_event_at};
-ghost use Rattle.world_laws.specs.LegalMounts.{IsLegalMount, NoneLost};
-ghost use Rattle.world_laws.specs.Orders.{AreReset};
+ghost use Rattle.pblk_world.specs.World.{Logs, World, log_of};
+ghost use Rattle.pblk_world.specs.LegalMounts.{IsLegalMount, NoStripeLost};
+ghost use Rattle.pblk_world.specs.Orders.{AreReset};
 ghost use Rattle.core_laws.specs.OpenAddresses.{keeps_placed};
+ghost use Rattle.rest_laws.specs.EngineSteps.{IsEngineStep, NotesReset};
 ghost use Rattle.rest_laws.specs.RoomSteps.{free_data, free_lines, has_entry};
 ghost use Rattle.rest_laws.specs.RoomSteps.{keeps_free, keeps_room};
 ghost use Rattle.rest_laws.specs.RoomSteps.{keeps_unreset, unreset_lines};
@@ -30,18 +31,13 @@ ghost use Rattle.rest_laws.specs.Tidy.{AreWide};
 pub fn stripes_take_addresses_and_resets_give_them()
     ensures unit { (i : Image) (s : Step) (w : World) (unit : ℕ) → IsLegalMount i (s ∷ w)
         → s.author ≡ suc unit → addresses i (log_of (s ∷ w)) ≡ addresses i (log_of w) }
-    ensures kept { (i : Image) (s : Step) (w : World) (e : EngineEvent) → IsLegalMount i (s ∷ w)
-        → 0 < length (log_of w 0) → s.author ≡ 0 → s.logged.event ≡ Decides e
+    ensures kept { (i : Image) (s : Step) (w : World) (e : EngineEvent) → IsEngineStep i s w e
         → keeps_room e ≡ true → addresses i (log_of (s ∷ w)) ≡ addresses i (log_of w) }
     ensures stripe { (i : Image) (s : Step) (w : World) (stripe : Stripe)
-        → IsLegalMount i (s ∷ w) → NoneLost (log_of w 0)
-        → 0 < length (log_of w 0) → s.author ≡ 0 → s.logged.event ≡ Decides (Place stripe)
+        → IsEngineStep i s w (Place stripe) → NoStripeLost (log_of w 0)
         → addresses i (log_of w) ≡ addresses i (log_of (s ∷ w))
         + (if has_entry i.shape stripe then i.shape.ws_opt else 0) }
-    ensures reset { (i : Image) (s : Step) (w : World) (unit number : ℕ) (e : UnitEvent)
-        → IsLegalMount i (s ∷ w) → 0 < length (log_of w 0) → s.author ≡ 0
-        → s.logged.event ≡ Decides (ResetDone unit number)
-        → unit_event_at (log_of w) unit number ≡ Some e
+    ensures reset { (i : Image) (s : Step) (w : World) (e : UnitEvent) → NotesReset i s w e
         → addresses i (log_of (s ∷ w)) ≡ addresses i (log_of w)
         + free_data i (log_of (s ∷ w)) e.chunk }
 {}
@@ -56,18 +52,13 @@ pub fn free_lines_are_opened_and_come_by_resets()
         → free_addresses i logs ≡ free_lines i logs * full_data i.shape }
     ensures unit { (i : Image) (s : Step) (w : World) (unit : ℕ) → IsLegalMount i (s ∷ w)
         → s.author ≡ suc unit → free_addresses i (log_of (s ∷ w)) ≡ free_addresses i (log_of w) }
-    ensures kept { (i : Image) (s : Step) (w : World) (e : EngineEvent) → IsLegalMount i (s ∷ w)
-        → 0 < length (log_of w 0) → s.author ≡ 0 → s.logged.event ≡ Decides e
+    ensures kept { (i : Image) (s : Step) (w : World) (e : EngineEvent) → IsEngineStep i s w e
         → keeps_free e ≡ true → free_addresses i (log_of (s ∷ w)) ≡ free_addresses i (log_of w) }
     ensures opened { (i : Image) (s : Step) (w : World) (line : ℕ) (start : StartRecord)
-        → IsLegalMount i (s ∷ w) → 0 < length (log_of w 0) → s.author ≡ 0
-        → s.logged.event ≡ Decides (Open line start)
+        → IsEngineStep i s w (Open line start)
         → free_addresses i (log_of w) ≡ free_addresses i (log_of (s ∷ w))
         + data_len i.shape start.width }
-    ensures reset { (i : Image) (s : Step) (w : World) (unit number : ℕ) (e : UnitEvent)
-        → IsLegalMount i (s ∷ w) → 0 < length (log_of w 0) → s.author ≡ 0
-        → s.logged.event ≡ Decides (ResetDone unit number)
-        → unit_event_at (log_of w) unit number ≡ Some e
+    ensures reset { (i : Image) (s : Step) (w : World) (e : UnitEvent) → NotesReset i s w e
         → free_addresses i (log_of (s ∷ w)) ≡ free_addresses i (log_of w)
         + free_data i (log_of (s ∷ w)) e.chunk }
 {}
@@ -81,23 +72,15 @@ pub fn free_lines_are_opened_and_come_by_resets()
 pub fn freed_lines_are_to_be_reset()
     ensures unit { (i : Image) (s : Step) (w : World) (unit : ℕ) → IsLegalMount i (s ∷ w)
         → s.author ≡ suc unit → unreset_lines i (log_of (s ∷ w)) ≡ unreset_lines i (log_of w) }
-    ensures kept { (i : Image) (s : Step) (w : World) (e : EngineEvent) → IsLegalMount i (s ∷ w)
-        → 0 < length (log_of w 0) → s.author ≡ 0 → s.logged.event ≡ Decides e
+    ensures kept { (i : Image) (s : Step) (w : World) (e : EngineEvent) → IsEngineStep i s w e
         → keeps_unreset e ≡ true
         → unreset_lines i (log_of (s ∷ w)) ≡ unreset_lines i (log_of w) }
-    ensures free { (i : Image) (s : Step) (w : World) (line : ℕ) → IsLegalMount i (s ∷ w)
-        → 0 < length (log_of w 0) → s.author ≡ 0 → s.logged.event ≡ Decides (Free line)
+    ensures free { (i : Image) (s : Step) (w : World) (line : ℕ) → IsEngineStep i s w (Free line)
         → unreset_lines i (log_of (s ∷ w)) ≡ unreset_lines i (log_of w) + 1 }
-    ensures reset { (i : Image) (s : Step) (w : World) (unit number : ℕ) (e : UnitEvent)
-        → IsLegalMount i (s ∷ w) → 0 < length (log_of w 0) → s.author ≡ 0
-        → s.logged.event ≡ Decides (ResetDone unit number)
-        → unit_event_at (log_of w) unit number ≡ Some e
+    ensures reset { (i : Image) (s : Step) (w : World) (e : UnitEvent) → NotesReset i s w e
         → unreset_lines i (log_of w) ≡ unreset_lines i (log_of (s ∷ w))
         + (if are_empty (known_image i (log_of (s ∷ w))) e.chunk then 1 else 0) }
-    ensures sum { (i : Image) (s : Step) (w : World) (unit number : ℕ) (e : UnitEvent)
-        → IsLegalMount i (s ∷ w) → 0 < length (log_of w 0) → s.author ≡ 0
-        → s.logged.event ≡ Decides (ResetDone unit number)
-        → unit_event_at (log_of w) unit number ≡ Some e
+    ensures sum { (i : Image) (s : Step) (w : World) (e : UnitEvent) → NotesReset i s w e
         → AreWide (known_image i (log_of (s ∷ w)))
         → addresses i (log_of (s ∷ w)) + full_data i.shape * unreset_lines i (log_of (s ∷ w))
         ≡ addresses i (log_of w) + full_data i.shape * unreset_lines i (log_of w) }
@@ -122,23 +105,20 @@ pub fn a_reset_not_noted_is_of_a_line_to_be_reset()
 /// wait, and another none (clause `stripe`). All else leaves both fronts as they are (clause
 /// `kept`).
 pub fn what_waits_was_taken_and_not_placed()
-    ensures waits { (i : Image) (w : World) → IsLegalMount i w → NoneLost (log_of w 0)
+    ensures waits { (i : Image) (w : World) → IsLegalMount i w → NoStripeLost (log_of w 0)
         → taken (log_of w 0) ≡ placed_front i.shape (log_of w 0)
         + length (waiting i.shape (log_of w 0)) }
     ensures take { (i : Image) (s : Step) (w : World) (entry : Entry) (mark : Mark)
-        → IsLegalMount i (s ∷ w) → 0 < length (log_of w 0) → s.author ≡ 0
-        → s.logged.event ≡ Decides (Take entry mark)
+        → IsEngineStep i s w (Take entry mark)
         → (taken (log_of (s ∷ w) 0) ≡ taken (log_of w 0) + 1)
         × (placed_front i.shape (log_of (s ∷ w) 0) ≡ placed_front i.shape (log_of w 0)) }
     ensures stripe { (i : Image) (s : Step) (w : World) (stripe : Stripe)
-        → IsLegalMount i (s ∷ w) → NoneLost (log_of w 0)
-        → 0 < length (log_of w 0) → s.author ≡ 0 → s.logged.event ≡ Decides (Place stripe)
+        → IsEngineStep i s w (Place stripe) → NoStripeLost (log_of w 0)
         → (taken (log_of (s ∷ w) 0) ≡ taken (log_of w 0))
         × (placed_front i.shape (log_of (s ∷ w) 0) ≡ placed_front i.shape (log_of w 0)
         + (if has_entry i.shape stripe
         then min i.shape.ws_opt (length (waiting i.shape (log_of w 0))) else 0)) }
-    ensures kept { (i : Image) (s : Step) (w : World) (e : EngineEvent) → IsLegalMount i (s ∷ w)
-        → 0 < length (log_of w 0) → s.author ≡ 0 → s.logged.event ≡ Decides e
+    ensures kept { (i : Image) (s : Step) (w : World) (e : EngineEvent) → IsEngineStep i s w e
         → keeps_placed e ≡ true → (taken (log_of (s ∷ w) 0) ≡ taken (log_of w 0))
         × (placed_front i.shape (log_of (s ∷ w) 0) ≡ placed_front i.shape (log_of w 0)) }
 {}

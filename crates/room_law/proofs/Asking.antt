@@ -1,7 +1,7 @@
 -- Pads are asked for.
 use Rattle.std.proofs.Common.{ℕ, ◌+◌, ◌*◌, ◌<◌, ◌≤◌, ◌≡◌, ◌⊎◌, inl, inr, min, max, Option, arith}
 use Rattle.std.proofs.lemmas.Bool.{cases_lt}
-use Rattle.room_law.specs.Counting.{State, Victim, Copy, MayAskCalm, MayAskUrgent, AskCalm, AskUrgent, moved, waiting_count, live_of, begun_of, at_work, under_way, past_copy}
+use Rattle.room_law.specs.Counting.{State, Victim, Copy, MayAskBeforeDue, MayAskWhileDue, AskBeforeDue, AskWhileDue, moved, waiting_count, live_of, begun_of, at_work, under_way, past_copy}
 use Rattle.room_law.proofs.Counted.{Counted, Fronts, Copies, Live, Position, IsNext, Kinds, sizes, kinds, none_begun_by, behind}
 use Rattle.room_law.proofs.Stripes.{once, twice, free_rows, free_at_least, fewer_than, rows_are}
 
@@ -34,7 +34,7 @@ calm_near : (w n over placed taken reach free p : ℕ) (c : Copy) → 2 ≤ w �
     → p ≤ max (max taken reach) (past_copy c) → reach ≤ placed + over → Position over placed taken reach free c
     → taken + under_way c + w ≤ placed + over + 1 + w * n
     → (p ≤ max (placed + over) (min taken (placed + w * over))) ⊎ (IsNext w over placed taken c × (p ≤ taken + 1))
-calm_near w n over placed taken reach free p c two some wide calm within granted position few =
+calm_near w n over placed taken reach free p c two some wide before_due within granted position few =
     let double : 2 * over ≤ w * over = twice w over two in
     let lines : w * (2 * n) ≤ w * over = fewer_than w (2 * n) over wide in
     let kind : Kinds c = kinds c in
@@ -46,13 +46,13 @@ calm_near w n over placed taken reach free p c two some wide calm within granted
             | inr before ↦ absurd (omega arith)
           ] in
           let to : past_copy c ≤ taken + 1 = elim (cases_lt (taken + 1) (past_copy c)) [
-            | inl beyond ↦ let reached : past_copy c ≤ placed + over = position.granted calm beyond in absurd (omega arith)
+            | inl beyond ↦ let reached : past_copy c ≤ placed + over = position.granted before_due beyond in absurd (omega arith)
             | inr here ↦ here
           ] in
           inr (record { next = omega arith; fits = omega arith }, omega arith)
     ]
 
-pub asked_calm : (w n p : ℕ) (s : State) → 1 ≤ w → 1 ≤ n → MayAskCalm s p → Counted w n s → Counted w n (moved (sizes w n) s (AskCalm p))
+pub asked_calm : (w n p : ℕ) (s : State) → 1 ≤ w → 1 ≤ n → MayAskBeforeDue s p → Counted w n s → Counted w n (moved (sizes w n) s (AskBeforeDue p))
 asked_calm w n p s one some may h = record {
   rows = h.rows;
   over = h.over;
@@ -65,8 +65,8 @@ asked_calm w n p s one some may h = record {
   asks = record {
     calm_claimed = omega (arith, h.asks.calm_claimed, may.within);
     urgent_claimed = h.asks.urgent_claimed;
-    calm_is = λ two. greater (IsNext w h.over s.placed s.taken s.copy) s.calm p _ (s.taken + 1) (h.asks.calm_is two)
-        (calm_near w n h.over s.placed s.taken s.reach s.free p s.copy two some wide may.calm may.within h.fronts.reach_is h.position
+    calm_is = λ two. greater (IsNext w h.over s.placed s.taken s.copy) s.before_due p _ (s.taken + 1) (h.asks.calm_is two)
+        (calm_near w n h.over s.placed s.taken s.reach s.free p s.copy two some wide may.before_due may.within h.fronts.reach_is h.position
         (waiting_few h.fronts h.copies h.live));
     urgent_is = h.asks.urgent_is;
   };
@@ -74,7 +74,7 @@ asked_calm w n p s one some may h = record {
 }
   where
     wide : 2 * n ≤ h.over
-    wide = omega (arith, free_at_least n s.free 4 may.calm, free_rows w n s.left s.free h.rows one h.left.whole, h.left.over_is)
+    wide = omega (arith, free_at_least n s.free 4 may.before_due, free_rows w n s.left s.free h.rows one h.left.whole, h.left.over_is)
 
 -- more is left than waits
 pub more_left : (w n : ℕ) (s : State) → 2 ≤ w → 1 ≤ n → Counted w n s → waiting_count s < s.left + w * n * s.free
@@ -104,8 +104,8 @@ urgent_near {over = over} {old = old} {placed = placed} {v = v} {c = c} p none w
       | inr near ↦ inl near
     ]
 
-pub asked_urgent : (w n p : ℕ) (s : State) → 1 ≤ w → 1 ≤ n → MayAskUrgent (sizes w n) s p → Counted w n s
-    → Counted w n (moved (sizes w n) s (AskUrgent p))
+pub asked_urgent : (w n p : ℕ) (s : State) → 1 ≤ w → 1 ≤ n → MayAskWhileDue (sizes w n) s p → Counted w n s
+    → Counted w n (moved (sizes w n) s (AskWhileDue p))
 asked_urgent w n p s one some may h = record {
   rows = h.rows;
   over = h.over;
@@ -119,7 +119,7 @@ asked_urgent w n p s one some may h = record {
     calm_claimed = h.asks.calm_claimed;
     urgent_claimed = omega (arith, h.asks.urgent_claimed, may.within);
     calm_is = h.asks.calm_is;
-    urgent_is = λ two idle. greater (1 ≤ behind s.copy) s.urgent p _ (past_copy s.copy) (h.asks.urgent_is two idle)
+    urgent_is = λ two idle. greater (1 ≤ behind s.copy) s.while_due p _ (past_copy s.copy) (h.asks.urgent_is two idle)
         (urgent_near p (none_live two) may.within h.fronts h.copies idle);
   };
   zone = h.zone;

@@ -66,13 +66,13 @@ pub record IsNext (w over placed taken : ℕ) (c : Copy) : Type 0 where
 
 -- Up to where pads were asked for while collection wasn't due: that is placed before the zone. And
 -- while it was: for the copies of earlier victims, or of a victim without live sectors.
-pub record Asks (w over old placed taken reach calm urgent : ℕ) (v : Option Victim) (c : Copy) : Type 0 where
-  pub calm_claimed : calm ≤ max (max taken reach) (past_copy c)
-  pub urgent_claimed : urgent ≤ max (max taken reach) (past_copy c)
-  pub calm_is : 2 ≤ w → (calm ≤ max (placed + over) (min taken (placed + w * over)))
-      ⊎ (IsNext w over placed taken c × (calm ≤ taken + 1))
+pub record Asks (w over old placed taken reach before_due while_due : ℕ) (v : Option Victim) (c : Copy) : Type 0 where
+  pub calm_claimed : before_due ≤ max (max taken reach) (past_copy c)
+  pub urgent_claimed : while_due ≤ max (max taken reach) (past_copy c)
+  pub calm_is : 2 ≤ w → (before_due ≤ max (placed + over) (min taken (placed + w * over)))
+      ⊎ (IsNext w over placed taken c × (before_due ≤ taken + 1))
   pub urgent_is : 2 ≤ w → (at_work v ≡ 0) ⊎ (1 ≤ live_of v)
-      → (urgent ≤ max (placed + over) old) ⊎ ((1 ≤ behind c) × (urgent ≤ past_copy c))
+      → (while_due ≤ max (placed + over) old) ⊎ ((1 ≤ behind c) × (while_due ≤ past_copy c))
 
 -- How many padded stripes may come still in the zone: one for the copy of an earlier victim, and
 -- for the copies of the victim at work one, or two.
@@ -104,7 +104,7 @@ pub record Counted (w n : ℕ) (s : State) : Type 0 where
   pub copies : Copies old s.placed s.taken s.users s.victim s.copy
   pub live : Live w n s.victim s.copy
   pub position : Position over s.placed s.taken s.reach s.free s.copy
-  pub asks : Asks w over old s.placed s.taken s.reach s.calm s.urgent s.victim s.copy
+  pub asks : Asks w over old s.placed s.taken s.reach s.before_due s.while_due s.victim s.copy
   pub zone : rows ≤ 2 * n → IsZone w n rows old s.placed s.taken s.resetting s.victim s.copy
 
 -- the counts of a copy that is under way

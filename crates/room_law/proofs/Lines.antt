@@ -21,7 +21,7 @@ line_opened w n s may h = record {
   position = record {
     from = h.position.from;
     to = h.position.to;
-    granted = λ calm far. h.position.granted (omega (arith, calm)) far;
+    granted = λ before_due far. h.position.granted (omega (arith, before_due)) far;
   };
   asks = h.asks;
   zone = h.zone;
@@ -103,11 +103,11 @@ gone_zone w n rows placed taken users resetting c enough granted few all =
     }
 
 -- what was asked for is granted, taken, or the copy's that is under way
-gone_asked : (over placed taken reach urgent : ℕ) (c : Copy) → reach ≤ placed + over → urgent ≤ max (max taken reach) (past_copy c)
-    → behind c ≡ under_way c → (urgent ≤ max (placed + over) taken) ⊎ ((1 ≤ behind c) × (urgent ≤ past_copy c))
-gone_asked over placed taken reach urgent c granted claimed all =
+gone_asked : (over placed taken reach while_due : ℕ) (c : Copy) → reach ≤ placed + over → while_due ≤ max (max taken reach) (past_copy c)
+    → behind c ≡ under_way c → (while_due ≤ max (placed + over) taken) ⊎ ((1 ≤ behind c) × (while_due ≤ past_copy c))
+gone_asked over placed taken reach while_due c granted claimed all =
     let kind : Kinds c = kinds c in
-    elim (cases_lt (max (placed + over) taken) urgent) [
+    elim (cases_lt (max (placed + over) taken) while_due) [
       | inl far ↦ let way : 1 ≤ under_way c = kind.past (omega arith) in inr (omega arith, omega arith)
       | inr near ↦ inl near
     ]
@@ -126,7 +126,7 @@ victim_gone w n s c one some few past under all h = record {
   position = record {
     from = λ way. omega (arith, past, h.position.from (omega (arith, under, way)));
     to = omega (arith, past, h.position.to);
-    granted = λ calm far. omega (arith, past, h.position.granted calm (omega (arith, past, far)));
+    granted = λ before_due far. omega (arith, past, h.position.granted before_due (omega (arith, past, far)));
   };
   asks = record {
     calm_claimed = omega (arith, past, h.asks.calm_claimed);
@@ -135,7 +135,7 @@ victim_gone w n s c one some few past under all h = record {
       | inl near ↦ inl near
       | inr far ↦ inr (record { next = past ∙ far.0.next; fits = far.0.fits }, far.1)
     ];
-    urgent_is = λ two idle. gone_asked h.over s.placed s.taken s.reach s.urgent c h.fronts.reach_is (omega (arith, past, h.asks.urgent_claimed)) all;
+    urgent_is = λ two idle. gone_asked h.over s.placed s.taken s.reach s.while_due c h.fronts.reach_is (omega (arith, past, h.asks.urgent_claimed)) all;
   };
   zone = λ inside. (
     1,
@@ -171,9 +171,9 @@ other_freed w n s h = record {
 
 -- A line is reset, and Free.
 
-wider_asks : (w over wider old placed taken reach calm urgent : ℕ) (v : Option Victim) (c : Copy) → over ≤ wider
-    → Asks w over old placed taken reach calm urgent v c → Asks w wider old placed taken reach calm urgent v c
-wider_asks w over wider old placed taken reach calm urgent v c more a = let times : w * over ≤ w * wider = fewer_than w over wider more in record {
+wider_asks : (w over wider old placed taken reach before_due while_due : ℕ) (v : Option Victim) (c : Copy) → over ≤ wider
+    → Asks w over old placed taken reach before_due while_due v c → Asks w wider old placed taken reach before_due while_due v c
+wider_asks w over wider old placed taken reach before_due while_due v c more a = let times : w * over ≤ w * wider = fewer_than w over wider more in record {
   calm_claimed = a.calm_claimed;
   urgent_claimed = a.urgent_claimed;
   calm_is = λ two. elim (a.calm_is two) [
@@ -199,12 +199,12 @@ line_reset w n s one some has h = record {
     from = h.position.from;
     to = h.position.to;
     -- three lines were Free, so a line more raises the reach
-    granted = λ calm far.
-        let many : n * 3 ≤ n * s.free = free_at_least n s.free 3 (omega (arith, calm)) in
+    granted = λ before_due far.
+        let many : n * 3 ≤ n * s.free = free_at_least n s.free 3 (omega (arith, before_due)) in
         let rows : n * s.free ≤ h.rows = free_rows w n s.left s.free h.rows one h.left.whole in
         omega (arith, many, rows, some, far, h.left.over_is, h.position.to, h.fronts.reach_is);
   };
-  asks = wider_asks w h.over (h.rows + n - 2 * n) h.old s.placed s.taken s.reach s.calm s.urgent s.victim s.copy more h.asks;
+  asks = wider_asks w h.over (h.rows + n - 2 * n) h.old s.placed s.taken s.reach s.before_due s.while_due s.victim s.copy more h.asks;
   zone = λ inside. let z = h.zone (omega (arith, inside)) in (
     z.0,
     z.1,

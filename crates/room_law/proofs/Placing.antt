@@ -55,14 +55,14 @@ copies_placed count x = record {
   stale_past = x.stale_past;
 }
 
-calm_placed : (w over less placed taken count calm : ℕ) (c : Copy) → IsPlaced w count placed taken → IsLess w over less
-    → (calm ≤ max (placed + over) (min taken (placed + w * over))) ⊎ (IsNext w over placed taken c × (calm ≤ taken + 1))
-    → (calm ≤ max (placed + count + less) (min taken (placed + count + w * less))) ⊎ (IsNext w less (placed + count) taken c × (calm ≤ taken + 1))
-calm_placed w over less placed taken count calm c is row (inl near) = inl (elim is.kind [
+calm_placed : (w over less placed taken count before_due : ℕ) (c : Copy) → IsPlaced w count placed taken → IsLess w over less
+    → (before_due ≤ max (placed + over) (min taken (placed + w * over))) ⊎ (IsNext w over placed taken c × (before_due ≤ taken + 1))
+    → (before_due ≤ max (placed + count + less) (min taken (placed + count + w * less))) ⊎ (IsNext w less (placed + count) taken c × (before_due ≤ taken + 1))
+calm_placed w over less placed taken count before_due c is row (inl near) = inl (elim is.kind [
   | inl full ↦ omega (arith, near, full, is.some, row.one_less, row.width)
   | inr padded ↦ omega (arith, near, padded.1, is.some, row.one_less)
 ])
-calm_placed w over less placed taken count calm c is row (inr far) = elim is.kind [
+calm_placed w over less placed taken count before_due c is row (inr far) = elim is.kind [
   | inl full ↦ inr (record { next = far.0.next; fits = omega (arith, far.0.fits, full, row.width) }, far.1)
   | inr padded ↦
       let wide : w ≤ w * less = elim (cases_lt 1 over) [
@@ -72,13 +72,13 @@ calm_placed w over less placed taken count calm c is row (inr far) = elim is.kin
       inr (record { next = far.0.next; fits = omega (arith, far.0.fits, padded.1, wide) }, far.1)
 ]
 
-asks_placed : (w over less old placed taken count reach calm urgent : ℕ) (v : Option Victim) (c : Copy)
-    → IsPlaced w count placed taken → IsLess w over less → Asks w over old placed taken reach calm urgent v c
-    → Asks w less old (placed + count) taken reach calm urgent v c
-asks_placed w over less old placed taken count reach calm urgent v c is row a = record {
+asks_placed : (w over less old placed taken count reach before_due while_due : ℕ) (v : Option Victim) (c : Copy)
+    → IsPlaced w count placed taken → IsLess w over less → Asks w over old placed taken reach before_due while_due v c
+    → Asks w less old (placed + count) taken reach before_due while_due v c
+asks_placed w over less old placed taken count reach before_due while_due v c is row a = record {
   calm_claimed = a.calm_claimed;
   urgent_claimed = a.urgent_claimed;
-  calm_is = λ two. calm_placed w over less placed taken count calm c is row (a.calm_is two);
+  calm_is = λ two. calm_placed w over less placed taken count before_due c is row (a.calm_is two);
   urgent_is = λ two idle. elim (a.urgent_is two idle) [
     | inl near ↦ inl (omega (arith, near, is.some, row.one_less))
     | inr far ↦ inr far
@@ -211,15 +211,15 @@ zone_begins w n old placed taken users resetting v c one order granted live copi
       | inr not_freed ↦ omega arith
     ]
 
-why_padded : (w over old placed taken users reach calm urgent : ℕ) (v : Option Victim) (c : Copy) → 2 ≤ w → over ≡ 0 → placed < taken
-    → placed < max calm urgent → Fronts over placed taken users reach → Copies old placed taken users v c
-    → Asks w over old placed taken reach calm urgent v c → IsPadded placed old v
-why_padded w over old placed taken users reach calm urgent v c two none some below fronts copies a = elim (cases_lt placed old) [
+why_padded : (w over old placed taken users reach before_due while_due : ℕ) (v : Option Victim) (c : Copy) → 2 ≤ w → over ≡ 0 → placed < taken
+    → placed < max before_due while_due → Fronts over placed taken users reach → Copies old placed taken users v c
+    → Asks w over old placed taken reach before_due while_due v c → IsPadded placed old v
+why_padded w over old placed taken users reach before_due while_due v c two none some below fronts copies a = elim (cases_lt placed old) [
   | inl waits ↦ inl waits
   | inr old_placed ↦ inr (no_live old_placed, works old_placed, old_placed)
 ]
   where
-    no_calm : calm ≤ placed
+    no_calm : before_due ≤ placed
     no_calm =
         let no_over : w * over ≡ w * 0 = times w over 0 none in
         elim (a.calm_is two) [
@@ -258,9 +258,9 @@ stripe_placed w n s one some may h = record {
   position = record {
     from = h.position.from;
     to = h.position.to;
-    granted = λ calm far. omega (arith, h.position.granted calm far, is.some, less.one_less);
+    granted = λ before_due far. omega (arith, h.position.granted before_due far, is.some, less.one_less);
   };
-  asks = asks_placed w h.over (h.over - 1) h.old s.placed s.taken count s.reach s.calm s.urgent s.victim s.copy is less h.asks;
+  asks = asks_placed w h.over (h.over - 1) h.old s.placed s.taken count s.reach s.before_due s.while_due s.victim s.copy is less h.asks;
   zone = λ inside. elim (cases_lt (2 * n) h.rows) [
     | inl enters ↦ begins inside enters
     | inr here ↦ let z = h.zone here in goes_on (omega (arith, h.left.over_is, here)) z.0 z.1 z.2
@@ -292,7 +292,7 @@ stripe_placed w n s one some may h = record {
     copies = copies_placed count h.copies
 
     -- the zone goes on
-    asked : waiting_count s < w → s.placed < max s.calm s.urgent
+    asked : waiting_count s < w → s.placed < max s.before_due s.while_due
     asked few = elim may.full [
       | inl full ↦ absurd (omega (arith, full, few))
       | inr below ↦ below
@@ -303,7 +303,7 @@ stripe_placed w n s one some may h = record {
     goes_on none a b z = elim (cases_lt (waiting_count s) w) [
       | inl few ↦
           let why : IsPadded s.placed h.old s.victim =
-          why_padded w h.over h.old s.placed s.taken s.users s.reach s.calm s.urgent s.victim s.copy (omega (arith, few, may.has_entry)) none
+          why_padded w h.over h.old s.placed s.taken s.users s.reach s.before_due s.while_due s.victim s.copy (omega (arith, few, may.has_entry)) none
           (omega (arith, may.has_entry)) (asked few) h.fronts h.copies h.asks in
           zone_padded w n h.rows (h.rows - 1) h.old a b count s.placed s.taken s.users s.resetting s.victim s.copy one may.all_reset row is.some
           (omega (arith, few, h.fronts.in_order)) (omega (arith, none, h.fronts)) h.live h.copies why z

@@ -2,7 +2,7 @@
 use Rattle.std.proofs.Common.{ℕ, ◌+◌, ◌-◌, ◌*◌, ◌/◌, ◌<◌, ◌≤◌, ◌≡◌, inl, inr, max, Some, refl, sym, subst, ap, arith}
 use Rattle.std.proofs.Math.Nat.{div-lt_iff_lt-mul}
 use Rattle.std.proofs.lemmas.Bool.{cases_lt}
-use Rattle.room_law.specs.Counting.{Sizes, AreSizes, State, Victim, Step, AskCalm, AskUrgent, Begin, TakeUsers, TakeCopy, OpenLine, PlaceStripe, Choose, FreeVictim, FreeOther, Reset, May, IsReached, ByStep, moved, after, addresses, waiting_count, space_limit, IsInZone, IsDue, live_of, begun_of, under_way, fresh}
+use Rattle.room_law.specs.Counting.{Sizes, AreSizes, State, Victim, Step, AskBeforeDue, AskWhileDue, Begin, TakeUsers, TakeCopy, OpenLine, PlaceStripe, Choose, FreeVictim, FreeOther, Reset, May, IsReached, ByStep, moved, after, addresses, waiting_count, space_limit, IsInZone, IsDue, live_of, begun_of, under_way, fresh}
 use Rattle.room_law.proofs.Counted.{Counted, sizes}
 use Rattle.room_law.proofs.Stripes.{beyond, times, once, fewer_than, rows_are}
 use Rattle.room_law.proofs.Asking.{waiting_few, more_left}
@@ -21,7 +21,7 @@ pub record HasRoom (z : Sizes) (s : State) : Type 0 where
   pub users : s.users ≤ s.reach
   pub no_user : IsInZone z s → (s.users ≤ s.placed) × (s.reach ≤ s.taken)
   pub copies : begun_of s.victim + live_of s.victim + z.stripe ≤ z.line + fresh s.copy
-  pub calm : 2 ≤ z.stripe → IsInZone z s → s.calm ≤ s.placed
+  pub before_due : 2 ≤ z.stripe → IsInZone z s → s.before_due ≤ s.placed
   pub missing : IsInZone z s
       → 2 * z.line + waiting_count s + under_way s.copy < addresses z s + z.line * s.resetting + begun_of s.victim + 2 * z.stripe
 
@@ -48,7 +48,7 @@ has_room w n s one some k = record {
   users = h.fronts.users_granted;
   no_user = λ low. let none : h.over ≡ 0 = none_over (is_inside low) in (omega (arith, none, h.fronts), omega (arith, none, h.fronts));
   copies = h.live.few;
-  calm = λ two low.
+  before_due = λ two low.
       let none : h.over ≡ 0 = none_over (is_inside low) in
       let no_room : w * h.over ≡ w * 0 = times w h.over 0 none in
       elim (h.asks.calm_is two) [
@@ -116,8 +116,8 @@ reached_has_room z s is reached =
     reached
 
 reach_stays : (z : Sizes) (s : State) (step : Step) → (moved z s step).reach ≡ s.reach
-reach_stays z s (AskCalm p) = refl
-reach_stays z s (AskUrgent p) = refl
+reach_stays z s (AskBeforeDue p) = refl
+reach_stays z s (AskWhileDue p) = refl
 reach_stays z s (Begin p) = refl
 reach_stays z s (TakeUsers loss) = refl
 reach_stays z s TakeCopy = refl
@@ -144,8 +144,8 @@ pub due_by_limit : (z : Sizes) (s : State) → AreSizes z → (16 + z.stripe) * 
     → s.placed ≤ s.taken → waiting_count s < z.stripe → space_limit z s < s.taken + 16 → IsDue s
 due_by_limit z s is enough order few little = elim (cases_lt 3 s.free) [
   | inr due ↦ due
-  | inl calm ↦
-      let lines : z.line * 4 ≤ z.line * s.free = fewer_than z.line 4 s.free calm in
+  | inl before_due ↦
+      let lines : z.line * 4 ≤ z.line * s.free = fewer_than z.line 4 s.free before_due in
       let many : (addresses z s - 2 * z.line) / z.stripe < 16 + z.stripe = omega arith in
       let fewer : addresses z s - 2 * z.line < (16 + z.stripe) * z.stripe = (div-lt_iff_lt-mul is.some).0 many in
       absurd (omega arith)

@@ -1,6 +1,6 @@
 -- What is counted holds at the start of a run, and each step keeps it.
 use Rattle.std.proofs.Common.{ℕ, ◌+◌, ◌-◌, ◌*◌, ◌≤◌, ◌≡◌, inl, max, Option, Some, None, refl, arith}
-use Rattle.room_law.specs.Counting.{State, Victim, Copy, NoCopy, Fresh, Stale, Outlived, Step, AskCalm, AskUrgent, Begin, TakeUsers, TakeCopy, OpenLine, PlaceStripe, Choose, FreeVictim, FreeOther, Reset, May, IsStart, IsReached, AtStart, ByStep, moved, raised, space_limit}
+use Rattle.room_law.specs.Counting.{State, Victim, Copy, NoCopy, Fresh, Stale, Outlived, Step, AskBeforeDue, AskWhileDue, Begin, TakeUsers, TakeCopy, OpenLine, PlaceStripe, Choose, FreeVictim, FreeOther, Reset, May, IsStart, IsReached, AtStart, ByStep, moved, raised, space_limit}
 use Rattle.room_law.proofs.Counted.{Counted, Rows, Pads, sizes}
 use Rattle.room_law.proofs.Stripes.{at_least, beyond, fewer_than}
 use Rattle.room_law.proofs.Asking.{asked_calm, asked_urgent}
@@ -50,8 +50,8 @@ raise w n s one h =
     }
 
 stepped : (w n : ℕ) (s : State) (step : Step) → 1 ≤ w → 1 ≤ n → May (sizes w n) s step → Counted w n s → Counted w n (moved (sizes w n) s step)
-stepped w n s (AskCalm p) one some may h = asked_calm w n p s one some may h
-stepped w n s (AskUrgent p) one some may h = asked_urgent w n p s one some may h
+stepped w n s (AskBeforeDue p) one some may h = asked_calm w n p s one some may h
+stepped w n s (AskWhileDue p) one some may h = asked_urgent w n p s one some may h
 stepped w n s (Begin p) one some may h = begun_one w n p s s.victim s.copy may h
 stepped w n s (TakeUsers loss) one some may h = taken_users w n s loss one may h
 stepped w n s TakeCopy one some may h = taken_copy w n s s.victim s.copy one may h
@@ -80,10 +80,10 @@ begins w n s None NoCopy one some is = record {
   live = omega (arith, fewer_than w 1 n some);
   position = omega arith;
   asks = record {
-    calm_claimed = omega (arith, is.none_waits, is.calm);
-    urgent_claimed = omega (arith, is.none_waits, is.urgent);
-    calm_is = λ two. inl (omega (arith, is.calm));
-    urgent_is = λ two idle. inl (omega (arith, is.urgent));
+    calm_claimed = omega (arith, is.none_waits, is.before_due);
+    urgent_claimed = omega (arith, is.none_waits, is.while_due);
+    calm_is = λ two. inl (omega (arith, is.before_due));
+    urgent_is = λ two idle. inl (omega (arith, is.while_due));
   };
   zone = λ inside. (
     1,

@@ -92,7 +92,7 @@ user_taken w n s v c one granted turn lost h = record {
   position = record {
     from = λ way. omega (arith, lost.past, turn (omega (arith, lost.under, way)));
     to = omega (arith, lost.past, h.position.to);
-    granted = λ calm far. omega (arith, lost.past, h.position.granted calm (omega (arith, lost.past, far)));
+    granted = λ before_due far. omega (arith, lost.past, h.position.granted before_due (omega (arith, lost.past, far)));
   };
   asks = record {
     calm_claimed = omega (arith, lost.past, h.asks.calm_claimed);

@@ -48,8 +48,8 @@ pub record State : Type 0 where
   -- one past the greatest position of a user's entry that was taken
   pub users : ℕ
   -- up to where pads were asked for while collection wasn't due, and while it was
-  pub calm : ℕ
-  pub urgent : ℕ
+  pub before_due : ℕ
+  pub while_due : ℕ
   pub victim : Option Victim
   pub copy : Copy
 
@@ -122,8 +122,8 @@ pub data Loss : Type 0 where
 pub data Step : Type 0 where
   -- a flush, the close or a victim asks for pads up to a position, while collection isn't due, and
   -- while it is
-  AskCalm : ℕ → Step
-  AskUrgent : ℕ → Step
+  AskBeforeDue : ℕ → Step
+  AskWhileDue : ℕ → Step
   -- a copy of a sector of the victim is begun, and claims this position
   Begin : ℕ → Step
   -- a user's entry is taken, and the copy that is under way
@@ -143,13 +143,13 @@ pub data Step : Type 0 where
 
 -- When a step may be made.
 
-pub record MayAskCalm (s : State) (position : ℕ) : Type 0 where
-  pub calm : 3 < s.free
+pub record MayAskBeforeDue (s : State) (position : ℕ) : Type 0 where
+  pub before_due : 3 < s.free
   pub within : position ≤ claimed s
 
 -- While collection is due, pads are asked for only where no copy is to be begun: no victim at work
 -- has a live sector, or no more addresses are left than entries wait.
-pub record MayAskUrgent (z : Sizes) (s : State) (position : ℕ) : Type 0 where
+pub record MayAskWhileDue (z : Sizes) (s : State) (position : ℕ) : Type 0 where
   pub due : IsDue s
   pub within : position ≤ claimed s
   pub no_copy : (live_of s.victim ≡ 0) ⊎ (addresses z s ≤ waiting_count s)
@@ -189,7 +189,7 @@ pub record MayPlaceStripe (z : Sizes) (s : State) : Type 0 where
   pub all_reset : s.resetting ≡ 0
   pub has_address : z.stripe ≤ s.left
   pub has_entry : 1 ≤ waiting_count s
-  pub full : (z.stripe ≤ waiting_count s) ⊎ (s.placed < max s.calm s.urgent)
+  pub full : (z.stripe ≤ waiting_count s) ⊎ (s.placed < max s.before_due s.while_due)
 
 pub record MayChoose (z : Sizes) (s : State) (live : ℕ) : Type 0 where
   pub none : at_work s.victim ≡ 0
@@ -204,8 +204,8 @@ pub record MayFreeVictim (s : State) : Type 0 where
   pub one_copy : s.taken + under_way s.copy ≤ max s.placed s.users + 1
 
 abbrev pub May : Sizes → State → Step → Type 0
-May z s (AskCalm position) = MayAskCalm s position
-May z s (AskUrgent position) = MayAskUrgent z s position
+May z s (AskBeforeDue position) = MayAskBeforeDue s position
+May z s (AskWhileDue position) = MayAskWhileDue z s position
 May z s (Begin position) = MayBegin s position
 May z s (TakeUsers loss) = MayTakeUsers s loss
 May z s TakeCopy = MayTakeCopy s
@@ -250,8 +250,8 @@ outlived (Outlived position) = Outlived position
 
 -- all but the reach
 abbrev pub moved : Sizes → State → Step → State
-moved z s (AskCalm position) = record s { calm = max s.calm position }
-moved z s (AskUrgent position) = record s { urgent = max s.urgent position }
+moved z s (AskBeforeDue position) = record s { before_due = max s.before_due position }
+moved z s (AskWhileDue position) = record s { while_due = max s.while_due position }
 moved z s (Begin position) = record s { victim = one_begun s.victim; copy = Fresh position }
 moved z s (TakeUsers loss) = record s {
   taken = s.taken + 1;
@@ -293,8 +293,8 @@ pub record IsStart (z : Sizes) (s : State) : Type 0 where
   pub none_waits : s.taken ≡ s.placed
   pub reach : s.reach ≡ space_limit z s
   pub users : s.users ≤ s.placed
-  pub calm : s.calm ≤ s.placed
-  pub urgent : s.urgent ≤ s.placed
+  pub before_due : s.before_due ≤ s.placed
+  pub while_due : s.while_due ≤ s.placed
   pub no_victim : at_work s.victim ≡ 0
   pub no_copy : under_way s.copy ≡ 0
 

@@ -65,9 +65,9 @@ pub fn copies_of_a_victim_fit_a_line()
 
 /// In the zone each position up to which pads were asked for while collection wasn't due is placed.
 /// It is said of stripes of two addresses or more, since no others are padded.
-pub fn calm_asks_are_placed()
+pub fn asks_before_due_are_placed()
     ensures { (z : Sizes) (s : State) → AreSizes z → IsReached z s
-        → 2 ≤ z.stripe → IsInZone z s → s.calm ≤ s.placed }
+        → 2 ≤ z.stripe → IsInZone z s → s.before_due ≤ s.placed }
 {}
 
 /// Where less than a stripe waits and the space limit is less than 16 past what is taken,

@@ -17,7 +17,7 @@
 mod laws;
 
 pub use laws::{
-    calm_asks_are_placed, collection_is_due_where_space_is_short, copies_of_a_victim_fit_a_line,
-    no_user_waits_in_the_zone, the_space_limit_never_falls, what_is_missing_is_reset_or_copied,
-    what_waits_has_room,
+    asks_before_due_are_placed, collection_is_due_where_space_is_short,
+    copies_of_a_victim_fit_a_line, no_user_waits_in_the_zone, the_space_limit_never_falls,
+    what_is_missing_is_reset_or_copied, what_waits_has_room,
 };

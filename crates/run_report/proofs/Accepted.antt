@@ -14,7 +14,7 @@ use Rattle.run_threads.specs.declared.records.Trouble.{Trouble}
 use Rattle.run_threads.specs.declared.records.Trouble.TheVariants.{Drive, Worn}
 use Rattle.run_report.specs.declared.rows.Row.{Row}
 use Rattle.run_report.specs.Recorded.{AreAnswered, AreThreads, IsRecorded, IsThread}
-use Rattle.run_report.specs.Rows.{insert, in_order, row_of, rows_from, thread_rows}
+use Rattle.run_report.specs.Rows.{insert, in_order, answered_rows, rows_from, thread_rows}
 use Rattle.run_report.specs.RowFits.{AreAsMany, AreRows, HasSectors}
 use Rattle.lemmas.proofs.Lists.{all_append}
 
@@ -39,7 +39,7 @@ are_as_many (Some (Worn wanted have)) script threads h = absurd h
 
 -- a write that fits has sectors
 row_has : (capacity thread : ℕ) (command : Command) (answer : Answer) → capacity < 2 ^ 64 → CommandFits capacity command
-    → AllByRecursion HasSectors (row_of thread command answer)
+    → AllByRecursion HasSectors (answered_rows thread command answer)
 row_has capacity thread (Write lba count tag) (Placed place) small fits = (record { few = fits.0.few; number = omega (arith, small, fits.0.within) }, tt)
 row_has capacity thread (Write lba count tag) (Words front words) small fits = tt
 row_has capacity thread (Write lba count tag) (Synced front) small fits = tt
@@ -56,7 +56,7 @@ thread_has : (capacity thread : ℕ) (commands : List Command) (answers : List A
 thread_has capacity thread [] answers small fits = tt
 thread_has capacity thread (c ∷ commands) [] small fits = tt
 thread_has capacity thread (c ∷ commands) (a ∷ answers) small fits =
-    all_append HasSectors (row_of thread c a) (thread_rows thread commands answers) (row_has capacity thread c a small fits.0)
+    all_append HasSectors (answered_rows thread c a) (thread_rows thread commands answers) (row_has capacity thread c a small fits.0)
     (thread_has capacity thread commands answers small fits.1)
 
 pub script_has : (capacity thread : ℕ) (script : List (List Command)) (threads : List (List Answer)) → capacity < 2 ^ 64
@@ -69,7 +69,7 @@ script_has capacity thread (c ∷ script) (a ∷ threads) small fits =
     (script_has capacity (thread + 1) script threads small fits.1)
 
 -- at most a row for each command
-one_row : (thread : ℕ) (command : Command) (answer : Answer) → length (row_of thread command answer) ≤ 1
+one_row : (thread : ℕ) (command : Command) (answer : Answer) → length (answered_rows thread command answer) ≤ 1
 one_row thread (Write lba count tag) (Placed place) = omega arith
 one_row thread (Write lba count tag) (Words front words) = omega arith
 one_row thread (Write lba count tag) (Synced front) = omega arith
@@ -85,7 +85,7 @@ thread_few : (thread : ℕ) (commands : List Command) (answers : List Answer) �
 thread_few thread [] answers = omega arith
 thread_few thread (c ∷ commands) [] = omega arith
 thread_few thread (c ∷ commands) (a ∷ answers) =
-    omega (arith, length-append (row_of thread c a) (thread_rows thread commands answers), one_row thread c a, thread_few thread commands answers)
+    omega (arith, length-append (answered_rows thread c a) (thread_rows thread commands answers), one_row thread c a, thread_few thread commands answers)
 
 script_few : (thread : ℕ) (script : List (List Command)) (threads : List (List Answer)) → length (rows_from thread script threads) ≤ sum_by length script
 script_few thread [] threads = omega arith

@@ -24,7 +24,7 @@ use Rattle.run_threads.specs.declared.records.Trouble.{Trouble}
 use Rattle.run_threads.specs.declared.records.Trouble.TheVariants.{Drive, Worn}
 use Rattle.run_threads.specs.Run.{IsEvent, Runs, Says, faults_in, faults_of}
 use Rattle.run_report.specs.declared.rows.Row.{Row}
-use Rattle.run_report.specs.OnePort.{AreKept, IsRunOfOnePort, IsTrouble, event_of}
+use Rattle.run_report.specs.OnePort.{AreKeptBelow, IsRunOfOnePort, IsTrouble, event_of}
 use Rattle.run_report.specs.Report.{closing_of, outcome_of, transcript_of}
 use Rattle.run_report.specs.Rows as rows
 use Rattle.run_report.specs.Rows.{in_order, positions_of, rows_from, thread_rows, write_of}
@@ -92,7 +92,7 @@ answer_event answers.Range = refl
 answer_event (answers.Refused (Drive unit event)) = refl
 answer_event (answers.Refused (Worn wanted have)) = refl
 
-answer_events : (given : List Answer) → flat_map outcome_event (map outcome_of given) ≡ map event_of (faults_in given)
+pub answer_events : (given : List Answer) → flat_map outcome_event (map outcome_of given) ≡ map event_of (faults_in given)
 answer_events [] = refl
 answer_events (a ∷ given) =
     ap (λ xs. xs ++ flat_map outcome_event (map outcome_of given)) (answer_event a) ∙ ap (λ xs. map event_of (faults_of a) ++ xs) (answer_events given)
@@ -372,7 +372,7 @@ one_told commands records old new end h =
     (distinct_events commands records old new end h))
 
 pub one_port : (commands : List Command) (records : Records) (old new : ModelPort) (end : ℕ) (h : IsRunOfOnePort commands records old new)
-    → AreKept records new h.last.known end
+    → AreKeptBelow records new h.last.known end
     → IsRunLeaving old.sector (commands ∷ []) old.start (transcript_of (commands ∷ []) records end)
 one_port commands records old new end h kept =
     subst (IsRunLeaving old.sector (commands ∷ []) old.start) (sym (told_is commands records old new end h))

@@ -17,13 +17,13 @@ use Rattle.run_threads.specs.declared.records.Trouble.TheVariants.{Drive, Worn}
 use Rattle.run_threads.specs.Run.{Runs, Says}
 use Rattle.run_report.specs.declared.rows.Row.{Row}
 use Rattle.run_report.specs.Report.{outcome_of}
-use Rattle.run_report.specs.Rows.{positions_of, row_of, thread_rows, write_of}
+use Rattle.run_report.specs.Rows.{positions_of, answered_rows, thread_rows, write_of}
 use Rattle.run_report.proofs.Loops.{users_range}
 use Rattle.run_report.proofs.Sorting.{Climbs}
 
 -- a command that wrote nothing
 pub record Quiet (command : Command) (answer : Answer) (old new : ModelPort) : Type 0 where
-  pub rows : row_of 0 command answer ≡ []
+  pub rows : answered_rows 0 command answer ≡ []
   pub placed : placed_write 0 (command, outcome_of answer) ≡ None
   pub grows : old.seen ≤ new.seen
 
@@ -31,7 +31,7 @@ pub record Quiet (command : Command) (answer : Answer) (old new : ModelPort) : T
 pub record Writes (command : Command) (answer : Answer) (old new : ModelPort) : Type 0 where
   pub row : Row
   pub thread : row.thread ≡ 0
-  pub rows : row_of 0 command answer ≡ row ∷ []
+  pub rows : answered_rows 0 command answer ≡ row ∷ []
   pub placed : placed_write 0 (command, outcome_of answer) ≡ Some (write_of row)
   pub past : old.seen ≤ row.first
   pub seen : new.seen ≡ row.first + row.count

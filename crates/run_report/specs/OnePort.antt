@@ -44,6 +44,6 @@ pub record IsRunOfOnePort (commands : List Command) (records : Records) (old new
   pub distinct : IsDistinct (filter is_of_one (map event_of new.faults ++ closing_event (closing_of records.closing)))
 
 -- After the close all positions below `end` are kept: all that was flushed, and where closing met no trouble all that is known.
-pub record AreKept (records : Records) (port : ModelPort) (known : List PlacedSector) (end : ℕ) : Type 0 where
+pub record AreKeptBelow (records : Records) (port : ModelPort) (known : List PlacedSector) (end : ℕ) : Type 0 where
   pub flushed : port.flushed ≤ end
   pub all : records.closing ≡ None → AllByRecursion (λ line. line.position < end) known

@@ -10,15 +10,15 @@ use Rattle.run_threads.specs.declared.records.Answer.TheVariants.{Placed}
 use Rattle.run_report.specs.declared.rows.Row.{Row}
 
 -- a command of a thread, if it is a write that was answered a place
-abbrev pub row_of : ℕ → Command → Answer → List Row
-row_of thread (Write lba count tag) (Placed place) =
+abbrev pub answered_rows : ℕ → Command → Answer → List Row
+answered_rows thread (Write lba count tag) (Placed place) =
     record { first = place.first; thread = thread; lba = lba; count = count; tag = tag } ∷ []
-row_of thread command answer = []
+answered_rows thread command answer = []
 
 -- a thread's, by command
 abbrev pub thread_rows : ℕ → List Command → List Answer → List Row
 thread_rows thread (command ∷ commands) (answer ∷ answers) =
-    row_of thread command answer ++ thread_rows thread commands answers
+    answered_rows thread command answer ++ thread_rows thread commands answers
 thread_rows thread commands answers = []
 
 -- those of all threads, by thread, from this number on

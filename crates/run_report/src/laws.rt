@@ -7,7 +7,7 @@ ghost use Rattle.pblk_model.specs.declared.script.Command.{Command};
 ghost use Rattle.pblk_model.specs.History.{after, users};
 ghost use Rattle.pblk_model.specs.Script.{ScriptFits};
 ghost use Rattle.pblk_model.specs.Transcript.{IsRun, IsTranscript, closing_event, events, sector_writes};
-ghost use Rattle.run_report.specs.OnePort.{AreKept, IsRunOfOnePort, IsTrouble, event_of};
+ghost use Rattle.run_report.specs.OnePort.{AreKeptBelow, IsRunOfOnePort, IsTrouble, event_of};
 ghost use Rattle.run_report.specs.Recorded.{IsRecorded};
 ghost use Rattle.run_report.specs.Report.{closing_of, transcript_of};
 ghost use Rattle.run_threads.specs.declared.records.Records.{Records};
@@ -40,7 +40,7 @@ pub fn a_run_through_one_port()
         IsTranscript old.sector script old.start (transcript_of script records end) }
     ensures run { (commands : List Command) (records : Records) (old new : ModelPort) (end : ℕ)
         → (ran : IsRunOfOnePort commands records old new)
-        → AreKept records new ran.last.known end
+        → AreKeptBelow records new ran.last.known end
         → let script = commands ∷ [] in
         let t = transcript_of script records end in
         let kept = sector_writes old.sector (take t.kept t.history) in

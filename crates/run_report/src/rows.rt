@@ -1,6 +1,6 @@
 //! The writes of a run that were answered a place, in the order of their positions.
 ghost use Rattle.std.specs.Prelude.{◌≡◌, ◌++◌, length, IfOk, OnOk};
-ghost use Rattle.run_report.specs.Rows.{row_of, thread_rows, rows_from, in_order};
+ghost use Rattle.run_report.specs.Rows.{answered_rows, thread_rows, rows_from, in_order};
 ghost use Rattle.run_report.specs.RowFits.{AreAsMany};
 
 use pblk_model::{Command, Commands};
@@ -73,7 +73,7 @@ fn add_write(
     answer: &Answer,
 ) -> Result<(), AllocError>
     ensures { OnOk result (rows.new.items
-        ≡ rows.old.items ++ row_of thread command.now answer.now) }
+        ≡ rows.old.items ++ answered_rows thread command.now answer.now) }
 {
     match (command, answer) {
         (Command::Write { lba, count, tag }, Answer::Placed(place)) => {

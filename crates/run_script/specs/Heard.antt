@@ -50,13 +50,13 @@ refusal_of capacity before n early said = first_refusal
     ∷ [])
 
 -- the reader has room for what a line says
-abbrev pub HasRoom : Reader → AnySaid → Type 0
-HasRoom reader says.Thread = ⊤
-HasRoom reader (says.Write lba count tag) = (reader.commands < 200000) × HasCount (says.Write lba count tag)
-HasRoom reader (says.Read lba count) = (reader.commands < 200000) × HasCount (says.Read lba count)
-HasRoom reader says.Flush = reader.commands < 200000
-HasRoom reader (says.Post name) = reader.commands < 200000
-HasRoom reader (says.Await name) = reader.commands < 200000
+abbrev pub IsWithinLimits : Reader → AnySaid → Type 0
+IsWithinLimits reader says.Thread = ⊤
+IsWithinLimits reader (says.Write lba count tag) = (reader.commands < 200000) × HasCount (says.Write lba count tag)
+IsWithinLimits reader (says.Read lba count) = (reader.commands < 200000) × HasCount (says.Read lba count)
+IsWithinLimits reader says.Flush = reader.commands < 200000
+IsWithinLimits reader (says.Post name) = reader.commands < 200000
+IsWithinLimits reader (says.Await name) = reader.commands < 200000
 
 -- what a line says after those before it, or why it is refused, where it is line n, and early or
 -- not

@@ -3,7 +3,7 @@
 ghost use Rattle.std.specs.Prelude.{◌≡◌, ◌++◌, ◌∷◌, [], ◌<◌, ◌+◌, length, List, ℕ, Bool, Some, None, Ok, Err, IfOk, IfNone, OnOk, IfErr, ◌≤◌, map, min, ◌^◌, ◌-◌, IsTrue};
 ghost use Rattle.std.specs.Option.{option_map, option_map_or};
 ghost use Rattle.pblk_model.specs.ScriptText.{Heard, saids, form_holds, limit_holds, range_holds, said_in, script_of, posts_refusal, stuck_at, threads_of, unposted};
-ghost use Rattle.run_script.specs.Heard.{IsRead, threads_kept, refusal_of, HasRoom, Hears, placed_at, Places};
+ghost use Rattle.run_script.specs.Heard.{IsRead, threads_kept, refusal_of, IsWithinLimits, Hears, placed_at, Places};
 ghost use Rattle.run_script.specs.Reading.{Gives};
 ghost use Rattle.run_script.specs.Said.{said_of};
 
@@ -82,7 +82,7 @@ impl Reader {
     fn refusal(&self, number: u32, early: bool, said: &Said<'_>) -> Option<ScriptErr>
         ensures refused { (before : Heard) → IsRead self.now before
             → result ≡ refusal_of self.now.capacity (saids before) number early (said_of said.now) }
-        ensures room { IfNone result (HasRoom self.now said.now) }
+        ensures room { IfNone result (IsWithinLimits self.now said.now) }
     {
         if !self.form_holds(said) {
             return Some(ScriptErr::Form(number));
@@ -115,7 +115,7 @@ impl Reader {
     fn limit_holds(&self, said: &Said<'_>) -> bool
         ensures limit { (before : Heard) → IsRead self.now before
             → result ≡ limit_holds (saids before) (said_of said.now) }
-        ensures room { IsTrue result → HasRoom self.now said.now }
+        ensures room { IsTrue result → IsWithinLimits self.now said.now }
     {
         match said {
             Said::Thread => self.threads() < MOST_THREADS,
@@ -138,7 +138,7 @@ impl Reader {
 
     // Keeps what a line says.
     fn hear(&mut self, alloc: Global, number: u32, said: Said<'_>) -> Result<(), AllocError>
-        requires { HasRoom self.old said }
+        requires { IsWithinLimits self.old said }
         ensures capacity { self.new.capacity ≡ self.old.capacity }
         ensures heard { OnOk result (Hears self.old self.new number (said_of said.entry)) }
     {

@@ -7,7 +7,7 @@ use Rattle.std.specs.Cmp.Lexicographic.{bytes_decides}
 use Rattle.pblk_model.specs.declared.script.Command.{Command}
 use Rattle.pblk_model.specs.declared.script.Command.TheVariants.{Write, Read, Flush, Post, Await}
 use Rattle.pblk_model.specs.Script.{ScriptFits, NeverStuck, command_at}
-use Rattle.run_threads.specs.Board.{posts, posts_in, IsReady, AreInOrder}
+use Rattle.run_threads.specs.Board.{posts, posts_in, IsUnblocked, AreInOrder}
 use Rattle.run_threads.proofs.Running.{order_ext, same_bytes}
 use Rattle.run_threads.proofs.Names.{posts_last}
 use Rattle.lemmas.proofs.Tests.{either, or_true}
@@ -74,7 +74,7 @@ is_posted thread before rest name ordered is =
     there name before f.0 (sym (get_before before (Await name ∷ rest) f.0 f.2) ∙ (rw is at f.1))
 
 ready : (thread before : List Command) (c : Command) (rest : List Command) → IsOrdered thread → thread ≡ before ++ c ∷ rest
-    → IsReady (λ name. posts_in name before) c
+    → IsUnblocked (λ name. posts_in name before) c
 ready thread before (Write lba count tag) rest ordered is = tt
 ready thread before (Read lba count) rest ordered is = tt
 ready thread before Flush rest ordered is = tt

@@ -14,7 +14,7 @@ use Rattle.run_threads.specs.declared.board.Board.{Board}
 use Rattle.run_threads.specs.declared.records.Answer.{Answer}
 use Rattle.run_threads.specs.declared.records.Word.{Word}
 use Rattle.run_threads.specs.Board.{note_at, has_name, posts, posts_in, IsAgreed, MayRun, AreInOrder}
-use Rattle.run_threads.specs.Rooms.{HasRoom, HaveRoom}
+use Rattle.run_threads.specs.Rooms.{HasWordRoom, HaveWordRoom}
 use Rattle.run_threads.specs.Run.{Answers, Runs}
 use Rattle.lemmas.proofs.Options.{not_noted}
 use Rattle.lemmas.proofs.Tests.{or_true}
@@ -47,12 +47,12 @@ pub record IsRunning (start now : ModelPort) (before rest : List Command) (answe
     (board : Board) : Type 0 where
   pub runs : (told : List ℕ → ℕ) → IsAgreed told board → Runs told start before answers now
   pub fits : AllByRecursion (CommandFits now.capacity) rest
-  pub rooms_left : HaveRoom rest rooms
+  pub rooms_left : HaveWordRoom rest rooms
   pub order : AreInOrder (λ name. is_some (note_at board name)) rest
   pub names : (name : List ℕ) → posts_in name rest ≡ true → has_name board name ≡ true
 
 pub starts : (m : ModelPort) (cs : List Command) (rooms : List (Vec Word Global)) (board : Board)
-    → AllByRecursion (CommandFits m.capacity) cs → HaveRoom cs rooms → AreInOrder (λ name. false) cs
+    → AllByRecursion (CommandFits m.capacity) cs → HaveWordRoom cs rooms → AreInOrder (λ name. false) cs
     → ((name : List ℕ) → posts_in name cs ≡ true → has_name board name ≡ true) → ((name : List ℕ) → note_at board name ≡ None)
     → IsRunning m m [] cs [] rooms board
 starts m cs rooms board fits room order names blank = record {
@@ -107,19 +107,19 @@ take_at xs i x h is = take_more xs i x h ∙ ap (λ y. take i xs ++ y ∷ []) (s
 
 -- Rooms.
 
-pub rooms_last : (cs : List Command) (rooms : List (Vec Word Global)) (c : Command) (words : Vec Word Global) → HaveRoom cs rooms → HasRoom c words
-    → HaveRoom (cs ++ c ∷ []) (rooms ++ words ∷ [])
+pub rooms_last : (cs : List Command) (rooms : List (Vec Word Global)) (c : Command) (words : Vec Word Global) → HaveWordRoom cs rooms → HasWordRoom c words
+    → HaveWordRoom (cs ++ c ∷ []) (rooms ++ words ∷ [])
 rooms_last [] [] c words h k = (k, tt)
 rooms_last [] (r ∷ rooms) c words h k = absurd h
 rooms_last (d ∷ cs) [] c words h k = absurd h
 rooms_last (d ∷ cs) (r ∷ rooms) c words h k = (h.0, rooms_last cs rooms c words h.1 k)
 
 pub rooms_more : (cs : List Command) (i : ℕ) (rooms : List (Vec Word Global)) (c : Command) (words : Vec Word Global) → i < length cs → c ≡ get_or cs i c
-    → HaveRoom (take i cs) rooms → HasRoom c words
-    → HaveRoom (take (i + 1) cs) (rooms ++ words ∷ [])
+    → HaveWordRoom (take i cs) rooms → HasWordRoom c words
+    → HaveWordRoom (take (i + 1) cs) (rooms ++ words ∷ [])
 rooms_more cs i rooms c words below is h k = rw (take_at cs i c below is) (rooms_last (take i cs) rooms c words h k)
 
-pub as_many_rooms : (cs : List Command) (rooms : List (Vec Word Global)) → HaveRoom cs rooms → length rooms ≡ length cs
+pub as_many_rooms : (cs : List Command) (rooms : List (Vec Word Global)) → HaveWordRoom cs rooms → length rooms ≡ length cs
 as_many_rooms [] [] h = refl
 as_many_rooms [] (r ∷ rooms) h = absurd h
 as_many_rooms (c ∷ cs) [] h = absurd h

@@ -42,13 +42,13 @@ IsAgreed told board = (name : List ℕ) (position : ℕ) → note_at board name 
 
 -- The posts and awaits of a thread, by the names that are posted before it: no name is posted again, and
 -- each that is awaited is posted before.
-abbrev pub IsReady : (List ℕ → Bool) → Command → Type 0
-IsReady posted (Write lba count tag) = ⊤
-IsReady posted (Read lba count) = ⊤
-IsReady posted Flush = ⊤
-IsReady posted (Post name) = posted name ≡ false
-IsReady posted (Await name) = posted name ≡ true
+abbrev pub IsUnblocked : (List ℕ → Bool) → Command → Type 0
+IsUnblocked posted (Write lba count tag) = ⊤
+IsUnblocked posted (Read lba count) = ⊤
+IsUnblocked posted Flush = ⊤
+IsUnblocked posted (Post name) = posted name ≡ false
+IsUnblocked posted (Await name) = posted name ≡ true
 
 abbrev pub AreInOrder : (List ℕ → Bool) → List Command → Type 0
 AreInOrder posted [] = ⊤
-AreInOrder posted (c ∷ cs) = IsReady posted c × AreInOrder (λ name. posts name c || posted name) cs
+AreInOrder posted (c ∷ cs) = IsUnblocked posted c × AreInOrder (λ name. posts name c || posted name) cs

@@ -7,15 +7,15 @@ use Rattle.pblk_model.specs.declared.script.Command.TheVariants.{Write, Read, Fl
 use Rattle.run_threads.specs.declared.records.Word.{Word}
 
 -- an empty list that has room for the words of a command
-abbrev pub HasRoom : Command → Vec Word Global → Type 0
-HasRoom (Write lba count tag) words = ⊤
-HasRoom (Read lba count) words = (words.items ≡ []) × (count ≤ vec_capacity words)
-HasRoom Flush words = ⊤
-HasRoom (Post name) words = ⊤
-HasRoom (Await name) words = ⊤
+abbrev pub HasWordRoom : Command → Vec Word Global → Type 0
+HasWordRoom (Write lba count tag) words = ⊤
+HasWordRoom (Read lba count) words = (words.items ≡ []) × (count ≤ vec_capacity words)
+HasWordRoom Flush words = ⊤
+HasWordRoom (Post name) words = ⊤
+HasWordRoom (Await name) words = ⊤
 
 -- one for each command
-abbrev pub HaveRoom : List Command → List (Vec Word Global) → Type 0
-HaveRoom [] [] = ⊤
-HaveRoom (c ∷ cs) (words ∷ rooms) = HasRoom c words × HaveRoom cs rooms
-HaveRoom cs rooms = ⊥
+abbrev pub HaveWordRoom : List Command → List (Vec Word Global) → Type 0
+HaveWordRoom [] [] = ⊤
+HaveWordRoom (c ∷ cs) (words ∷ rooms) = HasWordRoom c words × HaveWordRoom cs rooms
+HaveWordRoom cs rooms = ⊥

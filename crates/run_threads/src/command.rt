@@ -6,7 +6,7 @@ ghost use Rattle.pblk_model.specs.Script.{CommandFits, IsRange};
 ghost use Rattle.pblk_model.specs.declared.script.Command.TheVariants as commands;
 ghost use Rattle.std.specs.Str.{bytes_eq};
 ghost use Rattle.run_threads.specs.Board.{note_at, has_name, posts, IsAgreed, MayRun};
-ghost use Rattle.run_threads.specs.Rooms.{HasRoom};
+ghost use Rattle.run_threads.specs.Rooms.{HasWordRoom};
 ghost use Rattle.run_threads.specs.Run.{Answers};
 
 use crate::board::Board;
@@ -123,7 +123,7 @@ pub(crate) fn run_command<R: Wait, P: Port>(
     board: &mut Board,
 ) -> Answer
     requires fits { CommandFits (P.model port.old).capacity command.now }
-    requires room { HasRoom command.now words }
+    requires room { HasWordRoom command.now words }
     requires bytes { length bytes.old ≡ 65536 }
     requires board { MayRun board.old command.now }
     ensures answer { (told : List ℕ → ℕ) → IsAgreed told board.new

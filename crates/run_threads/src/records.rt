@@ -45,6 +45,7 @@ impl Words {
         Words { list }
     }
 
+    /// The words, in their order.
     pub fn as_slice(&self) -> &[Word]
         ensures { result.now ≡ self.now }
     {
@@ -92,6 +93,7 @@ impl Answers {
         Answers { list }
     }
 
+    /// The answers, by command.
     pub fn as_slice(&self) -> &[Answer]
         ensures { result.now ≡ self.now }
     {
@@ -123,6 +125,7 @@ impl ThreadRows {
         ThreadRows { threads }
     }
 
+    /// The answers of each thread, by its number.
     pub fn as_slice(&self) -> &[Answers]
         ensures { result.now ≡ self.now }
     {

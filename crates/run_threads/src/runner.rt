@@ -8,7 +8,7 @@ ghost use Rattle.pblk_model.specs.Script.{CommandFits};
 ghost use Rattle.run_threads.specs.declared.records.Answer.{Answer};
 ghost use Rattle.run_threads.specs.Board.{note_at, has_name, posts_in, AreInOrder};
 ghost use Rattle.run_threads.specs.Desk.{IsReadyDesk};
-ghost use Rattle.run_threads.specs.Rooms.{HaveRoom};
+ghost use Rattle.run_threads.specs.Rooms.{HaveWordRoom};
 ghost use Rattle.run_threads.specs.Run.{IsAcceptedFor, Runs, WereRun};
 
 use crate::board::Board;

@@ -4,7 +4,7 @@ ghost use Rattle.std.specs.List.{AllByRecursion};
 ghost use Rattle.std.specs.Vec.{vec_len, vec_capacity};
 ghost use Rattle.pblk_model.specs.Script.{CommandFits};
 ghost use Rattle.run_threads.specs.Board.{note_at, has_name, posts_in, AreInOrder};
-ghost use Rattle.run_threads.specs.Rooms.{HasRoom, HaveRoom};
+ghost use Rattle.run_threads.specs.Rooms.{HasWordRoom, HaveWordRoom};
 ghost use Rattle.run_threads.specs.Run.{Runs};
 
 use crate::board::Board;
@@ -18,7 +18,7 @@ use std::sync::Wait;
 
 /// Room for the words of each command.
 pub(crate) fn rooms(alloc: Global, commands: &[Command]) -> Result<Vec<Vec<Word>>, AllocError>
-    ensures { IfOk result (λ rooms. HaveRoom commands.now rooms.items) }
+    ensures { IfOk result (λ rooms. HaveWordRoom commands.now rooms.items) }
 {
     let mut rooms = Vec::new(alloc);
     for command in commands {
@@ -29,7 +29,7 @@ pub(crate) fn rooms(alloc: Global, commands: &[Command]) -> Result<Vec<Vec<Word>
 
 // Room for the words of a command.
 fn room(alloc: Global, command: &Command) -> Result<Vec<Word>, AllocError>
-    ensures { IfOk result (λ words. HasRoom command.now words) }
+    ensures { IfOk result (λ words. HasWordRoom command.now words) }
 {
     match command {
         Command::Read { count, .. } => Vec::with_capacity(alloc, *count as usize),
@@ -51,7 +51,7 @@ pub(crate) fn run_thread<R: Wait, P: Port>(
     answers: &mut Vec<Answer>,
 )
     requires fits { AllByRecursion (CommandFits (P.model port.old).capacity) commands.now }
-    requires rooms { HaveRoom commands.now rooms.old }
+    requires rooms { HaveWordRoom commands.now rooms.old }
     requires bytes { length bytes.old ≡ 65536 }
     requires order { AreInOrder (λ name. false) commands.now }
     requires names { (name : List ℕ) → posts_in name commands.now ≡ true

@@ -9,7 +9,7 @@ use Rattle.pblk_model.specs.Shape.{units}
 use Rattle.pblk_model.specs.Chunk.{Block}
 use Rattle.pblk_model.specs.LineOrder.{line_order, column_of, block_of}
 use Rattle.pblk_model.specs.Image.{Image, line_units, width, block_at}
-use Rattle.pblk_layout.specs.Live.{units_in}
+use Rattle.pblk_layout.specs.Online.{units_in}
 use Rattle.pblk_laws.specs.LineBlocks.{written_at}
 use Rattle.pblk_laws.proofs.LineUnits.{block_named, line_units_count}
 use Rattle.pblk_laws.proofs.Widths.{width_within}

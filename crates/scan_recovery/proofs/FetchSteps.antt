@@ -22,7 +22,7 @@ use Rattle.unit_port.specs.Unit.{ModelUnit, TellsBlock}
 use Rattle.unit_port.specs.declared.unit.UnitErr.{UnitErr}
 use Rattle.unit_port.specs.declared.unit.UnitErr.TheVariants as unit_errors
 use Rattle.unit_port.specs.Commands.{UnitCommand, EventAt, IsNext, IsTaken, AreNext, with_event, after_one, after_all}
-use Rattle.unit_port.specs.Did.{Did, command_at, is_lost}
+use Rattle.unit_port.specs.Did.{Did, command_at, failed_or_stopped}
 use Rattle.unit_port.proofs.Units.{after_one_is}
 use Rattle.world_laws.specs.Finding.{NoneOpen}
 use Rattle.scan_recovery.specs.declared.error.ScanErr.{ScanErr}
@@ -175,7 +175,7 @@ did_image : (s : Shape) (us new : List ModelUnit) (line unit block : ℕ) (e : E
 did_image s us new line unit block e did = ap (image_of s) did.units ∙ image_same s us e block did.next (ap (λ (x : UnitCommand). x.command) did.command)
 
 pub good_fetch : (s : Shape) (us new : List ModelUnit) (line unit block : ℕ) (e : EventAt) → IsReadableAt (image_of s us) line unit block
-    → Did us (command_at unit line (Read block)) e new → is_lost e.event.outcome ≡ false → Fetched s us new None
+    → Did us (command_at unit line (Read block)) e new → failed_or_stopped e.event.outcome ≡ false → Fetched s us new None
 good_fetch s us new line unit block e r did good = (
   e ∷ [],
   record {
@@ -188,7 +188,7 @@ good_fetch s us new line unit block e r did good = (
 )
 
 pub lost_fetch : (s : Shape) (us new : List ModelUnit) (line unit block number : ℕ) (e : EventAt) (v : ModelUnit) → IsReadableAt (image_of s us) line unit block
-    → Did us (command_at unit line (Read block)) e new → is_lost e.event.outcome ≡ true
+    → Did us (command_at unit line (Read block)) e new → failed_or_stopped e.event.outcome ≡ true
     → slice_get new unit ≡ Some v → number ≡ min (length v.log) (2 ^ 64 - 1) → Fetched s us new (Some (errors.Drive unit number))
 lost_fetch s us new line unit block number e v r did lost there number-is =
     let unit_is : e.unit ≡ unit = ap (λ (x : UnitCommand). x.unit) did.command in
@@ -215,9 +215,9 @@ lost_fetch s us new line unit block number e v r did lost there number-is =
       },
     )
 
-pub told_lost : (before after : List ℕ) (r : Result Got UnitErr) (e : UnitErr) (o : UnitOutcome) → r ≡ Err e → TellsBlock before after r o → is_lost o ≡ true
-told_lost before after r unit_errors.Failed o is h = let t = subst (λ (x : Result Got UnitErr). TellsBlock before after x o) is h in ap is_lost t.0
-told_lost before after r unit_errors.Stopped o is h = let t = subst (λ (x : Result Got UnitErr). TellsBlock before after x o) is h in ap is_lost t.0
+pub told_lost : (before after : List ℕ) (r : Result Got UnitErr) (e : UnitErr) (o : UnitOutcome) → r ≡ Err e → TellsBlock before after r o → failed_or_stopped o ≡ true
+told_lost before after r unit_errors.Failed o is h = let t = subst (λ (x : Result Got UnitErr). TellsBlock before after x o) is h in ap failed_or_stopped t.0
+told_lost before after r unit_errors.Stopped o is h = let t = subst (λ (x : Result Got UnitErr). TellsBlock before after x o) is h in ap failed_or_stopped t.0
 
 pub told_sector : (before after : List ℕ) (r : Result Got UnitErr) (mark : Mark) (o : UnitOutcome) → r ≡ Ok (got.Sector mark) → TellsBlock before after r o
     → o ≡ Answered (Gave (record { sector = after; mark = mark }))

@@ -12,12 +12,12 @@ use Rattle.unit_port.proofs.Units.{kept_none, kept_more}
 use Rattle.scan_recovery.specs.declared.error.ScanErr.{ScanErr}
 use Rattle.scan_recovery.specs.declared.error.ScanErr.TheVariants as errors
 use Rattle.scan_recovery.specs.Fetches.{HasFetched, IsFetch, error_of}
-use Rattle.scan_recovery.specs.Lost.{IsLostAt, NoneLost}
-use Rattle.scan_recovery.specs.Pads.{HasPadded}
+use Rattle.scan_recovery.specs.DriveFaults.{IsDriveFaultAt, NoDriveFaults}
+use Rattle.scan_recovery.specs.Pads.{ArePads, HasPadded}
 use Rattle.scan_recovery.specs.Units.{image_of}
 use Rattle.world_laws.specs.Finding.{IsFoundOf, NoneOpen}
 use Rattle.scan_recovery.specs.Readying.{HoldsSame, AreHandedBack, IsUntouchedOrPadded, IsFoundAfter, ReadyCause}
-use Rattle.scan_recovery.proofs.Losses.{WasDone, fetch_lost, fetches_done, lost_at, none_lost, pads_done, stop_lost}
+use Rattle.scan_recovery.proofs.Losses.{WasDone, fetch_lost, fetches_done, lost_at, none_lost, pads_done, pads_front, stop_lost}
 use Rattle.lemmas.proofs.Lists.{all_append, last_of}
 
 -- nothing was done
@@ -28,7 +28,7 @@ back_as_they_were s us = record {
   holds = record { is_sealed = λ whole. whole; contents_are = λ whole. refl; end_is = λ whole. refl };
 }
 
-pub none_lost_there : (us : List ModelUnit) → NoneLost us us
+pub none_lost_there : (us : List ModelUnit) → NoDriveFaults us us
 none_lost_there us = none_lost us us [] refl tt
 
 -- ---- how a padding ends
@@ -50,13 +50,15 @@ pad_ends s old mid (Err (errors.Drive unit event)) padded memory kept holds =
         holds = holds;
       },
       (λ same. absurd cc),
-      lost_at old mid ends.0 ends.1 unit event kept (h.1.units ∙ ap (after_all old) ends.2) ends.4 (stop_lost ends.1.event ends.5) ends.6,
+      lost_at old mid ends.0 ends.1 unit event kept (h.1.units ∙ ap (after_all old) ends.2)
+          (pads_done s old ends.0 (pads_front s old ends.0 (ends.1 ∷ []) (subst (ArePads s old) ends.2 h.1.pads)) ends.3) ends.4
+          (stop_lost ends.1.event ends.5) ends.6,
     )
 pad_ends s old mid (Err errors.Memory) padded memory kept holds =
     let same : mid ≡ old = memory refl in (
       subst (AreHandedBack s old) (sym same) (back_as_they_were s old),
       (λ e. inl same),
-      subst (NoneLost old) (sym same) (none_lost_there old),
+      subst (NoDriveFaults old) (sym same) (none_lost_there old),
     )
 
 pub pad_done : (s : Shape) (old new : List ModelUnit) (r : Result (Unit {0}) ScanErr) (x : Unit {0}) → r ≡ Ok x
@@ -89,12 +91,12 @@ module _ (s : Shape) (old mid new : List ModelUnit) (x : Unit {0})
   units_are events is =
       is ∙ ap (λ (us : List ModelUnit). after_all us events) padded.1.units ∙ sym (fold-append after_one old padded.0 events)
 
-  all_done : (events : List EventAt) → new ≡ after_all mid events → AllByRecursion WasDone events → NoneLost old new
+  all_done : (events : List EventAt) → new ≡ after_all mid events → AllByRecursion WasDone events → NoDriveFaults old new
   all_done events is done =
       none_lost old new (padded.0 ++ events) (units_are events is)
       (all_append WasDone padded.0 events (pads_done s old padded.0 padded.1.pads padded.1.ends) done)
 
-  lost_there : (unit event : ℕ) → (events : List EventAt) × HasFetched s mid new events (Some (errors.Drive unit event)) → IsLostAt old new unit event
+  lost_there : (unit event : ℕ) → (events : List EventAt) × HasFetched s mid new events (Some (errors.Drive unit event)) → IsDriveFaultAt old new unit event
   lost_there unit event fetched =
       let ends = fetched.1.ends in
       let which : padded.0 ++ fetched.0 ≡ (padded.0 ++ ends.0) ++ ends.1 ∷ [] =
@@ -102,7 +104,8 @@ module _ (s : Shape) (old mid new : List ModelUnit) (x : Unit {0})
       let one : IsFetch (image_of s mid) ends.1 =
       last_of (IsFetch (image_of s mid)) ends.0 ends.1 (subst (AllByRecursion (IsFetch (image_of s mid))) ends.2 fetched.1.fetches) in
       lost_at old new (padded.0 ++ ends.0) ends.1 unit event (kept_more old mid new kept after)
-      (units_are fetched.0 fetched.1.units ∙ ap (after_all old) which) ends.4
+      (units_are fetched.0 fetched.1.units ∙ ap (after_all old) which)
+      (all_append WasDone padded.0 ends.0 (pads_done s old padded.0 padded.1.pads padded.1.ends) (fetches_done ends.0 ends.3)) ends.4
       (fetch_lost ends.1.event.command ends.1.event.outcome one.block one.command ends.5) ends.6
 
   caused : (e : ScanErr) → (events : List EventAt) × HasFetched s mid new events (Some e) → ReadyCause old new (Err e)

@@ -17,6 +17,7 @@ pub mod MediaLines
 pub mod Wears
 pub mod UnitLogs
 pub mod Losses
+pub mod WorldLosses
 pub mod HandedBack
 pub mod PackedLines
 pub mod PadsLemmas

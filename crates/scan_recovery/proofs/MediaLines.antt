@@ -11,7 +11,7 @@ use Rattle.pblk_model.specs.LineOrder.{line_order}
 use Rattle.pblk_model.specs.Image.{Image, IsFit, line_units, width, block_at}
 use Rattle.pblk_model.specs.ImageFile as file
 use Rattle.pblk_model.specs.ImageFile.{StoredChunk}
-use Rattle.pblk_layout.specs.Live.{units_in}
+use Rattle.pblk_layout.specs.Online.{units_in}
 use Rattle.pblk_laws.specs.LineBlocks.{written_at}
 use Rattle.pblk_laws.proofs.LineUnits.{line_units_count, no_block_past}
 use Rattle.pblk_laws.proofs.Widths.{width_within}

@@ -26,7 +26,7 @@ use Rattle.scan_recovery.specs.declared.counting.Tally.{Tally}
 use Rattle.scan_recovery.specs.Find.{bound_from, row_from}
 use Rattle.scan_recovery.specs.Survey.{IsSurvey, head_to, seen_line}
 use Rattle.scan_recovery.specs.Tally.{HasStartFits, IsTally}
-use Rattle.scan_recovery.specs.Traces.{IsTable, bare, bares, row_of, without_sector}
+use Rattle.scan_recovery.specs.Traces.{IsTable, bare, bares, head_row, without_sector}
 use Rattle.scan_recovery.proofs.Tables.{table_same, table_list}
 use Rattle.scan_recovery.proofs.Tallies.{and_right, row_facts}
 use Rattle.scan_recovery.proofs.Founds.{thin, there, end_thin, counted_thin, winner_thin, top_thin}
@@ -77,9 +77,9 @@ from_none None = refl
 from_none (Some row) = refl
 
 bound_is : (o : Option Start) (line : ℕ) (seq : Option ℕ) → IfSome o HasStartFits
-    → bound_from (row_of (option_map start_numbers o) line) seq ≡ bound_with (option_map start_numbers o) line seq
+    → bound_from (head_row (option_map start_numbers o) line) seq ≡ bound_with (option_map start_numbers o) line seq
 bound_is None line seq h = refl
-bound_is (Some r) line None h = from_none (row_of (Some (start_numbers r)) line)
+bound_is (Some r) line None h = from_none (head_row (Some (start_numbers r)) line)
 bound_is (Some r) line (Some seq) h =
     find_bound h.shape (start_numbers r) 0 (start_numbers r).rows line seq (and_right _ (rows_fit h.shape (start_numbers r) 0 (start_numbers r).rows) h.fits)
 
@@ -135,15 +135,15 @@ module _ (i : Image) (s : Shape) (v : Survey) (shape : i.shape ≡ s) (S : IsSur
       ∙ ap (λ n. filter (is_stray i) (range_with_len 0 n)) (count ∙ chunks_are)
 
   one_row : (rows : List (Option Row)) (tops : List ℕ) (k : ℕ) → k < s.chunks → length v.lines.items ≡ s.chunks
-      → IsTable s.chunks (row_of (option_map start_numbers v.head)) rows
+      → IsTable s.chunks (head_row (option_map start_numbers v.head)) rows
       → IsTable s.chunks (top_of (counted_after (bares v.traces.items) (option_map start_numbers v.head))) tops
       → line_row i k ≡ row_from v.lines.items (option_map start_numbers v.head) rows tops k
   unfolding seen_line
   one_row rows tops k inside count rows_are tops_are =
       let seen : get_or v.lines.items k (record { seq = None; full = false; used = false }) ≡ seen_line i k =
       there s.chunks (seen_line i) v.lines.items k _ S.lines (omega arith) in
-      let row : get_or rows k None ≡ row_of (option_map start_numbers v.head) k =
-      there s.chunks (row_of (option_map start_numbers v.head)) rows k None rows_are (omega (arith, rows_are.count)) in
+      let row : get_or rows k None ≡ head_row (option_map start_numbers v.head) k =
+      there s.chunks (head_row (option_map start_numbers v.head)) rows k None rows_are (omega (arith, rows_are.count)) in
       let top : get_or tops k 0 ≡ top_of (counted i) k =
       there s.chunks (top_of (counted_after (bares v.traces.items) (option_map start_numbers v.head))) tops k 0 tops_are (omega (arith, tops_are.count))
       ∙ ap (λ x. top_of x k) counted_are ∙ top_thin (counted i) k in
@@ -152,7 +152,7 @@ module _ (i : Image) (s : Shape) (v : Survey) (shape : i.shape ≡ s) (S : IsSur
       rw (seen, bound, top, head_is) refl
 
   pub found_rows : (rows : List (Option Row)) (tops : List ℕ) (found : List LineRow) → length v.lines.items ≡ s.chunks
-      → IsTable s.chunks (row_of (option_map start_numbers v.head)) rows
+      → IsTable s.chunks (head_row (option_map start_numbers v.head)) rows
       → IsTable s.chunks (top_of (counted_after (bares v.traces.items) (option_map start_numbers v.head))) tops
       → IsTable (length v.lines.items) (λ k. row_from v.lines.items (option_map start_numbers v.head) rows tops k) found
       → found ≡ map (line_row i) (range_with_len 0 i.shape.chunks)
@@ -171,7 +171,7 @@ pub found_all : (i : Image) (s : Shape) (v : Survey) (shape : i.shape ≡ s) (S 
     → traces1 ≡ v.traces.items → traces2 ≡ v.traces.items → rows3 ≡ rows → rows7 ≡ rows → best ≡ t.winners.items → lines5 ≡ v.lines.items
     → lines6 ≡ v.lines.items → tops ≡ t.tops.items
     → e ≡ end_after (bares traces1) (option_map start_numbers v.head)
-    → IsTable s.chunks (row_of (option_map start_numbers v.head)) (map (option_map row_numbers) rows)
+    → IsTable s.chunks (head_row (option_map start_numbers v.head)) (map (option_map row_numbers) rows)
     → IsTally s.capacity (length rows3) (counted_after (bares traces2) (option_map start_numbers v.head)) t
     → ((g : ℕ → Option Record) → IsTable (length best) g (map (option_map bare) best)
     → ws ≡ filter_map (λ lba. option_map (winner_with lba) (g lba)) (range_with_len 0 (length best)))

@@ -15,7 +15,7 @@ use Rattle.world_laws.specs.Finding.{top_of}
 use Rattle.scan_recovery.specs.declared.trace.Trace.{Trace}
 use Rattle.scan_recovery.specs.declared.counting.Tally.{Tally}
 use Rattle.scan_recovery.specs.Tally.{IsTally}
-use Rattle.scan_recovery.specs.Traces.{IsTable, bare, bares, is_below_row, row_of}
+use Rattle.scan_recovery.specs.Traces.{IsTable, bare, bares, is_below_row, head_row}
 use Rattle.scan_recovery.proofs.Tables.{table_set, table_same, table_new, map_take_one}
 use Rattle.lemmas.proofs.Parts.{all_get}
 use Rattle.pblk_model.proofs.ContentsLemmas.{of_same}
@@ -81,7 +81,7 @@ any_is_row s r least (row ∷ rows) x h =
     ]
 
 pub counts_by_row : (s : Shape) (line g end : ℕ) (h : StartRecord) (row : Option Row) (x : Record) (below : Bool) → start_fits s line g h ≡ true
-    → row ≡ row_of (Some h) x.line
+    → row ≡ head_row (Some h) x.line
     → (nat_le h.first_seq x.seq && nat_lt x.position end) ≡ false → below ≡ is_below_row row x → below ≡ counts h end x
 counts_by_row s line g end h row x below fits row-is older below-is =
     let rows : rows_fit s h 0 h.rows ≡ true = and_right _ (rows_fit s h 0 h.rows) fits in

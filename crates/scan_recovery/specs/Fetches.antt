@@ -9,7 +9,7 @@ use Rattle.pblk_model.specs.Image.{Image}
 use Rattle.pblk_laws.specs.LineBlocks.{chunk_in}
 use Rattle.unit_port.specs.Unit.{ModelUnit}
 use Rattle.unit_port.specs.Commands.{EventAt, AreNext, after_all}
-use Rattle.unit_port.specs.Did.{is_lost}
+use Rattle.unit_port.specs.Did.{failed_or_stopped}
 use Rattle.scan_recovery.specs.declared.error.ScanErr.{ScanErr}
 use Rattle.scan_recovery.specs.declared.error.ScanErr.TheVariants as errors
 use Rattle.scan_recovery.specs.Units.{image_of, IsLastEvent}
@@ -23,7 +23,7 @@ pub record IsFetch (i : Image) (e : EventAt) : Type 0 where
   pub written : block < pointer found
 
 abbrev pub IsGood : EventAt → Type 0
-IsGood e = is_lost e.event.outcome ≡ false
+IsGood e = failed_or_stopped e.event.outcome ≡ false
 
 -- why a call was refused, if it was
 abbrev pub error_of : {T : Type 0} → Result T ScanErr → Option ScanErr
@@ -34,7 +34,7 @@ error_of (Err e) = Some e
 abbrev pub FetchEnds : List ModelUnit → List EventAt → Option ScanErr → Type 0
 FetchEnds new events None = AllByRecursion IsGood events
 FetchEnds new events (Some (errors.Drive unit number)) = (front : List EventAt) × (last : EventAt) × (events ≡ front ++ last ∷ [])
-    × AllByRecursion IsGood front × (last.unit ≡ unit) × (is_lost last.event.outcome ≡ true) × IsLastEvent new unit number last.event
+    × AllByRecursion IsGood front × (last.unit ≡ unit) × (failed_or_stopped last.event.outcome ≡ true) × IsLastEvent new unit number last.event
 FetchEnds new events (Some errors.Memory) = AllByRecursion IsGood events
 
 -- the units after these fetches, which left the chunks as they were, and how they ended

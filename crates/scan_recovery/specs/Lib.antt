@@ -13,4 +13,4 @@ pub mod Held
 pub mod Packed
 pub mod LineBuffer
 pub mod Readying
-pub mod Lost
+pub mod DriveFaults

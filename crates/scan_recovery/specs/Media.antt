@@ -4,7 +4,7 @@ use Rattle.std.specs.List.{AllByRecursion}
 use Rattle.pblk_model.specs.Accepted.{IsAccepted}
 use Rattle.pblk_model.specs.Image.{Image, line_units}
 use Rattle.pblk_model.specs.Shape.{units}
-use Rattle.pblk_layout.specs.Live.{units_in}
+use Rattle.pblk_layout.specs.Online.{units_in}
 use Rattle.scan_recovery.specs.declared.media.Media.TheInside.{Inside}
 use Rattle.scan_recovery.specs.Traces.{IsTable}
 use Rattle.scan_recovery.specs.Units.{AreFit, image_of}

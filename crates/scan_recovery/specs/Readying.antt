@@ -12,7 +12,7 @@ use Rattle.world_laws.specs.Finding.{IsFoundOf, NoneOpen}
 use Rattle.scan_recovery.specs.declared.error.ScanErr.{ScanErr}
 use Rattle.scan_recovery.specs.declared.error.ScanErr.TheVariants as errors
 use Rattle.scan_recovery.specs.Fetches.{IsFetch}
-use Rattle.scan_recovery.specs.Lost.{IsLostAt, NoneLost}
+use Rattle.scan_recovery.specs.DriveFaults.{IsDriveFaultAt, NoDriveFaults}
 use Rattle.scan_recovery.specs.Pads.{ArePads}
 use Rattle.scan_recovery.specs.Units.{image_of}
 
@@ -51,6 +51,6 @@ pub record IsFoundAfter (s : Shape) (old new : List ModelUnit) (found : Found) :
 -- Why a drive couldn't be made ready: the last event of this unit was a command that was stopped,
 -- or a fetch that failed. Where the call answers anything else, none was.
 abbrev pub ReadyCause : List ModelUnit → List ModelUnit → Result Found ScanErr → Type 0
-ReadyCause old new (Ok found) = NoneLost old new
-ReadyCause old new (Err (errors.Drive unit event)) = IsLostAt old new unit event
-ReadyCause old new (Err errors.Memory) = NoneLost old new
+ReadyCause old new (Ok found) = NoDriveFaults old new
+ReadyCause old new (Err (errors.Drive unit event)) = IsDriveFaultAt old new unit event
+ReadyCause old new (Err errors.Memory) = NoDriveFaults old new

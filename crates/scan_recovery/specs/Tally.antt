@@ -11,11 +11,11 @@ use Rattle.pblk_meta.specs.declared.rows.Row.{Row}
 use Rattle.pblk_meta.specs.Records.{row_numbers, start_numbers}
 use Rattle.world_laws.specs.Finding.{top_of}
 use Rattle.scan_recovery.specs.declared.counting.Tally.{Tally}
-use Rattle.scan_recovery.specs.Traces.{IsTable, bare, row_of}
+use Rattle.scan_recovery.specs.Traces.{IsTable, bare, head_row}
 
 -- the head's row of each line
 abbrev pub AreRows : Option HeadRecord → List (Option Row) → Type 0
-AreRows head rows = IsTable (length rows) (row_of head) (map (option_map row_numbers) rows)
+AreRows head rows = IsTable (length rows) (head_row head) (map (option_map row_numbers) rows)
 
 -- the winner of each sector, and the top of each line, of these records
 pub record IsTally (sectors lines : ℕ) (rs : List Record) (t : Tally) : Type 0 where

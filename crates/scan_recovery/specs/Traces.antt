@@ -32,8 +32,8 @@ abbrev pub borne_at : List Record → StartRecord → ℕ → Bool
 borne_at rs h k = is_borne rs h (h.front + k)
 
 -- a head's row of a line
-abbrev pub row_of : Option StartRecord → ℕ → Option Row
-row_of o line = option_and_then (λ h. find (λ row. row.line == line) h.rows) o
+abbrev pub head_row : Option StartRecord → ℕ → Option Row
+head_row o line = option_and_then (λ h. find (λ row. row.line == line) h.rows) o
 
 -- whether a row is for a record's sequence number and bounds its position
 abbrev pub is_below_row : Option Row → Record → Bool

@@ -1,5 +1,6 @@
 -- The units of a drive, and the image that their chunks are.
 use Rattle.std.specs.Prelude.{ℕ, ◌-◌, ◌^◌, ◌≡◌, List, [], ◌∷◌, ◌++◌, length, map, min, slice_get, Some}
+use Rattle.std.specs.Option.{option_map_or}
 use Rattle.pblk_model.specs.declared.shape.Shape.{Shape}
 use Rattle.pblk_model.specs.declared.chunk.ChunkState.{ChunkState}
 use Rattle.pblk_model.specs.Shape.{units}
@@ -26,6 +27,10 @@ image_of s us = record { shape = s; units = map (λ u. u.media) us }
 -- a unit's chunk of a line has this state
 abbrev pub IsStateOf : Image → ℕ → ℕ → ChunkState → Type 0
 IsStateOf i line unit state = (c : Chunk) × (chunk_in i line unit ≡ Some c) × (state ≡ c.state)
+
+-- how many events a unit's log has
+abbrev pub log_length : List ModelUnit → ℕ → ℕ
+log_length us unit = option_map_or (λ u. length u.log) (slice_get us unit) 0
 
 -- This is the last event of a unit, and this its number in the unit's log, from 1. From 2^64 - 1 on
 -- the number stands still.

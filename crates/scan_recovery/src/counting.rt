@@ -9,7 +9,7 @@ ghost use Rattle.pblk_model.specs.StartRecord.{start_fits};
 ghost use Rattle.pblk_model.specs.Records.{Record};
 ghost use Rattle.pblk_model.specs.Contents.{counts, counted_after, end_after, newer};
 ghost use Rattle.pblk_meta.specs.Records.{row_numbers, start_numbers};
-ghost use Rattle.scan_recovery.specs.Traces.{IsTable, bare, bares, is_below_row, row_of};
+ghost use Rattle.scan_recovery.specs.Traces.{IsTable, bare, bares, is_below_row, head_row};
 ghost use Rattle.scan_recovery.specs.Tally.{AreRows, HasStartFits, IsTally, named_count};
 
 use crate::trace::{Trace, is_newer};
@@ -22,7 +22,7 @@ pub(crate) fn rows_by_line(
     head: &Option<StartRecord>,
     lines: u32,
 ) -> Result<Vec<Option<Row>>, AllocError>
-    ensures { let of = row_of (option_map start_numbers head.now)
+    ensures { let of = head_row (option_map start_numbers head.now)
         in IfOk result (λ rows. IsTable lines of (map (option_map row_numbers) rows.items)) }
 {
     let mut rows = Vec::new(alloc);
@@ -34,15 +34,15 @@ pub(crate) fn rows_by_line(
 
 // The head's row of a line.
 fn row_in(head: &Option<StartRecord>, line: u32) -> Option<Row>
-    ensures { option_map row_numbers result ≡ row_of (option_map start_numbers head.now) line }
+    ensures { option_map row_numbers result ≡ head_row (option_map start_numbers head.now) line }
 {
     match head {
         None => None,
-        Some(head) => row_of(head.rows.as_slice(), line),
+        Some(head) => head_row(head.rows.as_slice(), line),
     }
 }
 
-fn row_of(rows: &[Row], line: u32) -> Option<Row>
+fn head_row(rows: &[Row], line: u32) -> Option<Row>
     ensures { option_map row_numbers result
         ≡ find (λ row. row.line == line) (map row_numbers rows.now) }
 {
@@ -59,7 +59,7 @@ fn row_of(rows: &[Row], line: u32) -> Option<Row>
 // head's row of its line.
 fn counts(head: &StartRecord, end: u64, row: &Option<Row>, t: &Trace) -> bool
     ensures counts { (s : Shape) (line g : ℕ) → start_fits s line g (start_numbers head.now) ≡ true
-        → option_map row_numbers row.now ≡ row_of (Some (start_numbers head.now)) t.now.line
+        → option_map row_numbers row.now ≡ head_row (Some (start_numbers head.now)) t.now.line
         → result ≡ counts (start_numbers head.now) end (bare t.now) }
     ensures low { OnTrue result (t.now.position + 1 < 2 ^ 64) }
 {

@@ -4,7 +4,7 @@ ghost use Rattle.std.specs.Prelude.{◌≡◌, ◌<◌, ◌^◌, true, false, So
 ghost use Rattle.pblk_model.specs.Accepted.{IsAccepted};
 ghost use Rattle.pblk_model.specs.Image.{line_units};
 ghost use Rattle.pblk_model.specs.Shape.{units as unit_count};
-ghost use Rattle.pblk_layout.specs.Live.{units_in};
+ghost use Rattle.pblk_layout.specs.Online.{units_in};
 ghost use Rattle.pblk_laws.specs.LineBlocks.{written_at};
 ghost use Rattle.unit_port.specs.Commands.{AreKept};
 ghost use Rattle.world_laws.specs.Finding.{NoneOpen};

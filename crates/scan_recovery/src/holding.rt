@@ -13,7 +13,7 @@ ghost use Rattle.scan_recovery.specs.Held.{IsHeld, held_by, thin_winner};
 ghost use Rattle.scan_recovery.specs.Holding.{IsContentsOf, IsSummaryOf, head_of};
 ghost use Rattle.scan_recovery.specs.Survey.{IsSurvey};
 ghost use Rattle.scan_recovery.specs.Tally.{HasStartFits};
-ghost use Rattle.scan_recovery.specs.Traces.{IsTable, bare, bares, row_of};
+ghost use Rattle.scan_recovery.specs.Traces.{IsTable, bare, bares, head_row};
 
 use crate::counting::{named_in, rows_by_line, tally_of};
 use crate::ending::end_after;

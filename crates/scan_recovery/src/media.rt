@@ -6,7 +6,7 @@ ghost use Rattle.pblk_model.specs.Accepted.{IsAccepted};
 ghost use Rattle.pblk_model.specs.Image.{IsFit, block_at, line_units, width};
 ghost use Rattle.pblk_model.specs.ImageFile as file;
 ghost use Rattle.pblk_model.specs.Shape.{units as unit_count};
-ghost use Rattle.pblk_layout.specs.Live.{units_in};
+ghost use Rattle.pblk_layout.specs.Online.{units_in};
 ghost use Rattle.pblk_laws.specs.LineBlocks.{written_at};
 ghost use Rattle.pblk_world.specs.Lines.{are_empty};
 ghost use Rattle.ocssd_drive.specs.Drive.{stored};

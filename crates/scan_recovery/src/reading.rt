@@ -5,7 +5,7 @@ ghost use Rattle.pblk_model.specs.Accepted.{IsAccepted};
 ghost use Rattle.pblk_model.specs.Chunk.{Chunk};
 ghost use Rattle.pblk_model.specs.Image.{line_units};
 ghost use Rattle.pblk_model.specs.Shape.{units as unit_count};
-ghost use Rattle.pblk_layout.specs.Live.{units_in};
+ghost use Rattle.pblk_layout.specs.Online.{units_in};
 ghost use Rattle.pblk_world.specs.Lines.{are_empty, is_empty_state};
 ghost use Rattle.world_laws.specs.Finding.{taken_state, taken_states};
 ghost use Rattle.scan_recovery.specs.Units.{AreFit, IsStateOf, image_of};

@@ -17,7 +17,7 @@ use Rattle.pblk_world.specs.Commanding.{ends_program, ends_stripe, ended_stripes
 use Rattle.pblk_world.specs.Opening.{MayBegin}
 use Rattle.pblk_world.specs.Legal.{IsLegal}
 use Rattle.world_laws.proofs.Made.{known_within}
-use Rattle.world_laws.specs.LegalMounts.{IsLegalMount}
+use Rattle.pblk_world.specs.LegalMounts.{IsLegalMount}
 use Rattle.step_laws.specs.Whole.{knows_all, after_begin, IsLevel, IsKnown}
 use Rattle.step_laws.proofs.ChunkEvents.{same_images}
 use Rattle.step_laws.proofs.EngineSteps.{decided_legal, engine_logs, media_still}

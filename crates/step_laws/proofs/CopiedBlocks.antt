@@ -14,7 +14,7 @@ use Rattle.pblk_world.specs.World.{World, log_of, media}
 use Rattle.pblk_world.specs.EngineLog.{AsFound, Begun, begun, last_opening, Opening, Opened, life_of, Taken}
 use Rattle.pblk_world.specs.Fronts.{last_take}
 use Rattle.pblk_world.specs.Lines.{found_image, known_image}
-use Rattle.world_laws.specs.LegalMounts.{IsLegalMount}
+use Rattle.pblk_world.specs.LegalMounts.{IsLegalMount}
 use Rattle.world_laws.proofs.LifePlaces.{units_now}
 use Rattle.world_laws.proofs.Lives.{life_is_known}
 use Rattle.l2p_map.specs.declared.slot.Slot.TheVariants.{Media}
@@ -23,7 +23,7 @@ use Rattle.core_laws.proofs.LatestSources.{named_is_place}
 use Rattle.step_laws.specs.SlotBlocks.{IsBlockOfSlot, IsOfLatest}
 use Rattle.step_laws.proofs.FoundLines.{media_units, no_stray, units_kept}
 use Rattle.step_laws.proofs.FoundRecords.{IsFoundRecord, winner_found}
-use Rattle.step_laws.proofs.LiveUnits.{live_units}
+use Rattle.step_laws.proofs.LiveUnits.{online_units}
 
 -- ---- the line has its units on the media as the engine knows them
 
@@ -51,7 +51,7 @@ pub block_there : (i : Image) (w : World) (b : Begun) (lba line at q : ℕ) → 
     → (is : IsBlockOfSlot i (log_of w) lba line at q) → block_at (media i (log_of w)) line at ≡ Some is.block
 block_there i w b lba line at q mount begins is =
     block_named (media i (log_of w)) line at (is.unit, is.number) mount.accepted.drive.ws_opt mount.accepted.drive.whole_stripes
-    (ap (λ (us : List ℕ). slice_get (line_order i.shape us) at) (sym (live_units i w line mount ∙ same (last_take (log_of w 0) lba) is.latest)) ∙ is.place)
+    (ap (λ (us : List ℕ). slice_get (line_order i.shape us) at) (sym (online_units i w line mount ∙ same (last_take (log_of w 0) lba) is.latest)) ∙ is.place)
     ∙ ap (option_and_then (λ c. slice_get c.blocks is.number)) is.there ∙ is.written
   where
     same : (o : Option Taken) → IsOfLatest i (log_of w) lba line at q is.block o

@@ -8,7 +8,7 @@ use Rattle.pblk_world.specs.World.{World, Logs, log_of, unit_events, unit_event_
 use Rattle.pblk_world.specs.EngineLog.{Begun, begun}
 use Rattle.pblk_world.specs.Commanding.{has_stopped}
 use Rattle.pblk_world.specs.Legal.{MayDecide, IsDecision}
-use Rattle.world_laws.specs.LegalMounts.{IsLegalMount}
+use Rattle.pblk_world.specs.LegalMounts.{IsLegalMount}
 use Rattle.core_laws.specs.Stepping.{after}
 use Rattle.step_laws.specs.Whole.{knows_all, engine_step}
 use Rattle.step_laws.proofs.Knowing.{next_legal}

@@ -11,14 +11,14 @@ use Rattle.pblk_model.specs.LineOrder.{line_order}
 use Rattle.pblk_model.specs.Marks.{sector_mark}
 use Rattle.pblk_model.specs.Records.{named}
 use Rattle.pblk_model.specs.Image.{Image}
-use Rattle.pblk_layout.specs.Live.{units_in}
+use Rattle.pblk_layout.specs.Online.{units_in}
 use Rattle.pblk_world.specs.World.{World, Logs, log_of, media}
 use Rattle.pblk_world.specs.EngineLog.{Opening, Opened, life_of, is_life, Taken, takes, block_of_taken, Placed, placements, stripes_of, stripes_on, bears_position}
 use Rattle.pblk_world.specs.Fronts.{first_position, last_take}
 use Rattle.pblk_world.specs.Space.{is_readable_in}
 use Rattle.pblk_laws.specs.LineBlocks.{chunk_in}
-use Rattle.core_laws.specs.OpenedLines.{live_now, as_opened, opened_units}
-use Rattle.world_laws.specs.LegalMounts.{IsLegalMount}
+use Rattle.core_laws.specs.OpenedLines.{online_now, as_opened, opened_units}
+use Rattle.pblk_world.specs.LegalMounts.{IsLegalMount}
 use Rattle.core_laws.specs.Positions.{AreNumbered}
 use Rattle.core_laws.specs.SlotOf.{address_in}
 use Rattle.core_laws.proofs.CachedEntries.{last_is_among, numbered_at}
@@ -36,7 +36,7 @@ use Rattle.step_laws.proofs.Given.{given}
 use Rattle.step_laws.specs.SlotBlocks.{IsOfEntry, IsOfLatest, IsBlockOfSlot}
 use Rattle.step_laws.proofs.Borne.{IsOfOne, IsEntrys, placed_entries}
 use Rattle.core_laws.proofs.LineAddresses.{number_is, address_within, place_is}
-use Rattle.step_laws.proofs.LiveUnits.{live_units}
+use Rattle.step_laws.proofs.LiveUnits.{online_units}
 use Rattle.core_laws.proofs.ReadBlocks.{IsReadIn, IsEntryOnDrive}
 use Rattle.lemmas.proofs.Lists.{IsAmong}
 use Rattle.lemmas.proofs.Maps.{any_member, in_filter}
@@ -93,8 +93,8 @@ unit_within j line unit c there = by (slice_get j.units unit) refl there
 
 -- the block of this number in a stripe stands at this address of the line
 pub record IsAddressed (i : Image) (logs : Logs) (p : Placed) (number at : ℕ) : Type 0 where
-  pub place : slice_get (line_order i.shape (units_in (live_now i logs p.stripe.line))) at ≡ Some (p.stripe.unit, p.stripe.at + number)
-  pub within : at < length (units_in (live_now i logs p.stripe.line)) * i.shape.clba
+  pub place : slice_get (line_order i.shape (units_in (online_now i logs p.stripe.line))) at ≡ Some (p.stripe.unit, p.stripe.at + number)
+  pub within : at < length (units_in (online_now i logs p.stripe.line)) * i.shape.clba
 
 -- its line is opened still
 pub record IsOpenIn (i : Image) (logs : Logs) (p : Placed) : Type 0 where
@@ -134,13 +134,13 @@ entry_address i w line at q t mount is open_in =
     let inside : read.number < i.shape.ws_opt = omega arith in
     let some : 0 < i.shape.ws_opt = mount.accepted.drive.ws_opt in
     let whole = mount.accepted.drive.whole_stripes in
-    let live : units_in (as_opened i (log_of w) o).live ≡ opened_units i (log_of w) o = bits_are_units i w o mount in
+    let live : units_in (as_opened i (log_of w) o).online ≡ opened_units i (log_of w) o = bits_are_units i w o mount in
     let below : n < i.shape.clba / i.shape.ws_opt * length (opened_units i (log_of w) o) = turn_is.2 in
     let number = number_is i (log_of w) o (opened_units i (log_of w) o) p.stripe.line n p some whole live turn read.number inside below in
     let left : p.stripe.at + read.number - p.stripe.at ≡ read.number = omega arith in
     let address : at ≡ n * i.shape.ws_opt + read.number =
     sym is.address ∙ ap (λ l. address_in i (log_of w) l p (p.stripe.at + read.number)) open_in.life ∙ ap₂ (λ m n. m * i.shape.ws_opt + n) number left in
-    let now : units_in (live_now i (log_of w) p.stripe.line) ≡ opened_units i (log_of w) o = live_units i w p.stripe.line mount
+    let now : units_in (online_now i (log_of w) p.stripe.line) ≡ opened_units i (log_of w) o = online_units i w p.stripe.line mount
     ∙ keeps_units i w p.stripe.line o mount opened in
     record {
       place = ap₂ (λ (xs : List ℕ) n. slice_get (line_order i.shape xs) n) now address

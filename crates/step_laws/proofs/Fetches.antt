@@ -12,7 +12,7 @@ use Rattle.pblk_world.specs.Events.{Maker}
 use Rattle.pblk_world.specs.World.{World, Logs, log_of, media}
 use Rattle.pblk_world.specs.EngineLog.{Begun, begun}
 use Rattle.pblk_world.specs.Commanding.{is_program, IsCommand}
-use Rattle.world_laws.specs.LegalMounts.{IsLegalMount}
+use Rattle.pblk_world.specs.LegalMounts.{IsLegalMount}
 use Rattle.step_laws.specs.NextEvents.{CanFetch}
 use Rattle.step_laws.specs.Whole.{after_unit, IsLevel}
 use Rattle.step_laws.proofs.ChunkEvents.{same_images, fetch_leaves}

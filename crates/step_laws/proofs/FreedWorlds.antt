@@ -6,7 +6,7 @@ use Rattle.pblk_world.specs.EngineLog.{Begun, begun}
 use Rattle.pblk_world.specs.Events.{Free}
 use Rattle.pblk_world.specs.Space.{room}
 use Rattle.pblk_world.specs.World.{World, log_of}
-use Rattle.world_laws.specs.LegalMounts.{IsLegalMount}
+use Rattle.pblk_world.specs.LegalMounts.{IsLegalMount}
 use Rattle.core_laws.proofs.FreedLines.{room_freed}
 use Rattle.step_laws.specs.FreedWorlds.{MightFree, freed_world}
 use Rattle.step_laws.specs.Whole.{IsKnown, IsLevel, engine_step, knows_all}

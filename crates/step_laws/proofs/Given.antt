@@ -23,7 +23,7 @@ use Rattle.lemmas.proofs.Options.{some_value, split_then}
 use Rattle.lemmas.proofs.Parts.{all_at, contained_among, got_within}
 use Rattle.lemmas.proofs.Tests.{either, lt_true}
 use Rattle.stripe_placer.proofs.Chunks.{lt_of}
-use Rattle.world_laws.specs.LegalMounts.{IsLegalMount}
+use Rattle.pblk_world.specs.LegalMounts.{IsLegalMount}
 use Rattle.world_laws.proofs.Lives.{life_is_known}
 use Rattle.world_laws.proofs.LineBlocks.{landed_written}
 use Rattle.world_laws.proofs.LineStripes.{stripe_count}

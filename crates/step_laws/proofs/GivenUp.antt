@@ -18,7 +18,7 @@ use Rattle.pblk_world.specs.Lines.{is_given_up, known_image}
 use Rattle.pblk_world.specs.Commanding.{is_program, was_stopped, is_stopped_reset, IsCommand}
 use Rattle.pblk_world.specs.Answering.{IsDoneReset, MayNoteReset}
 use Rattle.pblk_world.specs.Legal.{IsLegal}
-use Rattle.world_laws.specs.LegalMounts.{IsLegalMount}
+use Rattle.pblk_world.specs.LegalMounts.{IsLegalMount}
 use Rattle.core_laws.specs.PlacerOf.{unanswered_on, was_stopped_on}
 use Rattle.core_laws.proofs.BegunOnce.{begun_once}
 use Rattle.step_laws.specs.NextEvents.{CanDo, CanReset}

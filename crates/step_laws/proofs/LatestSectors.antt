@@ -16,7 +16,7 @@ use Rattle.pblk_world.specs.Fronts.{first_position, history, last_take}
 use Rattle.pblk_world.specs.Lines.{found_image}
 use Rattle.pblk_world.specs.Space.{gives_back, freed}
 use Rattle.l2p_map.specs.declared.slot.Slot.TheVariants.{Unwritten, Cached}
-use Rattle.world_laws.specs.LegalMounts.{IsLegalMount}
+use Rattle.pblk_world.specs.LegalMounts.{IsLegalMount}
 use Rattle.core_laws.specs.SlotOf.{media_of, slot_of_winner, slot_by, slot_of}
 use Rattle.write_window.specs.Window.{WindowView, sector_at}
 use Rattle.core_laws.specs.WindowOf.{sectors_in, window_from}

@@ -12,7 +12,7 @@ use Rattle.pblk_world.specs.EngineLog.{Placed, placed_on}
 use Rattle.pblk_world.specs.Commanding.{ended_stripes, has_stopped}
 use Rattle.lemmas.proofs.Parts.{all_at, got_within}
 use Rattle.world_laws.proofs.FitMedia.{media_fit}
-use Rattle.world_laws.specs.LegalMounts.{IsLegalMount}
+use Rattle.pblk_world.specs.LegalMounts.{IsLegalMount}
 use Rattle.world_laws.proofs.NextLives.{IsPlacedIn, placed_in}
 use Rattle.world_laws.proofs.NextPrograms.{next_program_taken}
 

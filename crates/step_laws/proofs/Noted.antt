@@ -11,7 +11,7 @@ use Rattle.pblk_world.specs.Lines.{told_by}
 use Rattle.pblk_world.specs.Commanding.{is_program, was_stopped, ends_program}
 use Rattle.core_laws.specs.PlacerOf.{unanswered_on, was_stopped_on}
 use Rattle.core_laws.proofs.PlainStripes.{one_unanswered}
-use Rattle.world_laws.specs.LegalMounts.{IsLegalMount}
+use Rattle.pblk_world.specs.LegalMounts.{IsLegalMount}
 use Rattle.step_laws.specs.NextEvents.{CanProgram}
 use Rattle.step_laws.specs.Whole.{noted, after_unit, next_event, after_landing, after_losing, after_stopping, IsLevel, IsKnown}
 use Rattle.step_laws.proofs.EngineSteps.{engine_next}

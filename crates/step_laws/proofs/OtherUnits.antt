@@ -22,8 +22,8 @@ use Rattle.stripe_placer.specs.OpenLines.{OpenLine, opened, has_left}
 use Rattle.stripe_placer.specs.Placing.{UnitRow}
 use Rattle.stripe_placer.specs.Placing.UnitRow.{Idle}
 use Rattle.l2p_map.specs.declared.slot.Slot.TheVariants.{Cached, Media}
-use Rattle.core_laws.specs.OpenedLines.{bits_of, live_now, as_opened, with_outcomes, open_line, standing, open_lines}
-use Rattle.core_laws.specs.PlacerOf.{entries_of, unanswered_on, waits_again, row_of_program, program_of_stripe, row_in, row_of, number_of, placing_of}
+use Rattle.core_laws.specs.OpenedLines.{bits_of, online_now, as_opened, with_outcomes, open_line, standing, open_lines}
+use Rattle.core_laws.specs.PlacerOf.{entries_of, unanswered_on, waits_again, row_of_program, program_of_stripe, row_in, unit_row_in, number_of, placing_of}
 use Rattle.core_laws.specs.RowsOf.{logs_then, rows_of}
 use Rattle.core_laws.proofs.KeptRows.{KeepsThen, taker_kept}
 use Rattle.core_laws.specs.SlotOf.{address_in, readable_block, media_of, slot_of_winner, slot_by, slot_of}
@@ -87,7 +87,7 @@ module _ (i : Image) (us : ℕ → List Logged) (logs : Logs) (alike : AreAlike 
         })),
       )
 
-  pub live_beside : (line : ℕ) → live_now i more line ≡ live_now i logs line
+  pub live_beside : (line : ℕ) → online_now i more line ≡ online_now i logs line
   live_beside line = ap (λ (j : Image). bits_of (line_units j line)) alike.image
 
   -- lines
@@ -160,11 +160,11 @@ module _ (i : Image) (us : ℕ → List Logged) (logs : Logs) (alike : AreAlike 
   unit_by stopped None = refl
   unit_by stopped (Some p) = in_beside stopped p.life p
 
-  unit_beside : (again : List ℕ) (unit : ℕ) → row_of i more again unit ≡ row_of i logs again unit
+  unit_beside : (again : List ℕ) (unit : ℕ) → unit_row_in i more again unit ≡ unit_row_in i logs again unit
   unit_beside again unit = unit_by (waits_again (logs 0) again unit) (unanswered_on (logs 0) unit)
 
   pub placing_beside : (pad : ℕ) (again : List ℕ) → placing_of i more pad again ≡ placing_of i logs pad again
   placing_beside pad again =
-      let units_same = map_same (row_of i more again) (row_of i logs again) (unit_beside again) (range_with_len 0 (units i.shape)) in
+      let units_same = map_same (unit_row_in i more again) (unit_row_in i logs again) (unit_beside again) (range_with_len 0 (units i.shape)) in
       ap₂ (λ (rows : List UnitRow) (lines : List OpenLine). record { shape = i.shape; entries = entries_of i.shape (logs 0) pad; units = rows; lines = lines })
       units_same lines_beside

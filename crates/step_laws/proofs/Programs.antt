@@ -17,7 +17,7 @@ use Rattle.pblk_world.specs.EngineLog.{Begun, begun, Placed, placements, placed_
 use Rattle.pblk_world.specs.Commanding.{is_program, has_stopped, ended_stripes, IsCommand, IsStripe}
 use Rattle.pblk_world.specs.Answering.{IsOfStripe, MayLand, MayLose, MayOfferAgain}
 use Rattle.pblk_world.specs.Legal.{IsLegal}
-use Rattle.world_laws.specs.LegalMounts.{IsLegalMount}
+use Rattle.pblk_world.specs.LegalMounts.{IsLegalMount}
 use Rattle.core_laws.specs.PlacerOf.{unanswered_on}
 use Rattle.core_laws.proofs.UnitTurns.{filtered_is}
 use Rattle.core_laws.proofs.KeptLines.{on_drive}

@@ -7,7 +7,7 @@ use Rattle.pblk_world.specs.EngineLog.{Begun, begun, Taken}
 use Rattle.pblk_world.specs.Fronts.{last_take}
 use Rattle.pblk_world.specs.Lines.{found_image}
 use Rattle.l2p_map.specs.declared.slot.Slot.TheVariants.{Media}
-use Rattle.world_laws.specs.LegalMounts.{IsLegalMount}
+use Rattle.pblk_world.specs.LegalMounts.{IsLegalMount}
 use Rattle.core_laws.specs.SlotOf.{slot_by, slot_of}
 use Rattle.step_laws.specs.SlotBlocks.{IsBlockOfSlot}
 use Rattle.step_laws.proofs.EntryBlocks.{block_of_entry}

@@ -13,9 +13,9 @@ use Rattle.pblk_world.specs.Fronts.{synced}
 use Rattle.pblk_world.specs.Lines.{are_over, chunks_of, is_over_state}
 use Rattle.pblk_world.specs.Victims.{position_in, positions_in, taken_up_to}
 use Rattle.pblk_world.specs.World.{World, Logs, log_of}
-use Rattle.world_laws.specs.LegalMounts.{IsLegalMount}
+use Rattle.pblk_world.specs.LegalMounts.{IsLegalMount}
 use Rattle.world_laws.specs.SameTold.{AreSameTold}
-use Rattle.world_laws.specs.Orders.{NoneToFree}
+use Rattle.pblk_world.specs.Orders.{NoneToFree}
 use Rattle.world_laws.proofs.ToldImages.{by_three, image_same, told_back}
 use Rattle.world_laws.proofs.ToldTables.{live_told, newest_told, seq_told, takers_told}
 use Rattle.core_laws.specs.Spent.{IsSpent, OpensWhenFull}

@@ -13,7 +13,7 @@ use Rattle.pblk_world.specs.World.{World, Logs, log_of, media, unit_events}
 use Rattle.pblk_world.specs.EngineLog.{Begun, begun}
 use Rattle.pblk_world.specs.Commanding.{was_stopped, has_stopped, IsPadding, IsCommand}
 use Rattle.pblk_world.proofs.WorldLemmas.{media_at}
-use Rattle.world_laws.specs.LegalMounts.{IsLegalMount}
+use Rattle.pblk_world.specs.LegalMounts.{IsLegalMount}
 use Rattle.unit_port.specs.Unit.{ModelUnit, IsStopped}
 use Rattle.unit_port.specs.Commands.{with_event}
 use Rattle.unit_port.proofs.Units.{stays_stopped}

@@ -14,7 +14,7 @@ use Rattle.world_laws.specs.SameTold.{AreSameTold}
 use Rattle.world_laws.proofs.Made.{known_within}
 use Rattle.world_laws.proofs.ToldImages.{image_same, told_then}
 use Rattle.world_laws.proofs.ToldSince.{same_told}
-use Rattle.core_laws.specs.OpenedLines.{live_now, open_line, open_lines}
+use Rattle.core_laws.specs.OpenedLines.{online_now, open_line, open_lines}
 use Rattle.core_laws.specs.PlacerOf.{placing_of}
 use Rattle.core_laws.specs.RowsOf.{rows_of}
 use Rattle.core_laws.specs.SlotOf.{slot_of}
@@ -79,8 +79,8 @@ module _ (i : Image) (w : World) (unit : ℕ) (e : UnitEvent) (maker : Maker) wh
   pub rows_stay : IsLegal i w → rows_of i after_ ≡ rows_of i (log_of w)
   rows_stay legal = ap (rows_of i) is_swapped ∙ rows_beside i us (log_of w) (alike legal)
 
-  pub live_stays : (line : ℕ) → IsLegal i w → live_now i after_ line ≡ live_now i (log_of w) line
-  live_stays line legal = ap (λ (ls : Logs). live_now i ls line) is_swapped ∙ live_beside i us (log_of w) (alike legal) line
+  pub live_stays : (line : ℕ) → IsLegal i w → online_now i after_ line ≡ online_now i (log_of w) line
+  live_stays line legal = ap (λ (ls : Logs). online_now i ls line) is_swapped ∙ live_beside i us (log_of w) (alike legal) line
 
   pub line_stays : (o : Opening) → IsLegal i w → open_line i after_ o ≡ open_line i (log_of w) o
   line_stays o legal = ap (λ (ls : Logs). open_line i ls o) is_swapped ∙ line_beside i us (log_of w) (alike legal) o

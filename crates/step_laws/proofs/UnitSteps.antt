@@ -19,7 +19,7 @@ use Rattle.pblk_world.specs.EngineLog.{Begun, begun, Placed, placed_on, named_by
 use Rattle.pblk_world.specs.Commanding.{was_stopped, has_stopped, IsCommand}
 use Rattle.pblk_world.specs.Answering.{IsNew}
 use Rattle.pblk_world.specs.Legal.{IsAllowed, IsLegal}
-use Rattle.world_laws.specs.LegalMounts.{IsLegalMount}
+use Rattle.pblk_world.specs.LegalMounts.{IsLegalMount}
 use Rattle.core_laws.proofs.BegunOnce.{begun_once}
 use Rattle.core_laws.specs.StripePrograms.{HasHappened}
 use Rattle.core_laws.proofs.Happened.{happened}

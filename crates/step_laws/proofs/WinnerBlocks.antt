@@ -13,7 +13,7 @@ use Rattle.pblk_model.specs.LineOrder.{line_order}
 use Rattle.pblk_model.specs.Image.{Image, line_units}
 use Rattle.pblk_model.specs.Records.{Record}
 use Rattle.pblk_model.specs.StartRecord.{StartRecord, start_of}
-use Rattle.pblk_layout.specs.Live.{units_in}
+use Rattle.pblk_layout.specs.Online.{units_in}
 use Rattle.pblk_world.specs.World.{World, log_of, media}
 use Rattle.pblk_world.specs.EngineLog.{Begun, begun, AsFound, life_of, Taken}
 use Rattle.pblk_world.specs.Fronts.{last_take}
@@ -21,16 +21,16 @@ use Rattle.pblk_world.specs.Lines.{found_by, found_image}
 use Rattle.pblk_laws.specs.LineBlocks.{chunk_in}
 use Rattle.pblk_laws.proofs.LineUnits.{line_units_count}
 use Rattle.pblk_laws.proofs.Winners.{winner_is_winner}
-use Rattle.core_laws.specs.OpenedLines.{live_now}
+use Rattle.core_laws.specs.OpenedLines.{online_now}
 use Rattle.step_laws.specs.SlotBlocks.{IsOfWinner, IsOfLatest, IsBlockOfSlot}
 use Rattle.step_laws.proofs.EntryBlocks.{unit_within}
 use Rattle.core_laws.proofs.LatestLines.{winner_as_found}
 use Rattle.step_laws.proofs.FoundLines.{media_kept, no_stray, units_kept}
 use Rattle.step_laws.proofs.FoundRecords.{IsFoundRecord, winner_found, IsPlaced, block_placed, sealed_mark}
-use Rattle.step_laws.proofs.LiveUnits.{live_units}
+use Rattle.step_laws.proofs.LiveUnits.{online_units}
 use Rattle.core_laws.proofs.ReadBlocks.{IsWinnersSlot}
 use Rattle.pblk_world.proofs.LinesLemmas.{length_found}
-use Rattle.world_laws.specs.LegalMounts.{IsLegalMount}
+use Rattle.pblk_world.specs.LegalMounts.{IsLegalMount}
 use Rattle.world_laws.specs.UnitChunks.{chunk_after}
 use Rattle.world_laws.proofs.FirstEvent.{none_open}
 use Rattle.world_laws.proofs.LifeUnits.{begun_within}
@@ -85,7 +85,7 @@ block_of_winner i w b lba line at q r mount begins last wins slot =
     (unit_within (found_image i (log_of w)) r.line placed.unit placed.chunk placed.there) in
     let stands : chunk_in (media i (log_of w)) r.line placed.unit ≡ Some placed.chunk = media_kept i w mount.legal b begins r.line life kept placed.unit
     ∙ placed.there in
-    let us : units_in (live_now i (log_of w) r.line) ≡ line_units (found_image i (log_of w)) r.line = live_units i w r.line mount
+    let us : units_in (online_now i (log_of w) r.line) ≡ line_units (found_image i (log_of w)) r.line = online_units i w r.line mount
     ∙ units_kept i w mount.legal b begins r.line life kept in
     let count : length (line_units (found_image i (log_of w)) r.line) * (found_image i (log_of w)).shape.clba ≡ _ * (found_image i (log_of w)).shape.clba =
     ap (λ n. n * (found_image i (log_of w)).shape.clba) (line_units_count (found_image i (log_of w)) r.line) in
@@ -103,7 +103,7 @@ block_of_winner i w b lba line at q r mount begins last wins slot =
     } in
     let block : IsBlockOfSlot i (log_of w) lba r.line r.at r.position = record {
       in_range = range;
-      within = subst (λ (s : Shape). r.at < length (units_in (live_now i (log_of w) r.line)) * s.clba) shape
+      within = subst (λ (s : Shape). r.at < length (units_in (online_now i (log_of w) r.line)) * s.clba) shape
           (subst (λ (xs : List ℕ). r.at < length xs * (found_image i (log_of w)).shape.clba) (sym us) inside);
       unit = placed.unit;
       number = placed.number;

@@ -15,10 +15,10 @@ use Rattle.pblk_world.specs.Commanding.{has_stopped}
 use Rattle.pblk_world.specs.World.{World, log_of, media, unit_events}
 use Rattle.pblk_world.specs.Legal.{IsLegal}
 use Rattle.pblk_world.proofs.WorldLemmas.{length_media, media_at}
-use Rattle.world_laws.specs.LegalMounts.{IsLegalMount}
+use Rattle.pblk_world.specs.LegalMounts.{IsLegalMount}
 use Rattle.unit_port.specs.Unit.{ModelUnit, IsStopped}
 use Rattle.unit_port.specs.Commands.{EventAt, after_one, after_all, events_of}
-use Rattle.scan_recovery.specs.Lost.{grown_by}
+use Rattle.scan_recovery.specs.DriveFaults.{grown_by}
 use Rattle.scan_recovery.specs.Readying.{WereReadied}
 use Rattle.scan_recovery.specs.Units.{AreFit, image_of}
 use Rattle.scan_recovery.proofs.PadLoops.{fit_image}

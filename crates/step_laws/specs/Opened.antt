@@ -7,7 +7,7 @@ use Rattle.pblk_model.specs.UnitLog.{UnitEvent}
 use Rattle.pblk_world.specs.World.{World}
 use Rattle.unit_port.specs.Armed.{IsUnarmed}
 use Rattle.unit_port.specs.Unit.{ModelUnit}
-use Rattle.scan_recovery.specs.Lost.{grown_by}
+use Rattle.scan_recovery.specs.DriveFaults.{grown_by}
 use Rattle.step_laws.specs.Whole.{unit_step, opening_maker}
 
 -- The unit is armed with nothing, or was armed when its log was at most as long as it is now. So

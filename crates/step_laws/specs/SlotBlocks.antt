@@ -8,13 +8,13 @@ use Rattle.pblk_model.specs.Marks.{sector_mark}
 use Rattle.pblk_model.specs.Image.{Image}
 use Rattle.pblk_model.specs.Records.{Record}
 use Rattle.pblk_model.specs.Sealed.{IsSealed}
-use Rattle.pblk_layout.specs.Live.{units_in}
+use Rattle.pblk_layout.specs.Online.{units_in}
 use Rattle.pblk_world.specs.World.{Logs, media}
 use Rattle.pblk_world.specs.EngineLog.{AsFound, Opening, Opened, life_of, Taken, takes}
 use Rattle.pblk_world.specs.Fronts.{first_position, last_take}
 use Rattle.pblk_world.specs.Lines.{found_image}
 use Rattle.pblk_laws.specs.LineBlocks.{chunk_in}
-use Rattle.core_laws.specs.OpenedLines.{live_now}
+use Rattle.core_laws.specs.OpenedLines.{online_now}
 
 -- The block is that of an entry that this mount took, at this position. Its line was opened by this
 -- mount.
@@ -50,10 +50,10 @@ IsOfLatest i logs lba line at position block (Some t) = IsOfEntry i logs lba lin
 pub record IsBlockOfSlot (i : Image) (logs : Logs) (lba line at position : ℕ) : Type 0 where
   -- the address is one of the line's, and this is its place: a unit and a block of its chunk
   pub in_range : line < i.shape.chunks
-  pub within : at < length (units_in (live_now i logs line)) * i.shape.clba
+  pub within : at < length (units_in (online_now i logs line)) * i.shape.clba
   pub unit : ℕ
   pub number : ℕ
-  pub place : slice_get (line_order i.shape (units_in (live_now i logs line))) at ≡ Some (unit, number)
+  pub place : slice_get (line_order i.shape (units_in (online_now i logs line))) at ≡ Some (unit, number)
   pub of_drive : unit < units i.shape
   -- the chunk on the drive, and its block
   pub chunk : Chunk

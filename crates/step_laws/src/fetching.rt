@@ -11,7 +11,7 @@ ghost use Rattle.pblk_world.specs.EngineLog.{Placed};
 ghost use Rattle.pblk_world.specs.EngineLog.{Opening, Opened, life_of, stripes_on, has_landed};
 ghost use Rattle.pblk_world.specs.Space.{is_readable_in};
 ghost use Rattle.pblk_laws.specs.LineBlocks.{chunk_in};
-ghost use Rattle.world_laws.specs.LegalMounts.{IsLegalMount};
+ghost use Rattle.pblk_world.specs.LegalMounts.{IsLegalMount};
 
 /// A fetch of a block of a stripe that has landed isn't refused where the engine's log says that
 /// the block can be read. It gives that block.

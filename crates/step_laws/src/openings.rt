@@ -7,7 +7,7 @@ ghost use Rattle.pblk_model.specs.Image.{IsFit};
 ghost use Rattle.pblk_model.specs.UnitLog.{UnitEvent};
 ghost use Rattle.pblk_world.specs.Commanding.{has_stopped};
 ghost use Rattle.pblk_world.specs.World.{log_of, media, unit_events};
-ghost use Rattle.world_laws.specs.LegalMounts.{IsLegalMount};
+ghost use Rattle.pblk_world.specs.LegalMounts.{IsLegalMount};
 ghost use Rattle.unit_port.specs.Unit.{ModelUnit, IsStopped};
 ghost use Rattle.scan_recovery.specs.Units.{AreFit, image_of};
 ghost use Rattle.scan_recovery.specs.Readying.{WereReadied};

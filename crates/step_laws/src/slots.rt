@@ -10,7 +10,7 @@ ghost use Rattle.pblk_world.specs.EngineLog.{Taken, takes};
 ghost use Rattle.pblk_world.specs.Fronts.{first_position, last_take, history};
 ghost use Rattle.pblk_world.specs.Lines.{found_image};
 ghost use Rattle.l2p_map.specs.declared.slot.Slot.TheVariants.{Unwritten, Cached};
-ghost use Rattle.world_laws.specs.LegalMounts.{IsLegalMount};
+ghost use Rattle.pblk_world.specs.LegalMounts.{IsLegalMount};
 ghost use Rattle.core_laws.specs.SlotOf.{slot_of};
 ghost use Rattle.step_laws.specs.SlotBlocks.{IsBlockOfSlot};
 

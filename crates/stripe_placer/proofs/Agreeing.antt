@@ -20,8 +20,8 @@ pub in_line_other : (l : OpenLine) (line j : ℕ) (to : Stripe) → l.line ≢ l
 in_line_other l line j to e = ap (λ b. cond b (with_stripe l j to) l) (other_eq l.line line e)
 
 -- it has the number, the units and as many stripes as before
-pub in_line_keeps : (l : OpenLine) (line j : ℕ) (to : Stripe) → ((in_line line j to l).line ≡ l.line) × ((in_line line j to l).live ≡ l.live) × (length (in_line line j to l).stripes ≡ length l.stripes)
-in_line_keeps l line j to = elim (nat_eq l.line line) as (λ b. ((cond b (with_stripe l j to) l).line ≡ l.line) × ((cond b (with_stripe l j to) l).live ≡ l.live) × (length (cond b (with_stripe l j to) l).stripes ≡ length l.stripes)) [
+pub in_line_keeps : (l : OpenLine) (line j : ℕ) (to : Stripe) → ((in_line line j to l).line ≡ l.line) × ((in_line line j to l).online ≡ l.online) × (length (in_line line j to l).stripes ≡ length l.stripes)
+in_line_keeps l line j to = elim (nat_eq l.line line) as (λ b. ((cond b (with_stripe l j to) l).line ≡ l.line) × ((cond b (with_stripe l j to) l).online ≡ l.online) × (length (cond b (with_stripe l j to) l).stripes ≡ length l.stripes)) [
   | true ↦ (refl, refl, length-set l.stripes j to)
   | false ↦ (refl, refl, refl)
 ]

@@ -242,9 +242,9 @@ none_is_next l chunks w next n end d inside reach closed =
     none_in_range (is_to_place l) 0 (length l.stripes) (λ i h. ap (is_to_place l) (omega arith) ∙ not_to_place l chunks w next n n i d all (omega (arith, stripe_count l chunks w next n d)) (omega arith))
 
 -- what a slot keeps describes its line
-pub described : (line live w sc dc n next : ℕ) (chunks : List Chunk) → KeepsLine live w sc dc n next chunks
-    → Describes (record { line = line; live = live; start_count = sc; data_count = dc; stripes = outcomes chunks w next n }) chunks w next n
-described line live w sc dc n next chunks keeps = record {
+pub described : (line online w sc dc n next : ℕ) (chunks : List Chunk) → KeepsLine online w sc dc n next chunks
+    → Describes (record { line = line; online = online; start_count = sc; data_count = dc; stripes = outcomes chunks w next n }) chunks w next n
+described line online w sc dc n next chunks keeps = record {
   stripes_are = refl;
   width_is = sym keeps.width_is;
   some = keeps.some;
@@ -370,8 +370,8 @@ set_fit chunks w next at k c h here others = elim (nat_eq k at) as (λ b. nat_eq
       subst (λ (x : Chunk). FitsChunk x k w next) (sym (got_other chunks at k c apart)) (others apart)
 ] refl
 
-pub placed_keeps : (live w sc dc n next j : ℕ) (chunks : List Chunk) → KeepsLine live w sc dc n next chunks → IsPlaceable chunks w next n j → KeepsLine live w sc dc n (j + 1) (slice_set chunks (j % w) (chunk.Unanswered j))
-placed_keeps live w sc dc n next j chunks keeps p =
+pub placed_keeps : (online w sc dc n next j : ℕ) (chunks : List Chunk) → KeepsLine online w sc dc n next chunks → IsPlaceable chunks w next n j → KeepsLine online w sc dc n (j + 1) (slice_set chunks (j % w) (chunk.Unanswered j))
+placed_keeps online w sc dc n next j chunks keeps p =
     let at : j % w < length chunks = omega (arith, keeps.chunk_count, column w j keeps.some, keeps.few) in
     record {
       width_is = keeps.width_is;
@@ -442,8 +442,8 @@ lost_outcomes chunks w next n j some h p = answered_outcomes chunks w next n j (
     ∙ ap (λ b. cond b Landed Unplaced) (lt_both i next j (λ below. before_it w next i j some same apart below p.last) (λ below. omega (arith, p.from)))
     ∙ sym (ap (λ b. cond (nat_lt i j) Landed (cond b Lost Unplaced)) (other_eq i j apart)))
 
-pub answered_keeps : (live w sc dc n next j : ℕ) (chunks : List Chunk) (c : Chunk) → KeepsLine live w sc dc n next chunks → FitsChunk c (j % w) w next → KeepsLine live w sc dc n next (slice_set chunks (j % w) c)
-answered_keeps live w sc dc n next j chunks c keeps fit =
+pub answered_keeps : (online w sc dc n next j : ℕ) (chunks : List Chunk) (c : Chunk) → KeepsLine online w sc dc n next chunks → FitsChunk c (j % w) w next → KeepsLine online w sc dc n next (slice_set chunks (j % w) c)
+answered_keeps online w sc dc n next j chunks c keeps fit =
     let at : j % w < length chunks = omega (arith, keeps.chunk_count, column w j keeps.some, keeps.few) in
     record {
       width_is = keeps.width_is;

@@ -7,7 +7,7 @@ use Rattle.std.proofs.lemmas.Bool.{eqb-true}
 use Rattle.std.proofs.lemmas.Option.{same_Some, slice_get-get_or}
 use Rattle.pblk_model.specs.declared.shape.Shape.{Shape}
 use Rattle.pblk_model.specs.Shape.{units}
-use Rattle.pblk_layout.specs.Live.{is_in, units_in}
+use Rattle.pblk_layout.specs.Online.{is_in, units_in}
 use Rattle.stripe_placer.specs.declared.placement.StripeKind.{StripeKind}
 use Rattle.stripe_placer.specs.declared.placement.StripeKind.TheVariants as kinds
 use Rattle.stripe_placer.specs.Entries.{Entries, waiting, has_stripe}
@@ -132,7 +132,7 @@ its_stripe_is s e l of j some is = ap (λ (x : Program). x.at / s.ws_opt) (sym i
 pub alone_in_chunk : (s : Shape) (rows : List UnitRow) (lines : List OpenLine) (l : OpenLine) (i j unit : ℕ) → Agree s rows lines → slice_get rows unit ≡ Some Idle → unit_of l j ≡ unit → IsAmongLines lines l → IsUnanswered l i → in_one_chunk l i j ≡ false
 alone_in_chunk s rows lines l i j unit agree at there among waits = elim (nat_eq (i % width l) (j % width l)) as (λ b. nat_eq (i % width l) (j % width l) ≡ b → b ≡ false) [
   | true ↦ λ e.
-      let same : unit_of l i ≡ unit = ap (λ k. slice_index_or (units_in l.live) k 0) (eqb-true (i % width l) (j % width l) e) ∙ there in
+      let same : unit_of l i ≡ unit = ap (λ k. slice_index_or (units_in l.online) k 0) (eqb-true (i % width l) (j % width l) e) ∙ there in
       let before = agree.stripes_of l i among waits in
       let row : Idle ≡ before.0 = same_Some Idle before.0 (sym at ∙ ap (slice_get rows) (sym same) ∙ before.1) in
       absurd (subst (λ (x : UnitRow). HasStripe s l.line i x) (sym row) before.2)

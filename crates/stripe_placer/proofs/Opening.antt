@@ -7,7 +7,7 @@ use Rattle.pblk_model.specs.declared.shape.Shape.{Shape}
 use Rattle.pblk_model.specs.Accepted.{IsAccepted}
 use Rattle.pblk_model.specs.Shape.{units}
 use Rattle.pblk_model.specs.LineOrder.{start_len, end_len, data_len}
-use Rattle.pblk_layout.specs.Live.{units_in}
+use Rattle.pblk_layout.specs.Online.{units_in}
 use Rattle.stripe_placer.specs.OpenLines.{Stripe, OpenLine, opened, is_unanswered, is_lost}
 use Rattle.stripe_placer.specs.OpenLines.Stripe.{Unplaced, Landed}
 use Rattle.stripe_placer.specs.Slots.{outcome, outcome_in, outcomes, tally, FitsChunk, KeepsLine, KeepsCounts}
@@ -95,9 +95,9 @@ opened_counts n sc dc h = record {
 }
 
 -- what is known of a line that is opened
-pub record Opens (s : Shape) (live w a b n : ℕ) (chunks : List Chunk) : Type 0 where
+pub record Opens (s : Shape) (online w a b n : ℕ) (chunks : List Chunk) : Type 0 where
   pub accepted : IsAccepted s
-  pub width_is : w ≡ length (units_in live)
+  pub width_is : w ≡ length (units_in online)
   pub few : w ≤ units s
   pub some : data_len s w ≢ 0
   pub start_is : a ≡ start_len s / s.ws_opt
@@ -106,49 +106,49 @@ pub record Opens (s : Shape) (live w a b n : ℕ) (chunks : List Chunk) : Type 0
   pub chunks_are : chunks ≡ replicate 64 chunk.Open
   pub short : w * s.clba ≤ 65536
 
-pub parts_inside : (s : Shape) (live w a b n : ℕ) (chunks : List Chunk) → Opens s live w a b n chunks → a + b ≤ n
-parts_inside s live w a b n chunks o =
+pub parts_inside : (s : Shape) (online w a b n : ℕ) (chunks : List Chunk) → Opens s online w a b n chunks → a + b ≤ n
+parts_inside s online w a b n chunks o =
     let rows : w * s.clba ≡ (w * (s.clba / s.ws_opt)) * s.ws_opt = line_rows w s.clba s.ws_opt o.accepted.drive.whole_stripes in
     let parts : start_len s / s.ws_opt + data_len s w / s.ws_opt ≤ w * (s.clba / s.ws_opt) =
     part_count s.ws_opt (start_len s) (data_len s w) (w * s.clba) (w * (s.clba / s.ws_opt)) o.accepted.drive.ws_opt (data_and_start s w o.some) rows in
     omega (arith, parts, o.start_is, o.data_is, o.count_is)
 
-pub count_short : (s : Shape) (live w a b n : ℕ) (chunks : List Chunk) → Opens s live w a b n chunks → n ≤ 65536
-count_short s live w a b n chunks o =
+pub count_short : (s : Shape) (online w a b n : ℕ) (chunks : List Chunk) → Opens s online w a b n chunks → n ≤ 65536
+count_short s online w a b n chunks o =
     let rows : w * s.clba ≡ (w * (s.clba / s.ws_opt)) * s.ws_opt = line_rows w s.clba s.ws_opt o.accepted.drive.whole_stripes in
     let more : (w * (s.clba / s.ws_opt)) * 1 ≤ (w * (s.clba / s.ws_opt)) * s.ws_opt = mul-le-mul_left (w * (s.clba / s.ws_opt)) o.accepted.drive.ws_opt in
     omega (arith, rows, more, o.count_is, o.short)
 
-pub opened_keeps : (s : Shape) (live w a b n : ℕ) (chunks : List Chunk) → Opens s live w a b n chunks → KeepsLine live w a b n 0 chunks
-opened_keeps s live w a b n chunks o = record {
+pub opened_keeps : (s : Shape) (online w a b n : ℕ) (chunks : List Chunk) → Opens s online w a b n chunks → KeepsLine online w a b n 0 chunks
+opened_keeps s online w a b n chunks o = record {
   width_is = o.width_is;
   some = width_some s w o.accepted.drive.ws_opt o.some;
   few = omega (arith, o.few, o.accepted.drive.few_units);
-  parts_short = omega (arith, parts_inside s live w a b n chunks o, count_short s live w a b n chunks o);
+  parts_short = omega (arith, parts_inside s online w a b n chunks o, count_short s online w a b n chunks o);
   next_inside = omega arith;
-  stripes_short = count_short s live w a b n chunks o;
+  stripes_short = count_short s online w a b n chunks o;
   chunk_count = ap (λ xs. length xs) o.chunks_are;
   chunks_fit = λ k inside. subst (λ (c : Chunk). FitsChunk c k w 0) (sym (ap (λ xs. slice_index_or xs k chunk.Open) o.chunks_are ∙ open_at 64 k)) tt;
 }
 
-pub opened_stripes : (s : Shape) (live w a b n : ℕ) (chunks : List Chunk) → Opens s live w a b n chunks → outcomes chunks w 0 n ≡ replicate n Unplaced
-opened_stripes s live w a b n chunks o = ap (λ xs. outcomes xs w 0 n) o.chunks_are ∙ nothing_placed 64 w n
+pub opened_stripes : (s : Shape) (online w a b n : ℕ) (chunks : List Chunk) → Opens s online w a b n chunks → outcomes chunks w 0 n ≡ replicate n Unplaced
+opened_stripes s online w a b n chunks o = ap (λ xs. outcomes xs w 0 n) o.chunks_are ∙ nothing_placed 64 w n
 
-pub opened_tallies : (s : Shape) (live w a b n : ℕ) (chunks : List Chunk) → Opens s live w a b n chunks → KeepsCounts (outcomes chunks w 0 n) a b a b 0 0
-opened_tallies s live w a b n chunks o = subst (λ (xs : List Stripe). KeepsCounts xs a b a b 0 0) (sym (opened_stripes s live w a b n chunks o)) (opened_counts n a b (parts_inside s live w a b n chunks o))
+pub opened_tallies : (s : Shape) (online w a b n : ℕ) (chunks : List Chunk) → Opens s online w a b n chunks → KeepsCounts (outcomes chunks w 0 n) a b a b 0 0
+opened_tallies s online w a b n chunks o = subst (λ (xs : List Stripe). KeepsCounts xs a b a b 0 0) (sym (opened_stripes s online w a b n chunks o)) (opened_counts n a b (parts_inside s online w a b n chunks o))
 
-pub opened_line : (s : Shape) (line live w a b n : ℕ) (chunks : List Chunk) → Opens s live w a b n chunks
-    → ◌≡◌ {A = OpenLine} (record { line = line; live = live; start_count = a; data_count = b; stripes = outcomes chunks w 0 n }) (opened s line live)
-opened_line s line live w a b n chunks o =
-    let make : ℕ → ℕ → List Stripe → OpenLine = λ x y xs. record { line = line; live = live; start_count = x; data_count = y; stripes = xs } in
+pub opened_line : (s : Shape) (line online w a b n : ℕ) (chunks : List Chunk) → Opens s online w a b n chunks
+    → ◌≡◌ {A = OpenLine} (record { line = line; online = online; start_count = a; data_count = b; stripes = outcomes chunks w 0 n }) (opened s line online)
+opened_line s line online w a b n chunks o =
+    let make : ℕ → ℕ → List Stripe → OpenLine = λ x y xs. record { line = line; online = online; start_count = x; data_count = y; stripes = xs } in
     ap (λ x. make x b (outcomes chunks w 0 n)) o.start_is
     ∙ ap (λ y. make (start_len s / s.ws_opt) y (outcomes chunks w 0 n)) (o.data_is ∙ ap (λ g. data_len s g / s.ws_opt) o.width_is)
-    ∙ ap (make (start_len s / s.ws_opt) (data_len s (length (units_in live)) / s.ws_opt)) (opened_stripes s live w a b n chunks o ∙ ap (λ k. replicate k Unplaced) (o.count_is ∙ ap (λ g. g * (s.clba / s.ws_opt)) o.width_is))
+    ∙ ap (make (start_len s / s.ws_opt) (data_len s (length (units_in online)) / s.ws_opt)) (opened_stripes s online w a b n chunks o ∙ ap (λ k. replicate k Unplaced) (o.count_is ∙ ap (λ g. g * (s.clba / s.ws_opt)) o.width_is))
 
-pub opened_fits : (s : Shape) (line live w a b n : ℕ) (chunks : List Chunk) → Opens s live w a b n chunks → live < 2 ^ units s → FitsShape s (opened s line live)
-opened_fits s line live w a b n chunks o h = record {
-  live = h;
+pub opened_fits : (s : Shape) (line online w a b n : ℕ) (chunks : List Chunk) → Opens s online w a b n chunks → online < 2 ^ units s → FitsShape s (opened s line online)
+opened_fits s line online w a b n chunks o h = record {
+  online = h;
   some = omega (arith, o.width_is, width_some s w o.accepted.drive.ws_opt o.some);
   few = omega (arith, o.width_is, o.few);
-  stripes = length_new (length (units_in live) * (s.clba / s.ws_opt));
+  stripes = length_new (length (units_in online) * (s.clba / s.ws_opt));
 }

@@ -7,7 +7,7 @@ use Rattle.std.proofs.lemmas.Nat.Bits.{bit_at_above}
 use Rattle.pblk_model.specs.declared.shape.Shape.{Shape}
 use Rattle.pblk_model.specs.Shape.{units}
 use Rattle.pblk_model.specs.LineOrder.{line_order, column_of, block_of}
-use Rattle.pblk_layout.specs.Live.{is_in, units_in}
+use Rattle.pblk_layout.specs.Online.{is_in, units_in}
 use Rattle.stripe_placer.specs.Entries.{Entries}
 use Rattle.stripe_placer.specs.declared.placement.StripeKind.{StripeKind}
 use Rattle.stripe_placer.specs.OpenLines.{OpenLine, width, unit_of, next_of, kind_of}
@@ -36,13 +36,13 @@ filtered test (x ∷ xs) u k e = elim (test x) as (λ b. test x ≡ b → slice_
 ] refl e
 
 -- a set of units below some number has none from there on
-pub unit_below : (live n k u : ℕ) → live < 2 ^ n → slice_get (units_in live) k ≡ Some u → u < n
+pub unit_below : (online n k u : ℕ) → online < 2 ^ n → slice_get (units_in online) k ≡ Some u → u < n
 unfolding units_in
-unit_below live n k u h is = elim (nat_lt u n) as (λ t. nat_lt u n ≡ t → u < n) [
+unit_below online n k u h is = elim (nat_lt u n) as (λ t. nat_lt u n ≡ t → u < n) [
   | true ↦ λ e. lt_of u n e
   | false ↦ λ e.
-      let none : is_in live u ≡ false = ap (λ b. eqb b 1) (bit_at_above live n u h (le_of_lt_false u n e)) in
-      let some : is_in live u ≡ true = filtered (is_in live) (range_with_len 0 64) u k is in
+      let none : is_in online u ≡ false = ap (λ b. eqb b 1) (bit_at_above online n u h (le_of_lt_false u n e)) in
+      let some : is_in online u ≡ true = filtered (is_in online) (range_with_len 0 64) u k is in
       absurd cc
 ] refl
 
@@ -66,20 +66,20 @@ abbrev pub OrderLaw : Type 0
 OrderLaw = (s : Shape) (line_units : List ℕ) (a unit : ℕ) → 0 < s.ws_opt → s.clba % s.ws_opt ≡ 0
     → ((slice_get (line_order s line_units) a ≡ Some (unit, block_of s (length line_units) a)) ↔ ((slice_get line_units (column_of s (length line_units) a) ≡ Some unit) × (a < length line_units * s.clba)))
 
-pub its_unit : (l : OpenLine) (j : ℕ) → 0 < width l → slice_get (units_in l.live) (j % width l) ≡ Some (unit_of l j)
-its_unit l j some = slice_get-get_or (units_in l.live) (j % width l) 0 (column (width l) j some)
+pub its_unit : (l : OpenLine) (j : ℕ) → 0 < width l → slice_get (units_in l.online) (j % width l) ≡ Some (unit_of l j)
+its_unit l j some = slice_get-get_or (units_in l.online) (j % width l) 0 (column (width l) j some)
 
-pub place_is : (s : Shape) (l : OpenLine) (j : ℕ) (r : ℕ × ℕ) → OrderLaw → 0 < s.ws_opt → s.clba % s.ws_opt ≡ 0 → FitsShape s l → j < length l.stripes → slice_get (line_order s (units_in l.live)) (j * s.ws_opt) ≡ Some r
+pub place_is : (s : Shape) (l : OpenLine) (j : ℕ) (r : ℕ × ℕ) → OrderLaw → 0 < s.ws_opt → s.clba % s.ws_opt ≡ 0 → FitsShape s l → j < length l.stripes → slice_get (line_order s (units_in l.online)) (j * s.ws_opt) ≡ Some r
     → (r.0 ≡ unit_of l j) × (r.1 ≡ j / width l * s.ws_opt)
 place_is s l j r law some whole fits h is =
     let inside : j * s.ws_opt < width l * s.clba = stripe_inside (width l) s.clba s.ws_opt j some whole (omega (arith, fits.stripes)) in
-    let there : slice_get (units_in l.live) (column_of s (width l) (j * s.ws_opt)) ≡ Some (unit_of l j) = ap (slice_get (units_in l.live)) (column_is s.ws_opt (width l) j some) ∙ its_unit l j fits.some in
-    let order : slice_get (line_order s (units_in l.live)) (j * s.ws_opt) ≡ Some (unit_of l j, block_of s (width l) (j * s.ws_opt)) = (law s (units_in l.live) (j * s.ws_opt) (unit_of l j) some whole).1 (there, inside) in
+    let there : slice_get (units_in l.online) (column_of s (width l) (j * s.ws_opt)) ≡ Some (unit_of l j) = ap (slice_get (units_in l.online)) (column_is s.ws_opt (width l) j some) ∙ its_unit l j fits.some in
+    let order : slice_get (line_order s (units_in l.online)) (j * s.ws_opt) ≡ Some (unit_of l j, block_of s (width l) (j * s.ws_opt)) = (law s (units_in l.online) (j * s.ws_opt) (unit_of l j) some whole).1 (there, inside) in
     let same : r ≡ (unit_of l j, block_of s (width l) (j * s.ws_opt)) = same_Some r (unit_of l j, block_of s (width l) (j * s.ws_opt)) (sym is ∙ order) in
     (ap (λ p. p.0) same, ap (λ p. p.1) same ∙ block_is s.ws_opt (width l) j some)
 
 pub its_unit_below : (s : Shape) (l : OpenLine) (j : ℕ) → FitsShape s l → unit_of l j < units s
-its_unit_below s l j fits = unit_below l.live (units s) (j % width l) (unit_of l j) fits.live (its_unit l j fits.some)
+its_unit_below s l j fits = unit_below l.online (units s) (j % width l) (unit_of l j) fits.online (its_unit l j fits.some)
 
 -- the program of the next stripe of a line
 pub next_program : (s : Shape) (e : Entries) (l : OpenLine) (line at unit block count j : ℕ) (kind : StripeKind) (positions : List ℕ) → Some j ≡ next_of l → kind ≡ kind_of l j → allows s e l kind ≡ true

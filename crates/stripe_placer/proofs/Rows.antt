@@ -4,7 +4,7 @@ use Rattle.std.specs.Prelude.{map, replicate}
 use Rattle.std.specs.List.{slice_get, slice_set, slice_index_or, find, filter_map, cons_option}
 use Rattle.std.specs.Option.{option_map, option_map_or}
 use Rattle.std.proofs.lemmas.Option.{same_Some}
-use Rattle.pblk_layout.specs.Live.{is_in}
+use Rattle.pblk_layout.specs.Online.{is_in}
 use Rattle.stripe_placer.specs.Placing.{Program, placement, UnitRow, stopped_in, is_under_way, is_ready}
 use Rattle.stripe_placer.specs.Placing.UnitRow.{Idle, UnderWay, Stopped}
 use Rattle.stripe_placer.specs.Inside.{OwnUnits, first_given}

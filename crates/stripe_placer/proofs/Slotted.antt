@@ -15,7 +15,7 @@ use Rattle.lemmas.proofs.Maps.{length_mapped}
 use Rattle.lemmas.proofs.Tests.{lt_true, not_before}
 
 pub its_chunks : (s : Inside) → IsSlot s → Describes (open_line s) s.chunks s.width s.next s.stripe_count
-its_chunks s is = described s.line s.live s.width s.start_count s.data_count s.stripe_count s.next s.chunks is.keeps
+its_chunks s is = described s.line s.online s.width s.start_count s.data_count s.stripe_count s.next s.chunks is.keeps
 
 pub can_be_placed : (s : Inside) (l : OpenLine) (j : ℕ) → IsSlot s → open_line s ≡ l → next_of l ≡ Some j → ((i : ℕ) → slice_get l.stripes i ≡ Some Unanswered → in_one_chunk l i j ≡ false) → IsPlaceable s.chunks s.width s.next s.stripe_count j
 can_be_placed s l j is same next alone = placeable (open_line s) s.chunks s.width s.next s.stripe_count j (its_chunks s is) (ap next_of same ∙ next)
@@ -38,7 +38,7 @@ lost_short s is = omega (arith, few_lost (outcomes s.chunks s.width s.next s.str
 
 -- a slot with these stripes
 abbrev pub with_stripes : Inside → List Stripe → OpenLine
-with_stripes s xs = record { line = s.line; live = s.live; start_count = s.start_count; data_count = s.data_count; stripes = xs }
+with_stripes s xs = record { line = s.line; online = s.online; start_count = s.start_count; data_count = s.data_count; stripes = xs }
 
 -- one stripe of its line was changed
 pub stripe_changed : (s : Inside) (l : OpenLine) (j : ℕ) (to : Stripe) (xs : List Stripe) → open_line s ≡ l → slice_set (outcomes s.chunks s.width s.next s.stripe_count) j to ≡ xs → with_stripes s xs ≡ with_stripe l j to
@@ -82,8 +82,8 @@ landed_slot s l j a b is same waits lands =
     (landed_outcomes s.chunks s.width s.next s.stripe_count j (its_column s j is) (it_waits s l j is same waits))
     (landed_counts (outcomes s.chunks s.width s.next s.stripe_count) j s.start_count s.data_count a b s.start_left s.data_left (s.unanswered - 1) s.unanswered s.lost is.counts here lands (omega arith))
 
-pub landed_keeps : (s : Inside) (j : ℕ) → IsSlot s → KeepsLine s.live s.width s.start_count s.data_count s.stripe_count s.next (slice_set s.chunks (j % s.width) chunk.Open)
-landed_keeps s j is = answered_keeps s.live s.width s.start_count s.data_count s.stripe_count s.next j s.chunks chunk.Open is.keeps tt
+pub landed_keeps : (s : Inside) (j : ℕ) → IsSlot s → KeepsLine s.online s.width s.start_count s.data_count s.stripe_count s.next (slice_set s.chunks (j % s.width) chunk.Open)
+landed_keeps s j is = answered_keeps s.online s.width s.start_count s.data_count s.stripe_count s.next j s.chunks chunk.Open is.keeps tt
 
 pub landed_view : (s : Inside) (l : OpenLine) (j : ℕ) → IsSlot s → open_line s ≡ l → slice_get l.stripes j ≡ Some Unanswered → with_stripes s (outcomes (slice_set s.chunks (j % s.width) chunk.Open) s.width s.next s.stripe_count) ≡ with_stripe l j Landed
 landed_view s l j is same waits = stripe_changed s l j Landed _ same (landed_outcomes s.chunks s.width s.next s.stripe_count j (its_column s j is) (it_waits s l j is same waits))

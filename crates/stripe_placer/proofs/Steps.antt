@@ -6,7 +6,7 @@ use Rattle.std.proofs.lemmas.Bool.{eqb-true, eqb-false}
 use Rattle.std.proofs.lemmas.Option.{same_Some}
 use Rattle.pblk_model.specs.declared.shape.Shape.{Shape}
 use Rattle.pblk_model.specs.Shape.{units}
-use Rattle.pblk_layout.specs.Live.{units_in}
+use Rattle.pblk_layout.specs.Online.{units_in}
 use Rattle.stripe_placer.specs.OpenLines.{Stripe, OpenLine, width, unit_of, in_line, has_left, is_to_place, numbers, is_unanswered, opened}
 use Rattle.stripe_placer.specs.OpenLines.Stripe.{Unplaced, Unanswered}
 use Rattle.stripe_placer.specs.Placing.{Program, UnitRow}
@@ -109,7 +109,7 @@ changed_fit s l line j to fits =
     let keeps = in_line_keeps l line j to in
     let wide : width (in_line line j to l) ≡ width l = ap (λ n. length (units_in n)) keeps.1 in
     record {
-      live = subst (λ n. n < 2 ^ units s) (sym keeps.1) fits.live;
+      online = subst (λ n. n < 2 ^ units s) (sym keeps.1) fits.online;
       some = omega (arith, wide, fits.some);
       few = omega (arith, wide, fits.few);
       stripes = keeps.2 ∙ fits.stripes ∙ ap (λ n. n * (s.clba / s.ws_opt)) (sym wide);
@@ -275,17 +275,17 @@ begun_program s lines new unit of other is = record {
   ];
 }
 
-pub begun_agree : (s : Shape) (rows : List UnitRow) (lines : List OpenLine) (line live : ℕ) → Agree s rows lines → All (λ m. m.line ≢ line) lines → FitsShape s (opened s line live) → Agree s rows (lines ++ opened s line live ∷ [])
-begun_agree s rows lines line live agree other fits = record {
-  apart = apart_last lines (opened s line live) agree.apart other;
-  fit = λ l among. elim (from_last lines (opened s line live) l among) as (λ _. FitsShape s l) [
+pub begun_agree : (s : Shape) (rows : List UnitRow) (lines : List OpenLine) (line online : ℕ) → Agree s rows lines → All (λ m. m.line ≢ line) lines → FitsShape s (opened s line online) → Agree s rows (lines ++ opened s line online ∷ [])
+begun_agree s rows lines line online agree other fits = record {
+  apart = apart_last lines (opened s line online) agree.apart other;
+  fit = λ l among. elim (from_last lines (opened s line online) l among) as (λ _. FitsShape s l) [
     | inl there ↦ agree.fit l there
     | inr e ↦ subst (λ (x : OpenLine). FitsShape s x) e fits
   ];
-  rows_of = λ u r e. row_is s (lines ++ opened s line live ∷ []) u r (λ of has. begun_program s lines (opened s line live) u of other (program_is s lines u r of has (agree.rows_of u r e)));
-  stripes_of = λ l j among waits. elim (from_last lines (opened s line live) l among) as (λ _. (r : UnitRow) × (slice_get rows (unit_of l j) ≡ Some r) × HasStripe s l.line j r) [
+  rows_of = λ u r e. row_is s (lines ++ opened s line online ∷ []) u r (λ of has. begun_program s lines (opened s line online) u of other (program_is s lines u r of has (agree.rows_of u r e)));
+  stripes_of = λ l j among waits. elim (from_last lines (opened s line online) l among) as (λ _. (r : UnitRow) × (slice_get rows (unit_of l j) ≡ Some r) × HasStripe s l.line j r) [
     | inl there ↦ agree.stripes_of l j there waits
-    | inr e ↦ absurd (no_unanswered (width (opened s line live) * (s.clba / s.ws_opt)) j (ap (λ (x : OpenLine). slice_get x.stripes j) e ∙ waits))
+    | inr e ↦ absurd (no_unanswered (width (opened s line online) * (s.clba / s.ws_opt)) j (ap (λ (x : OpenLine). slice_get x.stripes j) e ∙ waits))
   ];
 }
 

@@ -29,7 +29,7 @@ AreApart (l ∷ lines) = AllByRecursion (λ m. m.line ≢ l.line) lines × AreAp
 
 -- a line is one of this shape
 pub record FitsShape (s : Shape) (l : OpenLine) : Type 0 where
-  pub live : l.live < 2 ^ units s
+  pub online : l.online < 2 ^ units s
   pub some : 0 < width l
   pub few : width l ≤ units s
   pub stripes : length l.stripes ≡ width l * (s.clba / s.ws_opt)

@@ -4,7 +4,7 @@ use Rattle.std.specs.List.{find, list_all, list_any, range_with_len, slice_index
 use Rattle.std.specs.Option.{option_map_or}
 use Rattle.pblk_model.specs.declared.shape.Shape.{Shape}
 use Rattle.pblk_model.specs.LineOrder.{start_len, data_len}
-use Rattle.pblk_layout.specs.Live.{units_in}
+use Rattle.pblk_layout.specs.Online.{units_in}
 use Rattle.stripe_placer.specs.declared.placement.StripeKind.{StripeKind}
 use Rattle.stripe_placer.specs.declared.placement.StripeKind.TheVariants as kinds
 
@@ -19,28 +19,28 @@ pub data Stripe : Type 0 where
 -- how many the data that follow; and its stripes in line order.
 pub record OpenLine : Type 0 where
   pub line : ℕ
-  pub live : ℕ
+  pub online : ℕ
   pub start_count : ℕ
   pub data_count : ℕ
   pub stripes : List Stripe
 
 -- a line of which no stripe was placed yet
 abbrev pub opened : Shape → ℕ → ℕ → OpenLine
-opened s line live = record {
+opened s line online = record {
   line = line;
-  live = live;
+  online = online;
   start_count = start_len s / s.ws_opt;
-  data_count = data_len s (length (units_in live)) / s.ws_opt;
-  stripes = replicate (length (units_in live) * (s.clba / s.ws_opt)) Unplaced;
+  data_count = data_len s (length (units_in online)) / s.ws_opt;
+  stripes = replicate (length (units_in online) * (s.clba / s.ws_opt)) Unplaced;
 }
 
 -- The stripes of a line of g units go round its units: stripe j is in the (j mod g)th of them.
 
 abbrev pub width : OpenLine → ℕ
-width l = length (units_in l.live)
+width l = length (units_in l.online)
 
 abbrev pub unit_of : OpenLine → ℕ → ℕ
-unit_of l j = slice_index_or (units_in l.live) (j % width l) 0
+unit_of l j = slice_index_or (units_in l.online) (j % width l) 0
 
 abbrev pub in_one_chunk : OpenLine → ℕ → ℕ → Bool
 in_one_chunk l i j = (i % width l) == (j % width l)
@@ -123,7 +123,7 @@ data_has_landed l = list_all is_landed (take l.data_count (drop l.start_count l.
 abbrev pub with_stripe : OpenLine → ℕ → Stripe → OpenLine
 with_stripe l j to = record {
   line = l.line;
-  live = l.live;
+  online = l.online;
   start_count = l.start_count;
   data_count = l.data_count;
   stripes = slice_set l.stripes j to;

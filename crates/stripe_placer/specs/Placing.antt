@@ -5,7 +5,7 @@ use Rattle.std.specs.List.{filter, filter_map, find, flat_map}
 use Rattle.std.specs.Option.{option_map_or}
 use Rattle.pblk_model.specs.declared.shape.Shape.{Shape}
 use Rattle.pblk_model.specs.Shape.{units}
-use Rattle.pblk_layout.specs.Live.{is_in}
+use Rattle.pblk_layout.specs.Online.{is_in}
 use Rattle.stripe_placer.specs.declared.placement.StripeKind.{StripeKind}
 use Rattle.stripe_placer.specs.declared.placement.StripeKind.TheVariants as kinds
 use Rattle.stripe_placer.specs.declared.placement.Placement.{Placement}
@@ -176,11 +176,11 @@ padded_to p position = record { shape = p.shape; entries = with_pad p.entries po
 
 -- a line is opened, behind the other
 abbrev pub begun : Placing → ℕ → ℕ → Placing
-begun p line live = record {
+begun p line online = record {
   shape = p.shape;
   entries = p.entries;
   units = p.units;
-  lines = p.lines ++ opened p.shape line live ∷ [];
+  lines = p.lines ++ opened p.shape line online ∷ [];
 }
 
 -- the lines with what became of a program's stripe

@@ -1,7 +1,7 @@
 -- What the fields of a slot say of its line, and what they keep.
 use Rattle.std.specs.Prelude.{ℕ, ◌≡◌, ◌+◌, ◌%◌, ◌<◌, ◌≤◌, ◌^◌, ◌==◌, ⊤, nat_lt, not, if◌then◌else◌, Bool, true, false, List, [], ◌∷◌, map, length, take, drop}
 use Rattle.std.specs.List.{range_with_len, slice_index_or}
-use Rattle.pblk_layout.specs.Live.{units_in}
+use Rattle.pblk_layout.specs.Online.{units_in}
 use Rattle.stripe_placer.specs.OpenLines.{Stripe, OpenLine, is_landed, is_lost, is_unanswered}
 use Rattle.stripe_placer.specs.OpenLines.Stripe.{Unplaced, Unanswered, Landed, Lost}
 use Rattle.stripe_placer.specs.declared.slot.Chunk.{Chunk}
@@ -28,7 +28,7 @@ outcomes chunks width next count = map (outcome_in chunks width next) (range_wit
 abbrev pub open_line : inside.Inside → OpenLine
 open_line s = record {
   line = s.line;
-  live = s.live;
+  online = s.online;
   start_count = s.start_count;
   data_count = s.data_count;
   stripes = outcomes s.chunks s.width s.next s.stripe_count;
@@ -46,8 +46,8 @@ FitsChunk chunk.Open k width next = ⊤
 FitsChunk (chunk.Unanswered i) k width next = (i % width ≡ k) × (i < next) × (next ≤ i + width)
 FitsChunk (chunk.Closed i) k width next = (i % width ≡ k) × (i < next)
 
-pub record KeepsLine (live width start_count data_count stripe_count next : ℕ) (chunks : List Chunk) : Type 0 where
-  pub width_is : width ≡ length (units_in live)
+pub record KeepsLine (online width start_count data_count stripe_count next : ℕ) (chunks : List Chunk) : Type 0 where
+  pub width_is : width ≡ length (units_in online)
   pub some : 0 < width
   pub few : width ≤ 64
   pub parts_short : start_count + data_count < 2 ^ 32
@@ -63,6 +63,6 @@ pub record KeepsCounts (stripes : List Stripe) (start_count data_count start_lef
   pub lost_is : lost ≡ tally is_lost stripes
 
 pub record IsSlot (s : inside.Inside) : Type 0 where
-  pub keeps : KeepsLine s.live s.width s.start_count s.data_count s.stripe_count s.next s.chunks
+  pub keeps : KeepsLine s.online s.width s.start_count s.data_count s.stripe_count s.next s.chunks
   pub counts : KeepsCounts (outcomes s.chunks s.width s.next s.stripe_count)
       s.start_count s.data_count s.start_left s.data_left s.unanswered s.lost

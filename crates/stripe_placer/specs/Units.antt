@@ -13,13 +13,13 @@ entry_count (turn.UnderWay of) = of.count
 entry_count (turn.Stopped of) = of.count
 
 -- the row with the first of these positions
-abbrev pub row_of : Turn → List ℕ → UnitRow
-row_of turn.Idle positions = Idle
-row_of (turn.UnderWay of) positions = UnderWay (program_with of (take of.count positions))
-row_of (turn.Stopped of) positions = Stopped (program_with of (take of.count positions))
+abbrev pub turn_row : Turn → List ℕ → UnitRow
+turn_row turn.Idle positions = Idle
+turn_row (turn.UnderWay of) positions = UnderWay (program_with of (take of.count positions))
+turn_row (turn.Stopped of) positions = Stopped (program_with of (take of.count positions))
 
 abbrev pub unit_row : inside.Inside → UnitRow
-unit_row u = row_of u.turn u.positions
+unit_row u = turn_row u.turn u.positions
 
 pub record IsUnit (u : inside.Inside) : Type 0 where
   pub room : length u.positions ≡ 64

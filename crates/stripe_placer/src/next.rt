@@ -51,7 +51,7 @@ fn next_in(layout: &Layout, queue: &Queue, slot: &Slot) -> Option<Placement>
         return None;
     }
     let at = stripe * layout.shape().ws_opt;
-    let (unit, block) = layout.place(slot.live(), at);
+    let (unit, block) = layout.place(slot.online(), at);
     let count = next_count(layout, queue, kind);
     Some(Placement {
         line: slot.line(),

@@ -7,7 +7,7 @@ ghost use Rattle.std.specs.List.{All, Contains, HoldsAt, filter};
 ghost use Rattle.std.specs.Option.{option_map, option_map_or, option_and_then};
 ghost use Rattle.pblk_model.specs.Shape.{units};
 ghost use Rattle.pblk_model.specs.LineOrder.{data_len};
-ghost use Rattle.pblk_layout.specs.Live.{units_in};
+ghost use Rattle.pblk_layout.specs.Online.{units_in};
 ghost use Rattle.stripe_placer.specs.Entries.{Rises, waiting};
 ghost use Rattle.stripe_placer.specs.OpenLines.{OpenLine, next_of, in_one_chunk, in_line, has_left};
 ghost use Rattle.stripe_placer.specs.OpenLines.Stripe.{Unanswered, Landed, Lost};
@@ -174,20 +174,20 @@ impl Placer {
         self.queue.pad_to(position);
     }
 
-    /// Notes that a line of the drive was opened. Bit `u` of `live` is set for each unit `u` whose chunk of it
+    /// Notes that a line of the drive was opened. Bit `u` of `online` is set for each unit `u` whose chunk of it
     /// isn't Offline (Open-Channel SSD Specification 2.0, Chunk states).
     ///
     /// It has no stripe left itself, its width leaves room for data, and at most one other line has
     /// a stripe left that is neither landed nor lost.
-    pub fn begin(&mut self, line: u32, live: u64)
+    pub fn begin(&mut self, line: u32, online: u64)
         requires line { line < self.old.shape.chunks }
         requires another { All (λ l. l.line ≢ line) self.old.lines }
-        requires units { live < 2 ^ units self.old.shape }
-        requires data { data_len self.old.shape (length (units_in live)) ≢ 0 }
+        requires units { online < 2 ^ units self.old.shape }
+        requires data { data_len self.old.shape (length (units_in online)) ≢ 0 }
         requires few { length self.old.lines ≤ 1 }
-        ensures { self.new ≡ begun self.old line live }
+        ensures { self.new ≡ begun self.old line online }
     {
-        open_slot(&mut self.slots, Slot::new(&self.layout, line, live));
+        open_slot(&mut self.slots, Slot::new(&self.layout, line, online));
     }
 
     /// The next stripe. Bit `u` of `busy` is that of unit `u`.

@@ -4,7 +4,7 @@ ghost use Rattle.std.specs.Prelude.{ℕ, ◌≡◌, ◌≢◌, ◌<◌, ◌^◌,
 ghost use Rattle.std.specs.Prelude.{Some, IfSome};
 ghost use Rattle.pblk_model.specs.Shape.{units};
 ghost use Rattle.pblk_model.specs.LineOrder.{data_len};
-ghost use Rattle.pblk_layout.specs.Live.{units_in};
+ghost use Rattle.pblk_layout.specs.Online.{units_in};
 ghost use Rattle.stripe_placer.specs.OpenLines.{opened, next_of, kind_of, has_left, with_stripe};
 ghost use Rattle.stripe_placer.specs.OpenLines.{start_has_landed, data_has_landed, in_one_chunk};
 ghost use Rattle.stripe_placer.specs.OpenLines.Stripe.{Unanswered, Landed, Lost};
@@ -40,7 +40,7 @@ impl Chunk {
 #[derive(Drop)]
 pub(crate) struct Slot {
     line: u32,
-    live: u64,
+    online: u64,
     // how many chunks it has, of which these are the first
     width: u32,
     chunks: [Chunk; 64],
@@ -77,20 +77,20 @@ fn all_open() -> [Chunk; 64]
 
 impl Slot {
     /// A line that was opened. Its units are some of the drive's, and it has data.
-    pub(crate) fn new(layout: &Layout, line: u32, live: u64) -> Slot
-        requires live { live < 2 ^ units layout.now }
-        requires data { data_len layout.now (length (units_in live)) ≢ 0 }
-        ensures opened { result ≡ opened layout.now line live }
+    pub(crate) fn new(layout: &Layout, line: u32, online: u64) -> Slot
+        requires online { online < 2 ^ units layout.now }
+        requires data { data_len layout.now (length (units_in online)) ≢ 0 }
+        ensures opened { result ≡ opened layout.now line online }
         ensures fits { FitsShape layout.now result }
     {
         a_line_is_short();
         let shape = layout.shape();
-        let width = layout.width(live);
+        let width = layout.width(online);
         let start_count = layout.start_len() / shape.ws_opt;
         let data_count = layout.data_len(width) / shape.ws_opt;
         Slot {
             line,
-            live,
+            online,
             width,
             chunks: all_open(),
             start_count,
@@ -112,10 +112,10 @@ impl Slot {
     }
 
     /// Its units.
-    pub(crate) fn live(&self) -> u64
-        ensures { result ≡ self.now.live }
+    pub(crate) fn online(&self) -> u64
+        ensures { result ≡ self.now.online }
     {
-        self.live
+        self.online
     }
 
     /// Its next stripe that is to be placed.

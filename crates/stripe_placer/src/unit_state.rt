@@ -3,7 +3,7 @@
 ghost use Rattle.std.specs.Prelude.{◌≡◌, ◌<◌, ◌≤◌, not, [], ◌∷◌, length, take, replicate, IfOk};
 ghost use Rattle.std.specs.List.{filter_map, find};
 ghost use Rattle.std.specs.Option.{option_map};
-ghost use Rattle.pblk_layout.specs.Live.{is_in};
+ghost use Rattle.pblk_layout.specs.Online.{is_in};
 ghost use Rattle.stripe_placer.specs.Entries.{waiting};
 ghost use Rattle.stripe_placer.specs.Placing.{Program, placement, program_with, stopped_in};
 ghost use Rattle.stripe_placer.specs.Placing.{under_way_in, positions_in, is_under_way, is_stopped, is_ready};

@@ -2,7 +2,7 @@
 ghost use Rattle.std.specs.Prelude.{◌≡◌, ◌≢◌, ◌<◌, ◌^◌, length, IfSome, IfOk, []};
 ghost use Rattle.pblk_model.specs.Shape.{units};
 ghost use Rattle.pblk_model.specs.LineOrder.{data_len};
-ghost use Rattle.pblk_layout.specs.Live.{units_in};
+ghost use Rattle.pblk_layout.specs.Online.{units_in};
 ghost use Rattle.stripe_placer.specs.Placing.{program, IsUnderWay, IsNext};
 
 use crate::draw::DRAWS;
@@ -31,16 +31,16 @@ enum Answer {
 
 // All units of a drive, where a line of all of them has data.
 fn all_units(layout: &Layout) -> Option<u64>
-    ensures units { IfSome result (λ live. live < 2 ^ units layout.now) }
-    ensures data { IfSome result (λ live. data_len layout.now (length (units_in live)) ≢ 0) }
+    ensures units { IfSome result (λ online. online < 2 ^ units layout.now) }
+    ensures data { IfSome result (λ online. data_len layout.now (length (units_in online)) ≢ 0) }
 {
     let count = layout.shape().units();
     if count >= 64 {
         return None;
     }
-    let live = (1u64 << count).wrapping_sub(1);
-    if live < 1 << count && layout.data_len(layout.width(live)) != 0 {
-        Some(live)
+    let online = (1u64 << count).wrapping_sub(1);
+    if online < 1 << count && layout.data_len(layout.width(online)) != 0 {
+        Some(online)
     } else {
         None
     }
@@ -59,13 +59,13 @@ impl Stripes {
     }
 
     // Line 0 is opened, of these units.
-    fn begin(&mut self, live: u64) -> u64
+    fn begin(&mut self, online: u64) -> u64
         requires line { 0 < self.old.placer.shape.chunks }
         requires none { self.old.placer.lines ≡ [] }
-        requires units { live < 2 ^ units self.old.placer.shape }
-        requires data { data_len self.old.placer.shape (length (units_in live)) ≢ 0 }
+        requires units { online < 2 ^ units self.old.placer.shape }
+        requires data { data_len self.old.placer.shape (length (units_in online)) ≢ 0 }
     {
-        self.placer.begin(0, live);
+        self.placer.begin(0, online);
         1
     }
 
@@ -164,10 +164,10 @@ pub(crate) fn measure<C: Clock>(
 ) -> Result<()> {
     let layout = drive.layout;
     ensure!(layout.shape().chunks != 0, "a drive has a line");
-    let live = all_units(&layout).context("a line has data")?;
+    let online = all_units(&layout).context("a line has data")?;
     let mut stripes = Stripes::new(alloc, drive)?;
     sheet.start(clock)?;
-    let sum = stripes.begin(live);
+    let sum = stripes.begin(online);
     sheet.stop(clock, "placer.begin", 1, sum)?;
     stripes.round(clock, sheet)
 }

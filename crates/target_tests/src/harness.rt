@@ -1,8 +1,7 @@
 //! Scripts that are run on a target over new units, and what is told of them.
 ghost use Rattle.std.specs.Prelude.{◌≡◌, [], ◌∷◌, map, IfOk};
 ghost use Rattle.pblk_model.specs.Accepted.{IsAccepted};
-ghost use Rattle.scan_recovery.specs.Units.{AreFit};
-ghost use Rattle.step_laws.specs.Opened.{AreArmed};
+ghost use Rattle.block_target.specs.Opened.{CanOpen};
 ghost use Rattle.block_target.specs.Serial.{SerialView};
 
 use block_target::{Refused, Serial, SettleErr};
@@ -82,8 +81,7 @@ pub(crate) fn open(alloc: Global, shape: &Shape) -> Result<Serial<MemoryUnit>, A
 // The units of a drive of this shape on which nothing was written.
 fn new_units(alloc: Global, shape: &Shape) -> Result<Vec<MemoryUnit>, AllocError>
     requires { IsAccepted shape.now }
-    ensures fit { IfOk result (λ made. AreFit shape.now (map (λ u. u.unit) made.items)) }
-    ensures armed { IfOk result (λ made. AreArmed (map (λ u. u.unit) made.items)) }
+    ensures { IfOk result (λ made. CanOpen shape.now (map (λ u. u.unit) made.items)) }
 {
     let mut made = Vec::new(alloc);
     for _unit in 0..shape.units() {

@@ -20,7 +20,7 @@ use Rattle.unit_port.specs.Armed.{Armed, IsUnarmed, is_fail, is_stop}
 use Rattle.unit_port.specs.Unit.{ModelUnit, Takes, Steps, IsFitUnit, IsStopped, TellsDone, TellsBlock}
 use Rattle.unit_port.specs.declared.unit.UnitErr.{UnitErr}
 use Rattle.unit_port.specs.declared.unit.UnitErr.TheVariants as errors
-use Rattle.unit_port.specs.Did.{is_lost, is_empty, Did}
+use Rattle.unit_port.specs.Did.{failed_or_stopped, is_empty, Did}
 use Rattle.unit_port.specs.Commands.{UnitCommand, EventAt, with_event, after_one, IsNext, IsKept, AreKept, IsTaken}
 use Rattle.lemmas.proofs.Parts.{get_set_other, get_set_same, set_same}
 use Rattle.pblk_model.proofs.UnitLogLemmas.{after_event_is, read_leaves}
@@ -149,10 +149,10 @@ still_taken units e c h spares t = rw (after_one_is units e h.unit h.there) (sti
 
 -- what a program or a reset tells
 
-pub told_lost : (r : Result (Unit {0}) UnitErr) (o : UnitOutcome) → TellsDone r o → is_err r ≡ is_lost o
-told_lost (Ok done) o h = ap is_lost (sym h)
-told_lost (Err errors.Failed) o h = ap is_lost (sym h.1)
-told_lost (Err errors.Stopped) o h = ap is_lost (sym h.1)
+pub told_lost : (r : Result (Unit {0}) UnitErr) (o : UnitOutcome) → TellsDone r o → is_err r ≡ failed_or_stopped o
+told_lost (Ok done) o h = ap failed_or_stopped (sym h)
+told_lost (Err errors.Failed) o h = ap failed_or_stopped (sym h.1)
+told_lost (Err errors.Stopped) o h = ap failed_or_stopped (sym h.1)
 
 -- where it answered, it neither failed nor was stopped
 pub told_quiet : (r : Result (Unit {0}) UnitErr) (o : UnitOutcome) → TellsDone r o → IsOk r → (is_fail o ≡ false) × (is_stop o ≡ false)

@@ -23,10 +23,10 @@ abbrev pub DidAt : List ModelUnit → UnitCommand → (UnitOutcome → Type 0) �
 DidAt old c tells new = (e : EventAt) × Did old c e new × tells e.event.outcome
 
 -- the command failed or was stopped
-abbrev pub is_lost : UnitOutcome → Bool
-is_lost (Answered answer) = false
-is_lost (Failed k) = true
-is_lost (Stopped k) = true
+abbrev pub failed_or_stopped : UnitOutcome → Bool
+failed_or_stopped (Answered answer) = false
+failed_or_stopped (Failed k) = true
+failed_or_stopped (Stopped k) = true
 
 abbrev pub is_empty_answer : ChunkAnswer → Bool
 is_empty_answer Done = false

@@ -12,7 +12,7 @@ use Rattle.pblk_model.specs.Chunk.{Block}
 use Rattle.pblk_model.specs.Geometry.{Geometry}
 use Rattle.unit_port.specs.Unit.{ModelUnit}
 use Rattle.unit_port.specs.Commands.{UnitCommand, EventAt, command_of, AreKept, AreTaken}
-use Rattle.unit_port.specs.Did.{Did, is_lost, is_empty}
+use Rattle.unit_port.specs.Did.{Did, failed_or_stopped, is_empty}
 use Rattle.vector_io.specs.Plans.{read_of, reads}
 use Rattle.vector_io.specs.Status.{HasBits, got_block, got_blocks, Reads}
 use Rattle.vector_io.proofs.Chunks.{map_there}
@@ -94,7 +94,7 @@ events_len g xs old units n failed empty events within h =
 
 pub read_more : (g : Geometry) (xs : List Address) (old units new : List ModelUnit) (n failed failed' empty empty' : ℕ) (before after after' : List Block) (d : Address) (lost unreadable : Bool) (block found : Block) → n < length xs
     → IsReading g xs old n failed empty units before after → slice_get after n ≡ Some block → after' ≡ slice_set after n found
-    → (e : EventAt) × Did units (read_of g (slice_index_or xs n d)) e new × (lost ≡ is_lost e.event.outcome) × (unreadable ≡ is_empty e.event.outcome) × (found ≡ got_block e.event.outcome block) → AreKept units new
+    → (e : EventAt) × Did units (read_of g (slice_index_or xs n d)) e new × (lost ≡ failed_or_stopped e.event.outcome) × (unreadable ≡ is_empty e.event.outcome) × (found ≡ got_block e.event.outcome block) → AreKept units new
     → ((flags : List Bool) → length flags ≡ n → HasBits failed flags → HasBits failed' (flags ++ lost ∷ [])) → ((flags : List Bool) → length flags ≡ n → HasBits empty flags → HasBits empty' (flags ++ unreadable ∷ []))
     → IsReading g xs old (n + 1) failed' empty' new before after'
 read_more g xs old units new n failed failed' empty empty' before after after' d lost unreadable block found within h there is did kept bits empties =
@@ -104,7 +104,7 @@ read_more g xs old units new n failed failed' empty empty' before after after' d
       events = h.events ++ did.0 ∷ [];
       way = one_done_by old (reads g xs) n n failed empty h.events units (read_of g (slice_index_or xs n d)) did.0 new failed' empty' 1 h.way (map_there (read_of g) xs n d within) did.1 kept
           (λ k c before there. only_reads (slice_index_or xs n d).block (ap (λ (c : UnitCommand). c.command) did.1.command))
-          refl (one_bit_more n failed failed' lost (is_lost did.0.event.outcome) bits did.2) (one_bit_more n empty empty' unreadable (is_empty did.0.event.outcome) empties did.3);
+          refl (one_bit_more n failed failed' lost (failed_or_stopped did.0.event.outcome) bits did.2) (one_bit_more n empty empty' unreadable (is_empty did.0.event.outcome) empties did.3);
       blocks = is ∙ ap (λ bs. slice_set bs n found) h.blocks ∙ ap (λ b. slice_set (got_blocks h.events before) n b) did.4 ∙ ap (λ k. slice_set (got_blocks h.events before) k (got_block did.0.event.outcome block)) (sym len) ∙ sym (got_more h.events did.0 before block there');
     }
 

@@ -6,7 +6,7 @@ use Rattle.std.proofs.lemmas.List.Sums.{fold-append}
 use Rattle.pblk_model.specs.UnitLog.{UnitOutcome}
 use Rattle.unit_port.specs.Unit.{ModelUnit}
 use Rattle.unit_port.specs.Commands.{UnitCommand, EventAt, command_of, after_one, after_all, IsNext, AreNext, Ran, AreKept, IsTaken, AreTaken}
-use Rattle.unit_port.specs.Did.{Did, is_lost, is_empty}
+use Rattle.unit_port.specs.Did.{Did, failed_or_stopped, is_empty}
 use Rattle.vector_io.specs.Status.{width, flags, HasBits, Answers}
 use Rattle.vector_io.proofs.Bits.{no_bits, bit_unset}
 use Rattle.unit_port.proofs.Units.{kept_none, kept_more, Spares, still_taken}
@@ -18,7 +18,7 @@ pub record IsUnderWayBy (old : List ModelUnit) (plan : List UnitCommand) (n at f
   pub ran : Ran old (take n plan) events units
   pub left : (k : ℕ) (c : UnitCommand) → n ≤ k → slice_get plan k ≡ Some c → IsTaken units c
   pub count : (test : UnitOutcome → Bool) → length (flags test events) ≡ at
-  pub lost : HasBits failed (flags is_lost events)
+  pub lost : HasBits failed (flags failed_or_stopped events)
   pub unreadable : HasBits empty (flags is_empty events)
   pub kept : AreKept old units
 
@@ -63,7 +63,7 @@ count_more test events e at count len is =
 pub one_done_by : (old : List ModelUnit) (plan : List UnitCommand) (n at failed empty : ℕ) (events : List EventAt) (units : List ModelUnit) (c : UnitCommand) (e : EventAt) (new : List ModelUnit) (failed' empty' count : ℕ)
     → IsUnderWayBy old plan n at failed empty events units → slice_get plan n ≡ Some c → Did units c e new → AreKept units new
     → ((k : ℕ) (d : UnitCommand) → n < k → slice_get plan k ≡ Some d → Spares e d)
-    → width c.command ≡ count → BitsMore at failed failed' count (is_lost e.event.outcome) → BitsMore at empty empty' count (is_empty e.event.outcome)
+    → width c.command ≡ count → BitsMore at failed failed' count (failed_or_stopped e.event.outcome) → BitsMore at empty empty' count (is_empty e.event.outcome)
     → IsUnderWayBy old plan (n + 1) (at + count) failed' empty' (events ++ e ∷ []) new
 one_done_by old plan n at failed empty events units c e new failed' empty' count h there did kept spares wide lost unreadable =
     let wide_e : width e.event.command ≡ count = ap (λ (c : UnitCommand). width c.command) did.command ∙ wide in
@@ -75,7 +75,7 @@ one_done_by old plan n at failed empty events units c e new failed' empty' count
       };
       left = λ k d from at_k. rw did.units (still_taken units e d did.next (spares k d (omega arith) at_k) (h.left k d (omega arith) at_k));
       count = λ test. count_more test events e at count (h.count test) wide_e;
-      lost = bits_more is_lost events e at failed failed' count (h.count is_lost) wide_e lost h.lost;
+      lost = bits_more failed_or_stopped events e at failed failed' count (h.count failed_or_stopped) wide_e lost h.lost;
       unreadable = bits_more is_empty events e at empty empty' count (h.count is_empty) wide_e unreadable h.unreadable;
       kept = kept_more old units new h.kept kept;
     }
@@ -83,7 +83,7 @@ one_done_by old plan n at failed empty events units c e new failed' empty' count
 pub one_done : (old : List ModelUnit) (plan : List UnitCommand) (n at failed empty : ℕ) (units : List ModelUnit) (c : UnitCommand) (e : EventAt) (new : List ModelUnit) (failed' empty' count : ℕ)
     → IsUnderWay old plan n at failed empty units → slice_get plan n ≡ Some c → Did units c e new → AreKept units new
     → ((k : ℕ) (d : UnitCommand) → n < k → slice_get plan k ≡ Some d → Spares e d)
-    → width c.command ≡ count → BitsMore at failed failed' count (is_lost e.event.outcome) → BitsMore at empty empty' count (is_empty e.event.outcome)
+    → width c.command ≡ count → BitsMore at failed failed' count (failed_or_stopped e.event.outcome) → BitsMore at empty empty' count (is_empty e.event.outcome)
     → IsUnderWay old plan (n + 1) (at + count) failed' empty' new
 one_done old plan n at failed empty units c e new failed' empty' count h there did kept spares wide lost unreadable = record {
   events = h.events ++ e ∷ [];

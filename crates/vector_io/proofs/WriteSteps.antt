@@ -13,7 +13,7 @@ use Rattle.pblk_model.specs.ChunkStep.{Write}
 use Rattle.pblk_model.specs.Geometry.{Geometry}
 use Rattle.unit_port.specs.Unit.{ModelUnit}
 use Rattle.unit_port.specs.Commands.{UnitCommand, EventAt, AreKept, IsTaken, AreTaken}
-use Rattle.unit_port.specs.Did.{Did, is_lost, is_empty}
+use Rattle.unit_port.specs.Did.{Did, failed_or_stopped, is_empty}
 use Rattle.vector_io.specs.Plans.{unit_of, program_of, write_of, writes, AreOfChunksApart}
 use Rattle.vector_io.specs.Runs.{run_len}
 use Rattle.vector_io.specs.Status.{HasBits, Answers}
@@ -90,7 +90,7 @@ wide g xs blocks at end len is within =
 
 pub write_more : (g : Geometry) (xs : List Address) (blocks part : List Block) (old units new : List ModelUnit) (at failed failed' end unit : ℕ) (d : Address) (lost : Bool) → length blocks ≡ length xs → AreOfChunksApart (writes g xs blocks) → at < length xs
     → IsWriting g xs blocks old at failed units → end ≡ at + run_len g (drop at xs) → end ≤ length xs → unit ≡ unit_of g (slice_index_or xs at d) → part ≡ take (end - at) (drop at blocks)
-    → (e : EventAt) × Did units (record { unit = unit; chunk = (slice_index_or xs at d).chunk; command = Write (slice_index_or xs at d).block part }) e new × (lost ≡ is_lost e.event.outcome) × (is_empty e.event.outcome ≡ false)
+    → (e : EventAt) × Did units (record { unit = unit; chunk = (slice_index_or xs at d).chunk; command = Write (slice_index_or xs at d).block part }) e new × (lost ≡ failed_or_stopped e.event.outcome) × (is_empty e.event.outcome ≡ false)
     → AreKept units new → BitsMore at failed failed' (end - at) lost → IsWriting g xs blocks old end failed' new
 write_more g xs blocks part old units new at failed failed' end unit d lost len chunks within h is inside unit_is part_is did kept bits =
     let next = next_write g xs blocks h.done at end d h.rest len within is in

@@ -9,7 +9,7 @@ use Rattle.pblk_model.specs.UnitLog.{UnitOutcome, Answered, Failed, Stopped}
 use Rattle.unit_port.specs.declared.unit.UnitErr.{UnitErr}
 use Rattle.unit_port.specs.Unit.{ModelUnit, TellsBlock}
 use Rattle.unit_port.specs.Commands.{UnitCommand, EventAt, Ran}
-use Rattle.unit_port.specs.Did.{Did, is_lost, is_empty}
+use Rattle.unit_port.specs.Did.{Did, failed_or_stopped, is_empty}
 use Rattle.vector_io.specs.declared.status.Status.{Status}
 
 -- how many addresses a command has: a write has one for each block
@@ -28,7 +28,7 @@ pub record HasBits (n : ℕ) (flags : List Bool) : Type 0 where
 
 -- the bits of each address, by its index, say what became of its command
 pub record Tells (status : Status) (events : List EventAt) : Type 0 where
-  pub failed : HasBits status.failed (flags is_lost events)
+  pub failed : HasBits status.failed (flags failed_or_stopped events)
   pub empty : HasBits status.empty (flags is_empty events)
 
 -- units that were given these commands, and the status that was told of them
@@ -63,7 +63,7 @@ Reads commands old status new before after = (events : List EventAt) × Ran old 
 -- some event was what a program or a reset became, and says whether it failed or was stopped
 abbrev pub WasDone : List ModelUnit → UnitCommand → Bool → List ModelUnit → Type 0
 WasDone old c lost new = (e : EventAt) × Did old c e new
-    × (lost ≡ is_lost e.event.outcome) × (is_empty e.event.outcome ≡ false)
+    × (lost ≡ failed_or_stopped e.event.outcome) × (is_empty e.event.outcome ≡ false)
 
 -- the same of a fetch, which found these bytes in the caller's buffer and left those
 abbrev pub WasFetched : List ModelUnit → UnitCommand → List ℕ → List ℕ → Result Got UnitErr → List ModelUnit
@@ -74,5 +74,5 @@ WasFetched old c before after result new = (e : EventAt) × Did old c e new
 -- the same of a fetch, in whose place stood a block before and stands another after it
 abbrev pub WasRead : List ModelUnit → UnitCommand → Bool → Bool → Block → Block → List ModelUnit → Type 0
 WasRead old c lost empty before after new = (e : EventAt) × Did old c e new
-    × (lost ≡ is_lost e.event.outcome) × (empty ≡ is_empty e.event.outcome)
+    × (lost ≡ failed_or_stopped e.event.outcome) × (empty ≡ is_empty e.event.outcome)
     × (after ≡ got_block e.event.outcome before)

@@ -42,7 +42,8 @@ impl Victims {
     /// Holds a line with this, whether or not it was held before. The line is one of the drive's.
     pub fn set(&mut self, line: u32, failed: bool, live: u32, seq: u64)
         requires { line < length self.old }
-        ensures { self.new ≡ slice_set self.old line (Some (record { failed = failed; live = live; seq = seq })) }
+        ensures { self.new ≡ slice_set self.old line
+            (Some (record { failed = failed; live = live; seq = seq })) }
     {
         self.rows[line as usize] = Some(Candidate { failed, live, seq });
     }

@@ -22,7 +22,7 @@ use Rattle.lemmas.proofs.Lists.{IsAmong}
 use Rattle.lemmas.proofs.Maps.{from_filter, in_filter}
 use Rattle.lemmas.proofs.Parts.{contained_among, get_below, got_within}
 use Rattle.lemmas.proofs.Tests.{lt_true, not_both, same_number}
-use Rattle.world_laws.specs.LegalMounts.{IsLegalMount}
+use Rattle.pblk_world.specs.LegalMounts.{IsLegalMount}
 use Rattle.world_laws.proofs.Stripes.{IsPlaced, opening_then, placed_is, stripe_is}
 use Rattle.world_laws.proofs.Openings.{placed_at}
 use Rattle.world_laws.specs.UnitChunks.{NoProgram, chunk_after, first_events}

@@ -27,7 +27,7 @@ use Rattle.pblk_world.proofs.EngineLogLemmas.{begun_knows}
 use Rattle.pblk_world.proofs.LegalLemmas.{whole_own}
 use Rattle.pblk_world.proofs.WorldLemmas.{length_media}
 use Rattle.world_laws.proofs.ImageLines.{line_block, same_block}
-use Rattle.world_laws.specs.LegalMounts.{IsLegalMount}
+use Rattle.pblk_world.specs.LegalMounts.{IsLegalMount}
 use Rattle.world_laws.proofs.Entries.{IsEntryOrNone, entries_of_stripe, marks_bear}
 use Rattle.world_laws.proofs.HeldSectors.{AreFollowing, FollowsBy, held, held_by}
 use Rattle.world_laws.proofs.Latest.{one_entry}

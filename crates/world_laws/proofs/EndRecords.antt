@@ -41,7 +41,7 @@ use Rattle.lemmas.proofs.Maps.{from_filter, get_mapped}
 use Rattle.lemmas.proofs.Options.{split_then}
 use Rattle.lemmas.proofs.Parts.{all_at, all_by_get, contained_among, get_more, get_past, get_rest, got_within, is_in, same_lists, take_and_drop}
 use Rattle.world_laws.proofs.FitMedia.{media_fit}
-use Rattle.world_laws.specs.LegalMounts.{IsLegalMount}
+use Rattle.pblk_world.specs.LegalMounts.{IsLegalMount}
 use Rattle.world_laws.proofs.Later.{landed_later, placed_within}
 use Rattle.world_laws.proofs.LineBlocks.{IsLineOf, block_placed, landed_written, opened_line}
 use Rattle.world_laws.proofs.LineStarts.{IsAt, address_of_next, cut_bytes, cut_marks, get_range, is_at, landed_of, never_both, next_written, no_pad, pad_is, part_get}

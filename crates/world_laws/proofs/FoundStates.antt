@@ -10,7 +10,7 @@ use Rattle.pblk_model.specs.declared.chunk.ChunkState.TheVariants as states
 use Rattle.pblk_model.specs.declared.found.Found.{Found}
 use Rattle.pblk_model.specs.Shape.{units}
 use Rattle.pblk_model.specs.Chunk.{Chunk}
-use Rattle.pblk_model.specs.Found.{IsUsed, HasUsed, live_unit, live_units, state_at}
+use Rattle.pblk_model.specs.Found.{IsUsed, HasUsed, online_unit, online_units, state_at}
 use Rattle.pblk_model.specs.Image.{Image, IsFit, is_online_in, line_units}
 use Rattle.pblk_laws.specs.LineBlocks.{chunk_in}
 use Rattle.pblk_world.specs.Lines.{is_empty_state, are_empty}
@@ -66,7 +66,7 @@ abbrev on_line : ℕ → ℕ × List Chunk → Bool
 on_line line unit = option_map_or (λ (c : Chunk). is_online_in c.state) (slice_get unit.1 line) false
 
 by_state : (state : ChunkState) (a : ℕ) (u : List Chunk) (rest : List (ℕ × List Chunk))
-    → cons_option (live_unit (Some (taken_state state)) a) (map (λ (v : ℕ × List Chunk). v.0) rest) ≡ map (λ (v : ℕ × List Chunk). v.0)
+    → cons_option (online_unit (Some (taken_state state)) a) (map (λ (v : ℕ × List Chunk). v.0) rest) ≡ map (λ (v : ℕ × List Chunk). v.0)
     (cond (is_online_in state) ((a, u) ∷ rest) rest)
 by_state states.Free a u rest = refl
 by_state states.Open a u rest = refl
@@ -74,32 +74,32 @@ by_state states.Closed a u rest = refl
 by_state states.Offline a u rest = refl
 
 by_chunk : (o : Option Chunk) (a : ℕ) (u : List Chunk) (rest : List (ℕ × List Chunk))
-    → cons_option (live_unit (option_map state_of o) a) (map (λ (v : ℕ × List Chunk). v.0) rest) ≡ map (λ (v : ℕ × List Chunk). v.0)
+    → cons_option (online_unit (option_map state_of o) a) (map (λ (v : ℕ × List Chunk). v.0) rest) ≡ map (λ (v : ℕ × List Chunk). v.0)
     (cond (option_map_or (λ (c : Chunk). is_online_in c.state) o false) ((a, u) ∷ rest) rest)
 by_chunk None a u rest = refl
 by_chunk (Some c) a u rest = by_state c.state a u rest
 
 live_from : (line a : ℕ) (h : ℕ → Option ℕ) (us : List (List Chunk))
-    → ((k : ℕ) → k < length us → h (a + k) ≡ live_unit (option_map state_of (option_and_then (λ u. slice_get u line) (slice_get us k))) (a + k))
+    → ((k : ℕ) → k < length us → h (a + k) ≡ online_unit (option_map state_of (option_and_then (λ u. slice_get u line) (slice_get us k))) (a + k))
     → filter_map h (range_with_len a (length us)) ≡ map (λ (v : ℕ × List Chunk). v.0) (filter (on_line line) (enumerate_from a us))
 live_from line a h [] each = refl
 live_from line a h (u ∷ us) each =
-    let here : h a ≡ live_unit (option_map state_of (slice_get u line)) a =
-    ap h (sym (add-zero a)) ∙ each 0 (omega arith) ∙ ap (live_unit (option_map state_of (slice_get u line))) (add-zero a) in
+    let here : h a ≡ online_unit (option_map state_of (slice_get u line)) a =
+    ap h (sym (add-zero a)) ∙ each 0 (omega arith) ∙ ap (online_unit (option_map state_of (slice_get u line))) (add-zero a) in
     let rest : filter_map h (range_with_len (a + 1) (length us)) ≡ map (λ (v : ℕ × List Chunk). v.0) (filter (on_line line) (enumerate_from (a + 1) us)) =
     live_from line (a + 1) h us (λ k below.
     let step : a + 1 + k ≡ a + suc k = omega arith in
-    ap h step ∙ each (suc k) (omega arith) ∙ ap (live_unit (option_map state_of (option_and_then (λ u. slice_get u line) (slice_get us k)))) (sym step)) in
+    ap h step ∙ each (suc k) (omega arith) ∙ ap (online_unit (option_map state_of (option_and_then (λ u. slice_get u line) (slice_get us k)))) (sym step)) in
     ap (λ o. cons_option o (filter_map h (range_with_len (a + 1) (length us)))) here
-    ∙ ap (cons_option (live_unit (option_map state_of (slice_get u line)) a)) rest
+    ∙ ap (cons_option (online_unit (option_map state_of (slice_get u line)) a)) rest
     ∙ by_chunk (slice_get u line) a u (filter (on_line line) (enumerate_from (a + 1) us))
 
-pub live_are : (i : Image) (f : Found) (line : ℕ) → IsFit i → IsFoundOf i f → line < i.shape.chunks → live_units i.shape f line ≡ line_units i line
+pub live_are : (i : Image) (f : Found) (line : ℕ) → IsFit i → IsFoundOf i f → line < i.shape.chunks → online_units i.shape f line ≡ line_units i line
 live_are i f line fit is inside =
-    ap (λ n. filter_map (λ unit. live_unit (state_at i.shape f line unit) unit) (range_with_len 0 n)) (sym fit.units)
-    ∙ live_from line 0 (λ unit. live_unit (state_at i.shape f line unit) unit) i.units (λ k below.
+    ap (λ n. filter_map (λ unit. online_unit (state_at i.shape f line unit) unit) (range_with_len 0 n)) (sym fit.units)
+    ∙ live_from line 0 (λ unit. online_unit (state_at i.shape f line unit) unit) i.units (λ k below.
     let first : 0 + k ≡ k = zero-add k in
-    ap (λ o. live_unit o (0 + k)) (state_is i f line (0 + k) fit is inside ∙ ap (λ m. option_map state_of (chunk_in i line m)) first))
+    ap (λ o. online_unit o (0 + k)) (state_is i f line (0 + k) fit is inside ∙ ap (λ m. option_map state_of (chunk_in i line m)) first))
 
 -- ---- used lines
 

@@ -5,7 +5,7 @@ use Rattle.std.specs.Option.{option_map}
 use Rattle.std.proofs.lemmas.Option.{none-some, same_Some}
 use Rattle.pblk_model.specs.declared.found.Found.{Found}
 use Rattle.pblk_model.specs.declared.found.Winner.{Winner}
-use Rattle.pblk_model.specs.Found.{WinnerFits, live_units}
+use Rattle.pblk_model.specs.Found.{WinnerFits, online_units}
 use Rattle.pblk_model.specs.LineOrder.{column_of}
 use Rattle.pblk_model.specs.Image.{Image, IsFit, line_units, width}
 use Rattle.pblk_model.specs.StartRecord.{StartRecord}
@@ -54,8 +54,8 @@ fits_record : (i : Image) (f : Found) (lba : ℕ) (r : Record) → IsFit i → I
 fits_record i f lba r fit is inside there =
     let of : IsOfBlock i r = counted_of i r there in
     let place : IsInClosed i r.line r.at = written_in i r.line r.at of.block fit of.is_block in
-    let live : live_units i.shape f r.line ≡ line_units i r.line = live_are i f r.line fit is of.line in
-    let wide : length (live_units i.shape f r.line) ≡ width i r.line = ap (λ us. length us) live ∙ line_units_count i r.line in
+    let live : online_units i.shape f r.line ≡ line_units i r.line = live_are i f r.line fit is of.line in
+    let wide : length (online_units i.shape f r.line) ≡ width i r.line = ap (λ us. length us) live ∙ line_units_count i r.line in
     record {
       sector = inside;
       row = line_row i r.line;
@@ -65,7 +65,7 @@ fits_record i f lba r fit is inside there =
       below_top = below_top (counted i) r there;
       at = subst (λ n. r.at < n * i.shape.clba) (sym wide) of.at;
       unit = place.unit;
-      unit_is = ap (λ us. slice_get us (column_of i.shape (length (live_units i.shape f r.line)) r.at)) live
+      unit_is = ap (λ us. slice_get us (column_of i.shape (length (online_units i.shape f r.line)) r.at)) live
           ∙ ap (λ n. slice_get (line_units i r.line) (column_of i.shape n r.at)) wide ∙ place.is_unit;
       closed = state_is i f r.line place.unit fit is of.line ∙ ap (option_map state_of) place.is_chunk ∙ ap (λ s. Some s) place.closed;
     }

@@ -12,7 +12,7 @@ use Rattle.world_laws.specs.Losing.{LosesChunks}
 use Rattle.world_laws.specs.SealedLines.{IsSealedLine}
 use Rattle.world_laws.proofs.FitMedia.{media_fit}
 use Rattle.world_laws.proofs.LosingLines.{lose_records, lose_sealed, lose_start}
-use Rattle.world_laws.specs.LegalMounts.{IsLegalMount}
+use Rattle.pblk_world.specs.LegalMounts.{IsLegalMount}
 use Rattle.world_laws.proofs.BeforeFreeing.{IsBefore, chunk_then, within_later}
 use Rattle.world_laws.proofs.FreedChunks.{none_since}
 use Rattle.world_laws.proofs.LosingChunks.{kept_or_lost}

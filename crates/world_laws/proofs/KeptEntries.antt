@@ -13,7 +13,7 @@ use Rattle.pblk_world.specs.Lines.{found_image}
 use Rattle.pblk_world.specs.Starts.{newest_start}
 use Rattle.lemmas.proofs.Lists.{among_contained}
 use Rattle.lemmas.proofs.Parts.{contained_among}
-use Rattle.world_laws.specs.LegalMounts.{IsLegalMount}
+use Rattle.pblk_world.specs.LegalMounts.{IsLegalMount}
 use Rattle.world_laws.proofs.LandedRecords.{freed_below_front}
 use Rattle.world_laws.proofs.Latest.{IsLatestBelow, IsStandingAt, latest_stands}
 use Rattle.world_laws.proofs.Lives.{IsFreedLife, standing_or_freed}

@@ -11,7 +11,7 @@ use Rattle.pblk_world.proofs.WorldLemmas.{log_here}
 use Rattle.lemmas.proofs.Numbers.{fun_same}
 use Rattle.lemmas.proofs.Parts.{get_last, get_more, take_nothing}
 use Rattle.lemmas.proofs.Tests.{below_of, le_of_lt_false, same}
-use Rattle.world_laws.specs.KnownCut.{cut, IsClosed}
+use Rattle.world_laws.specs.KnownCut.{cut, IsClosedCut}
 
 -- ---- its logs
 
@@ -125,7 +125,7 @@ still_there s w author number l e = go (s.author == author)
 stands : (s : Step) (w : World) → slice_get (log_of (s ∷ w) s.author) (length (log_of w s.author)) ≡ Some s.logged
 stands s w = ap (λ xs. slice_get xs (length (log_of w s.author))) (log_here s w s.author refl) ∙ get_last (log_of w s.author) s.logged
 
-pub cut_is_legal : (i : Image) (w : World) (lengths : ℕ → ℕ) → IsLegal i w → IsClosed lengths w → IsLegal i (cut lengths w)
+pub cut_is_legal : (i : Image) (w : World) (lengths : ℕ → ℕ) → IsLegal i w → IsClosedCut lengths w → IsLegal i (cut lengths w)
 unfolding IsLegal
 cut_is_legal i [] lengths legal closed = tt
 cut_is_legal i (s ∷ w) lengths legal closed = go (nat_lt (length (log_of w s.author)) (lengths s.author)) refl

@@ -16,7 +16,7 @@ use Rattle.pblk_world.proofs.VictimsLemmas.{whole_prefix}
 use Rattle.lemmas.proofs.Lists.{among_contained}
 use Rattle.lemmas.proofs.Numbers.{fun_same}
 use Rattle.lemmas.proofs.Parts.{get_below, got_within, take_all}
-use Rattle.world_laws.specs.LegalMounts.{IsLegalMount}
+use Rattle.pblk_world.specs.LegalMounts.{IsLegalMount}
 use Rattle.world_laws.proofs.LandedRecords.{HavePlaces}
 use Rattle.world_laws.proofs.Later.{placed_within}
 use Rattle.world_laws.proofs.Lives.{life_is_known}

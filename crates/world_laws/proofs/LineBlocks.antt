@@ -27,7 +27,7 @@ use Rattle.lemmas.proofs.Maps.{from_filter, in_filter}
 use Rattle.lemmas.proofs.Options.{mapped_some, split_then}
 use Rattle.lemmas.proofs.Parts.{contained_among, get_below, get_whole_within, one_column}
 use Rattle.lemmas.proofs.Tests.{same, same_number}
-use Rattle.world_laws.specs.LegalMounts.{IsLegalMount}
+use Rattle.pblk_world.specs.LegalMounts.{IsLegalMount}
 use Rattle.world_laws.proofs.Later.{placed_within}
 use Rattle.world_laws.proofs.Lives.{life_is_known}
 use Rattle.world_laws.proofs.Stripes.{opening_then, stripe_is}

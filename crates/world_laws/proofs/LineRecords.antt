@@ -34,7 +34,7 @@ use Rattle.lemmas.proofs.Maps.{any_member, from_given, given_at, range_get}
 use Rattle.lemmas.proofs.Options.{map_some, split_then}
 use Rattle.lemmas.proofs.Parts.{all_at, contained_among, get_below, take_and_drop}
 use Rattle.lemmas.proofs.Tests.{and_both, le_of_lt_false, not_before, same_number}
-use Rattle.world_laws.specs.LegalMounts.{IsLegalMount}
+use Rattle.pblk_world.specs.LegalMounts.{IsLegalMount}
 use Rattle.world_laws.proofs.Entries.{IsEntryOrNone, entries_of_stripe, marks_bear}
 use Rattle.world_laws.proofs.LandedRecords.{IsBlockAt, block_at_position}
 use Rattle.world_laws.proofs.Newest.{have_landed_later}

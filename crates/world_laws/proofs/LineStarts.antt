@@ -32,7 +32,7 @@ use Rattle.lemmas.proofs.Lists.{all_replicated, length_replicate}
 use Rattle.lemmas.proofs.Options.{split_then}
 use Rattle.lemmas.proofs.Parts.{all_at, all_get, get_dropped, get_past, get_taken, got_within, is_in, same_lists}
 use Rattle.lemmas.proofs.Tests.{second_of}
-use Rattle.world_laws.specs.LegalMounts.{IsLegalMount}
+use Rattle.pblk_world.specs.LegalMounts.{IsLegalMount}
 use Rattle.world_laws.proofs.Stripes.{stripe_is}
 use Rattle.world_laws.proofs.FoundEmpty.{all_pass}
 use Rattle.world_laws.proofs.LineAddresses.{place_within, same_place}

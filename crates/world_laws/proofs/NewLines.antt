@@ -17,7 +17,7 @@ use Rattle.pblk_world.specs.EngineLog.{Begun, begun, LineLife, AsFound, Freed, O
 use Rattle.pblk_world.specs.Starts.{has_landed_start}
 use Rattle.lemmas.proofs.Lists.{IsAmong, among_contained}
 use Rattle.lemmas.proofs.Parts.{contained_among, get_more}
-use Rattle.world_laws.specs.LegalMounts.{IsLegalMount}
+use Rattle.pblk_world.specs.LegalMounts.{IsLegalMount}
 use Rattle.world_laws.proofs.Later.{takes_joined}
 use Rattle.world_laws.proofs.Lives.{life_is_known}
 use Rattle.world_laws.proofs.Openings.{opened_at}

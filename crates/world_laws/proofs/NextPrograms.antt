@@ -34,7 +34,7 @@ use Rattle.lemmas.proofs.Numbers.{some_units}
 use Rattle.lemmas.proofs.Options.{mapped_some}
 use Rattle.lemmas.proofs.Parts.{all_at, contained_among, get_more, got_within, take_and_drop}
 use Rattle.lemmas.proofs.Tests.{either_false, not_before, not_both, other_number, same_number}
-use Rattle.world_laws.specs.LegalMounts.{IsLegalMount}
+use Rattle.pblk_world.specs.LegalMounts.{IsLegalMount}
 use Rattle.world_laws.proofs.Later.{landed_later, placed_within}
 use Rattle.world_laws.proofs.Stripes.{IsPlaced, life_of_stripe, placed_is, stripe_is}
 use Rattle.world_laws.proofs.Lives.{life_is_known}

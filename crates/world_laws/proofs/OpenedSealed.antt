@@ -12,7 +12,7 @@ use Rattle.pblk_world.specs.World.{World, log_of, media}
 use Rattle.pblk_world.specs.EngineLog.{Opened, Opening, last_opening, life_of}
 use Rattle.lemmas.proofs.Parts.{is_in}
 use Rattle.world_laws.specs.SealedLines.{IsSealedLine}
-use Rattle.world_laws.specs.LegalMounts.{IsLegalMount}
+use Rattle.pblk_world.specs.LegalMounts.{IsLegalMount}
 use Rattle.world_laws.proofs.Lives.{life_is_known}
 use Rattle.world_laws.proofs.StripeBlocks.{placed_begins_none}
 use Rattle.world_laws.proofs.Stripes.{stripe_is}

@@ -19,7 +19,7 @@ use Rattle.lemmas.proofs.Lists.{IsAmong}
 use Rattle.lemmas.proofs.Maps.{all_passed, filter_short, from_filter, in_filter}
 use Rattle.lemmas.proofs.Parts.{all_at, contained_among, got_within}
 use Rattle.lemmas.proofs.Tests.{below_of, first_of, lt_true, not_both, second_of}
-use Rattle.world_laws.specs.LegalMounts.{IsLegalMount}
+use Rattle.pblk_world.specs.LegalMounts.{IsLegalMount}
 use Rattle.world_laws.proofs.Stripes.{IsPlaced, opening_then, placed_is, stripe_is}
 use Rattle.world_laws.proofs.Openings.{placed_at}
 use Rattle.world_laws.specs.UnitChunks.{chunk_after}

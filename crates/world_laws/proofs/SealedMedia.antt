@@ -9,7 +9,7 @@ use Rattle.pblk_world.specs.EngineLog.{Begun, begun, LineLife, AsFound, Freed, O
 use Rattle.world_laws.specs.SealedLines.{IsSealedLine}
 use Rattle.world_laws.proofs.FoundImages.{early_before, early_sealed}
 use Rattle.world_laws.proofs.LosingLines.{all_sealed}
-use Rattle.world_laws.specs.LegalMounts.{IsLegalMount}
+use Rattle.pblk_world.specs.LegalMounts.{IsLegalMount}
 use Rattle.world_laws.proofs.BeforeFreeing.{before_freeing}
 use Rattle.world_laws.proofs.FreedLines.{freed_sealed}
 use Rattle.world_laws.proofs.OpenedSealed.{opened_sealed}

@@ -30,7 +30,7 @@ use Rattle.lemmas.proofs.Lists.{IsAmong, all_append, all_contains, all_front, al
 use Rattle.lemmas.proofs.Maps.{all_filter, all_mapped}
 use Rattle.lemmas.proofs.Numbers.{next_at}
 use Rattle.lemmas.proofs.Parts.{all_dropped, all_taken, contained_among, take_and_drop}
-use Rattle.world_laws.specs.LegalMounts.{IsLegalMount}
+use Rattle.pblk_world.specs.LegalMounts.{IsLegalMount}
 use Rattle.world_laws.proofs.EndHeads.{IsPlacedMark, end_begins_none}
 use Rattle.world_laws.proofs.Engine.{Keeps, logged_as, of_engine}
 use Rattle.world_laws.proofs.Later.{placements_joined, takes_joined}

@@ -22,7 +22,7 @@ use Rattle.lemmas.proofs.Maps.{all_passed, from_filter}
 use Rattle.lemmas.proofs.Options.{mapped_some}
 use Rattle.lemmas.proofs.Parts.{all_at, contained_among, get_below, get_last, get_more, is_in, one_column}
 use Rattle.lemmas.proofs.Tests.{not_both}
-use Rattle.world_laws.specs.LegalMounts.{IsLegalMount}
+use Rattle.pblk_world.specs.LegalMounts.{IsLegalMount}
 use Rattle.world_laws.proofs.Lives.{by_last}
 use Rattle.world_laws.proofs.Made.{IsMade, made, own_then}
 use Rattle.world_laws.proofs.Stripes.{IsPlaced, opening_then, placed_is, stripe_is}

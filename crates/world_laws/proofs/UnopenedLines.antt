@@ -31,7 +31,7 @@ use Rattle.world_laws.proofs.FitMedia.{found_fit}
 use Rattle.world_laws.proofs.FoundImages.{found_sealed, found_strays}
 use Rattle.world_laws.proofs.LosingLines.{lose_records, lose_sealed, lose_start, sealed_line}
 use Rattle.world_laws.proofs.LostImages.{line_kept}
-use Rattle.world_laws.specs.LegalMounts.{IsLegalMount}
+use Rattle.pblk_world.specs.LegalMounts.{IsLegalMount}
 use Rattle.world_laws.specs.UnitChunks.{chunk_after}
 use Rattle.world_laws.proofs.KeptChunks.{IsFreedSince, found_stays, freed_since, none_in_unopened}
 use Rattle.world_laws.proofs.NextLives.{IsDecided, decided}

@@ -11,6 +11,6 @@ cut lengths (step ∷ w) = if nat_lt (length (log_of w step.author)) (lengths st
     else cut lengths w
 
 -- no event of the prefixes of these lengths names more than these lengths
-abbrev pub IsClosed : (ℕ → ℕ) → World → Type 0
-IsClosed lengths w = (author other number : ℕ) (l : Logged) → number < lengths author
+abbrev pub IsClosedCut : (ℕ → ℕ) → World → Type 0
+IsClosedCut lengths w = (author other number : ℕ) (l : Logged) → number < lengths author
     → slice_get (log_of w author) number ≡ Some l → known l other ≤ lengths other

@@ -3,15 +3,13 @@ pub mod EarlyLogs
 pub mod Finding
 pub mod KnownChunks
 pub mod KnownCut
-pub mod LegalMounts
 pub mod LifeBlocks
 pub mod Losing
 pub mod MountBeginnings
-pub mod Orders
 pub mod Padding
-pub mod Reasons
 pub mod SameImages
 pub mod SameTold
 pub mod SealedLines
 pub mod UnitChunks
+pub mod OpenedChunks
 pub mod UnitPrograms

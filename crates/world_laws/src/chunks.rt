@@ -4,12 +4,11 @@ ghost use Rattle.std.specs.Prelude.{◌≡◌, ◌≢◌, ◌+◌, ◌*◌, ◌�
 ghost use Rattle.std.specs.Prelude.{true, false, nat_lt};
 ghost use Rattle.std.specs.Prelude.{List, None, Option, Some, length, slice_get, slice_index, take};
 ghost use Rattle.std.specs.List.{Contains, filter, list_any};
-ghost use Rattle.pblk_model.specs.Accepted.{IsAccepted};
 ghost use Rattle.pblk_model.specs.Chunk.{Block, Chunk, pointer};
 ghost use Rattle.pblk_model.specs.ChunkStep.{Done, Read, Write, refusal};
 ghost use Rattle.pblk_model.specs.Contents.{contents, counted, winner};
 ghost use Rattle.pblk_model.specs.History.{after, users};
-ghost use Rattle.pblk_model.specs.Image.{Image, IsFit, line_units, width};
+ghost use Rattle.pblk_model.specs.Image.{Image, line_units, width};
 ghost use Rattle.pblk_model.specs.Records.{Record, line_records, named};
 ghost use Rattle.pblk_model.specs.Sealed.{IsSealed};
 ghost use Rattle.pblk_model.specs.StartRecord.{StartRecord, start_of};
@@ -27,9 +26,10 @@ ghost use Rattle.pblk_world.specs.Fronts.{history, user_positions};
 ghost use Rattle.pblk_world.specs.Legal.{IsLegal};
 ghost use Rattle.pblk_world.specs.Lines.{found_image, is_empty_state, known_image, place_of};
 ghost use Rattle.pblk_world.specs.Starts.{has_landed_start, newest_start};
-ghost use Rattle.world_laws.specs.LegalMounts.{IsLegalMount};
+ghost use Rattle.pblk_world.specs.LegalMounts.{IsLegalMount};
 ghost use Rattle.world_laws.specs.KnownChunks.{IsChange};
 ghost use Rattle.world_laws.specs.LifeBlocks.{IsBlockOfLife};
+ghost use Rattle.world_laws.specs.OpenedChunks.{IsOpenedChunk, WasProgrammed};
 ghost use Rattle.world_laws.specs.UnitChunks.{NoProgram, chunk_after};
 ghost use Rattle.world_laws.specs.UnitPrograms.{IsProgramOfStripe};
 
@@ -94,53 +94,33 @@ pub fn a_chunk_stays()
 {}
 
 /// A chunk of an opened line is empty at the prefix of its unit's log that the opening names. At
-/// each later prefix each of its blocks is that block of a stripe of this life, whose program is in
-/// the prefix. The blocks of a program that was done stand in it ever after.
+/// each later prefix the blocks of a program that was done stand in it.
 pub fn an_opened_chunk_has_its_stripes()
     ensures empty { (i : Image) (w : World) (legal : IsLegal i w) (b : Begun)
         (begins : begun (log_of w 0) ≡ Some b) (unit line : ℕ) (o : Opening)
         (is_open : life_of (log_of w 0) line ≡ Opened o) (c : Chunk)
         → chunk_after i (log_of w) line unit (slice_index o.knows (suc unit)) ≡ Some c
         → is_empty_state c.state ≡ true }
-    ensures blocks { (i : Image) (w : World) (accepted : IsAccepted i.shape) (fit : IsFit i)
-        (legal : IsLegal i w) (b : Begun) (begins : begun (log_of w 0) ≡ Some b)
-        (unit line : ℕ) (o : Opening) (is_open : life_of (log_of w 0) line ≡ Opened o)
-        (events at : ℕ) (c : Chunk) (block : Block) → slice_index o.knows (suc unit) ≤ events
-        → events ≤ length (log_of w (suc unit))
-        → chunk_after i (log_of w) line unit events ≡ Some c → slice_get c.blocks at ≡ Some block
-        → IsBlockOfLife (log_of w) o line unit events at block }
-    ensures done { (i : Image) (w : World) (accepted : IsAccepted i.shape) (fit : IsFit i)
-        (legal : IsLegal i w) (b : Begun) (begins : begun (log_of w 0) ≡ Some b)
-        (unit line : ℕ) (o : Opening) (is_open : life_of (log_of w 0) line ≡ Opened o)
-        (number events at index : ℕ) (l : Logged) (e : UnitEvent) (blocks : List Block)
-        (block : Block) (c : Chunk) → slice_index o.knows (suc unit) ≤ number
-        → slice_get (log_of w (suc unit)) number ≡ Some l → unit_event_of l.event ≡ Some e
-        → e.chunk ≡ line → e.command ≡ Write at blocks → e.outcome ≡ Answered Done
-        → number < events → events ≤ length (log_of w (suc unit))
-        → chunk_after i (log_of w) line unit events ≡ Some c
+    ensures done { (i : Image) (w : World) (o : Opening) (line unit events at index : ℕ)
+        (c : Chunk) (blocks : List Block) (block : Block)
+        → IsOpenedChunk i w o line unit events c → life_of (log_of w 0) line ≡ Opened o
+        → WasProgrammed (log_of w) o line unit events at blocks
         → slice_get blocks index ≡ Some block → slice_get c.blocks (at + index) ≡ Some block }
 {}
 
 /// Let a line have been opened, and maybe freed since. From the prefix of its unit's log on that
-/// the last opening names, each block of a chunk of it is that block of a stripe of this opening.
-/// The blocks of a program that was done stand in the chunk until it is emptied.
+/// the last opening names, each block of a chunk of it is that block of a stripe of this opening,
+/// whose program is in the prefix. The blocks of a program that was done stand in the chunk until it
+/// is emptied.
 pub fn a_chunk_has_stripes_of_its_last_opening()
-    ensures blocks { (i : Image) (w : World) (accepted : IsAccepted i.shape) (fit : IsFit i)
-        (legal : IsLegal i w) (b : Begun) (begins : begun (log_of w 0) ≡ Some b)
-        (unit line : ℕ) (o : Opening) (its : last_opening (life_of (log_of w 0) line) ≡ Some o)
-        (events at : ℕ) (c : Chunk) (block : Block) → slice_index o.knows (suc unit) ≤ events
-        → events ≤ length (log_of w (suc unit))
-        → chunk_after i (log_of w) line unit events ≡ Some c → slice_get c.blocks at ≡ Some block
+    ensures blocks { (i : Image) (w : World) (o : Opening) (line unit events at : ℕ) (c : Chunk)
+        (block : Block) → IsOpenedChunk i w o line unit events c
+        → slice_get c.blocks at ≡ Some block
         → IsBlockOfLife (log_of w) o line unit events at block }
-    ensures done { (i : Image) (w : World) (accepted : IsAccepted i.shape) (fit : IsFit i)
-        (legal : IsLegal i w) (b : Begun) (begins : begun (log_of w 0) ≡ Some b)
-        (unit line : ℕ) (o : Opening) (its : last_opening (life_of (log_of w 0) line) ≡ Some o)
-        (number events at index : ℕ) (l : Logged) (e : UnitEvent) (blocks : List Block)
-        (block : Block) (c : Chunk) → slice_index o.knows (suc unit) ≤ number
-        → slice_get (log_of w (suc unit)) number ≡ Some l → unit_event_of l.event ≡ Some e
-        → e.chunk ≡ line → e.command ≡ Write at blocks → e.outcome ≡ Answered Done
-        → number < events → events ≤ length (log_of w (suc unit))
-        → chunk_after i (log_of w) line unit events ≡ Some c
+    ensures done { (i : Image) (w : World) (o : Opening) (line unit events at index : ℕ)
+        (c : Chunk) (blocks : List Block) (block : Block)
+        → IsOpenedChunk i w o line unit events c
+        → WasProgrammed (log_of w) o line unit events at blocks
         → slice_get blocks index ≡ Some block
         → (slice_get c.blocks (at + index) ≡ Some block) ⊎ (is_empty_state c.state ≡ true) }
 {}

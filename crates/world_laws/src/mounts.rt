@@ -17,8 +17,8 @@ ghost use Rattle.pblk_world.specs.Opening.{MayOpen};
 ghost use Rattle.pblk_world.specs.Placing.{MayPlace};
 ghost use Rattle.pblk_world.specs.Space.{is_due, room};
 ghost use Rattle.pblk_world.specs.Victims.{live, taken_up_to, victim};
-ghost use Rattle.world_laws.specs.KnownCut.{cut, IsClosed};
-ghost use Rattle.world_laws.specs.LegalMounts.{IsLegalMount};
+ghost use Rattle.world_laws.specs.KnownCut.{cut, IsClosedCut};
+ghost use Rattle.pblk_world.specs.LegalMounts.{IsLegalMount};
 ghost use Rattle.world_laws.specs.SameTold.{AreSameNamed, AreSameTold};
 
 /// Let a prefix of each log of a legal world be known, and let no event of these prefixes name more
@@ -28,7 +28,7 @@ ghost use Rattle.world_laws.specs.SameTold.{AreSameNamed, AreSameTold};
 /// after what is known exactly where it is legal after the whole. Here the events of the prefixes
 /// may name more.
 pub fn what_is_known_is_a_legal_world()
-    ensures legal { (i : Image) (w : World) (lengths : ℕ → ℕ) → IsLegal i w → IsClosed lengths w
+    ensures legal { (i : Image) (w : World) (lengths : ℕ → ℕ) → IsLegal i w → IsClosedCut lengths w
         → IsLegal i (cut lengths w) }
     ensures logs { (w : World) (lengths : ℕ → ℕ) (author : ℕ)
         → log_of (cut lengths w) author ≡ take (lengths author) (log_of w author) }

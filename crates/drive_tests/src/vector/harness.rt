@@ -103,7 +103,8 @@ fn can_read(geometry: &Geometry, units: &[MemoryUnit], addresses: &[Address]) ->
 }
 
 fn takes_read(geometry: &Geometry, units: &[MemoryUnit], address: &Address) -> bool
-    ensures { IsTrue result → IsTaken (models units.now) (read_of (numbers_of geometry.now) address.now) }
+    ensures { IsTrue result
+        → IsTaken (models units.now) (read_of (numbers_of geometry.now) address.now) }
 {
     match units.get(unit_of(geometry, address)) {
         Some(unit) => unit.takes_fetch(address.chunk, address.block, &[0; 512]),
@@ -124,7 +125,8 @@ fn can_reset(geometry: &Geometry, units: &[MemoryUnit], addresses: &[Address]) -
 }
 
 fn takes_reset(geometry: &Geometry, units: &[MemoryUnit], address: &Address) -> bool
-    ensures { IsTrue result → IsTaken (models units.now) (reset_of (numbers_of geometry.now) address.now) }
+    ensures { IsTrue result
+        → IsTaken (models units.now) (reset_of (numbers_of geometry.now) address.now) }
 {
     match units.get(unit_of(geometry, address)) {
         Some(unit) => unit.takes_reset(address.chunk),
@@ -174,7 +176,8 @@ fn takes_write(
     marks: &[Mark],
 ) -> bool
     ensures { (g : _) → IsTrue result → Fit g (models units.now)
-        → IsTaken (models units.now) (command_at unit chunk (Write block (blocks_of 512 bytes.now marks.now))) }
+        → IsTaken (models units.now)
+        (command_at unit chunk (Write block (blocks_of 512 bytes.now marks.now))) }
 {
     match units.get(unit) {
         Some(found) => found.takes_program(chunk, block, bytes, marks),

@@ -1,7 +1,7 @@
 //! What images of the small drive hold, by the plain recovery.
 
 ghost use Rattle.std.specs.Prelude.{◌≡◌, vec_len};
-ghost use Rattle.pblk_reference.specs.Ready.{IsReady};
+ghost use Rattle.pblk_reference.specs.Ready.{IsOfAcceptedShape};
 
 use crate::image::{Units, small};
 use pblk_reference::{Image, contents, end};
@@ -10,7 +10,7 @@ use std::alloc::{AllocError, Global};
 /// The image of the small drive with these chunks.
 pub fn image_of(chunks: Units) -> Image
     requires { vec_len chunks ≡ 2 }
-    ensures { IsReady result }
+    ensures { IsOfAcceptedShape result }
 {
     Image {
         shape: small(),

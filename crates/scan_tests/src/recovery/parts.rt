@@ -1,6 +1,6 @@
 //! What recovery finds on its way, in an image of two full lines.
 
-ghost use Rattle.pblk_reference.specs.Ready.{IsReady};
+ghost use Rattle.pblk_reference.specs.Ready.{IsOfAcceptedShape};
 
 use crate::image::Units;
 use crate::recovery::harness::image_of;
@@ -16,7 +16,7 @@ type HeadParts = (Option<(u32, u64, u64)>, Option<usize>);
 type Parts = (usize, usize, HeadParts, bool);
 
 fn head_of(alloc: Global, image: &Image) -> Result<HeadParts, AllocError>
-    requires { IsReady image.now }
+    requires { IsOfAcceptedShape image.now }
 {
     let Some(start) = head(alloc, image)? else {
         return Ok((None, None));

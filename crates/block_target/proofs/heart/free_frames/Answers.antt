@@ -1,7 +1,6 @@
 use Rattle.std.proofs.Common.{◌≡◌, ◌+◌, ◌<◌, drop, length, sym, subst, ap, ◌∙◌, refl, arith}
 use Rattle.write_window.specs.Window as view
 use Rattle.pblk_model.specs.Frames.{count_out}
-use Rattle.pblk_core.specs.Named.{pad_of}
 use Rattle.pblk_core.specs.declared.target_core.Core.{Core}
 use Rattle.pblk_core.proofs.FreedWindow.{front_is_freed}
 use Rattle.block_target.proofs.PumpedFrames.{IsFirstFrame, first_frame}
@@ -20,7 +19,6 @@ loop-frame-smaller c =
 pub loop-frame-preserved : goal.loop-frame-preserved
 loop-frame-preserved c =
     let entries : c.pop_free.new.self.window.entries ≡ drop 1 c.loop-frame.core.window.entries = c.in-Some.ensures.entries in
-    let pad : pad_of c.pop_free.new.self ≡ pad_of c.loop-frame.core = c.pop_free.ensures.pad in
     let is : IsFirstFrame c.loop-frame.pool.region c.loop-frame.core.window.entries c.in-Some.frame =
     first_frame c.loop-frame.core.window c.in-Some.frame c.loop-frame.pool.region c.loop-frame.invariant.own c.in-Some.ensures.frame in
     record {
@@ -38,20 +36,22 @@ loop-frame-preserved c =
           c.args.core.now.window.entries = omega arith in
           it;
       region = c.give.ensures.same_region ∙ c.loop-frame.invariant.region;
-      copying = c.pop_free.ensures.copying ∙ c.loop-frame.invariant.copying;
-      pad = pad ∙ c.loop-frame.invariant.pad;
-      rows = c.pop_free.ensures.rows ∙ c.loop-frame.invariant.rows;
+      rest = c.pop_free.ensures.rest ∙ ap (λ (x : Core). record x { window = c.pop_free.new.self.window }) c.loop-frame.invariant.rest;
     }
 
-pub returns-clause-drained : goal.returns-clause-drained
-returns-clause-drained c = λ i w mount st.
+pub returns : goal.returns
+returns c =
+    let was = c.loop-frame.invariant in
     let same : c.pop_free.new.self ≡ c.loop-frame.core = c.in_default.ensures.unchanged in
-    let now = c.loop-frame.invariant.stands i w mount st in
-    let front = front_is_freed i w c.loop-frame.core mount now (c.in_default.ensures.none.0 refl) in
-    ap (λ (x : Core). x.window.freed) same ∙ front
-
-pub returns-clause-unread : goal.returns-clause-unread
-returns-clause-unread c = ap (λ (x : Core). view.is_readable_at x.window x.window.freed) c.in_default.ensures.unchanged ∙ c.in_default.ensures.none.0 refl
-
-pub returns-clause-rows : goal.returns-clause-rows
-returns-clause-rows c = c.pop_free.ensures.rows ∙ c.loop-frame.invariant.rows
+    record {
+      stands = λ i w mount st. c.pop_free.ensures.stands i w mount (was.stands i w mount st);
+      collects = λ i logs is. c.pop_free.ensures.collects i logs (was.collects i logs is);
+      drained = λ i w mount st. ap (λ (x : Core). x.window.freed) same
+          ∙ front_is_freed i w c.loop-frame.core mount (was.stands i w mount st) (c.in_default.ensures.none.0 refl);
+      unread = ap (λ (x : Core). view.is_readable_at x.window x.window.freed) same ∙ c.in_default.ensures.none.0 refl;
+      rest = c.pop_free.ensures.rest ∙ ap (λ (x : Core). record x { window = c.pop_free.new.self.window }) was.rest;
+      own = subst (λ (x : Core). view.AreOf c.loop-frame.pool.region x.window.entries) (sym same) was.own;
+      region = was.region;
+      out = subst (λ (x : Core). count_out c.args.pool.now.left + length x.window.entries
+          ≡ count_out c.loop-frame.pool.left + length c.args.core.now.window.entries) (sym same) was.out;
+    }

@@ -31,9 +31,9 @@ loop-line-preserved c =
       done = c.add.ensures ∙ ap (λ (deeds : List Deed). deeds ++ Decides (Free c.in-Some.line) ∷ []) was.done;
       freed = freed_next c.args.heart.now c.loop-line.heart was.lines was.freed c.free_line.new.self c.in-Some.line c.in-Some.ensures.may
           c.in-Some.ensures.beats;
-      rows = c.free_line.ensures.rows ∙ was.rows;
-      copying = c.free_line.ensures.copying ∙ was.copying;
-      pad = le_trans was.pad c.free_line.ensures.pad;
+      rows = c.free_line.ensures.kept.rows ∙ was.rows;
+      copying = c.free_line.ensures.kept.copying ∙ was.copying;
+      pad = le_trans was.pad c.free_line.ensures.kept.pad.least;
       granted = c.free_line.ensures.granted ∙ was.granted;
     }
 

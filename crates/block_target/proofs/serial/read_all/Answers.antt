@@ -29,4 +29,4 @@ returns-in_err-read-clause-lost g c =
     let e = c.in_err-read.field-0.0 in
     tells_lost c.from_residual.result c.args.mount.now.units c.read.new.self.units e c.from_residual.ensures.1
     (lost_later c.args.mount.now.units c.loop-index.mount.units c.read.new.self.units e.unit e.event c.loop-index.invariant.same.grown
-    c.in_err-read.ensures.lost)
+    c.read.ensures.same.grown c.loop-index.invariant.done c.in_err-read.ensures.lost)

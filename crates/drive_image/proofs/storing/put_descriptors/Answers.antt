@@ -9,7 +9,7 @@ use Rattle.pblk_model.specs.Shape.{units}
 use Rattle.ocssd_geometry.specs.Numbers.{numbers_of}
 use Rattle.ocssd_drive.specs.Drive.{DriveView, stored}
 use Rattle.ocssd_drive.specs.Units.{WornUnit, stored_chunks}
-use Rattle.drive_image.specs.Storing.{HasRoom, WasAdded}
+use Rattle.drive_image.specs.Storing.{HasCapacity, WasAdded}
 use Rattle.drive_image.proofs.Adding.{all_added, enumerated, one_added, room_left}
 use Rattle.drive_image.proofs.storing.put_descriptors.Goals as goal
 
@@ -21,7 +21,7 @@ pub put_unit_descriptors-requires-clause-room : goal.put_unit_descriptors-requir
 put_unit_descriptors-requires-clause-room c =
     let d = c.args.drive.now in
     let u = c.unit.result.now in
-    subst (λ (v : DriveView). HasRoom c.loop-unit.out (unit_descriptors (numbers_of v.geometry) (c.loop-unit.unit, stored_chunks u))) (sym c.drive.view_is)
+    subst (λ (v : DriveView). HasCapacity c.loop-unit.out (unit_descriptors (numbers_of v.geometry) (c.loop-unit.unit, stored_chunks u))) (sym c.drive.view_is)
     (room_left (unit_descriptors (numbers_of d.geometry)) (enumerate_from 0 (stored d).units) c.loop-unit.unit
     (c.loop-unit.unit, stored_chunks u) c.args.out.now c.loop-unit.out c.requires.room c.loop-unit.invariant
     (there d.units c.loop-unit.unit u c.unit.ensures.unit))

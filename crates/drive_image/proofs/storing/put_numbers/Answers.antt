@@ -3,7 +3,7 @@ use Rattle.pblk_model.specs.Geometry.{geometry_bytes}
 use Rattle.pblk_model.specs.ImageFile.{descriptors_bytes, header_bytes}
 use Rattle.ocssd_geometry.specs.Numbers.{numbers_of}
 use Rattle.ocssd_drive.specs.Drive.{DriveView, stored}
-use Rattle.drive_image.specs.Storing.{HasRoom, WasAdded, numbers_bytes}
+use Rattle.drive_image.specs.Storing.{HasCapacity, WasAdded, numbers_bytes}
 use Rattle.drive_image.proofs.Adding.{room_here, room_then, added_both}
 use Rattle.drive_image.proofs.storing.put_numbers.Goals as goal
 use Rattle.drive_image.proofs.storing.put_numbers.Goals.{After-put_header, After-put_geometry, After-put_descriptors}
@@ -34,7 +34,7 @@ put_header-requires c =
     let v = c.args.out.now in
     let h = header_bytes 1 d in
     let g = geometry_bytes d.geometry in
-    subst (HasRoom v) (sym (ap numbers_bytes c.shape-shape.ensures.shape))
+    subst (HasCapacity v) (sym (ap numbers_bytes c.shape-shape.ensures.shape))
     (room_here v h g (room_here v (h ++ g) (descriptors_bytes d) c.requires.room))
 
 pub put_geometry-requires-clause-room : goal.put_geometry-requires-clause-room
@@ -43,7 +43,7 @@ put_geometry-requires-clause-room c =
     let v = c.args.out.now in
     let h = header_bytes 1 d in
     let g = geometry_bytes d.geometry in
-    subst (λ (v : DriveView). HasRoom c.put_header.new.out (geometry_bytes (numbers_of v.geometry))) (sym c.drive.view_is)
+    subst (λ (v : DriveView). HasCapacity c.put_header.new.out (geometry_bytes (numbers_of v.geometry))) (sym c.drive.view_is)
     (room_then v c.put_header.new.out h g (room_here v (h ++ g) (descriptors_bytes d) c.requires.room)
     (added_header (goal.at.put_geometry-requires-clause-room c).After-put_header))
 

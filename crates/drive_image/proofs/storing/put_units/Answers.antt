@@ -5,7 +5,7 @@ use Rattle.std.proofs.lemmas.List.{nil_from_length}
 use Rattle.lemmas.proofs.Lists.{all_front}
 use Rattle.pblk_model.specs.declared.shape.Shape.{Shape}
 use Rattle.ocssd_drive.specs.Units.{WornUnit, IsUnitOf, stored_chunks}
-use Rattle.drive_image.specs.Storing.{HasRoom, WasAdded, chunk_bytes}
+use Rattle.drive_image.specs.Storing.{HasCapacity, WasAdded, chunk_bytes}
 use Rattle.drive_image.proofs.Adding.{next_added, room_next}
 use Rattle.drive_image.proofs.storing.put_units.Goals as goal
 
@@ -36,7 +36,7 @@ put_unit_blocks-requires-clause-room c =
     let steps : into_iter_items at.kept-iterator ≡ x ∷ into_iter_items c.next.new.self = c.in-Some.ensures.steps.0 in
     let whole = ap (λ ys. at.yielded ++ ys) (sym steps) ∙ (at.invariant.0 ∙ c.into_iter-kept-iterator.ensures.into_iter_gives.0) in
     room_next (flat_map chunk_bytes) stored_chunks at.yielded x (into_iter_items c.next.new.self) c.args.out.now at.out
-    (subst (λ (us : List WornUnit). HasRoom c.args.out.now (flat_map (flat_map chunk_bytes) (map stored_chunks us))) (sym whole) c.requires.room)
+    (subst (λ (us : List WornUnit). HasCapacity c.args.out.now (flat_map (flat_map chunk_bytes) (map stored_chunks us))) (sym whole) c.requires.room)
     at.invariant.2
 
 pub loop-kept-preserved : goal.loop-kept-preserved

@@ -1,4 +1,4 @@
-use Rattle.std.proofs.Common.{sym, subst}
+use Rattle.std.proofs.Common.{sym, subst, rules}
 use Rattle.ocssd_drive.specs.Drive.{DriveView}
 use Rattle.step_laws.specs.Opened.{AreArmed}
 use Rattle.scan_recovery.proofs.UnitsLemmas.{drive_fits}
@@ -6,11 +6,12 @@ use Rattle.pblk_cli.specs.Serving.{units_of}
 use Rattle.pblk_cli.proofs.RanDrives.{left_made, ran_made, together_made, whole_made}
 use Rattle.pblk_cli.proofs.drive_run.run_drive.Goals as goal
 
-pub serve-units-requires-clause-fit : goal.serve-units-requires-clause-fit
-serve-units-requires-clause-fit g c = drive_fits c.args.drive _ c.shape-shape.result c.drive.view_is c.shape-shape.ensures.shape c.shape-shape.ensures.whole
-
-pub serve-units-requires-clause-armed : goal.serve-units-requires-clause-armed
-serve-units-requires-clause-armed g c = subst (λ (d : DriveView). AreArmed (units_of d.units)) (sym c.drive.view_is) c.requires.armed
+pub serve-units-requires-clause-opens : goal.serve-units-requires-clause-opens
+serve-units-requires-clause-opens g c = record {
+  accepted = search rules;
+  fit = drive_fits c.args.drive _ c.shape-shape.result c.drive.view_is c.shape-shape.ensures.shape c.shape-shape.ensures.whole;
+  armed = subst (λ (d : DriveView). AreArmed (units_of d.units)) (sym c.drive.view_is) c.requires.armed;
+}
 
 pub invariant_of-drive : goal.invariant_of-drive
 invariant_of-drive g c = whole_made c.args.drive _ c.shape-shape.result c.serve-units.result.units.items c.drive.view_is c.shape-shape.ensures.shape

@@ -7,7 +7,7 @@ use Rattle.pblk_world.specs.EngineLog.{Begun, begun}
 use Rattle.pblk_world.specs.Events.{Logged}
 use Rattle.pblk_world.specs.Legal.{IsLegal}
 use Rattle.pblk_world.specs.World.{Logs, World, log_of}
-use Rattle.world_laws.specs.LegalMounts.{NoneLost, decides, is_losing}
+use Rattle.pblk_world.specs.LegalMounts.{NoStripeLost, decides, is_losing}
 use Rattle.world_laws.proofs.Beginnings.{has_begun}
 use Rattle.prefix_law.proofs.Answered.{unlost_again}
 use Rattle.block_port.specs.declared.rows.WornAnswer.{WornAnswer}
@@ -46,7 +46,7 @@ returns c = λ found left options commands t a run unlost sealed among flush.
     let is = one i (log_of run.world) 0 (worns_of commands t) a run.worn among in
     let begun_is = begins i run.world is.0 a run.legal.legal is.1 flush in
     let refused = subst (λ count. IsRefusal i (log_of run.world) is.0 count a.wanted a.have) flush is.1.cause in
-    let none_lost : NoneLost (take is.0 (log_of run.world 0)) =
+    let none_lost : NoStripeLost (take is.0 (log_of run.world 0)) =
     all_taken (λ (l : Logged). decides is_losing l.event ≡ false) is.0 (log_of run.world 0) unlost in
     let told = c.a_refused_flush_tells_the_end.ensures i run.world begun_is.0 is.0 a.wanted a.have run.legal sealed begun_is.1
     (unlost_again i.shape (take is.0 (log_of run.world 0)) none_lost) refused in

@@ -7,7 +7,7 @@ pub returns : goal.returns
 returns c = record {
   opened = λ i w is some four due.
       let b = begun_once i w is.mount.legal some in last_opened i w b.0 is.mount b.1 is.wide is.reset four due;
-  stands = λ i w last mount none last_is. last_stands i w (record { mount = mount; engine = record { lost = none } }) last last_is;
-  landed = λ i w last mount none last_is. last_landed i w (record { mount = mount; engine = record { lost = none } }) last last_is;
+  stands = λ i w last mount none last_is. last_stands i w (record { mount = mount; none_lost = none }) last last_is;
+  landed = λ i w last mount none last_is. last_landed i w (record { mount = mount; none_lost = none }) last last_is;
   newest = landed_is_newest;
 }

@@ -8,8 +8,11 @@ pub returns : goal.returns
 returns c = record {
   whole = λ i logs wide. free_are i logs wide;
   unit = λ i s w unit mount own. unit_keeps i s w mount unit own;
-  kept = λ i s w e mount some own is. let b = begun_once i w (before i s w mount).legal some in engine_keeps i s w mount own b.0 b.1 e is;
-  opened = λ i s w line start mount some own is. let b = begun_once i w (before i s w mount).legal some in open_takes i s w mount own b.0 b.1 line start is;
-  reset = λ i s w unit number e mount some own is.
-      let b = begun_once i w (before i s w mount).legal some in reset_gives i s w mount own b.0 b.1 unit number e is;
+  kept = λ i s w e is.
+      let b = begun_once i w (before i s w is.mount).legal is.has_begun in engine_keeps i s w is.mount is.own b.0 b.1 e is.decides;
+  opened = λ i s w line start is.
+      let b = begun_once i w (before i s w is.mount).legal is.has_begun in open_takes i s w is.mount is.own b.0 b.1 line start is.decides;
+  reset = λ i s w e is.
+      let b = begun_once i w (before i s w is.step.mount).legal is.step.has_begun in
+      reset_gives i s w is.step.mount is.step.own b.0 b.1 is.unit is.number e is.step.decides is.there;
 }

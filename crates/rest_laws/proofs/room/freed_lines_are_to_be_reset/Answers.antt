@@ -6,10 +6,14 @@ use Rattle.rest_laws.proofs.room.freed_lines_are_to_be_reset.Goals as goal
 pub returns : goal.returns
 returns c = record {
   unit = λ i s w unit mount own. unit_keeps_unreset i s w mount unit own;
-  kept = λ i s w e mount some own is. let b = begun_once i w (before i s w mount).legal some in engine_keeps_unreset i s w mount own b.0 b.1 e is;
-  free = λ i s w line mount some own is. let b = begun_once i w (before i s w mount).legal some in free_adds i s w mount own b.0 b.1 line is;
-  reset = λ i s w unit number e mount some own is at.
-      let b = begun_once i w (before i s w mount).legal some in reset_takes i s w mount own b.0 b.1 unit number e is at;
-  sum = λ i s w unit number e mount some own is at.
-      let b = begun_once i w (before i s w mount).legal some in reset_moves i s w mount own b.0 b.1 unit number e is at;
+  kept = λ i s w e is.
+      let b = begun_once i w (before i s w is.mount).legal is.has_begun in engine_keeps_unreset i s w is.mount is.own b.0 b.1 e is.decides;
+  free = λ i s w line is.
+      let b = begun_once i w (before i s w is.mount).legal is.has_begun in free_adds i s w is.mount is.own b.0 b.1 line is.decides;
+  reset = λ i s w e is.
+      let b = begun_once i w (before i s w is.step.mount).legal is.step.has_begun in
+      reset_takes i s w is.step.mount is.step.own b.0 b.1 is.unit is.number e is.step.decides is.there;
+  sum = λ i s w e is.
+      let b = begun_once i w (before i s w is.step.mount).legal is.step.has_begun in
+      reset_moves i s w is.step.mount is.step.own b.0 b.1 is.unit is.number e is.step.decides is.there;
 }

@@ -5,9 +5,11 @@ use Rattle.rest_laws.proofs.room.stripes_take_addresses_and_resets_give_them.Goa
 pub returns : goal.returns
 returns c = record {
   unit = λ i s w unit mount own. unit_keeps i s w mount unit own;
-  kept = λ i s w e mount some own is. let b = begun_once i w (before i s w mount).legal some in engine_keeps i s w mount own b.0 b.1 e is;
-  stripe = λ i s w stripe mount none some own is.
-      let b = begun_once i w (before i s w mount).legal some in stripe_takes i s w mount own b.0 b.1 none stripe is;
-  reset = λ i s w unit number e mount some own is.
-      let b = begun_once i w (before i s w mount).legal some in reset_gives i s w mount own b.0 b.1 unit number e is;
+  kept = λ i s w e is.
+      let b = begun_once i w (before i s w is.mount).legal is.has_begun in engine_keeps i s w is.mount is.own b.0 b.1 e is.decides;
+  stripe = λ i s w stripe is none.
+      let b = begun_once i w (before i s w is.mount).legal is.has_begun in stripe_takes i s w is.mount is.own b.0 b.1 none stripe is.decides;
+  reset = λ i s w e is.
+      let b = begun_once i w (before i s w is.step.mount).legal is.step.has_begun in
+      reset_gives i s w is.step.mount is.step.own b.0 b.1 is.unit is.number e is.step.decides is.there;
 }

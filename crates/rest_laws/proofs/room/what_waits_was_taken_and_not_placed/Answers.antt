@@ -6,9 +6,11 @@ use Rattle.rest_laws.proofs.room.what_waits_was_taken_and_not_placed.Goals as go
 
 pub returns : goal.returns
 returns c = record {
-  waits = λ i w mount none. taken_waits i w (record { mount = mount; engine = record { lost = none } });
-  take = λ i s w entry mark mount some own is. let b = begun_once i w (before i s w mount).legal some in entry_taken i s w mount own b.0 b.1 entry mark is;
-  stripe = λ i s w stripe mount none some own is.
-      let b = begun_once i w (before i s w mount).legal some in stripe_placed i s w mount own b.0 b.1 none stripe is;
-  kept = λ i s w e mount some own is. let b = begun_once i w (before i s w mount).legal some in fronts_kept i s w mount own b.0 b.1 e is;
+  waits = λ i w mount none. taken_waits i w (record { mount = mount; none_lost = none });
+  take = λ i s w entry mark is.
+      let b = begun_once i w (before i s w is.mount).legal is.has_begun in entry_taken i s w is.mount is.own b.0 b.1 entry mark is.decides;
+  stripe = λ i s w stripe is none.
+      let b = begun_once i w (before i s w is.mount).legal is.has_begun in stripe_placed i s w is.mount is.own b.0 b.1 none stripe is.decides;
+  kept = λ i s w e is.
+      let b = begun_once i w (before i s w is.mount).legal is.has_begun in fronts_kept i s w is.mount is.own b.0 b.1 e is.decides;
 }

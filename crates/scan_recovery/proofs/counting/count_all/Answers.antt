@@ -3,7 +3,7 @@ use Rattle.std.specs.List.{filter}
 use Rattle.std.specs.Option.{option_map}
 use Rattle.pblk_model.specs.Contents.{counts}
 use Rattle.pblk_meta.specs.Records.{row_numbers, start_numbers}
-use Rattle.scan_recovery.specs.Traces.{bares, row_of}
+use Rattle.scan_recovery.specs.Traces.{bares, head_row}
 use Rattle.scan_recovery.proofs.Tallies.{counted_yes, counted_no, row_there, line_there}
 use Rattle.scan_recovery.proofs.counting.count_all.Goals as goal
 use Rattle.scan_recovery.proofs.counting.count_all.Goals.{then-counts, else-counts}
@@ -16,7 +16,7 @@ loop-t-preserved c =
     let h = c.requires.head in
     let inside = line_there n c.args.traces.now c.loop-t.t-index _ c.requires.lines c.loop-t-test.true in
     let is = c.counts.ensures.counts h.shape h.line h.width h.fits
-    (row_there n (row_of (Some (start_numbers c.args.head.now))) (option_map row_numbers) c.args.rows.now _ _ c.requires.rows inside) in
+    (row_there n (head_row (Some (start_numbers c.args.head.now))) (option_map row_numbers) c.args.rows.now _ _ c.requires.rows inside) in
     elim c.if-counts.branch [
       | then-counts w ↦ rw w.tally-is (record {
         tally = λ sectors first. rw (counted_yes p c.args.traces.now c.loop-t.t-index _ c.loop-t-test.true (sym is ∙ w.if-counts.true))

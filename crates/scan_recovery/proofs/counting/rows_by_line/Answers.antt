@@ -1,7 +1,7 @@
 use Rattle.std.proofs.Common.{map}
 use Rattle.std.specs.Option.{option_map}
 use Rattle.pblk_meta.specs.Records.{row_numbers, start_numbers}
-use Rattle.scan_recovery.specs.Traces.{row_of}
+use Rattle.scan_recovery.specs.Traces.{head_row}
 use Rattle.scan_recovery.proofs.Tables.{table_push}
 use Rattle.scan_recovery.proofs.counting.rows_by_line.Goals as goal
 use Rattle.lemmas.proofs.Maps.{map_last}
@@ -9,5 +9,5 @@ use Rattle.lemmas.proofs.Maps.{map_last}
 pub loop-line-preserved : goal.loop-line-preserved
 loop-line-preserved c =
     rw (c.in_ok-push.ensures.items, map_last (option_map row_numbers) c.loop-line.rows.items c.row_in.result)
-    (table_push c.loop-line.line (row_of (option_map start_numbers c.args.head.now)) (map (option_map row_numbers) c.loop-line.rows.items)
+    (table_push c.loop-line.line (head_row (option_map start_numbers c.args.head.now)) (map (option_map row_numbers) c.loop-line.rows.items)
     (option_map row_numbers c.row_in.result) c.loop-line.invariant c.row_in.ensures)

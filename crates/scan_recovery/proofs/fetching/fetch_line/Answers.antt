@@ -2,7 +2,7 @@ use Rattle.std.proofs.Common.{◌*◌, ◌<◌, Some, None, map, length, sym, ap
 use Rattle.std.proofs.lemmas.List.{length-map}
 use Rattle.std.proofs.lemmas.Result.{err_from_is_err_and}
 use Rattle.unit_port.proofs.Units.{kept_more}
-use Rattle.pblk_layout.specs.Live.{units_in}
+use Rattle.pblk_layout.specs.Online.{units_in}
 use Rattle.pblk_laws.specs.LineBlocks.{written_at}
 use Rattle.world_laws.specs.Finding.{NoneOpen}
 use Rattle.scan_recovery.specs.Units.{image_of}

@@ -1,6 +1,6 @@
 use Rattle.std.proofs.Common.{◌≡◌, ◌≤◌, ◌*◌, map, length, sym, ap, subst, ◌∙◌, arith}
 use Rattle.pblk_laws.proofs.LineUnits.{line_units_count}
-use Rattle.pblk_layout.specs.Live.{units_in}
+use Rattle.pblk_layout.specs.Online.{units_in}
 use Rattle.pblk_model.specs.Image.{width}
 use Rattle.pblk_model.specs.Shape.{units}
 use Rattle.scan_recovery.specs.Units.{image_of}

@@ -1,7 +1,7 @@
 use Rattle.std.proofs.Common.{◌≡◌, ◌+◌, Some, List, [], ◌∷◌, drop, not, sym, ap, ◌∙◌, arith}
 use Rattle.std.specs.List.{slice_get}
 use Rattle.std.specs.Option.{option_map}
-use Rattle.pblk_layout.specs.Live.{is_in}
+use Rattle.pblk_layout.specs.Online.{is_in}
 use Rattle.stripe_placer.specs.Placing.{placement, UnitRow, stopped_in, is_ready}
 use Rattle.stripe_placer.specs.Inside.{first_given}
 use Rattle.stripe_placer.proofs.Rows.{stopped_skip, stopped_hit, stopped_ready, get_is, named_by, none_named}

@@ -46,4 +46,4 @@ returns c =
     let s = c.args.shape.now in
     let reached : c.loop-unit._unit ≡ c.units-unit-end.result = omega arith in
     let same = c.loop-unit.invariant ∙ ap (λ n. replicate n (new_unit s)) (reached ∙ c.units-unit-end.ensures) in
-    record { fit = are_fit s c.loop-unit.made.items same; armed = are_armed s c.loop-unit.made.items same }
+    record { accepted = c.requires; fit = are_fit s c.loop-unit.made.items same; armed = are_armed s c.loop-unit.made.items same }

@@ -13,7 +13,7 @@ returns-clause-none c = frees_none c.free_line.result c.args.self.now c.free_lin
 
 pub returns-clause-beats : goal.returns-clause-beats
 returns-clause-beats c = frees_beats c.free_line.result c.args.self.now c.free_line.new.self c.free_line.ensures.may c.free_line.ensures.stands
-    c.free_line.ensures.collects c.free_line.ensures.window c.free_line.ensures.pad_most
+    c.free_line.ensures.collects c.free_line.ensures.window c.free_line.ensures.kept.pad.most
 
 pub returns-clause-unchanged : goal.returns-clause-unchanged
 returns-clause-unchanged c = frees_unchanged c.free_line.result c.args.self.now c.free_line.new.self c.free_line.ensures.unchanged

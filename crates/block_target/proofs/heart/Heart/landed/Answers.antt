@@ -1,51 +1,37 @@
-use Rattle.std.proofs.Common.{List, ap, ◌∙◌}
-use Rattle.std.specs.Prelude.{slice_get}
 use Rattle.pblk_world.specs.Events.{Landed}
-use Rattle.stripe_placer.specs.Placing.{UnitRow}
-use Rattle.block_target.proofs.HeartSteps.{IsRenewed, beats_later, collecting_at, grant_rises, standing_next}
+use Rattle.block_target.proofs.HeartSteps.{beats_later, collecting_at, grant_rises, standing_next}
+use Rattle.block_target.proofs.KeptCores.{others_renewed}
 use Rattle.block_target.proofs.heart.Heart.landed.Goals as goal
-
-renewed : (c : goal.After-renew) → IsRenewed c.args.self.now c.landed.new.self c.renew.new.self
-renewed c = record {
-  stands = c.renew.ensures.stands;
-  collects = c.renew.ensures.collects;
-  drained = c.renew.ensures.drained;
-  granted = c.renew.ensures.granted;
-  own = c.renew.ensures.own;
-  out = c.renew.ensures.out;
-  region = c.renew.ensures.region;
-  pad = c.renew.ensures.pad;
-}
 
 pub landed-requires-clause-collecting : goal.landed-requires-clause-collecting
 landed-requires-clause-collecting c =
     let may = c.requires.may in
-    collecting_at may.0 may.1 c.args.self.now may.2 may.3
+    collecting_at may.image may.world c.args.self.now may.legal may.stands
 
 pub renew-requires-clause-standing : goal.renew-requires-clause-standing
 renew-requires-clause-standing c =
     let may = c.requires.may in
-    let st = may.3.stands in
-    standing_next may.0 may.1 (Landed c.args.stripe.now.stripe.unit may.4) c.landed.new.self may.2 (st.beginning, st.has_begun, may.5)
-    (c.landed.ensures.stands may.0 may.1 may.4 _ may.2 st may.5)
+    let st = may.stands.stands in
+    standing_next may.image may.world (Landed c.args.stripe.now.stripe.unit may.event) c.landed.new.self may.legal (st.beginning, st.has_begun, may.may)
+    (c.landed.ensures.stands may.image may.world may.event _ may.legal st may.may)
 
 pub renew-requires-clause-own : goal.renew-requires-clause-own
-renew-requires-clause-own c = c.landed.ensures.own c.args.self.now.pool.region c.requires.may.3.own
+renew-requires-clause-own c = c.landed.ensures.frames.own c.args.self.now.pool.region c.requires.may.stands.own
 
 pub returns-clause-beats : goal.returns-clause-beats
 returns-clause-beats c = λ i w event knows mount is may legal.
     beats_later i w (Landed c.args.stripe.now.stripe.unit event) knows c.args.self.now c.landed.new.self c.renew.new.self mount is legal
     (c.landed.ensures.stands i w event knows mount is.stands may) (c.landed.ensures.collects i w event knows mount is.stands is.collects may)
-    c.landed.ensures.count c.landed.ensures.pad_most (renewed c)
-
-pub returns-clause-rows : goal.returns-clause-rows
-returns-clause-rows c = λ other apart.
-    ap (λ (rows : List UnitRow). slice_get rows other) c.renew.ensures.rows ∙ c.landed.ensures.rows other apart
+    c.landed.ensures.frames.count c.landed.ensures.kept.pad.most c.renew.ensures
 
 pub returns-clause-granted : goal.returns-clause-granted
 returns-clause-granted c =
     let may = c.requires.may in
-    let st = may.3.stands in
+    let st = may.stands.stands in
     grant_rises c.args.self.now c.landed.new.self c.renew.new.self
-    (standing_next may.0 may.1 (Landed c.args.stripe.now.stripe.unit may.4) c.landed.new.self may.2 (st.beginning, st.has_begun, may.5)
-    (c.landed.ensures.stands may.0 may.1 may.4 _ may.2 st may.5)) (renewed c)
+    (standing_next may.image may.world (Landed c.args.stripe.now.stripe.unit may.event) c.landed.new.self may.legal (st.beginning, st.has_begun, may.may)
+    (c.landed.ensures.stands may.image may.world may.event _ may.legal st may.may)) c.renew.ensures
+
+pub returns-clause-kept : goal.returns-clause-kept
+returns-clause-kept c = others_renewed c.args.self.now.core c.landed.new.self c.renew.new.self.core c.renew.ensures.frames.rest c.args.stripe.now.stripe.unit
+    c.landed.ensures.kept

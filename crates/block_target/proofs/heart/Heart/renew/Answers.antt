@@ -6,6 +6,8 @@ grant-requires-clause-standing c =
     let s = c.requires.standing in
     record { image = s.image; world = s.world; legal = s.legal; stands = c.free_frames.ensures.stands s.image s.world s.legal s.stands }
 
-pub returns-clause-granted : goal.returns-clause-granted
-returns-clause-granted c = λ i w mount st.
-    c.max-self.ensures ∙ ap (max c.args.self.now.granted) (c.grant.ensures i w mount (c.free_frames.ensures.stands i w mount st))
+pub returns : goal.returns
+returns c = record {
+  frames = c.free_frames.ensures;
+  granted = λ i w mount st. c.max-self.ensures ∙ ap (max c.args.self.now.granted) (c.grant.ensures i w mount (c.free_frames.ensures.stands i w mount st));
+}

@@ -22,4 +22,4 @@ returns-clause-beats c = λ i w event knows mount is may legal.
     (ap (λ (x : window.WindowView). x.freed) same)
     (subst (λ (x : window.WindowView). window.AreOf c.args.self.now.pool.region x.entries) (sym same) is.own)
     (is.out ∙ ap (λ (x : window.WindowView). length x.entries) (sym same)) refl refl
-    c.stopped.ensures.pad_most
+    c.stopped.ensures.kept.pad.most

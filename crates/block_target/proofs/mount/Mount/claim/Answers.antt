@@ -1,6 +1,6 @@
 use Rattle.std.proofs.Common.{◌≡◌, ◌≤◌, ◌+◌, max, length, subst, ap, ap₂, refl, arith, ◌∙◌}
 use Rattle.pblk_model.specs.declared.run.Front.{Front}
-use Rattle.world_laws.specs.Reasons.{WasRoom}
+use Rattle.pblk_world.specs.Reasons.{WasRoom}
 use Rattle.block_target.specs.Mount.{MountView, IsSound, engine_log, logs_in, taken_in}
 use Rattle.block_target.proofs.MountLemmas.{same_then}
 use Rattle.block_target.proofs.SameMounts.{IsWorked, stuck_claimed, waits_lost, worked_more, worked_none}
@@ -46,10 +46,10 @@ returns-then-wanted-self-clause-done g c = λ ok. c.loop.invariant.done
 
 pub returns-then-wanted-self-clause-once : goal.returns-then-wanted-self-clause-once
 returns-then-wanted-self-clause-once g c =
-    subst (λ (v : MountView). WasRoom v.image (logs_in v) (length (engine_log v)) v.granted) c.self.view_is c.self.invariant.mount.heart.once
+    subst (λ (v : MountView). WasRoom v.image (logs_in v) (length (engine_log v)) v.granted) c.self.view_is c.self.invariant.heart.once
 
 pub returns-then-wanted-self-clause-sound : goal.returns-then-wanted-self-clause-sound
-returns-then-wanted-self-clause-sound g c = subst IsSound c.self.view_is c.self.invariant.mount.sound
+returns-then-wanted-self-clause-sound g c = subst IsSound c.self.view_is c.self.invariant.sound
 
 pub returns-then-not-branch-clause-same : goal.returns-then-not-branch-clause-same
 returns-then-not-branch-clause-same g c = same_then c.args.self.now c.loop.self c.go_on.new.self c.loop.invariant.same c.go_on.ensures.same
@@ -69,4 +69,4 @@ pub returns-in_err-go_on-clause-refused : goal.returns-in_err-go_on-clause-refus
 returns-in_err-go_on-clause-refused g c =
     waits_lost c.from_residual.result c.args.self.now c.loop.self c.go_on.new.self (taken_in c.go_on.new.self + c.args.count) c.go_on.new.self.granted 0
     c.in_err-go_on.field-0.0
-    c.from_residual.ensures.1 c.loop.invariant (c.in_err-go_on.ensures.lost)
+    c.from_residual.ensures.1 c.loop.invariant c.go_on.ensures.same c.in_err-go_on.ensures.lost

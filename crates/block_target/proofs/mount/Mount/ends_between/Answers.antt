@@ -12,7 +12,7 @@ pub returns : goal.returns
 returns g c =
     let i = image_of c.self.inside.shape (drive_before c.self.inside.drives) in
     let w = world_of c.self.inside.shape c.self.inside.deeds in
-    let sound = c.self.invariant.mount.sound in
+    let sound = c.self.invariant.sound in
     subst (λ (v : MountView). IsSealed v.image → (synced_in v ≤ end (media v.image (logs_in v))) × (end (media v.image (logs_in v)) ≤ taken_in v))
     c.self.view_is
     (λ sealed. (

@@ -2,7 +2,7 @@ use Rattle.std.proofs.Common.{length, map, sym, subst, ap, ◌∙◌}
 use Rattle.std.specs.Prelude.{IfErr}
 use Rattle.pblk_core.specs.Named.{pad_of}
 use Rattle.pblk_model.specs.Chunk.{Block}
-use Rattle.scan_recovery.specs.Lost.{IsLostAt, NoneLost}
+use Rattle.scan_recovery.specs.DriveFaults.{IsDriveFaultAt, NoDriveFaults}
 use Rattle.block_target.specs.Mount.{MountView, IsFetchable, IsMount, mount_view, world_in}
 use Rattle.block_target.proofs.GoingOn.{Leaves, moved_on}
 use Rattle.block_target.proofs.MountLemmas.{same_from}
@@ -13,7 +13,7 @@ use Rattle.block_target.proofs.mount.Mount.fetch.Goals as goal
 
 pub fetch_block-requires-clause-size : goal.fetch_block-requires-clause-size
 fetch_block-requires-clause-size g c =
-    let m = c.self.invariant.mount in
+    let m = c.self.invariant in
     let v : MountView = mount_view c.self.inside.shape c.self.inside.drives c.self.inside.deeds (map g.U.Unit.model c.self.inside.units.items)
     (map g.U.Unit.wear c.self.inside.units.items) c.self.inside.heart.granted (pad_of c.self.inside.heart.core) c.self.inside.asked in
     let is : (b : Block) × IsFetchable v c.args.unit c.args.chunk c.args.block b =
@@ -23,7 +23,7 @@ fetch_block-requires-clause-size g c =
 
 pub fetch_block-requires-clause-there : goal.fetch_block-requires-clause-there
 fetch_block-requires-clause-there g c =
-    let m = c.self.invariant.mount in
+    let m = c.self.invariant in
     let v : MountView = mount_view c.self.inside.shape c.self.inside.drives c.self.inside.deeds (map g.U.Unit.model c.self.inside.units.items)
     (map g.U.Unit.wear c.self.inside.units.items) c.self.inside.heart.granted (pad_of c.self.inside.heart.core) c.self.inside.asked in
     let is : (b : Block) × IsFetchable v c.args.unit c.args.chunk c.args.block b =
@@ -44,7 +44,7 @@ module _ (g : Over) (c : After-fetch_block g) where
       (map g.U.Unit.wear c.self.inside.units.items) c.self.inside.heart.granted (pad_of c.self.inside.heart.core) c.self.inside.asked
 
   m : IsMount v c.self.inside.heart c.self.inside.stripe
-  m = c.self.invariant.mount
+  m = c.self.invariant
 
   is : (b : Block) × IsFetchable v c.args.unit c.args.chunk c.args.block b
   is = subst (λ (x : MountView). (b : Block) × IsFetchable x c.args.unit c.args.chunk c.args.block b) (sym c.self.view_is) c.requires.there
@@ -56,10 +56,7 @@ module _ (g : Over) (c : After-fetch_block g) where
       c.fetch_block.ensures.wear
 
 pub invariant_of-self : goal.invariant_of-self
-invariant_of-self g c = record {
-  mount = (leaves g (goal.at.invariant_of-self g c).After-fetch_block).mount;
-  buffer_size = c.self.invariant.buffer_size;
-}
+invariant_of-self g c = (leaves g (goal.at.invariant_of-self g c).After-fetch_block).mount
 
 pub returns-clause-same : goal.returns-clause-same
 returns-clause-same g c = same_from c.self.view_is (leaves g (goal.at.returns-clause-same g c).After-fetch_block).same
@@ -70,14 +67,14 @@ returns-clause-sound g c = (leaves g (goal.at.returns-clause-sound g c).After-fe
 pub returns-clause-done : goal.returns-clause-done
 returns-clause-done g c = λ ok.
     let d = (goal.at.returns-clause-done g c).After-fetch_block in
-    subst (λ (old : MountView). NoneLost old.units (map g.U.Unit.model c.fetch_block.new.units.items)) c.self.view_is
+    subst (λ (old : MountView). NoDriveFaults old.units (map g.U.Unit.model c.fetch_block.new.units.items)) c.self.view_is
     (fetch_kept (m g d) c.args.unit c.args.chunk c.args.block (is g d).1 c.fetch_block.ensures.fetched ok)
 
 pub returns-clause-lost : goal.returns-clause-lost
 returns-clause-lost g c =
     let d = (goal.at.returns-clause-lost g c).After-fetch_block in
     subst (λ (old : MountView). IfErr c.fetch_block.result
-    (λ e. IsLostAt old.units (map g.U.Unit.model c.fetch_block.new.units.items) e.unit e.event)) c.self.view_is
+    (λ e. IsDriveFaultAt old.units (map g.U.Unit.model c.fetch_block.new.units.items) e.unit e.event)) c.self.view_is
     (fetch_lost (m g d) c.args.unit c.args.chunk c.args.block (is g d).1 c.fetch_block.ensures.fetched)
 
 pub returns-clause-sector : goal.returns-clause-sector

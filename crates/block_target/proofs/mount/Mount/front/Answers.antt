@@ -6,7 +6,7 @@ use Rattle.block_target.proofs.mount.Mount.front.Goals as goal
 
 pub returns-clause-small : goal.returns-clause-small
 returns-clause-small g c =
-    let m = c.self.invariant.mount in
+    let m = c.self.invariant in
     let v : MountView = mount_view c.self.inside.shape c.self.inside.drives c.self.inside.deeds (map g.U.Unit.model c.self.inside.units.items)
     (map g.U.Unit.wear c.self.inside.units.items) c.self.inside.heart.granted (pad_of c.self.inside.heart.core) c.self.inside.asked in
     let low : taken_in v ≤ 2 ^ 62 = taken_small v m.sound in

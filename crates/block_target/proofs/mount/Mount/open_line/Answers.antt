@@ -17,10 +17,10 @@ use Rattle.block_target.proofs.mount.Mount.open_line.Goals.{After-free_lines, Af
 use Rattle.block_target.proofs.mount.Mount.open_line.Goals as goal
 
 pub open_line-requires-clause-beating : goal.open_line-requires-clause-beating
-open_line-requires-clause-beating g c = beating_in c.self.invariant.mount
+open_line-requires-clause-beating g c = beating_in c.self.invariant
 
 pub open_line-requires-clause-named : goal.open_line-requires-clause-named
-open_line-requires-clause-named g c = is_named c.self.invariant.mount works.Open (ap work_in c.self.view_is ∙ c.requires)
+open_line-requires-clause-named g c = is_named c.self.invariant works.Open (ap work_in c.self.view_is ∙ c.requires)
 
 module _ (g : Over) (c : After-open_line g) where
   -- the mount before
@@ -29,13 +29,13 @@ module _ (g : Over) (c : After-open_line g) where
       (map g.U.Unit.wear c.self.inside.units.items) c.self.inside.heart.granted (pad_of c.self.inside.heart.core) c.self.inside.asked
 
   m : IsMount v c.self.inside.heart c.self.inside.stripe
-  m = c.self.invariant.mount
+  m = c.self.invariant
 
   abbrev start : StartRecord
   start = next_start c.self.inside.heart.core
 
   may : (b : Begun) → begun (engine_log v) ≡ Some b → MayOpen v.image (logs_in v) b start.line start
-  may b has = c.open_line.ensures.legal v.image (world_in v) b m.sound.legal m.heart has
+  may b has = c.open_line.ensures.legal v.image (world_in v) m.sound.legal m.heart b has
 
   its_work : work_in v ≡ works.Open
   its_work = ap work_in c.self.view_is ∙ c.requires
@@ -53,11 +53,11 @@ module _ (g : Over) (c : After-free_lines g) where
       (pad_of c.free_lines.new.heart.core)) c.free_lines.new.heart c.self.inside.stripe
   leaves =
       leaves_opened (m g d) (start g d).line (start g d) (may g d) (its_work g d) c.open_line.new.self c.free_lines.new.heart c.free_lines.new.deeds
-      c.open_line.ensures.beats c.open_line.ensures.rows c.open_line.ensures.copying c.open_line.ensures.granted c.open_line.ensures.pad
+      c.open_line.ensures.beats c.open_line.ensures.kept.rows c.open_line.ensures.kept.copying c.open_line.ensures.granted c.open_line.ensures.kept.pad.least
       (subst (λ (ds : List Deed). HaveFreed c.open_line.new.self ds c.free_lines.new.heart c.free_lines.new.deeds) c.add.ensures c.free_lines.ensures)
 
 pub invariant_of-self : goal.invariant_of-self
-invariant_of-self g c = record { mount = (leaves g c).mount; buffer_size = c.self.invariant.buffer_size }
+invariant_of-self g c = (leaves g c).mount
 
 pub returns-clause-same : goal.returns-clause-same
 returns-clause-same g c = same_from c.self.view_is (leaves g c).same

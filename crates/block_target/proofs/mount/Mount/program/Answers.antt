@@ -11,7 +11,7 @@ use Rattle.unit_port.specs.Unit.{ModelUnit, TellsDone}
 use Rattle.unit_port.specs.declared.unit.UnitErr.TheVariants as errors
 use Rattle.block_target.specs.Arm.{WasGiven, last_of}
 use Rattle.block_target.specs.Deeds.{Deed, Does, Lands, Loses, Offers, world_of}
-use Rattle.scan_recovery.specs.Lost.{IsLostAt, NoneLost}
+use Rattle.scan_recovery.specs.DriveFaults.{IsDriveFaultAt, NoDriveFaults}
 use Rattle.block_target.specs.Mount.{IsMount, MountView, engine_log, mount_view, work_in}
 use Rattle.block_target.proofs.FailedPrograms.{has_chunk, kept_is}
 use Rattle.block_target.proofs.FreedMounts.{longer_freed}
@@ -28,11 +28,11 @@ same_least : {a b : ℕ} → a ≡ b → a ≤ b
 same_least same = omega arith
 
 pub place-requires-clause-named : goal.place-requires-clause-named
-place-requires-clause-named g c = is_named c.self.invariant.mount works.Program (ap work_in c.self.view_is ∙ c.requires)
+place-requires-clause-named g c = is_named c.self.invariant works.Program (ap work_in c.self.view_is ∙ c.requires)
 
 pub index_mut-unit-requires : goal.index_mut-unit-requires
 index_mut-unit-requires g c =
-    let m = c.self.invariant.mount in
+    let m = c.self.invariant in
     let v : MountView = mount_view c.self.inside.shape c.self.inside.drives c.self.inside.deeds (map g.U.Unit.model c.self.inside.units.items)
     (map g.U.Unit.wear c.self.inside.units.items) c.self.inside.heart.granted (pad_of c.self.inside.heart.core) c.self.inside.asked in
     let into = c.place.new.into in
@@ -48,7 +48,7 @@ index_mut-unit-requires g c =
 
 pub program-answer-requires : goal.program-answer-requires
 program-answer-requires g c =
-    let m = c.self.invariant.mount in
+    let m = c.self.invariant in
     let v : MountView = mount_view c.self.inside.shape c.self.inside.drives c.self.inside.deeds (map g.U.Unit.model c.self.inside.units.items)
     (map g.U.Unit.wear c.self.inside.units.items) c.self.inside.heart.granted (pad_of c.self.inside.heart.core) c.self.inside.asked in
     let into = c.place.new.into in
@@ -74,7 +74,7 @@ module _ (g : Over) (c : After-add g) where
       (map g.U.Unit.wear c.self.inside.units.items) c.self.inside.heart.granted (pad_of c.self.inside.heart.core) c.self.inside.asked
 
   m : IsMount v c.self.inside.heart c.self.inside.stripe
-  m = c.self.invariant.mount
+  m = c.self.invariant
 
   -- the stripe, and what was done once it was placed
   abbrev into : Filling
@@ -166,13 +166,14 @@ module _ (g : Over) (c : After-free_lines g) where
       c.free_lines.new.heart (into g d)
   leaves_ok = leaves_landed (m g d) (deeds g d) (ready g d) (was g d) (new g d) (there g d) (given g d) done c.add-in-Ok.new.self (us g d) (wear g d)
       c.landed.new.self (into g d) (placed_more (v g d) (into g d) (deeds g d) (were g d)) last (units_are g d) c.landed.ensures.beats
-      (rests_idle c.self.inside.heart.core c.place.new.self.core c.landed.new.self.core (into g d).stripe.unit (m g d).resting c.place.ensures.rows
-      c.landed.ensures.rows c.landed.ensures.idle) (c.landed.ensures.copying ∙ c.place.ensures.copying) (c.place.ensures.shape ∙ (m g d).stripe) (same_wear g d)
-      (le_trans c.place.ensures.granted c.landed.ensures.granted) (le_trans c.place.ensures.pad c.landed.ensures.pad)
+      (rests_idle c.self.inside.heart.core c.place.new.self.core c.landed.new.self.core (into g d).stripe.unit (m g d).resting c.place.ensures.kept.rows
+      c.landed.ensures.kept.rows c.landed.ensures.idle) (c.landed.ensures.kept.copying ∙ c.place.ensures.kept.copying) (c.place.ensures.shape ∙ (m g d).stripe)
+      (same_wear g d)
+      (le_trans c.place.ensures.granted c.landed.ensures.granted) (le_trans c.place.ensures.kept.pad.least c.landed.ensures.kept.pad.least)
       c.free_lines.new.heart c.free_lines.new.deeds c.free_lines.ensures
 
 pub invariant_of-self : goal.invariant_of-self
-invariant_of-self g c = record { mount = (leaves_ok g c).mount; buffer_size = c.self.invariant.buffer_size }
+invariant_of-self g c = (leaves_ok g c).mount
 
 pub returns-in-Ok-clause-same : goal.returns-in-Ok-clause-same
 returns-in-Ok-clause-same g c = same_from c.self.view_is (leaves_ok g c).same
@@ -183,7 +184,7 @@ returns-in-Ok-clause-asked g c = (leaves_ok g c).asked ∙ ap (λ (v : MountView
 pub returns-in-Ok-clause-done : goal.returns-in-Ok-clause-done
 returns-in-Ok-clause-done g c = λ ok.
     let d = (goal.at.returns-in-Ok-clause-done g c).After-add in
-    subst (λ (old : MountView). NoneLost old.units (us g d)) c.self.view_is
+    subst (λ (old : MountView). NoDriveFaults old.units (us g d)) c.self.view_is
     (landed_done (m g d) (deeds g d) (ready g d) (was g d) (new g d) (there g d) (given g d) (done g c) (us g d) (units_are g d))
 
 pub returns-in-Ok-clause-more : goal.returns-in-Ok-clause-more
@@ -264,13 +265,14 @@ module _ (g : Over) (c : After-free_lines-in-Err-Failed g) where
   leaves_failed = leaves_lost (m g b) (deeds g b) (ready g b) (was g b) (new g b) (there g b) (given g b) (lost_at g p).0 kept (lost_at g p).1 (written g p).1
       c.add-in-Err-Failed.new.self (us g b) (wear g b)
       c.lost.new.self (into g b) (placed_more (v g b) (into g b) (deeds g b) (were g b)) last_lost (units_are g b) c.lost.ensures.beats
-      (rests_idle c.self.inside.heart.core c.place.new.self.core c.lost.new.self.core (into g b).stripe.unit (m g b).resting c.place.ensures.rows
-      c.lost.ensures.rows c.lost.ensures.idle) (c.lost.ensures.copying ∙ c.place.ensures.copying) (c.place.ensures.shape ∙ (m g b).stripe) (same_wear g b)
-      (le_trans c.place.ensures.granted c.lost.ensures.granted) (le_trans c.place.ensures.pad c.lost.ensures.pad)
+      (rests_idle c.self.inside.heart.core c.place.new.self.core c.lost.new.self.core (into g b).stripe.unit (m g b).resting c.place.ensures.kept.rows
+      c.lost.ensures.kept.rows c.lost.ensures.idle) (c.lost.ensures.kept.copying ∙ c.place.ensures.kept.copying) (c.place.ensures.shape ∙ (m g b).stripe)
+      (same_wear g b)
+      (le_trans c.place.ensures.granted c.lost.ensures.granted) (le_trans c.place.ensures.kept.pad.least c.lost.ensures.kept.pad.least)
       c.free_lines-in-Err-Failed.new.heart c.free_lines-in-Err-Failed.new.deeds c.free_lines-in-Err-Failed.ensures
 
 pub invariant_of-self-in-Err-Failed : goal.invariant_of-self-in-Err-Failed
-invariant_of-self-in-Err-Failed g c = record { mount = (leaves_failed g c).mount; buffer_size = c.self.invariant.buffer_size }
+invariant_of-self-in-Err-Failed g c = (leaves_failed g c).mount
 
 pub returns-in-Err-Failed-clause-same : goal.returns-in-Err-Failed-clause-same
 returns-in-Err-Failed-clause-same g c = same_from c.self.view_is (leaves_failed g c).same
@@ -283,7 +285,7 @@ returns-in-Err-Failed-clause-done g c = λ ok.
     let at = goal.at.returns-in-Err-Failed-clause-done g c in
     let d = at.After-add in
     let p = at.After-at in
-    subst (λ (old : MountView). NoneLost old.units (us g d)) c.self.view_is
+    subst (λ (old : MountView). NoDriveFaults old.units (us g d)) c.self.view_is
     (lost_done (m g d) (deeds g d) (ready g d) (was g d) (new g d) (there g d) (given g d) (lost_at g p).0 (kept g c) (lost_at g p).1 (written g p).1
     (us g d) (units_are g d))
 
@@ -336,13 +338,15 @@ module _ (g : Over) (c : After-free_lines-in-Err-Stopped g) where
       (pad_of c.free_lines-in-Err-Stopped.new.heart.core)) c.free_lines-in-Err-Stopped.new.heart (into g e)
   leaves_err = leaves_stopped (m g e) (deeds g e) (ready g e) (was g e) (new g e) (there g e) (given g e) stops.0 stops.1 c.add-in-Err-Stopped.new.self (us g e)
       (wear g e) c.stopped.new.self (into g e) (placed_more (v g e) (into g e) (deeds g e) (were g e)) last_err (units_are g e) c.stopped.ensures.beats
-      (rests_offered c.self.inside.heart.core c.place.new.self.core c.stopped.new.self.core (into g e).stripe.unit (m g e).resting c.place.ensures.rows
-      c.stopped.ensures.rows c.stopped.ensures.offered) (c.stopped.ensures.copying ∙ c.place.ensures.copying) (c.place.ensures.shape ∙ (m g e).stripe)
-      (same_wear g e) (le_trans c.place.ensures.granted (same_least (sym c.stopped.ensures.granted))) (le_trans c.place.ensures.pad c.stopped.ensures.pad)
+      (rests_offered c.self.inside.heart.core c.place.new.self.core c.stopped.new.self.core (into g e).stripe.unit (m g e).resting c.place.ensures.kept.rows
+      c.stopped.ensures.kept.rows c.stopped.ensures.offered) (c.stopped.ensures.kept.copying ∙ c.place.ensures.kept.copying)
+      (c.place.ensures.shape ∙ (m g e).stripe)
+      (same_wear g e) (le_trans c.place.ensures.granted (same_least (sym c.stopped.ensures.granted)))
+      (le_trans c.place.ensures.kept.pad.least c.stopped.ensures.kept.pad.least)
       c.free_lines-in-Err-Stopped.new.heart c.free_lines-in-Err-Stopped.new.deeds c.free_lines-in-Err-Stopped.ensures
 
 pub invariant_of-self-in-Err-Stopped : goal.invariant_of-self-in-Err-Stopped
-invariant_of-self-in-Err-Stopped g c = record { mount = (leaves_err g c).mount; buffer_size = c.self.invariant.buffer_size }
+invariant_of-self-in-Err-Stopped g c = (leaves_err g c).mount
 
 pub returns-in-Err-Stopped-clause-same : goal.returns-in-Err-Stopped-clause-same
 returns-in-Err-Stopped-clause-same g c = same_from c.self.view_is (leaves_err g c).same
@@ -353,8 +357,8 @@ returns-in-Err-Stopped-clause-asked g c = (leaves_err g c).asked ∙ ap (λ (v :
 pub returns-in-Err-Stopped-clause-lost : goal.returns-in-Err-Stopped-clause-lost
 returns-in-Err-Stopped-clause-lost g c =
     let d = (goal.at.returns-in-Err-Stopped-clause-lost g c).After-add in
-    subst (λ n. IsLostAt c.args.self.now.units (us g d) n c.events-event.result) (sym c.unit-number.ensures)
-    (subst (λ (old : MountView). IsLostAt old.units (us g d) (into g d).stripe.unit c.events-event.result) c.self.view_is
+    subst (λ n. IsDriveFaultAt c.args.self.now.units (us g d) n c.events-event.result) (sym c.unit-number.ensures)
+    (subst (λ (old : MountView). IsDriveFaultAt old.units (us g d) (into g d).stripe.unit c.events-event.result) c.self.view_is
     (stopped_lost (m g d) (deeds g d) (ready g d) (was g d) (new g d) (there g d) (given g d) (stops g c).0 (stops g c).1 (us g d)
     c.events-event.result (units_are g d) c.events-event.ensures.count))
 

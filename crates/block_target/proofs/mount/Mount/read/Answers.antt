@@ -12,7 +12,7 @@ use Rattle.block_target.proofs.mount.Mount.read.Goals as goal
 
 pub copy_from_slice-requires : goal.copy_from_slice-requires
 copy_from_slice-requires g c =
-    let m = c.self.invariant.mount in
+    let m = c.self.invariant in
     let v : MountView = mount_view c.self.inside.shape c.self.inside.drives c.self.inside.deeds (map g.U.Unit.model c.self.inside.units.items)
     (map g.U.Unit.wear c.self.inside.units.items) c.self.inside.heart.granted (pad_of c.self.inside.heart.core) c.self.inside.asked in
     let core = c.self.inside.heart.core in
@@ -26,7 +26,7 @@ copy_from_slice-requires g c =
 
 pub unreachable-requires : goal.unreachable-requires
 unreachable-requires g c =
-    let m = c.self.invariant.mount in
+    let m = c.self.invariant in
     let v : MountView = mount_view c.self.inside.shape c.self.inside.drives c.self.inside.deeds (map g.U.Unit.model c.self.inside.units.items)
     (map g.U.Unit.wear c.self.inside.units.items) c.self.inside.heart.granted (pad_of c.self.inside.heart.core) c.self.inside.asked in
     let core = c.self.inside.heart.core in
@@ -39,7 +39,7 @@ unreachable-requires g c =
 
 pub address-unit-requires-clause-line : goal.address-unit-requires-clause-line
 address-unit-requires-clause-line g c =
-    let m = c.self.invariant.mount in
+    let m = c.self.invariant in
     let v : MountView = mount_view c.self.inside.shape c.self.inside.drives c.self.inside.deeds (map g.U.Unit.model c.self.inside.units.items)
     (map g.U.Unit.wear c.self.inside.units.items) c.self.inside.heart.granted (pad_of c.self.inside.heart.core) c.self.inside.asked in
     let core = c.self.inside.heart.core in
@@ -53,9 +53,9 @@ address-unit-requires-clause-line g c =
     m.sound.has_begun inside slot in
     line_inside v core c.args.lba c.in-Media.line c.in-Media.at c.in-Media.position mount st is
 
-pub address-unit-requires-clause-live : goal.address-unit-requires-clause-live
-address-unit-requires-clause-live g c =
-    let m = c.self.invariant.mount in
+pub address-unit-requires-clause-online : goal.address-unit-requires-clause-online
+address-unit-requires-clause-online g c =
+    let m = c.self.invariant in
     let v : MountView = mount_view c.self.inside.shape c.self.inside.drives c.self.inside.deeds (map g.U.Unit.model c.self.inside.units.items)
     (map g.U.Unit.wear c.self.inside.units.items) c.self.inside.heart.granted (pad_of c.self.inside.heart.core) c.self.inside.asked in
     let core = c.self.inside.heart.core in
@@ -71,7 +71,7 @@ address-unit-requires-clause-live g c =
 
 pub address-unit-requires-clause-inside : goal.address-unit-requires-clause-inside
 address-unit-requires-clause-inside g c =
-    let m = c.self.invariant.mount in
+    let m = c.self.invariant in
     let v : MountView = mount_view c.self.inside.shape c.self.inside.drives c.self.inside.deeds (map g.U.Unit.model c.self.inside.units.items)
     (map g.U.Unit.wear c.self.inside.units.items) c.self.inside.heart.granted (pad_of c.self.inside.heart.core) c.self.inside.asked in
     let core = c.self.inside.heart.core in
@@ -87,7 +87,7 @@ address-unit-requires-clause-inside g c =
 
 pub fetch-requires-clause-there : goal.fetch-requires-clause-there
 fetch-requires-clause-there g c =
-    let m = c.self.invariant.mount in
+    let m = c.self.invariant in
     let v : MountView = mount_view c.self.inside.shape c.self.inside.drives c.self.inside.deeds (map g.U.Unit.model c.self.inside.units.items)
     (map g.U.Unit.wear c.self.inside.units.items) c.self.inside.heart.granted (pad_of c.self.inside.heart.core) c.self.inside.asked in
     let core = c.self.inside.heart.core in
@@ -107,7 +107,7 @@ fetch-requires-clause-there g c =
 
 pub returns-in-Unwritten-clause-latest : goal.returns-in-Unwritten-clause-latest
 returns-in-Unwritten-clause-latest g c = λ ok.
-    let m = c.self.invariant.mount in
+    let m = c.self.invariant in
     let v : MountView = mount_view c.self.inside.shape c.self.inside.drives c.self.inside.deeds (map g.U.Unit.model c.self.inside.units.items)
     (map g.U.Unit.wear c.self.inside.units.items) c.self.inside.heart.granted (pad_of c.self.inside.heart.core) c.self.inside.asked in
     let core = c.self.inside.heart.core in
@@ -123,7 +123,7 @@ returns-in-Unwritten-clause-latest g c = λ ok.
 
 pub returns-in-Some-clause-latest : goal.returns-in-Some-clause-latest
 returns-in-Some-clause-latest g c = λ ok.
-    let m = c.self.invariant.mount in
+    let m = c.self.invariant in
     let v : MountView = mount_view c.self.inside.shape c.self.inside.drives c.self.inside.deeds (map g.U.Unit.model c.self.inside.units.items)
     (map g.U.Unit.wear c.self.inside.units.items) c.self.inside.heart.granted (pad_of c.self.inside.heart.core) c.self.inside.asked in
     let core = c.self.inside.heart.core in
@@ -139,7 +139,7 @@ returns-in-Some-clause-latest g c = λ ok.
 
 pub returns-in_ok-fetch-in-Media-clause-latest : goal.returns-in_ok-fetch-in-Media-clause-latest
 returns-in_ok-fetch-in-Media-clause-latest g c = λ ok.
-    let m = c.self.invariant.mount in
+    let m = c.self.invariant in
     let v : MountView = mount_view c.self.inside.shape c.self.inside.drives c.self.inside.deeds (map g.U.Unit.model c.self.inside.units.items)
     (map g.U.Unit.wear c.self.inside.units.items) c.self.inside.heart.granted (pad_of c.self.inside.heart.core) c.self.inside.asked in
     let core = c.self.inside.heart.core in
@@ -162,8 +162,8 @@ returns-in_ok-fetch-in-Media-clause-latest g c = λ ok.
 
 pub returns-in-Unwritten-clause-sound : goal.returns-in-Unwritten-clause-sound
 returns-in-Unwritten-clause-sound g c =
-    subst IsSound c.self.view_is c.self.invariant.mount.sound
+    subst IsSound c.self.view_is c.self.invariant.sound
 
 pub returns-in-Some-clause-sound : goal.returns-in-Some-clause-sound
 returns-in-Some-clause-sound g c =
-    subst IsSound c.self.view_is c.self.invariant.mount.sound
+    subst IsSound c.self.view_is c.self.invariant.sound

@@ -10,7 +10,7 @@ use Rattle.pblk_core.specs.Resets.{IsToReset}
 use Rattle.pblk_core.specs.declared.work.Work.TheVariants as works
 use Rattle.unit_port.specs.Unit.{ModelUnit, TellsDone}
 use Rattle.unit_port.specs.declared.unit.UnitErr.TheVariants as errors
-use Rattle.scan_recovery.specs.Lost.{IsLostAt, NoneLost}
+use Rattle.scan_recovery.specs.DriveFaults.{IsDriveFaultAt, NoDriveFaults}
 use Rattle.block_target.specs.Arm.{WasGiven}
 use Rattle.block_target.specs.Deeds.{Deed, NotesReset, world_of}
 use Rattle.block_target.specs.Mount.{MountView, IsMount, engine_log, logs_in, mount_view, work_in, world_in}
@@ -26,7 +26,7 @@ use Rattle.block_target.proofs.mount.Mount.reset.Goals as goal
 
 pub reset-answer-requires : goal.reset-answer-requires
 reset-answer-requires g c =
-    let m = c.self.invariant.mount in
+    let m = c.self.invariant in
     let v : MountView = mount_view c.self.inside.shape c.self.inside.drives c.self.inside.deeds (map g.U.Unit.model c.self.inside.units.items)
     (map g.U.Unit.wear c.self.inside.units.items) c.self.inside.heart.granted (pad_of c.self.inside.heart.core) c.self.inside.asked in
     let is : IsToReset v.image (logs_in v) c.args.line c.args.unit =
@@ -48,7 +48,7 @@ module _ (g : Over) (c : After-add g) where
       (map g.U.Unit.wear c.self.inside.units.items) c.self.inside.heart.granted (pad_of c.self.inside.heart.core) c.self.inside.asked
 
   m : IsMount v c.self.inside.heart c.self.inside.stripe
-  m = c.self.invariant.mount
+  m = c.self.invariant
 
   is : IsToReset v.image (logs_in v) c.args.line c.args.unit
   is = subst (λ (x : MountView). IsToReset x.image (logs_in x) c.args.line c.args.unit) (sym c.self.view_is) c.requires.given_up
@@ -101,7 +101,7 @@ pub invariant_of-self : goal.invariant_of-self
 invariant_of-self g c =
     let d = (goal.at.invariant_of-self g c).After-add in
     let stops = halted g d (c.in-Err-Stopped.is ∙ ap Err (rw c.in-Err-Stopped.is at c.in-Err-Stopped.field-0-is)) in
-    record { mount = (leaves_err g d stops.0 stops.1).mount; buffer_size = c.self.invariant.buffer_size }
+    (leaves_err g d stops.0 stops.1).mount
 
 pub returns-in-Err-Stopped-clause-same : goal.returns-in-Err-Stopped-clause-same
 returns-in-Err-Stopped-clause-same g c =
@@ -113,7 +113,7 @@ pub returns-in-Err-Stopped-clause-lost : goal.returns-in-Err-Stopped-clause-lost
 returns-in-Err-Stopped-clause-lost g c =
     let d = (goal.at.returns-in-Err-Stopped-clause-lost g c).After-add in
     let stops = halted g d (c.in-Err-Stopped.is ∙ ap Err (rw c.in-Err-Stopped.is at c.in-Err-Stopped.field-0-is)) in
-    subst (λ (old : MountView). IsLostAt old.units (us g d) c.args.unit c.events.result) c.self.view_is
+    subst (λ (old : MountView). IsDriveFaultAt old.units (us g d) c.args.unit c.events.result) c.self.view_is
     (stopped_lost (m g d) c.args.line c.args.unit (is g d) (was g d) (new g d) (there g d) (given g d) stops.0 stops.1 (us g d) c.events.result (units_are g d)
     c.events.ensures.count)
 
@@ -131,7 +131,7 @@ state-state-requires g c =
 
 pub reset_done-requires-clause-named : goal.reset_done-requires-clause-named
 reset_done-requires-clause-named g c =
-    is_named c.self.invariant.mount (works.Reset c.args.line c.args.unit) (ap work_in c.self.view_is ∙ c.requires.named)
+    is_named c.self.invariant (works.Reset c.args.line c.args.unit) (ap work_in c.self.view_is ∙ c.requires.named)
 
 pub reset_done-requires-clause-may : goal.reset_done-requires-clause-may
 reset_done-requires-clause-may g c =
@@ -178,12 +178,12 @@ module _ (g : Over) (c : After-free_lines g) where
   leaves_ok =
       let state = c.state-state.ensures in
       leaves_reset (m g e) c.args.line c.args.unit (is g e) (was g e) (new g e) (there g e) (given g e) done c.add-2.new.self (us g e) (wear g e)
-      c.reset_done.new.self c.state-state.result.0 state.0 state.1 state.2 last (units_are g e) c.reset_done.ensures.beats c.reset_done.ensures.rows
-      c.reset_done.ensures.copying
-      (same_wear g e) c.reset_done.ensures.granted c.reset_done.ensures.pad c.free_lines.new.heart c.free_lines.new.deeds c.free_lines.ensures
+      c.reset_done.new.self c.state-state.result.0 state.0 state.1 state.2 last (units_are g e) c.reset_done.ensures.beats c.reset_done.ensures.kept.rows
+      c.reset_done.ensures.kept.copying
+      (same_wear g e) c.reset_done.ensures.granted c.reset_done.ensures.kept.pad.least c.free_lines.new.heart c.free_lines.new.deeds c.free_lines.ensures
 
 pub invariant_of-self-2 : goal.invariant_of-self-2
-invariant_of-self-2 g c = record { mount = (leaves_ok g c).mount; buffer_size = c.self.invariant.buffer_size }
+invariant_of-self-2 g c = (leaves_ok g c).mount
 
 pub returns-clause-same : goal.returns-clause-same
 returns-clause-same g c = same_from c.self.view_is (leaves_ok g c).same
@@ -191,7 +191,7 @@ returns-clause-same g c = same_from c.self.view_is (leaves_ok g c).same
 pub returns-clause-done : goal.returns-clause-done
 returns-clause-done g c = λ ok.
     let d = (goal.at.returns-clause-done g c).After-add in
-    subst (λ (old : MountView). NoneLost old.units (us g d)) c.self.view_is
+    subst (λ (old : MountView). NoDriveFaults old.units (us g d)) c.self.view_is
     (reset_kept (m g d) c.args.line c.args.unit (is g d) (was g d) (new g d) (there g d) (given g d) (done g c) (us g d) (units_are g d))
 
 pub returns-clause-asked : goal.returns-clause-asked

@@ -45,7 +45,7 @@ pub returns-then-not-is_due-clause-synced : goal.returns-then-not-is_due-clause-
 returns-then-not-is_due-clause-synced g c = λ ok.
     let have : c.synced-have.result.position ≡ synced_in c.ask_pad.new.self =
     ap (λ (f : Front). f.position) (c.synced-have.ensures (image_of c.self.inside.shape (drive_before c.self.inside.drives))
-    (world_of c.self.inside.shape c.self.inside.deeds) c.self.invariant.mount.sound.legal c.self.invariant.mount.heart.stands)
+    (world_of c.self.inside.shape c.self.inside.deeds) c.self.invariant.sound.legal c.self.invariant.heart.stands)
     ∙ ap synced_in c.self.view_is in
     settled_here c.args.self.now c.loop.self c.ask_pad.new.self c.front-wanted.result.position c.loop.invariant
     (ap (λ (f : Front). f.position) c.front-wanted.ensures.front) c.ask_pad.ensures.same c.ask_pad.ensures.asked
@@ -55,7 +55,7 @@ pub returns-then-not-is_due-clause-resting : goal.returns-then-not-is_due-clause
 returns-then-not-is_due-clause-resting g c = λ ok.
     inl (subst (λ (v : MountView). is_due v.image (logs_in v) ≡ false) c.self.view_is
     (sym (c.is_due.ensures.due (image_of c.self.inside.shape (drive_before c.self.inside.drives)) (world_of c.self.inside.shape c.self.inside.deeds)
-    c.self.invariant.mount.sound.legal c.self.invariant.mount.heart.stands) ∙ c.if-not-is_due.true))
+    c.self.invariant.sound.legal c.self.invariant.heart.stands) ∙ c.if-not-is_due.true))
 
 -- ---- a command was lost
 
@@ -79,7 +79,8 @@ returns-in_err-go_on-clause-refused g c =
     waits_lost c.from_residual.result c.args.self.now c.ask_pad.new.self c.go_on.new.self (taken_in c.go_on.new.self) (synced_in c.go_on.new.self)
     (taken_in c.ask_pad.new.self) c.in_err-go_on.field-0.0 c.from_residual.ensures.1
     (worked_here c.args.self.now c.loop.self c.ask_pad.new.self c.front-wanted.result.position c.loop.invariant
-    (ap (λ (f : Front). f.position) c.front-wanted.ensures.front) c.ask_pad.ensures.same c.ask_pad.ensures.asked) c.in_err-go_on.ensures.lost
+    (ap (λ (f : Front). f.position) c.front-wanted.ensures.front) c.ask_pad.ensures.same c.ask_pad.ensures.asked)
+    c.go_on.ensures.same c.in_err-go_on.ensures.lost
 
 -- ---- it is at rest
 
@@ -114,7 +115,7 @@ pub returns-then-wanted-have-2-clause-synced : goal.returns-then-wanted-have-2-c
 returns-then-wanted-have-2-clause-synced g c = λ ok.
     let have : c.synced-have.result.position ≡ synced_in c.ask_pad.new.self =
     ap (λ (f : Front). f.position) (c.synced-have.ensures (image_of c.self.inside.shape (drive_before c.self.inside.drives))
-    (world_of c.self.inside.shape c.self.inside.deeds) c.self.invariant.mount.sound.legal c.self.invariant.mount.heart.stands)
+    (world_of c.self.inside.shape c.self.inside.deeds) c.self.invariant.sound.legal c.self.invariant.heart.stands)
     ∙ ap synced_in c.self.view_is in
     settled_still c.args.self.now c.loop.self c.ask_pad.new.self c.front-wanted.result.position c.loop.invariant
     (ap (λ (f : Front). f.position) c.front-wanted.ensures.front) c.ask_pad.ensures.same c.ask_pad.ensures.asked
@@ -138,7 +139,7 @@ pub returns-then-not-branch-clause-refused : goal.returns-then-not-branch-clause
 returns-then-not-branch-clause-refused g c =
     let have : c.synced-have.result.position ≡ synced_in c.ask_pad.new.self =
     ap (λ (f : Front). f.position) (c.synced-have.ensures (image_of c.self.inside.shape (drive_before c.self.inside.drives))
-    (world_of c.self.inside.shape c.self.inside.deeds) c.self.invariant.mount.sound.legal c.self.invariant.mount.heart.stands)
+    (world_of c.self.inside.shape c.self.inside.deeds) c.self.invariant.sound.legal c.self.invariant.heart.stands)
     ∙ ap synced_in c.self.view_is in
     stuck_settled c.args.self.now c.loop.self c.ask_pad.new.self c.front-wanted.result.position c.loop.invariant
     (ap (λ (f : Front). f.position) c.front-wanted.ensures.front) c.ask_pad.ensures.same c.ask_pad.ensures.asked

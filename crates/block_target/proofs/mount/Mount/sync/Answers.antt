@@ -37,7 +37,7 @@ pub returns-then-wanted-synced-clause-synced : goal.returns-then-wanted-synced-c
 returns-then-wanted-synced-clause-synced g c =
     let i = image_of c.self.inside.shape (drive_before c.self.inside.drives) in
     let w = world_of c.self.inside.shape c.self.inside.deeds in (
-      c.synced-synced.ensures i w c.self.invariant.mount.sound.legal c.self.invariant.mount.heart.stands ∙ ap front_synced c.self.view_is,
+      c.synced-synced.ensures i w c.self.invariant.sound.legal c.self.invariant.heart.stands ∙ ap front_synced c.self.view_is,
       c.if-wanted-synced.true,
     )
 
@@ -67,7 +67,7 @@ returns-then-not-branch-clause-refused g c =
     let w = world_of c.self.inside.shape c.self.inside.deeds in
     let at : c.synced-synced.result.position ≡ synced_in c.ask_pad.new.self =
     ap (λ f. f.position) (c.synced-synced.ensures
-    (image_of c.self.inside.shape (drive_before c.self.inside.drives)) w c.self.invariant.mount.sound.legal c.self.invariant.mount.heart.stands)
+    (image_of c.self.inside.shape (drive_before c.self.inside.drives)) w c.self.invariant.sound.legal c.self.invariant.heart.stands)
     ∙ ap synced_in c.self.view_is in
     stuck_synced c.args.self.now c.ask_pad.new.self c.go_on.new.self c.args.wanted c.synced-synced.result.position c.args.wanted
     (worked_asked c.args.self.now c.loop.self c.ask_pad.new.self c.args.wanted c.loop.invariant c.ask_pad.ensures.same c.ask_pad.ensures.asked)
@@ -99,4 +99,4 @@ returns-in_err-go_on-clause-refused g c =
     waits_lost c.from_residual.result c.args.self.now c.ask_pad.new.self c.go_on.new.self c.args.wanted (synced_in c.go_on.new.self) c.args.wanted
     c.in_err-go_on.field-0.0 c.from_residual.ensures.1
     (worked_asked c.args.self.now c.loop.self c.ask_pad.new.self c.args.wanted c.loop.invariant c.ask_pad.ensures.same c.ask_pad.ensures.asked)
-    (c.in_err-go_on.ensures.lost)
+    c.go_on.ensures.same c.in_err-go_on.ensures.lost

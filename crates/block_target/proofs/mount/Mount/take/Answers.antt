@@ -11,20 +11,20 @@ use Rattle.block_target.proofs.TakenMount.{lba_inside, mount_taken, next_positio
 use Rattle.block_target.proofs.mount.Mount.take.Goals as goal
 
 pub take-requires-clause-beating : goal.take-requires-clause-beating
-take-requires-clause-beating g c = beating_in c.self.invariant.mount
+take-requires-clause-beating g c = beating_in c.self.invariant
 
 pub take-requires-clause-lba : goal.take-requires-clause-lba
 take-requires-clause-lba g c =
-    lba_inside c.self.invariant.mount c.args.lba (subst (λ (v : MountView). c.args.lba < v.image.shape.capacity) (sym c.self.view_is) c.requires.lba)
+    lba_inside c.self.invariant c.args.lba (subst (λ (v : MountView). c.args.lba < v.image.shape.capacity) (sym c.self.view_is) c.requires.lba)
 
 pub take-requires-clause-size : goal.take-requires-clause-size
 take-requires-clause-size g c =
-    sector_sized c.self.invariant.mount c.args.sector.now
+    sector_sized c.self.invariant c.args.sector.now
     (subst (λ (v : MountView). length c.args.sector.now ≡ v.image.shape.sector) (sym c.self.view_is) c.requires.size)
 
 pub take-requires-clause-room : goal.take-requires-clause-room
 take-requires-clause-room g c =
-    room_there c.self.invariant.mount (subst (λ (v : MountView). taken_in v < v.granted) (sym c.self.view_is) c.requires.room)
+    room_there c.self.invariant (subst (λ (v : MountView). taken_in v < v.granted) (sym c.self.view_is) c.requires.room)
 
 -- what was done then
 done : (deeds more : List Deed) (position next lba : ℕ) (sector : List ℕ)
@@ -35,24 +35,21 @@ done deeds more position next lba sector is same =
 
 pub invariant_of-self : goal.invariant_of-self
 invariant_of-self g c =
-    let m = c.self.invariant.mount in
+    let m = c.self.invariant in
     let v : MountView = mount_view c.self.inside.shape c.self.inside.drives c.self.inside.deeds (map g.U.Unit.model c.self.inside.units.items)
     (map g.U.Unit.wear c.self.inside.units.items) c.self.inside.heart.granted (pad_of c.self.inside.heart.core) c.self.inside.asked in
     let next = window.taken c.self.inside.heart.core.window in
-    record {
-      mount = mount_taken m (user_entry next c.args.lba c.args.sector.now) (sector_mark c.args.lba next)
-          (c.take.ensures.legal v.image (world_in v) m.sound.legal m.heart) tt c.take.new.self c.add.new.self
-          (done c.self.inside.deeds c.add.new.self c.front.result.position next c.args.lba c.args.sector.now c.add.ensures c.front.ensures.position)
-          c.take.ensures.beats c.take.ensures.rows (c.take.ensures.copying ∙ m.idle) c.take.ensures.pad;
-      buffer_size = c.self.invariant.buffer_size;
-    }
+    mount_taken m (user_entry next c.args.lba c.args.sector.now) (sector_mark c.args.lba next)
+    (c.take.ensures.legal v.image (world_in v) m.sound.legal m.heart) tt c.take.new.self c.add.new.self
+    (done c.self.inside.deeds c.add.new.self c.front.result.position next c.args.lba c.args.sector.now c.add.ensures c.front.ensures.position)
+    c.take.ensures.beats c.take.ensures.kept.rows (c.take.ensures.kept.copying ∙ m.idle) c.take.ensures.kept.pad.least
 
 pub returns-clause-sound : goal.returns-clause-sound
-returns-clause-sound g c = (invariant_of-self g c).mount.sound
+returns-clause-sound g c = (invariant_of-self g c).sound
 
 pub returns-clause-taken : goal.returns-clause-taken
 returns-clause-taken g c =
-    let m = c.self.invariant.mount in
+    let m = c.self.invariant in
     let v : MountView = mount_view c.self.inside.shape c.self.inside.drives c.self.inside.deeds (map g.U.Unit.model c.self.inside.units.items)
     (map g.U.Unit.wear c.self.inside.units.items) c.self.inside.heart.granted (pad_of c.self.inside.heart.core) c.self.inside.asked in
     let next = window.taken c.self.inside.heart.core.window in

@@ -33,6 +33,7 @@ invariant_of-self g c =
       alone = c.self.invariant.alone;
       small = c.self.invariant.small;
       faults = c.self.invariant.faults;
+      answered = c.self.invariant.answered;
       worns = subst (λ (ws : List WornAnswer). AreRefusals was.mount.image (logs_in was.mount) 0 ws) (sym c.add.ensures)
           (refusals_more was.mount.image (logs_in was.mount) 0 was.worns a (omega arith) c.self.invariant.worns
           (refused_now was a c.self.invariant

@@ -1,13 +1,12 @@
-use Rattle.std.proofs.Common.{◌≡◌, ◌≤◌, ℕ, Err, List, length, max, refl, ap, ap₂, sym, subst, ◌∙◌, arith}
+use Rattle.std.proofs.Common.{◌≡◌, ◌≤◌, ℕ, Err, length, max, refl, ap, ap₂, sym, subst, ◌∙◌, arith}
 use Rattle.pblk_model.specs.declared.run.Front.{Front}
 use Rattle.block_port.specs.Port.{Learns}
-use Rattle.unit_port.specs.Unit.{ModelUnit}
-use Rattle.scan_recovery.specs.Lost.{IsLostAt, NoneLost}
+use Rattle.scan_recovery.specs.DriveFaults.{IsDriveFaultAt, NoDriveFaults}
 use Rattle.pblk_world.specs.AtRest.{IsWornFlush}
 use Rattle.block_target.specs.Mount.{MountView, logs_in, engine_log, synced_in, taken_in}
 use Rattle.block_target.specs.Serial.{SerialView, device}
 use Rattle.block_target.specs.Waiting.{AsksUpTo, Waits}
-use Rattle.block_target.proofs.DeviceFronts.{same_serial, all_taken, synced_small, flush_front, learns_from}
+use Rattle.block_target.proofs.DeviceFronts.{lost_serial, same_serial, all_taken, synced_small, flush_front, learns_from}
 use Rattle.block_target.proofs.Refusals.{flush_refused}
 use Rattle.block_target.proofs.serial.SerialPort.flush.Goals as goal
 
@@ -18,63 +17,56 @@ asks_of v old is wanted all asked least most = subst (λ (o : MountView). (o.ask
 
 pub invariant_of-self : goal.invariant_of-self
 invariant_of-self g c = same_serial _ _ c.sync.ensures.sound c.self.invariant c.sync.ensures.same refl refl refl
-    (synced_small c.sync.new.self c.in-Ok.front c.sync.ensures.sound c.in-Ok.ensures.synced.0)
+    (synced_small c.sync.new.self c.in-Ok.front c.sync.ensures.sound c.in-Ok.ensures.synced.0) (c.in-Ok.ensures.done refl)
 
 pub invariant_of-self-in-Err-Drive : goal.invariant_of-self-in-Err-Drive
-invariant_of-self-in-Err-Drive g c = same_serial _ _ c.sync.ensures.sound c.self.invariant c.sync.ensures.same refl refl refl c.self.invariant.small
+invariant_of-self-in-Err-Drive g c = lost_serial _ _ c.in-Err-Drive.unit c.in-Err-Drive.event c.sync.ensures.sound c.self.invariant c.sync.ensures.same
+    (subst (Waits c.self.inside.mount c.sync.new.self c.front-wanted.result.position (synced_in c.sync.new.self)) c.in-Err-Drive.field-0-is
+    c.in-Err-Drive.ensures.refused) refl c.add_fault.ensures refl refl
 
-pub invariant_of-self-in-Err-Stuck : goal.invariant_of-self-in-Err-Stuck
-invariant_of-self-in-Err-Stuck g c = same_serial _ _ c.sync.ensures.sound c.self.invariant c.sync.ensures.same refl refl refl c.self.invariant.small
-
-pub add_fault-requires : goal.add_fault-requires
-add_fault-requires g c = record {
-  before = c.self.inside.mount;
-  sound = c.self.invariant.sound;
-  named = c.self.invariant.faults;
-  same = c.sync.ensures.same;
-  lost = subst (Waits c.self.inside.mount c.sync.new.self c.front-wanted.result.position (synced_in c.sync.new.self)) c.in-Err-Drive.field-0-is
-      c.in-Err-Drive.ensures.refused;
-}
+pub invariant_of-self-in-Err-Worn : goal.invariant_of-self-in-Err-Worn
+invariant_of-self-in-Err-Worn g c =
+    let waits = subst (Waits c.self.inside.mount c.sync.new.self c.front-wanted.result.position (synced_in c.sync.new.self))
+    c.in-Err-Worn.field-0-is c.in-Err-Worn.ensures.refused in
+    same_serial _ _ c.sync.ensures.sound c.self.invariant c.sync.ensures.same refl refl refl c.self.invariant.small waits.0
 
 pub add_worn-requires : goal.add_worn-requires
 add_worn-requires g c =
     let waits = subst (Waits c.self.inside.mount c.sync.new.self c.front-wanted.result.position (synced_in c.sync.new.self))
-    c.in-Err-Stuck.field-0-is c.in-Err-Stuck.ensures.refused in
-    let asks = subst (λ e. AsksUpTo {T = Front} c.self.inside.mount c.sync.new.self c.front-wanted.result.position (Err e)) c.in-Err-Stuck.field-0-is
-    c.in-Err-Stuck.ensures.asked in
+    c.in-Err-Worn.field-0-is c.in-Err-Worn.ensures.refused in
+    let asks = subst (λ e. AsksUpTo {T = Front} c.self.inside.mount c.sync.new.self c.front-wanted.result.position (Err e)) c.in-Err-Worn.field-0-is
+    c.in-Err-Worn.ensures.asked in
     let least : max c.self.inside.mount.asked c.front-wanted.result.position ≤ c.sync.new.self.asked = asks.all in
     let asked : c.front-wanted.result.position ≤ c.sync.new.self.asked = omega arith in
     let all = all_taken c.self.inside.mount c.sync.new.self c.front-wanted.result.position c.sync.ensures.same
     (ap (λ f. f.position) c.front-wanted.ensures.front) in
-    flush_refused c.sync.new.self c.front-wanted.result.position c.in-Err-Stuck.have waits.3 waits.2 asked all
+    flush_refused c.sync.new.self c.front-wanted.result.position c.in-Err-Worn.have waits.3 waits.2 asked all
 
 pub returns-in-Ok-clause-cause : goal.returns-in-Ok-clause-cause
 returns-in-Ok-clause-cause g c =
-    subst (λ (s : SerialView). NoneLost s.mount.units c.sync.new.self.units) c.self.view_is (c.in-Ok.ensures.done refl)
+    subst (λ (s : SerialView). NoDriveFaults s.mount.units c.sync.new.self.units) c.self.view_is (c.in-Ok.ensures.done refl)
 
 pub returns-in-Err-Drive-clause-cause : goal.returns-in-Err-Drive-clause-cause
 returns-in-Err-Drive-clause-cause g c =
-    let lost = subst (Waits c.self.inside.mount c.sync.new.self c.front-wanted.result.position (synced_in c.sync.new.self)) c.in-Err-Drive.field-0-is
-    c.in-Err-Drive.ensures.refused in
-    subst (λ (us : List ModelUnit). IsLostAt c.args.self.now.mount.units us c.in-Err-Drive.unit c.in-Err-Drive.event)
-    (sym (ap (λ (s : SerialView). s.mount.units) c.add_fault.ensures))
-    (subst (λ (s : SerialView). IsLostAt s.mount.units c.sync.new.self.units c.in-Err-Drive.unit c.in-Err-Drive.event) c.self.view_is lost)
+    subst (λ (s : SerialView). IsDriveFaultAt s.mount.units c.sync.new.self.units c.in-Err-Drive.unit c.in-Err-Drive.event) c.self.view_is
+    (subst (Waits c.self.inside.mount c.sync.new.self c.front-wanted.result.position (synced_in c.sync.new.self)) c.in-Err-Drive.field-0-is
+    c.in-Err-Drive.ensures.refused)
 
-pub returns-in-Err-Stuck-clause-cause : goal.returns-in-Err-Stuck-clause-cause
-returns-in-Err-Stuck-clause-cause g c =
+pub returns-in-Err-Worn-clause-cause : goal.returns-in-Err-Worn-clause-cause
+returns-in-Err-Worn-clause-cause g c =
     let waits = subst (Waits c.self.inside.mount c.sync.new.self c.front-wanted.result.position (synced_in c.sync.new.self))
-    c.in-Err-Stuck.field-0-is c.in-Err-Stuck.ensures.refused in
-    let asks = subst (λ e. AsksUpTo {T = Front} c.self.inside.mount c.sync.new.self c.front-wanted.result.position (Err e)) c.in-Err-Stuck.field-0-is
-    c.in-Err-Stuck.ensures.asked in
+    c.in-Err-Worn.field-0-is c.in-Err-Worn.ensures.refused in
+    let asks = subst (λ e. AsksUpTo {T = Front} c.self.inside.mount c.sync.new.self c.front-wanted.result.position (Err e)) c.in-Err-Worn.field-0-is
+    c.in-Err-Worn.ensures.asked in
     let least : max c.self.inside.mount.asked c.front-wanted.result.position ≤ c.sync.new.self.asked = asks.all in
     let asked : c.front-wanted.result.position ≤ c.sync.new.self.asked = omega arith in
     let all = all_taken c.self.inside.mount c.sync.new.self c.front-wanted.result.position c.sync.ensures.same
     (ap (λ f. f.position) c.front-wanted.ensures.front) in
-    subst (λ (s : SerialView). NoneLost c.args.self.now.mount.units s.mount.units
-    × IsWornFlush s.mount.image (logs_in s.mount) (length (engine_log s.mount)) c.front-wanted.result.position c.in-Err-Stuck.have)
+    subst (λ (s : SerialView). NoDriveFaults c.args.self.now.mount.units s.mount.units
+    × IsWornFlush s.mount.image (logs_in s.mount) (length (engine_log s.mount)) c.front-wanted.result.position c.in-Err-Worn.have)
     (sym c.add_worn.ensures) (
-      subst (λ (s : SerialView). NoneLost s.mount.units c.sync.new.self.units) c.self.view_is waits.0,
-      flush_refused c.sync.new.self c.front-wanted.result.position c.in-Err-Stuck.have waits.3 waits.2 asked all,
+      subst (λ (s : SerialView). NoDriveFaults s.mount.units c.sync.new.self.units) c.self.view_is waits.0,
+      flush_refused c.sync.new.self c.front-wanted.result.position c.in-Err-Worn.have waits.3 waits.2 asked all,
     )
 
 pub returns-in-Ok-clause-front : goal.returns-in-Ok-clause-front
@@ -93,12 +85,10 @@ pub returns-in-Ok-clause-learns : goal.returns-in-Ok-clause-learns
 returns-in-Ok-clause-learns g c = learns_from _ c.args.self.now _ c.self.view_is c.sync.ensures.same
 
 pub returns-in-Err-Drive-clause-learns : goal.returns-in-Err-Drive-clause-learns
-returns-in-Err-Drive-clause-learns g c =
-    subst (λ n. Learns (device c.args.self.now) (device n)) (sym c.add_fault.ensures)
-    (learns_from _ c.args.self.now _ c.self.view_is c.sync.ensures.same)
+returns-in-Err-Drive-clause-learns g c = learns_from _ c.args.self.now _ c.self.view_is c.sync.ensures.same
 
-pub returns-in-Err-Stuck-clause-learns : goal.returns-in-Err-Stuck-clause-learns
-returns-in-Err-Stuck-clause-learns g c =
+pub returns-in-Err-Worn-clause-learns : goal.returns-in-Err-Worn-clause-learns
+returns-in-Err-Worn-clause-learns g c =
     subst (λ n. Learns (device c.args.self.now) (device n)) (sym c.add_worn.ensures)
     (learns_from _ c.args.self.now _ c.self.view_is c.sync.ensures.same)
 
@@ -109,15 +99,13 @@ returns-in-Ok-clause-asked g c =
 
 pub returns-in-Err-Drive-clause-asked : goal.returns-in-Err-Drive-clause-asked
 returns-in-Err-Drive-clause-asked g c =
-    subst (λ (s : SerialView). (c.args.self.now.mount.asked ≤ s.mount.asked)
-    × (s.mount.asked ≤ max c.args.self.now.mount.asked (taken_in c.args.self.now.mount))) (sym c.add_fault.ensures)
-    (asks_of c.self.inside.mount c.args.self.now.mount (ap (λ (s : SerialView). s.mount) c.self.view_is) c.front-wanted.result.position
-    (ap (λ f. f.position) c.front-wanted.ensures.front) c.sync.new.self.asked c.in-Err-Drive.ensures.asked.at_least c.in-Err-Drive.ensures.asked.at_most)
+    asks_of c.self.inside.mount c.args.self.now.mount (ap (λ (s : SerialView). s.mount) c.self.view_is) c.front-wanted.result.position
+    (ap (λ f. f.position) c.front-wanted.ensures.front) c.sync.new.self.asked c.in-Err-Drive.ensures.asked.at_least c.in-Err-Drive.ensures.asked.at_most
 
-pub returns-in-Err-Stuck-clause-asked : goal.returns-in-Err-Stuck-clause-asked
-returns-in-Err-Stuck-clause-asked g c =
-    let asks = subst (λ e. AsksUpTo {T = Front} c.self.inside.mount c.sync.new.self c.front-wanted.result.position (Err e)) c.in-Err-Stuck.field-0-is
-    c.in-Err-Stuck.ensures.asked in
+pub returns-in-Err-Worn-clause-asked : goal.returns-in-Err-Worn-clause-asked
+returns-in-Err-Worn-clause-asked g c =
+    let asks = subst (λ e. AsksUpTo {T = Front} c.self.inside.mount c.sync.new.self c.front-wanted.result.position (Err e)) c.in-Err-Worn.field-0-is
+    c.in-Err-Worn.ensures.asked in
     let least : max c.self.inside.mount.asked c.front-wanted.result.position ≤ c.sync.new.self.asked = asks.all in
     let most : c.sync.new.self.asked ≤ max c.self.inside.mount.asked c.front-wanted.result.position = asks.at_most in
     let upto : c.front-wanted.result.position ≡ taken_in c.args.self.now.mount =

@@ -1,34 +1,25 @@
-use Rattle.std.proofs.Common.{length, refl, ap, sym, subst, ◌∙◌}
-use Rattle.block_port.specs.Port.{Learns}
-use Rattle.scan_recovery.specs.Lost.{IsLostAt, NoneLost}
-use Rattle.block_target.specs.Serial.{SerialView, device}
-use Rattle.block_target.proofs.DeviceFronts.{same_serial, taken_front_small, read_front, learns_from}
+use Rattle.std.proofs.Common.{length, refl, ap, subst, ◌∙◌}
+use Rattle.scan_recovery.specs.DriveFaults.{IsDriveFaultAt, NoDriveFaults}
+use Rattle.block_target.specs.Serial.{SerialView}
+use Rattle.block_target.proofs.DeviceFronts.{lost_serial, same_serial, taken_front_small, read_front, learns_from}
 use Rattle.block_target.proofs.ReadSectors.{read_words}
 use Rattle.block_target.proofs.serial.SerialPort.read.Goals as goal
 use Rattle.scan_recovery.proofs.HandedBack.{none_lost_there}
 
 pub invariant_of-self : goal.invariant_of-self
 invariant_of-self g c = same_serial _ _ c.read_all.ensures.sound c.self.invariant c.read_all.ensures.same refl refl refl
-    (taken_front_small c.self.inside.mount c.front-front.result c.self.invariant.sound c.front-front.ensures.front)
+    (taken_front_small c.self.inside.mount c.front-front.result c.self.invariant.sound c.front-front.ensures.front) (c.in-Ok.ensures.done refl)
 
 pub invariant_of-self-in-Err : goal.invariant_of-self-in-Err
-invariant_of-self-in-Err g c = same_serial _ _ c.read_all.ensures.sound c.self.invariant c.read_all.ensures.same refl refl refl c.self.invariant.small
-
-pub add_fault-requires : goal.add_fault-requires
-add_fault-requires g c = record {
-  before = c.self.inside.mount;
-  sound = c.self.invariant.sound;
-  named = c.self.invariant.faults;
-  same = c.read_all.ensures.same;
-  lost = c.in-Err.ensures.lost;
-}
+invariant_of-self-in-Err g c = lost_serial _ _ c.in-Err.field-0.unit c.in-Err.field-0.event c.read_all.ensures.sound c.self.invariant
+    c.read_all.ensures.same c.in-Err.ensures.lost refl c.add_fault.ensures refl refl
 
 pub returns-then-is_past_end-clause-cause : goal.returns-then-is_past_end-clause-cause
 returns-then-is_past_end-clause-cause g c = none_lost_there c.args.self.now.mount.units
 
 pub returns-in-Ok-clause-cause : goal.returns-in-Ok-clause-cause
 returns-in-Ok-clause-cause g c =
-    subst (λ (s : SerialView). NoneLost s.mount.units c.read_all.new.mount.units) c.self.view_is (c.in-Ok.ensures.done refl)
+    subst (λ (s : SerialView). NoDriveFaults s.mount.units c.read_all.new.mount.units) c.self.view_is (c.in-Ok.ensures.done refl)
 
 pub returns-in-Ok-clause-front : goal.returns-in-Ok-clause-front
 returns-in-Ok-clause-front g c =
@@ -66,15 +57,11 @@ returns-in-Ok-clause-asked g c = c.read_all.ensures.asked ∙ ap (λ (s : Serial
 
 pub returns-in-Err-clause-cause : goal.returns-in-Err-clause-cause
 returns-in-Err-clause-cause g c =
-    subst (λ (s : SerialView). IsLostAt c.args.self.now.mount.units s.mount.units c.in-Err.field-0.unit c.in-Err.field-0.event) (sym c.add_fault.ensures)
-    (subst (λ (s : SerialView). IsLostAt s.mount.units c.read_all.new.mount.units c.in-Err.field-0.unit c.in-Err.field-0.event) c.self.view_is
-    c.in-Err.ensures.lost)
+    subst (λ (s : SerialView). IsDriveFaultAt s.mount.units c.read_all.new.mount.units c.in-Err.field-0.unit c.in-Err.field-0.event) c.self.view_is
+    c.in-Err.ensures.lost
 
 pub returns-in-Err-clause-learns : goal.returns-in-Err-clause-learns
-returns-in-Err-clause-learns g c =
-    subst (λ (n : SerialView). Learns (device c.args.self.now) (device n)) (sym c.add_fault.ensures)
-    (learns_from _ c.args.self.now _ c.self.view_is c.read_all.ensures.same)
+returns-in-Err-clause-learns g c = learns_from _ c.args.self.now _ c.self.view_is c.read_all.ensures.same
 
 pub returns-in-Err-clause-asked : goal.returns-in-Err-clause-asked
-returns-in-Err-clause-asked g c = ap (λ (s : SerialView). s.mount.asked) c.add_fault.ensures ∙ c.read_all.ensures.asked
-    ∙ ap (λ (s : SerialView). s.mount.asked) c.self.view_is
+returns-in-Err-clause-asked g c = c.read_all.ensures.asked ∙ ap (λ (s : SerialView). s.mount.asked) c.self.view_is

@@ -1,20 +1,19 @@
-use Rattle.std.proofs.Common.{List, [], ◌∷◌, ◌++◌, ◌≡◌, ◌+◌, ◌/◌, ◌<◌, ◌^◌, ◌∙◌, refl, sym, subst, ap, arith, length}
+use Rattle.std.proofs.Common.{[], ◌∷◌, ◌++◌, ◌≡◌, ◌+◌, ◌/◌, ◌<◌, ◌^◌, ◌∙◌, refl, sym, subst, ap, arith, length}
 use Rattle.std.specs.List.{flat_map}
 use Rattle.pblk_model.specs.declared.run.Front.{Front}
 use Rattle.pblk_model.specs.declared.run.Place.{Place}
 use Rattle.pblk_model.specs.declared.shape.Shape.{Shape}
 use Rattle.block_port.specs.Own.{lines_of, sectors_of}
-use Rattle.block_port.specs.Port.{AreSectors, Learns}
-use Rattle.unit_port.specs.Unit.{ModelUnit}
-use Rattle.scan_recovery.specs.Lost.{IsLostAt, NoneLost}
+use Rattle.block_port.specs.Port.{AreSectors}
+use Rattle.scan_recovery.specs.DriveFaults.{IsDriveFaultAt, NoDriveFaults}
 use Rattle.block_target.specs.Refusals.{IsWriteRefusal}
 use Rattle.block_target.specs.Mount.{MountView, logs_in, engine_log, taken_in}
-use Rattle.block_target.specs.Serial.{SerialView, device}
+use Rattle.block_target.specs.Serial.{SerialView}
 use Rattle.block_target.specs.Waiting.{Waits}
-use Rattle.block_target.proofs.DeviceFronts.{learns_from, same_serial}
+use Rattle.block_target.proofs.DeviceFronts.{learns_from, lost_serial, same_serial}
 use Rattle.block_target.proofs.GrantedTakes.{granted_write, granted_place}
 use Rattle.block_target.proofs.Refusals.{refusal_of_write, write_refused}
-use Rattle.block_target.proofs.Written.{asked_all, some_sectors, named_write, none_lost_write, worns_write, learns_none, learns_write, target_write, alone_write, end_low, learns_at, target_at, whole_sectors}
+use Rattle.block_target.proofs.Written.{answered_write_port, asked_all, some_sectors, named_write, none_lost_write, worns_write, learns_none, learns_write, target_write, alone_write, end_low, learns_at, target_at, whole_sectors}
 use Rattle.block_target.proofs.serial.SerialPort.write.Goals as goal
 use Rattle.scan_recovery.proofs.HandedBack.{none_lost_there}
 
@@ -33,21 +32,17 @@ take_all-requires-clause-bytes g c =
     (subst (λ (s : SerialView). AreSectors s.mount.image.shape.sector (length c.args.bytes.now)) (sym c.self.view_is) c.requires.sectors)
 
 pub invariant_of-self : goal.invariant_of-self
-invariant_of-self g c = same_serial _ _ c.claim.ensures.sound c.self.invariant c.claim.ensures.same refl refl refl c.self.invariant.small
+invariant_of-self g c = lost_serial _ _ c.in-Err-Drive.unit c.in-Err-Drive.event c.claim.ensures.sound c.self.invariant c.claim.ensures.same
+    (subst (Waits c.self.inside.mount c.claim.new.self
+    (taken_in c.claim.new.self + length c.args.bytes.now / c.shape.result.now.sector) c.claim.new.self.granted) c.in-Err-Drive.field-0-is
+    c.in-Err-Drive.ensures.refused) refl c.add_fault.ensures refl refl
 
-pub invariant_of-self-in-Err-Stuck : goal.invariant_of-self-in-Err-Stuck
-invariant_of-self-in-Err-Stuck g c = same_serial _ _ c.claim.ensures.sound c.self.invariant c.claim.ensures.same refl refl refl c.self.invariant.small
-
-pub add_fault-requires : goal.add_fault-requires
-add_fault-requires g c = record {
-  before = c.self.inside.mount;
-  sound = c.self.invariant.sound;
-  named = c.self.invariant.faults;
-  same = c.claim.ensures.same;
-  lost = subst (Waits c.self.inside.mount c.claim.new.self
-      (taken_in c.claim.new.self + length c.args.bytes.now / c.shape.result.now.sector) c.claim.new.self.granted) c.in-Err-Drive.field-0-is
-      c.in-Err-Drive.ensures.refused;
-}
+pub invariant_of-self-in-Err-Worn : goal.invariant_of-self-in-Err-Worn
+invariant_of-self-in-Err-Worn g c =
+    let waits = subst (Waits c.self.inside.mount c.claim.new.self
+    (taken_in c.claim.new.self + length c.args.bytes.now / c.shape.result.now.sector) c.claim.new.self.granted)
+    c.in-Err-Worn.field-0-is c.in-Err-Worn.ensures.refused in
+    same_serial _ _ c.claim.ensures.sound c.self.invariant c.claim.ensures.same refl refl refl c.self.invariant.small waits.0
 
 pub add_worn-requires : goal.add_worn-requires
 add_worn-requires g c =
@@ -55,11 +50,11 @@ add_worn-requires g c =
     subst (λ (s : SerialView). AreSectors s.mount.image.shape.sector (length c.args.bytes.now)) (sym c.self.view_is) c.requires.sectors in
     let waits = subst (Waits c.self.inside.mount c.claim.new.self
     (taken_in c.claim.new.self + length c.args.bytes.now / c.shape.result.now.sector) c.claim.new.self.granted)
-    c.in-Err-Stuck.field-0-is c.in-Err-Stuck.ensures.refused in
+    c.in-Err-Worn.field-0-is c.in-Err-Worn.ensures.refused in
     refusal_of_write c.claim.new.self.image (logs_in c.claim.new.self) (length (engine_log c.claim.new.self))
-    (length c.args.bytes.now / c.shape.result.now.sector) c.in-Err-Stuck.wanted c.in-Err-Stuck.have
+    (length c.args.bytes.now / c.shape.result.now.sector) c.in-Err-Worn.wanted c.in-Err-Worn.have
     (some_sectors c.self.inside.mount c.shape.result.now (length c.args.bytes.now) c.self.invariant.sound c.shape.ensures sectors)
-    (write_refused c.claim.new.self (length c.args.bytes.now / c.shape.result.now.sector) c.in-Err-Stuck.wanted c.in-Err-Stuck.have
+    (write_refused c.claim.new.self (length c.args.bytes.now / c.shape.result.now.sector) c.in-Err-Worn.wanted c.in-Err-Worn.have
     waits.3 waits.2 c.claim.ensures.once waits.1)
 
 pub returns-then-is_past_end-clause-cause : goal.returns-then-is_past_end-clause-cause
@@ -67,44 +62,38 @@ returns-then-is_past_end-clause-cause g c = none_lost_there c.args.self.now.moun
 
 pub returns-in-Err-Drive-clause-cause : goal.returns-in-Err-Drive-clause-cause
 returns-in-Err-Drive-clause-cause g c =
-    let lost = subst (Waits c.self.inside.mount c.claim.new.self
-    (taken_in c.claim.new.self + length c.args.bytes.now / c.shape.result.now.sector) c.claim.new.self.granted)
-    c.in-Err-Drive.field-0-is
-    c.in-Err-Drive.ensures.refused in
-    subst (λ (us : List ModelUnit). IsLostAt c.args.self.now.mount.units us c.in-Err-Drive.unit c.in-Err-Drive.event)
-    (sym (ap (λ (s : SerialView). s.mount.units) c.add_fault.ensures))
-    (subst (λ (s : SerialView). IsLostAt s.mount.units c.claim.new.self.units c.in-Err-Drive.unit c.in-Err-Drive.event) c.self.view_is lost)
+    subst (λ (s : SerialView). IsDriveFaultAt s.mount.units c.claim.new.self.units c.in-Err-Drive.unit c.in-Err-Drive.event) c.self.view_is
+    (subst (Waits c.self.inside.mount c.claim.new.self
+    (taken_in c.claim.new.self + length c.args.bytes.now / c.shape.result.now.sector) c.claim.new.self.granted) c.in-Err-Drive.field-0-is
+    c.in-Err-Drive.ensures.refused)
 
 pub returns-in-Err-Drive-clause-learns : goal.returns-in-Err-Drive-clause-learns
-returns-in-Err-Drive-clause-learns g c =
-    subst (λ (n : SerialView). Learns (device c.args.self.now) (device n)) (sym c.add_fault.ensures)
-    (learns_from _ c.args.self.now _ c.self.view_is c.claim.ensures.same)
+returns-in-Err-Drive-clause-learns g c = learns_from _ c.args.self.now _ c.self.view_is c.claim.ensures.same
 
 pub returns-in-Err-Drive-clause-asked : goal.returns-in-Err-Drive-clause-asked
-returns-in-Err-Drive-clause-asked g c = ap (λ (s : SerialView). s.mount.asked) c.add_fault.ensures ∙ c.claim.ensures.asked
-    ∙ ap (λ (s : SerialView). s.mount.asked) c.self.view_is
+returns-in-Err-Drive-clause-asked g c = c.claim.ensures.asked ∙ ap (λ (s : SerialView). s.mount.asked) c.self.view_is
 
-pub returns-in-Err-Stuck-clause-cause : goal.returns-in-Err-Stuck-clause-cause
-returns-in-Err-Stuck-clause-cause g c =
+pub returns-in-Err-Worn-clause-cause : goal.returns-in-Err-Worn-clause-cause
+returns-in-Err-Worn-clause-cause g c =
     let sector : c.shape.result.now.sector ≡ c.args.self.now.mount.image.shape.sector =
     ap (λ (s : Shape). s.sector) (c.shape.ensures ∙ ap (λ (s : SerialView). s.mount.image.shape) c.self.view_is) in
     let waits = subst (Waits c.self.inside.mount c.claim.new.self
     (taken_in c.claim.new.self + length c.args.bytes.now / c.shape.result.now.sector) c.claim.new.self.granted)
-    c.in-Err-Stuck.field-0-is c.in-Err-Stuck.ensures.refused in
-    subst (λ (s : SerialView). NoneLost c.args.self.now.mount.units s.mount.units × (c.in-Err-Stuck.have ≡ s.mount.granted)
+    c.in-Err-Worn.field-0-is c.in-Err-Worn.ensures.refused in
+    subst (λ (s : SerialView). NoDriveFaults c.args.self.now.mount.units s.mount.units × (c.in-Err-Worn.have ≡ s.mount.granted)
     × IsWriteRefusal s.mount.image (logs_in s.mount) (length (engine_log s.mount)) (length c.args.bytes.now / c.args.self.now.mount.image.shape.sector)
-    c.in-Err-Stuck.wanted c.in-Err-Stuck.have)
+    c.in-Err-Worn.wanted c.in-Err-Worn.have)
     (sym c.add_worn.ensures) (
-      subst (λ (s : SerialView). NoneLost s.mount.units c.claim.new.self.units) c.self.view_is waits.0,
+      subst (λ (s : SerialView). NoDriveFaults s.mount.units c.claim.new.self.units) c.self.view_is waits.0,
       waits.2,
       subst (λ size. IsWriteRefusal c.claim.new.self.image (logs_in c.claim.new.self) (length (engine_log c.claim.new.self))
-          (length c.args.bytes.now / size) c.in-Err-Stuck.wanted c.in-Err-Stuck.have) sector
-          (write_refused c.claim.new.self (length c.args.bytes.now / c.shape.result.now.sector) c.in-Err-Stuck.wanted c.in-Err-Stuck.have
+          (length c.args.bytes.now / size) c.in-Err-Worn.wanted c.in-Err-Worn.have) sector
+          (write_refused c.claim.new.self (length c.args.bytes.now / c.shape.result.now.sector) c.in-Err-Worn.wanted c.in-Err-Worn.have
           waits.3 waits.2 c.claim.ensures.once waits.1),
     )
 
-pub returns-in-Err-Stuck-clause-learns : goal.returns-in-Err-Stuck-clause-learns
-returns-in-Err-Stuck-clause-learns g c =
+pub returns-in-Err-Worn-clause-learns : goal.returns-in-Err-Worn-clause-learns
+returns-in-Err-Worn-clause-learns g c =
     let was : SerialView = record {
       mount = c.self.inside.mount;
       seen = c.self.inside.seen;
@@ -121,8 +110,8 @@ returns-in-Err-Stuck-clause-learns g c =
       worns = c.self.inside.worns ++ record {
         written = length (flat_map lines_of c.self.inside.own);
         count = length c.args.bytes.now / c.shape.result.now.sector;
-        wanted = c.in-Err-Stuck.wanted;
-        have = c.in-Err-Stuck.have;
+        wanted = c.in-Err-Worn.wanted;
+        have = c.in-Err-Worn.have;
       } ∷ [];
     } in
     learns_at was c.args.self.now now c.add_worn.new.self c.self.view_is c.add_worn.ensures
@@ -169,6 +158,14 @@ invariant_of-self-2 g c =
             same = c.claim.ensures.same;
             mount = c.take_all.ensures.taken;
           }) c.self.invariant refl;
+      answered = answered_write_port was new c.claim.new.self c.args.lba
+          (sectors_of c.shape.result.now.sector (length c.args.bytes.now / c.shape.result.now.sector) c.args.bytes.now)
+          (record {
+            was = c.self.invariant.sound;
+            between = c.claim.ensures.sound;
+            same = c.claim.ensures.same;
+            mount = c.take_all.ensures.taken;
+          }) c.self.invariant refl (c.in-Ok.ensures.done refl);
       worns = worns_write was new c.claim.new.self c.args.lba
           (sectors_of c.shape.result.now.sector (length c.args.bytes.now / c.shape.result.now.sector) c.args.bytes.now)
           (record {
@@ -205,7 +202,7 @@ returns-clause-cause g c =
       faults = c.self.inside.faults;
       worns = c.self.inside.worns;
     } in
-    subst (λ (s : SerialView). NoneLost s.mount.units c.take_all.new.mount.units) c.self.view_is
+    subst (λ (s : SerialView). NoDriveFaults s.mount.units c.take_all.new.mount.units) c.self.view_is
     (none_lost_write was new c.claim.new.self c.args.lba
     (sectors_of c.shape.result.now.sector (length c.args.bytes.now / c.shape.result.now.sector) c.args.bytes.now)
     (record { was = c.self.invariant.sound; between = c.claim.ensures.sound; same = c.claim.ensures.same; mount = c.take_all.ensures.taken })
@@ -283,6 +280,6 @@ returns-clause-asked g c =
     ∙ asked_all c.claim.new.self c.args.lba (sectors_of c.shape.result.now.sector (length c.args.bytes.now / c.shape.result.now.sector) c.args.bytes.now)
     ∙ c.claim.ensures.asked ∙ ap (λ (s : SerialView). s.mount.asked) c.self.view_is
 
-pub returns-in-Err-Stuck-clause-asked : goal.returns-in-Err-Stuck-clause-asked
-returns-in-Err-Stuck-clause-asked g c = ap (λ (s : SerialView). s.mount.asked) c.add_worn.ensures ∙ c.claim.ensures.asked
+pub returns-in-Err-Worn-clause-asked : goal.returns-in-Err-Worn-clause-asked
+returns-in-Err-Worn-clause-asked g c = ap (λ (s : SerialView). s.mount.asked) c.add_worn.ensures ∙ c.claim.ensures.asked
     ∙ ap (λ (s : SerialView). s.mount.asked) c.self.view_is

@@ -1,6 +1,6 @@
 use Rattle.std.proofs.Common.{◌≡◌, ◌+◌, sym, subst, ap, ◌∙◌, arith, length, length-append, ◌∷◌, [], List}
 use Rattle.std.specs.List.{AllByRecursion}
-use Rattle.pblk_core.specs.LineRecords.{Records}
+use Rattle.pblk_core.specs.LineRecords.{RecordsView}
 use Rattle.pblk_core.specs.declared.open_lines.OpenLine.{OpenLine}
 use Rattle.pblk_core.proofs.open_lines.OpenLines.new.Goals as goal
 use Rattle.lemmas.proofs.Lists.{with_last}
@@ -14,12 +14,12 @@ loop-init c = record {
 
 pub loop-preserved : goal.loop-preserved
 loop-preserved c =
-    let made : OpenLine = record { records = c.in_ok-new.field-0; live = 0; stripes_left = 0 } in
+    let made : OpenLine = record { records = c.in_ok-new.field-0; online = 0; stripes_left = 0 } in
     record {
       count = ap length c.in_ok-push.ensures.items ∙ length-append c.loop.slots.items (made ∷ []) ∙ ap (λ n. n + 1) c.loop.invariant.count;
       shapes = subst (AllByRecursion (λ (l : OpenLine). l.records.shape ≡ c.args.layout.now)) (sym {A = List OpenLine} c.in_ok-push.ensures.items)
           (with_last (λ (l : OpenLine). l.records.shape ≡ c.args.layout.now) c.loop.slots.items made c.loop.invariant.shapes
-          (ap (λ (r : Records). r.shape) c.in_ok-new.ensures));
+          (ap (λ (r : RecordsView). r.shape) c.in_ok-new.ensures));
     }
 
 pub returns-clause-two : goal.returns-clause-two

@@ -1,6 +1,6 @@
 use Rattle.std.proofs.Common.{◌≡◌, ◌<◌, ◌-◌, ◌^◌, inl, inr, Some, length, refl, ap, sym, subst, ◌∙◌, rules, arith, drop}
 use Rattle.std.specs.Prelude.{slice_get, slice_set}
-use Rattle.pblk_layout.specs.Live.{is_in, units_in}
+use Rattle.pblk_layout.specs.Online.{is_in, units_in}
 use Rattle.pblk_core.specs.declared.resets.LineChunk.{LineChunk}
 use Rattle.pblk_core.specs.Resets.{ResetQueue, resets_left, used_in}
 use Rattle.pblk_core.proofs.UsedBits.{no_unit, some_unit}

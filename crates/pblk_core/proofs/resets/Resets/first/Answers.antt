@@ -1,7 +1,7 @@
 use Rattle.std.proofs.Common.{◌≡◌, ◌<◌, length, ap, sym, ◌∙◌, rules, drop}
 use Rattle.std.specs.Int.{trailing_zeros, w64}
 use Rattle.std.specs.Prelude.{slice_get}
-use Rattle.pblk_layout.specs.Live.{units_in}
+use Rattle.pblk_layout.specs.Online.{units_in}
 use Rattle.pblk_core.specs.Resets.{ResetQueue, resets_left, used_in}
 use Rattle.pblk_core.proofs.UsedBits.{least_unit, some_bit}
 use Rattle.pblk_core.proofs.ResetLists.{first_left, none_left, units_read, within}

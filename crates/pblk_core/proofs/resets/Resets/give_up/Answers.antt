@@ -1,5 +1,5 @@
 use Rattle.std.proofs.Common.{◌≢◌, [], ◌∙◌, ap, subst, sym, arith}
-use Rattle.pblk_layout.specs.Live.{units_in}
+use Rattle.pblk_layout.specs.Online.{units_in}
 use Rattle.pblk_core.specs.Resets.{GetsChunks, HasNoneOf, ResetQueue, resets_left, used_in}
 use Rattle.pblk_core.proofs.ResetLists.{gets_line, within}
 use Rattle.pblk_core.proofs.resets.Resets.give_up.Goals as goal

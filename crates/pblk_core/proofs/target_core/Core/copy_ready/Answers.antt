@@ -6,12 +6,12 @@ use Rattle.pblk_model.specs.Image.{Image}
 use Rattle.pblk_world.specs.AtRest.{IsCopyDue}
 use Rattle.pblk_world.specs.Victims.{live}
 use Rattle.pblk_world.specs.World.{World, log_of}
-use Rattle.world_laws.specs.LegalMounts.{IsLegalMount}
+use Rattle.pblk_world.specs.LegalMounts.{IsLegalMount}
 use Rattle.l2p_map.specs.declared.slot.Slot.TheVariants.{Media}
 use Rattle.lemmas.proofs.Tests.{both, not_both, not_true}
 use Rattle.pblk_core.specs.declared.collecting.CopyJob.{CopyJob}
 use Rattle.pblk_core.specs.declared.target_core.Core.{Core}
-use Rattle.pblk_core.specs.Collecting.{Collects, HasPassed, IsReady}
+use Rattle.pblk_core.specs.Collecting.{Collects, HasPassed, IsCopyReady}
 use Rattle.pblk_core.specs.Copies.{copy_due, is_copying}
 use Rattle.pblk_core.specs.Named.{may_copy}
 use Rattle.pblk_core.specs.Stands.{Stands}
@@ -23,7 +23,7 @@ is_ready : (c : Core) (line : ℕ) (o : Option CopyJob) → HasPassed c → copy
     → IfSome o (λ job. job.line ≡ line) → IfSome o (λ job. job.lba < c.layout.capacity)
     → IfSome o (λ job. fin.get c.map job.lba ≡ Some (Media job.line job.at job.position))
     → IfSome o (λ job. (lba at position : ℕ) → c.collection.cursor ≤ lba → lba < job.lba → fin.get c.map lba ≢ Some (Media line at position))
-    → IfSome o (IsReady c)
+    → IfSome o (IsCopyReady c)
 is_ready c line None passed due idle at_work of_line inside there first = tt
 is_ready c line (Some job) passed due idle at_work of_line inside there first = record {
   due = due;

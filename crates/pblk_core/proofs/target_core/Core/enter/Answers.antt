@@ -17,7 +17,13 @@ returns-else-is_latest-clause-legal c = c.take_stale.ensures.legal
 
 pub returns-else-is_latest-clause-passed : goal.returns-else-is_latest-clause-passed
 returns-else-is_latest-clause-passed c = λ passed.
-    passed_same c.args.self.now c.take_stale.new.self passed c.take_stale.ensures.map c.take_stale.ensures.collection
+    passed_same c.args.self.now c.take_stale.new.self passed c.take_stale.ensures.collecting.map c.take_stale.ensures.collecting.collection
 
 pub returns-else-is_latest-clause-brings : goal.returns-else-is_latest-clause-brings
-returns-else-is_latest-clause-brings c = λ line apart none. c.take_stale.ensures.brings line none
+returns-else-is_latest-clause-brings c = λ line apart none. c.take_stale.ensures.collecting.brings line none
+
+pub returns-else-is_latest-clause-pad : goal.returns-else-is_latest-clause-pad
+returns-else-is_latest-clause-pad c = c.take_stale.ensures.collecting.pad
+
+pub returns-else-is_latest-clause-collection : goal.returns-else-is_latest-clause-collection
+returns-else-is_latest-clause-collection c = c.take_stale.ensures.collecting.collection

@@ -5,13 +5,16 @@ use Rattle.pblk_model.specs.Image.{Image}
 use Rattle.pblk_world.specs.Events.{EngineEvent, Free}
 use Rattle.pblk_world.specs.World.{Logs, log_of}
 use Rattle.core_laws.specs.Stepping.{after}
+use Rattle.stripe_placer.specs.Placing.{Placing}
 use Rattle.lemmas.proofs.Tests.{not_both, same, same_number}
-use Rattle.pblk_core.specs.declared.collecting.Collection.{Collection}
 use Rattle.pblk_core.specs.declared.target_core.Core.{Core}
 use Rattle.pblk_core.specs.Collecting.{HasPassed, IsBarrenRightly, weighed}
+use Rattle.pblk_core.specs.Copies.{is_copying}
+use Rattle.pblk_core.specs.Named.{pad_of}
 use Rattle.pblk_core.specs.Stands.{Stands}
 use Rattle.pblk_core.proofs.BarrenLines.{barren_kept}
 use Rattle.pblk_core.proofs.Collected.{HasChosen, collected, collected_freed, passed_same}
+use Rattle.pblk_core.proofs.KeptStripes.{kept_chosen}
 use Rattle.pblk_core.proofs.SmallCalls.{collecting_stands}
 use Rattle.pblk_core.proofs.TabledLines.{tabled_by_logs}
 use Rattle.pblk_core.proofs.target_core.Core.free_line.Goals as goal
@@ -54,6 +57,18 @@ left_barren line mid new (inl gone) was = λ barren other.
     ap (λ (x : Core). weighed x other) gone.1 ∙ was (sym (ap (λ (x : Core). x.collection.barren) gone.1) ∙ barren) other
 left_barren line mid new (inr kept) was = subst IsBarrenRightly (sym kept.1) was
 
+left_placer : (line : ℕ) (mid new : Core) → Leaves line mid new → new.placer ≡ mid.placer
+left_placer line mid new (inl gone) = ap (λ (x : Core). x.placer) gone.1
+left_placer line mid new (inr kept) = ap (λ (x : Core). x.placer) kept.1
+
+left_window : (line : ℕ) (mid new : Core) → Leaves line mid new → new.window ≡ mid.window
+left_window line mid new (inl gone) = ap (λ (x : Core). x.window) gone.1
+left_window line mid new (inr kept) = ap (λ (x : Core). x.window) kept.1
+
+left_copying : (line : ℕ) (mid new : Core) → Leaves line mid new → is_copying new ≡ is_copying mid
+left_copying line mid new (inl gone) = ap (λ (x : Core). is_copying x) gone.1
+left_copying line mid new (inr kept) = ap (λ (x : Core). is_copying x) kept.1
+
 -- the line that an event frees
 abbrev freed_line : EngineEvent → ℕ
 freed_line (Free line) = line
@@ -72,10 +87,10 @@ choose-requires c =
     record {
       tabled = tabled_by_logs c.args.self.now c.if-eq.self is (after (log_of is.world) (Free line) knows)
           (left_stands is.image _ line mid c.if-eq.self leaves (c.in_ok-line.ensures.stands is.image is.world knows is.legal is.stands refl))
-          (left_count line mid c.if-eq.self leaves ∙ ap (λ (x : Collection). length x.lines) c.free_spent.ensures.collection)
-          (λ other at_work. sym (ap (λ (x : Collection). x.victim) c.free_spent.ensures.collection) ∙ left_victim line mid c.if-eq.self leaves other at_work);
+          (left_count line mid c.if-eq.self leaves ∙ ap (λ (x : Core). length x.collection.lines) c.free_spent.ensures.rest)
+          (λ other at_work. sym (ap (λ (x : Core). x.collection.victim) c.free_spent.ensures.rest) ∙ left_victim line mid c.if-eq.self leaves other at_work);
       barren = left_barren line mid c.if-eq.self leaves (barren_kept c.args.self.now mid is.collects.barren c.in_ok-line.ensures.brings
-          (ap (λ (x : Collection). x.barren) c.free_spent.ensures.collection));
+          (ap (λ (x : Core). x.collection.barren) c.free_spent.ensures.rest));
     }
 
 pub returns-clause-stands : goal.returns-clause-stands
@@ -99,14 +114,14 @@ returns-clause-collects c = λ i w knows mount st was own.
       | else-eq w ↦ inr (other_line mid.collection.victim line (sym c.eq.ensures ∙ w.if-eq.false), w.self-is)
     ] in
     let now = left_stands i _ line mid left leaves (c.in_ok-line.ensures.stands i w knows mount st own) in
-    let same_victim = ap (λ (x : Collection). x.victim) c.free_spent.ensures.collection in
-    let count = left_count line mid left leaves ∙ ap (λ (x : Collection). length x.lines) c.free_spent.ensures.collection in
+    let same_victim = ap (λ (x : Core). x.collection.victim) c.free_spent.ensures.rest in
+    let count = left_count line mid left leaves ∙ ap (λ (x : Core). length x.collection.lines) c.free_spent.ensures.rest in
     let chose : HasChosen i (after (log_of w) (Free line) knows) left c.choose.new.self = record {
       stands = c.choose.ensures.stands i _ now;
       count = c.choose.ensures.count;
       victim = c.choose.ensures.victim i w _ mount now;
       passed = c.choose.ensures.passed (left_passed line mid left leaves
-          (passed_same old mid was.passed c.free_spent.ensures.map c.free_spent.ensures.collection));
+          (passed_same old mid was.passed (ap (λ (x : Core). x.map) c.free_spent.ensures.rest) (ap (λ (x : Core). x.collection) c.free_spent.ensures.rest)));
       barren = c.choose.ensures.barren;
       asked = c.choose.ensures.asked;
     } in
@@ -117,3 +132,29 @@ returns-clause-collects c = λ i w knows mount st was own.
           (λ other at_work freed. kept.0 (same_victim ∙ at_work ∙ ap (λ e. Some (freed_line e)) (sym freed))) count
           (ap (λ (x : Core). x.collection.victim) kept.1 ∙ same_victim) chose
     ]
+
+pub returns-clause-kept : goal.returns-clause-kept
+returns-clause-kept c =
+    let line : ℕ = c.in_ok-line.line in
+    let old : Core = c.args.self.now in
+    let mid : Core = c.free_spent.new.self in
+    let left : Core = c.if-eq.self in
+    let leaves : Leaves line mid left = elim c.if-eq.branch [
+      | then-eq w ↦ inl (its_line mid.collection.victim line (sym c.eq.ensures ∙ w.if-eq.true), w.self-is)
+      | else-eq w ↦ inr (other_line mid.collection.victim line (sym c.eq.ensures ∙ w.if-eq.false), w.self-is)
+    ] in
+    let placer = left_placer line mid left leaves in
+    kept_chosen old left c.choose.new.self
+    (ap (λ (p : Placing). p.entries.pad) placer ∙ ap (λ (x : Core). pad_of x) c.free_spent.ensures.rest) c.choose.ensures.asked
+    c.choose.ensures.rows c.choose.ensures.copying (ap (λ (p : Placing). p.units) placer ∙ ap (λ (x : Core). x.placer.units) c.free_spent.ensures.rest)
+    (left_copying line mid left leaves ∙ ap (λ (x : Core). is_copying x) c.free_spent.ensures.rest)
+
+pub returns-clause-window : goal.returns-clause-window
+returns-clause-window c =
+    let line : ℕ = c.in_ok-line.line in
+    let mid : Core = c.free_spent.new.self in
+    let leaves : Leaves line mid c.if-eq.self = elim c.if-eq.branch [
+      | then-eq w ↦ inl (its_line mid.collection.victim line (sym c.eq.ensures ∙ w.if-eq.true), w.self-is)
+      | else-eq w ↦ inr (other_line mid.collection.victim line (sym c.eq.ensures ∙ w.if-eq.false), w.self-is)
+    ] in
+    ap (λ (x : Core). x.window) c.choose.ensures.rest ∙ left_window line mid c.if-eq.self leaves ∙ ap (λ (x : Core). x.window) c.free_spent.ensures.rest

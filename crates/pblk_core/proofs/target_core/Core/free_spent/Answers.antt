@@ -4,7 +4,7 @@ use Rattle.std.specs.List.{filter}
 use Rattle.std.specs.Option.{IfNone}
 use Rattle.std.proofs.lemmas.Option.{get_or_from_slice_get, slice_get-get_or}
 use Rattle.pblk_model.specs.Shape.{units}
-use Rattle.pblk_layout.specs.Live.{units_in}
+use Rattle.pblk_layout.specs.Online.{units_in}
 use Rattle.pblk_world.specs.Freeing.{MayFree}
 use Rattle.pblk_world.specs.World.{log_of}
 use Rattle.line_table.specs.declared.row.LineState.TheVariants.{Freed}
@@ -34,8 +34,8 @@ turn-requires-clause-inside c = (may_give_up c.args.self.now c.in_ok-line.line c
 pub turn-requires-clause-width : goal.turn-requires-clause-width
 turn-requires-clause-width c =
     let may = may_give_up c.args.self.now c.in_ok-line.line c.requires.standing c.in_ok-line.ensures.found in
-    let live = get_or c.args.self.now.live.items c.in_ok-line.line c.index.result.now in
-    let few = may.few live (slice_get-get_or c.args.self.now.live.items c.in_ok-line.line c.index.result.now may.line_units) in
+    let live = get_or c.args.self.now.online.items c.in_ok-line.line c.index.result.now in
+    let few = may.few live (slice_get-get_or c.args.self.now.online.items c.in_ok-line.line c.index.result.now may.line_units) in
     subst (λ n. n ≤ units c.args.self.now.lines.shape) (sym (c.width-width.ensures.width ∙ ap (λ us. length (units_in us)) c.index.ensures)) few
 
 pub turn-requires-clause-change : goal.turn-requires-clause-change
@@ -71,9 +71,9 @@ returns-clause-stands c = λ i w knows mount st own.
       placer = refl;
       holds = refl;
       open_same = refl;
-      live = refl;
+      online = refl;
       lines = λ live there.
-          let value : c.index.result.now ≡ live = c.index.ensures ∙ get_or_from_slice_get c.args.self.now.live.items c.in_ok-line.line live _ there in
+          let value : c.index.result.now ≡ live = c.index.ensures ∙ get_or_from_slice_get c.args.self.now.online.items c.in_ok-line.line live _ there in
           let wide : c.width-width.result ≡ length (units_in live) = c.width-width.ensures.width ∙ ap (λ us. length (units_in us)) value in
           subst (λ n. Changes c.args.self.now.lines c.turn.new.self c.in_ok-line.line (turned Freed n)) wide c.turn.ensures;
       resets = c.give_up.ensures.left;
@@ -113,6 +113,6 @@ returns-clause-brings c =
       others = λ other apart. record {
         notes = ap (λ (rs : List LineNote). slice_get rs other) rows ∙ get_set_other c.args.self.now.notes.rows.items line other _ apart;
         rows = turned_elsewhere c.args.self.now.lines c.turn.new.self line other _ may.line_row c.turn.ensures apart;
-        live = refl;
+        online = refl;
       };
     }) (set_unclosed c.args.self.now.notes.rows.items c.free.new.self.rows.items line _ may.noted rows refl)

@@ -1,13 +1,15 @@
 use Rattle.std.proofs.Common.{◌≡◌, ◌&&◌, not, length, sym, subst, ap, ◌∙◌}
+use Rattle.std.specs.Prelude.{slice_get}
 use Rattle.std.proofs.lemmas.Option.{none-some}
 use Rattle.pblk_world.specs.Events.{Lost}
-use Rattle.write_window.specs.Window.{WindowView}
-use Rattle.write_window.specs.Window as view
 use Rattle.pblk_core.specs.declared.collecting.Collection.{Collection}
 use Rattle.pblk_core.specs.declared.target_core.Core.{Core}
 use Rattle.pblk_core.specs.Collecting.{weighed}
+use Rattle.pblk_core.specs.Keeping.{KeepsFrames}
+use Rattle.pblk_core.specs.Named.{pad_of}
 use Rattle.pblk_core.proofs.BarrenLines.{barren_if}
 use Rattle.pblk_core.proofs.Collected.{collected, passed_landed}
+use Rattle.pblk_core.proofs.KeptStripes.{others_chosen}
 use Rattle.pblk_core.proofs.LookedAgain.{each_looked, looked_stands, looked_passed}
 use Rattle.pblk_core.proofs.TabledLines.{tabled}
 use Rattle.pblk_core.proofs.target_core.Core.lost.Goals as goal
@@ -31,17 +33,17 @@ choose-requires c =
     }
 
 pub returns-clause-stands : goal.returns-clause-stands
-returns-clause-stands c = λ i w event knows mount st may written. c.choose.ensures.stands i _
+returns-clause-stands c = λ i w event knows mount st loss. c.choose.ensures.stands i _
     (looked_stands i _ c.note_lost-may_be.new.self c.look_again.new.self _ c.look_again.ensures
-    (c.note_lost-may_be.ensures.stands i w event knows mount st may written))
+    (c.note_lost-may_be.ensures.stands i w event knows mount st loss.may loss.written))
 
 pub returns-clause-collects : goal.returns-clause-collects
-returns-clause-collects c = λ i w event knows mount st was may written.
+returns-clause-collects c = λ i w event knows mount st was loss.
     let lost : Core = c.note_lost-may_be.new.self in
     let looked : Core = c.look_again.new.self in
     let look : looked ≡ record lost { collection = record lost.collection { barren = lost.collection.barren && not c.note_lost-may_be.result } } =
     c.look_again.ensures in
-    let mid = looked_stands i _ lost looked _ look (c.note_lost-may_be.ensures.stands i w event knows mount st may written) in
+    let mid = looked_stands i _ lost looked _ look (c.note_lost-may_be.ensures.stands i w event knows mount st loss.may loss.written) in
     let same = c.note_lost-may_be.ensures.collection in
     collected c.args.self.now looked c.choose.new.self i w (Lost c.args.stripe.now.stripe.unit event) knows mount st was
     (λ t is. absurd (none-some t is)) (λ line at_work freed. absurd cc)
@@ -56,7 +58,18 @@ returns-clause-collects c = λ i w event knows mount st was may written.
       asked = c.choose.ensures.asked;
     })
 
-pub returns-clause-own : goal.returns-clause-own
-returns-clause-own c = λ r own. subst (λ (v : WindowView). view.AreOf r v.entries)
-    (sym (c.choose.ensures.window ∙ ap (λ (x : Core). x.window) c.look_again.ensures))
-    (c.note_lost-may_be.ensures.own r own)
+pub returns-clause-frames : goal.returns-clause-frames
+returns-clause-frames c =
+    subst (KeepsFrames c.args.self.now.window) (sym (ap (λ (x : Core). x.window) c.choose.ensures.rest ∙ ap (λ (x : Core). x.window) c.look_again.ensures))
+    (record { own = c.note_lost-may_be.ensures.own; count = c.note_lost-may_be.ensures.count })
+
+pub returns-clause-kept : goal.returns-clause-kept
+returns-clause-kept c =
+    let noted : Core = c.note_lost-may_be.new.self in
+    let looked : Core = c.look_again.new.self in
+    let look : looked ≡ record noted { collection = record noted.collection { barren = noted.collection.barren && not c.note_lost-may_be.result } } =
+    c.look_again.ensures in
+    others_chosen c.args.self.now looked c.choose.new.self (ap (λ (x : Core). pad_of x) look ∙ c.note_lost-may_be.ensures.pad) c.choose.ensures.asked
+    c.choose.ensures.rows c.choose.ensures.copying c.args.stripe.now.stripe.unit
+    (λ other apart. ap (λ (x : Core). slice_get x.placer.units other) look ∙ c.note_lost-may_be.ensures.rows other apart)
+    (ap (λ (x : Core). x.collection.under_way) look ∙ ap (λ (x : Collection). x.under_way) c.note_lost-may_be.ensures.collection)

@@ -54,7 +54,7 @@ returns c = record {
         live = c.in_ok-lines.ensures.live;
         taker = c.in_ok-lines.ensures.taker;
       }));
-  live = c.in_ok-live.ensures ∙ ap (λ (s : Shape). all_online s c.args.found.now s.chunks) c.new-layout.ensures;
+  online = c.in_ok-online.ensures ∙ ap (λ (s : Shape). all_online s c.args.found.now s.chunks) c.new-layout.ensures;
   resets = c.in_ok-resets.ensures.left ∙ ap₂ (λ chunks strays. resets_found c.args.shape.now chunks strays) c.as_slice-states.ensures c.as_slice-2.ensures;
   used = λ line inside. c.in_ok-resets.ensures.used line inside
       ∙ ap (λ chunks. used_below c.args.shape.now chunks line (units c.args.shape.now)) c.as_slice-states.ensures;

@@ -7,6 +7,7 @@ use Rattle.stripe_placer.specs.Placing.{Placing, UnitRow}
 use Rattle.world_laws.specs.MountBeginnings.{beginning_of}
 use Rattle.pblk_core.specs.Copies.{victim_asks}
 use Rattle.pblk_core.specs.Named.{pad_of}
+use Rattle.pblk_core.specs.declared.target_core.Core.{Core}
 use Rattle.pblk_core.proofs.Collected.{asks_none, collected_begun}
 use Rattle.pblk_core.proofs.MadeLines.{made_tabled}
 use Rattle.pblk_core.proofs.StandsBegun.{made_on}
@@ -44,7 +45,7 @@ returns-clause-pad c =
     let asked : pad_of c.choose.new.self ≡ max (pad_of c.in_ok-core.core) (victim_asks c.choose.new.self) = c.choose.ensures.asked in
     let none : pad_of c.in_ok-core.core ≡ 0 = ap (λ (p : Placing). p.entries.pad) is.placer in
     let no_taker : victim_asks c.choose.new.self ≡ 0 = asks_none c.choose.new.self
-    (λ line row there. is.lines.taker line row (ap (λ (t : Table). slice_get t.rows line) (sym c.choose.ensures.lines) ∙ there)) in
+    (λ line row there. is.lines.taker line row (ap (λ (t : Table). slice_get t.rows line) (sym (ap (λ (x : Core). x.lines) c.choose.ensures.rest)) ∙ there)) in
     omega arith
 
 pub returns-clause-resting : goal.returns-clause-resting

@@ -5,7 +5,7 @@ use Rattle.std.proofs.lemmas.Option.{get_or_from_slice_get, slice_get_within}
 use Rattle.pblk_model.specs.declared.shape.Shape.{Shape}
 use Rattle.pblk_model.specs.Shape.{units}
 use Rattle.pblk_model.specs.LineOrder.{data_len}
-use Rattle.pblk_layout.specs.Live.{units_in}
+use Rattle.pblk_layout.specs.Online.{units_in}
 use Rattle.line_table.specs.declared.row.LineState.TheVariants.{Failed, Freed, Full}
 use Rattle.line_table.specs.Rows.{Changes, IsChange, turned}
 use Rattle.pblk_core.specs.declared.target_core.Core.{Core}
@@ -34,8 +34,8 @@ keep_unit-requires-clause-there c = (reset_next c.args.self.now c.args.line c.ar
 pub index-requires : goal.index-requires
 index-requires c =
     let kept = kept_there c.args.self.now c.args.line c.args.unit c.args.state c.requires.standing c.requires.named in
-    let low : c.args.line < length c.keep_unit.new.live.items =
-    slice_get_within c.keep_unit.new.live.items c.args.line kept.0 (ap (λ us. slice_get us c.args.line) c.keep_unit.ensures ∙ kept.1) in
+    let low : c.args.line < length c.keep_unit.new.online.items =
+    slice_get_within c.keep_unit.new.online.items c.args.line kept.0 (ap (λ us. slice_get us c.args.line) c.keep_unit.ensures ∙ kept.1) in
     search rules
 
 pub emptied-requires : goal.emptied-requires
@@ -73,14 +73,14 @@ returns-then-not-is_at-clause-stands c = λ i w event knows mount st to.
       holds = refl;
       open_same = refl;
       start = refl;
-      live = c.keep_unit.ensures;
+      online = c.keep_unit.ensures;
       resets = c.advance.ensures.left;
       used_lines = c.advance.ensures.lines;
       used = c.advance.ensures.others;
       notes = refl;
       lines_stay = λ at. let held : c.is_at.result ≡ true = c.is_at.ensures ∙ at in let gone = c.if-not-is_at.true in absurd cc;
       lines_turn = λ live off there.
-          let value : c.index.result.now ≡ live = c.index.ensures ∙ get_or_from_slice_get c.keep_unit.new.live.items c.args.line live _ there in
+          let value : c.index.result.now ≡ live = c.index.ensures ∙ get_or_from_slice_get c.keep_unit.new.online.items c.args.line live _ there in
           let wide : c.width-width.result ≡ length (units_in live) = c.width-width.ensures.width ∙ ap (λ us. length (units_in us)) value in
           subst (λ n. Changes c.args.self.now.lines c.turn.new.self c.args.line (turned (emptied c.args.self.now.layout n) n)) wide
           (subst (λ to. Changes c.args.self.now.lines c.turn.new.self c.args.line (turned to c.width-width.result)) c.emptied.ensures c.turn.ensures);
@@ -102,7 +102,7 @@ returns-else-not-is_at-clause-stands c = λ i w event knows mount st to.
       holds = refl;
       open_same = refl;
       start = refl;
-      live = c.keep_unit.ensures;
+      online = c.keep_unit.ensures;
       resets = c.advance.ensures.left;
       used_lines = c.advance.ensures.lines;
       used = c.advance.ensures.others;
@@ -133,27 +133,27 @@ unclosed c line unit sd names = unclosed_by_state sd.image sd.world c line sd.le
 
 pub returns-then-not-is_at-clause-brings : goal.returns-then-not-is_at-clause-brings
 returns-then-not-is_at-clause-brings c =
-    brings_none c.args.self.now (record c.args.self.now { live = c.keep_unit.new.live; lines = c.turn.new.self }) c.args.line (record {
+    brings_none c.args.self.now (record c.args.self.now { online = c.keep_unit.new.online; lines = c.turn.new.self }) c.args.line (record {
       layout = refl;
       newest = refl;
       others = λ other apart. record {
         notes = refl;
         rows = turned_elsewhere c.args.self.now.lines c.turn.new.self c.args.line other _
             (reset_next c.args.self.now c.args.line c.args.unit c.requires.standing c.requires.named).line_row c.turn.ensures apart;
-        live = ap (λ us. slice_get us other) c.keep_unit.ensures
-            ∙ kept_beside c.args.self.now.live.items c.args.line c.args.unit other c.args.state apart;
+        online = ap (λ us. slice_get us other) c.keep_unit.ensures
+            ∙ kept_beside c.args.self.now.online.items c.args.line c.args.unit other c.args.state apart;
       };
     }) (unclosed c.args.self.now c.args.line c.args.unit c.requires.standing c.requires.named)
 
 pub returns-else-not-is_at-clause-brings : goal.returns-else-not-is_at-clause-brings
 returns-else-not-is_at-clause-brings c =
-    brings_none c.args.self.now (record c.args.self.now { live = c.keep_unit.new.live }) c.args.line (record {
+    brings_none c.args.self.now (record c.args.self.now { online = c.keep_unit.new.online }) c.args.line (record {
       layout = refl;
       newest = refl;
       others = λ other apart. record {
         notes = refl;
         rows = refl;
-        live = ap (λ us. slice_get us other) c.keep_unit.ensures
-            ∙ kept_beside c.args.self.now.live.items c.args.line c.args.unit other c.args.state apart;
+        online = ap (λ us. slice_get us other) c.keep_unit.ensures
+            ∙ kept_beside c.args.self.now.online.items c.args.line c.args.unit other c.args.state apart;
       };
     }) (unclosed c.args.self.now c.args.line c.args.unit c.requires.standing c.requires.named)

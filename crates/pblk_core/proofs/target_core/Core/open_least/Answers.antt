@@ -11,7 +11,7 @@ use Rattle.pblk_meta.specs.Records.{start_numbers}
 use Rattle.pblk_world.specs.World.{log_of}
 use Rattle.pblk_world.specs.Lines.{known_image}
 use Rattle.pblk_world.specs.Starts.{start_stripes}
-use Rattle.pblk_layout.specs.Live.{units_in}
+use Rattle.pblk_layout.specs.Online.{units_in}
 use Rattle.line_table.specs.declared.row.LineState.TheVariants as states
 use Rattle.line_table.specs.Rows.{Changes, turned}
 use Rattle.stripe_placer.specs.Placing.{Placing, begun as line_begun}
@@ -41,8 +41,8 @@ overflow_mul-stripes c =
     let st = c.requires.standing in
     let may = open_is_named c.args.self.now c.requires.named in
     let is = next_line_is st.image st.world c.args.self.now st.legal st.stands may in
-    let it = chosen st.image st.world c.args.self.now c.in-Some.line c.index-live.result.now c.index-live.result.now st.legal st.stands may
-    (sym c.least_free.ensures.least ∙ c.in-Some.is) c.index-live.ensures in
+    let it = chosen st.image st.world c.args.self.now c.in-Some.line c.index-online.result.now c.index-online.result.now st.legal st.stands may
+    (sym c.least_free.ensures.least ∙ c.in-Some.is) c.index-online.ensures in
     let value : c.width-width.result * (c.shape-shape.result.now.clba / c.shape-shape.result.now.ws_opt) ≡ width (known_image st.image (log_of st.world))
     (next_line c.args.self.now) * (st.image.shape.clba / st.image.shape.ws_opt) =
     ap₂ (λ g (s : Shape). g * (s.clba / s.ws_opt)) (c.width-width.ensures.width ∙ ap (λ m. length (units_in m)) it.1 ∙ is.wide)
@@ -64,9 +64,9 @@ begin-requires-clause-width c = λ line there.
     let st = c.requires.standing in
     let may = open_is_named c.args.self.now c.requires.named in
     let few : c.width-width.result ≤ units c.args.self.now.layout =
-    chosen_few st.image st.world c.args.self.now c.in-Some.line c.index-live.result.now c.index-live.result.now c.width-width.result
+    chosen_few st.image st.world c.args.self.now c.in-Some.line c.index-online.result.now c.index-online.result.now c.width-width.result
     st.legal st.stands may
-    (sym c.least_free.ensures.least ∙ c.in-Some.is) c.index-live.ensures c.width-width.ensures.few in
+    (sym c.least_free.ensures.least ∙ c.in-Some.is) c.index-online.ensures c.width-width.ensures.few in
     subst (λ (s : Shape). c.width-width.result ≤ units s) (st.stands.layout ∙ sym (st.stands.open_lines.shapes c.args.self.now.open.count line there)) few
 
 -- the line has a row
@@ -75,8 +75,8 @@ open-requires c =
     let st = c.requires.standing in
     let may = open_is_named c.args.self.now c.requires.named in
     let is = next_line_is st.image st.world c.args.self.now st.legal st.stands may in
-    let it = chosen st.image st.world c.args.self.now c.in-Some.line c.index-live.result.now c.index-live.result.now st.legal st.stands may
-    (sym c.least_free.ensures.least ∙ c.in-Some.is) c.index-live.ensures in
+    let it = chosen st.image st.world c.args.self.now c.in-Some.line c.index-online.result.now c.index-online.result.now st.legal st.stands may
+    (sym c.least_free.ensures.least ∙ c.in-Some.is) c.index-online.ensures in
     subst (λ n. n < length c.args.self.now.notes.rows.items) it.0 (subst (λ n. next_line c.args.self.now < n) (sym st.stands.notes.count) is.least.in_range)
 
 pub overflow_add-self : goal.overflow_add-self
@@ -89,24 +89,24 @@ turn-requires-clause-width c =
     let st = c.requires.standing in
     let may = open_is_named c.args.self.now c.requires.named in
     subst (λ (s : Shape). c.width-width.result ≤ units s) (table_shape c.args.self.now st)
-    (chosen_few st.image st.world c.args.self.now c.in-Some.line c.index-live.result.now c.index-live.result.now c.width-width.result
+    (chosen_few st.image st.world c.args.self.now c.in-Some.line c.index-online.result.now c.index-online.result.now c.width-width.result
     st.legal st.stands may
-    (sym c.least_free.ensures.least ∙ c.in-Some.is) c.index-live.ensures c.width-width.ensures.few)
+    (sym c.least_free.ensures.least ∙ c.in-Some.is) c.index-online.ensures c.width-width.ensures.few)
 
 pub data_len-requires : goal.data_len-requires
 data_len-requires c =
     let st = c.requires.standing in
     let may = open_is_named c.args.self.now c.requires.named in
-    chosen_few st.image st.world c.args.self.now c.in-Some.line c.index-live.result.now c.index-live.result.now c.width-width.result
+    chosen_few st.image st.world c.args.self.now c.in-Some.line c.index-online.result.now c.index-online.result.now c.width-width.result
     st.legal st.stands may
-    (sym c.least_free.ensures.least ∙ c.in-Some.is) c.index-live.ensures c.width-width.ensures.few
+    (sym c.least_free.ensures.least ∙ c.in-Some.is) c.index-online.ensures c.width-width.ensures.few
 
 pub begin-requires-clause-fits : goal.begin-requires-clause-fits
 begin-requires-clause-fits c = λ line there.
     let st = c.requires.standing in
     let may = open_is_named c.args.self.now c.requires.named in
-    let it = chosen st.image st.world c.args.self.now c.in-Some.line c.index-live.result.now c.index-live.result.now st.legal st.stands may
-    (sym c.least_free.ensures.least ∙ c.in-Some.is) c.index-live.ensures in
+    let it = chosen st.image st.world c.args.self.now c.in-Some.line c.index-online.result.now c.index-online.result.now st.legal st.stands may
+    (sym c.least_free.ensures.least ∙ c.in-Some.is) c.index-online.ensures in
     let wide : c.width-width.result ≡ (next_start c.args.self.now).width = c.width-width.ensures.width ∙ ap (λ m. length (units_in m)) it.1 in
     let front : c.synced.result.position ≡ (next_start c.args.self.now).front = ap (λ f. f.position) c.synced.ensures.synced in
     let same : next_start c.args.self.now ≡ record {
@@ -143,8 +143,8 @@ begin-requires-2-clause-line c =
     let st = c.requires.standing in
     let may = open_is_named c.args.self.now c.requires.named in
     let is = next_line_is st.image st.world c.args.self.now st.legal st.stands may in
-    let it = chosen st.image st.world c.args.self.now c.in-Some.line c.index-live.result.now c.index-live.result.now st.legal st.stands may
-    (sym c.least_free.ensures.least ∙ c.in-Some.is) c.index-live.ensures in
+    let it = chosen st.image st.world c.args.self.now c.in-Some.line c.index-online.result.now c.index-online.result.now st.legal st.stands may
+    (sym c.least_free.ensures.least ∙ c.in-Some.is) c.index-online.ensures in
     subst (λ n. n < c.args.self.now.placer.shape.chunks) it.0
     (subst (λ p. next_line c.args.self.now < p.shape.chunks) (sym st.stands.placing) is.least.in_range)
 
@@ -153,8 +153,8 @@ begin-requires-2-clause-another c = λ k d within same.
     let st = c.requires.standing in
     let may = open_is_named c.args.self.now c.requires.named in
     let is = next_line_is st.image st.world c.args.self.now st.legal st.stands may in
-    let it = chosen st.image st.world c.args.self.now c.in-Some.line c.index-live.result.now c.index-live.result.now st.legal st.stands may
-    (sym c.least_free.ensures.least ∙ c.in-Some.is) c.index-live.ensures in
+    let it = chosen st.image st.world c.args.self.now c.in-Some.line c.index-online.result.now c.index-online.result.now st.legal st.stands may
+    (sym c.least_free.ensures.least ∙ c.in-Some.is) c.index-online.ensures in
     none_open st.image (log_of st.world) (next_line c.args.self.now) k d is.closed
     (subst (λ p. k < length p.lines) st.stands.placing within)
     (sym (ap (λ p. (slice_index_or p.lines k d).line) st.stands.placing) ∙ same ∙ sym it.0)
@@ -164,9 +164,9 @@ begin-requires-2-clause-units c =
     let st = c.requires.standing in
     let may = open_is_named c.args.self.now c.requires.named in
     let is = next_line_is st.image st.world c.args.self.now st.legal st.stands may in
-    let it = chosen st.image st.world c.args.self.now c.in-Some.line c.index-live.result.now c.index-live.result.now st.legal st.stands may
-    (sym c.least_free.ensures.least ∙ c.in-Some.is) c.index-live.ensures in
-    rw c.bits-2.ensures (subst (λ p. c.index-live.result.now < 2 ^ units p.shape) (sym st.stands.placing)
+    let it = chosen st.image st.world c.args.self.now c.in-Some.line c.index-online.result.now c.index-online.result.now st.legal st.stands may
+    (sym c.least_free.ensures.least ∙ c.in-Some.is) c.index-online.ensures in
+    rw c.bits-2.ensures (subst (λ p. c.index-online.result.now < 2 ^ units p.shape) (sym st.stands.placing)
     (subst (λ m. m < 2 ^ units st.image.shape) (sym it.1) is.small))
 
 pub begin-requires-2-clause-data : goal.begin-requires-2-clause-data
@@ -174,9 +174,9 @@ begin-requires-2-clause-data c = λ none.
     let st = c.requires.standing in
     let may = open_is_named c.args.self.now c.requires.named in
     let is = next_line_is st.image st.world c.args.self.now st.legal st.stands may in
-    let it = chosen st.image st.world c.args.self.now c.in-Some.line c.index-live.result.now c.index-live.result.now st.legal st.stands may
-    (sym c.least_free.ensures.least ∙ c.in-Some.is) c.index-live.ensures in
-    let same : data_len c.args.self.now.placer.shape (length (units_in c.index-live.result.now)) ≡ data_len st.image.shape
+    let it = chosen st.image st.world c.args.self.now c.in-Some.line c.index-online.result.now c.index-online.result.now st.legal st.stands may
+    (sym c.least_free.ensures.least ∙ c.in-Some.is) c.index-online.ensures in
+    let same : data_len c.args.self.now.placer.shape (length (units_in c.index-online.result.now)) ≡ data_len st.image.shape
     (width (known_image st.image (log_of st.world)) (next_line c.args.self.now)) =
     ap₂ data_len (ap (λ p. p.shape) st.stands.placing) (ap (λ m. length (units_in m)) it.1 ∙ is.wide) in
     no_data (data_len st.image.shape (width (known_image st.image (log_of st.world)) (next_line c.args.self.now)))
@@ -201,14 +201,14 @@ overflow_add-self-2 c =
     search rules
 
 pub returns-clause-legal : goal.returns-clause-legal
-returns-clause-legal c = λ i w begun mount st has.
+returns-clause-legal c = λ i w mount st begun has.
     next_may_open i w c.args.self.now begun mount st (open_is_named c.args.self.now c.requires.named) has
 
 pub returns-clause-stands : goal.returns-clause-stands
 returns-clause-stands c = λ i w knows mount st.
     let may = open_is_named c.args.self.now c.requires.named in
-    let it = chosen i w c.args.self.now c.in-Some.line c.index-live.result.now c.index-live.result.now mount st may
-    (sym c.least_free.ensures.least ∙ c.in-Some.is) c.index-live.ensures in
+    let it = chosen i w c.args.self.now c.in-Some.line c.index-online.result.now c.index-online.result.now mount st may
+    (sym c.least_free.ensures.least ∙ c.in-Some.is) c.index-online.ensures in
     let width : c.width-width.result ≡ (next_start c.args.self.now).width = c.width-width.ensures.width ∙ ap (λ m. length (units_in m)) it.1 in
     let front : c.synced.result.position ≡ (next_start c.args.self.now).front = ap (λ f. f.position) c.synced.ensures.synced in
     let stripes : c.width-width.result * (c.shape-shape.result.now.clba / c.shape-shape.result.now.ws_opt) ≡ (next_start c.args.self.now).width *
@@ -236,7 +236,7 @@ returns-clause-stands c = λ i w knows mount st.
             capacity = c.args.self.now.start.capacity;
             rows = (start_numbers c.args.self.now.start).rows;
           }) (live j) (stripes j)));
-      live = refl;
+      online = refl;
       resets = refl;
       note_rows = c.«open».ensures.rows
           ∙ (λ j. slice_set c.args.self.now.notes.rows.items (sym it.0 j) (note_opened c.args.self.now.start.seq (front j) (starts j)));
@@ -262,8 +262,8 @@ returns-clause-brings c =
     let st = c.requires.standing in
     let may = open_is_named c.args.self.now c.requires.named in
     let is = next_line_is st.image st.world c.args.self.now st.legal st.stands may in
-    let it = chosen st.image st.world c.args.self.now c.in-Some.line c.index-live.result.now c.index-live.result.now st.legal st.stands may
-    (sym c.least_free.ensures.least ∙ c.in-Some.is) c.index-live.ensures in
+    let it = chosen st.image st.world c.args.self.now c.in-Some.line c.index-online.result.now c.index-online.result.now st.legal st.stands may
+    (sym c.least_free.ensures.least ∙ c.in-Some.is) c.index-online.ensures in
     let each = each_line st.image st.world (log_of st.world) st.legal st.stands in
     let inside : c.in-Some.line < c.args.self.now.layout.chunks = subst (λ n. n < c.args.self.now.layout.chunks) it.0
     (subst (λ (s : Shape). next_line c.args.self.now < s.chunks) (sym st.stands.layout) is.least.in_range) in
@@ -275,7 +275,7 @@ returns-clause-brings c =
             ∙ get_set_other c.args.self.now.notes.rows.items c.in-Some.line other _ apart;
         rows = turned_elsewhere c.args.self.now.lines c.turn.new.self c.in-Some.line other _
             (subst (λ n. c.in-Some.line < n) (sym each.rows) inside) c.turn.ensures apart;
-        live = refl;
+        online = refl;
       };
     }) (set_unclosed c.args.self.now.notes.rows.items c.«open».new.self.rows.items c.in-Some.line _
     (subst (λ n. c.in-Some.line < n) (sym each.noted) inside) c.«open».ensures.rows refl)

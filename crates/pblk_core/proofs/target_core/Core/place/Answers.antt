@@ -1,13 +1,14 @@
-use Rattle.std.proofs.Common.{◌≡◌, List, [], length, ap, arith, true, false, sym, ◌∙◌, is_some, rules}
-use Rattle.std.specs.Prelude.{slice_get}
+use Rattle.std.proofs.Common.{◌≡◌, [], length, ap, arith, true, false, sym, ◌∙◌, is_some, rules}
 use Rattle.std.proofs.lemmas.Option.{none-some}
 use Rattle.pblk_world.specs.Events.{Place}
-use Rattle.stripe_placer.specs.Placing.{UnitRow, next_stripe, program}
+use Rattle.stripe_placer.specs.Placing.{next_stripe, program}
 use Rattle.stripe_placer.proofs.NextUnits.{its_idle, its_stop}
 use Rattle.pblk_core.specs.declared.collecting.Collection.{Collection}
 use Rattle.pblk_core.specs.Named.{pad_of}
+use Rattle.pblk_core.specs.declared.target_core.Core.{Core}
 use Rattle.pblk_core.proofs.BarrenLines.{barren_kept}
 use Rattle.pblk_core.proofs.Collected.{collected, collects_same, passed_same}
+use Rattle.pblk_core.proofs.KeptStripes.{others_chosen, rises_still}
 use Rattle.pblk_core.proofs.TabledLines.{tabled_same}
 use Rattle.pblk_core.proofs.WorkOf.{program_named}
 use Rattle.pblk_core.proofs.target_core.Core.place.Goals as goal
@@ -40,9 +41,16 @@ returns-then-is_stopped-clause-again c = λ again i w mount st. (c.place_again.e
 
 pub returns-then-is_stopped-clause-collects_again : goal.returns-then-is_stopped-clause-collects_again
 returns-then-is_stopped-clause-collects_again c = λ again i logs was.
-    let pad : pad_of c.place_again.new.self ≡ pad_of c.args.self.now = c.place_again.ensures.pad in
-    collects_same c.args.self.now c.place_again.new.self i logs was c.place_again.ensures.map c.place_again.ensures.collection
-    c.place_again.ensures.brings (omega arith)
+    let pad : pad_of c.place_again.new.self ≡ pad_of c.args.self.now = c.place_again.ensures.collecting.pad in
+    collects_same c.args.self.now c.place_again.new.self i logs was c.place_again.ensures.collecting.map c.place_again.ensures.collecting.collection
+    c.place_again.ensures.collecting.brings (omega arith)
+
+pub returns-then-is_stopped-clause-kept : goal.returns-then-is_stopped-clause-kept
+returns-then-is_stopped-clause-kept c = record {
+  rows = c.place_again.ensures.rows;
+  copying = ap (λ (x : Collection). x.under_way) c.place_again.ensures.collecting.collection;
+  pad = rises_still c.args.self.now c.place_again.new.self c.place_again.ensures.collecting.pad;
+}
 
 -- ---- a new stripe
 
@@ -61,9 +69,9 @@ choose-requires c =
     let is = c.requires.collecting in
     record {
       tabled = tabled_same c.args.self.now c.place_new.new.self is _ (c.place_new.ensures.stands is.image is.world [] is.legal is.stands)
-          c.place_new.ensures.collection;
-      barren = barren_kept c.args.self.now c.place_new.new.self is.collects.barren c.place_new.ensures.brings
-          (ap (λ (x : Collection). x.barren) c.place_new.ensures.collection);
+          c.place_new.ensures.collecting.collection;
+      barren = barren_kept c.args.self.now c.place_new.new.self is.collects.barren c.place_new.ensures.collecting.brings
+          (ap (λ (x : Collection). x.barren) c.place_new.ensures.collecting.collection);
     }
 
 pub returns-else-is_stopped-clause-stands : goal.returns-else-is_stopped-clause-stands
@@ -72,21 +80,26 @@ returns-else-is_stopped-clause-stands c = λ first i w knows mount st. c.choose.
 pub returns-else-is_stopped-clause-collects : goal.returns-else-is_stopped-clause-collects
 returns-else-is_stopped-clause-collects c = λ first i w knows mount st was.
     let mid = c.place_new.ensures.stands i w knows mount st in
-    let same = c.place_new.ensures.collection in
+    let same = c.place_new.ensures.collecting.collection in
     collected c.args.self.now c.place_new.new.self c.choose.new.self i w (Place c.place_new.new.into.stripe) knows mount st was
     (λ t is. absurd (none-some t is)) (λ line at_work freed. absurd cc)
     (ap (λ (x : Collection). length x.lines) same) (ap (λ (x : Collection). x.victim) same) (record {
       stands = c.choose.ensures.stands i _ mid;
       count = c.choose.ensures.count;
       victim = c.choose.ensures.victim i w _ mount mid;
-      passed = c.choose.ensures.passed (passed_same c.args.self.now c.place_new.new.self was.passed c.place_new.ensures.map same);
+      passed = c.choose.ensures.passed (passed_same c.args.self.now c.place_new.new.self was.passed c.place_new.ensures.collecting.map same);
       barren = c.choose.ensures.barren;
       asked = c.choose.ensures.asked;
     })
 
-pub returns-else-is_stopped-clause-rows : goal.returns-else-is_stopped-clause-rows
-returns-else-is_stopped-clause-rows c = λ other apart.
-    ap (λ (units : List UnitRow). slice_get units other) c.choose.ensures.rows ∙ c.place_new.ensures.rows other apart
+pub returns-else-is_stopped-clause-kept : goal.returns-else-is_stopped-clause-kept
+returns-else-is_stopped-clause-kept c =
+    others_chosen c.args.self.now c.place_new.new.self c.choose.new.self c.place_new.ensures.collecting.pad c.choose.ensures.asked c.choose.ensures.rows
+    c.choose.ensures.copying c.place_new.new.into.stripe.unit c.place_new.ensures.rows
+    (ap (λ (x : Collection). x.under_way) c.place_new.ensures.collecting.collection)
 
 pub returns-else-is_stopped-clause-again : goal.returns-else-is_stopped-clause-again
 returns-else-is_stopped-clause-again c = λ again. let wrong : false ≡ true = sym c.place_new.ensures.first ∙ again in absurd cc
+
+pub returns-else-is_stopped-clause-window : goal.returns-else-is_stopped-clause-window
+returns-else-is_stopped-clause-window c = ap (λ (x : Core). x.window) c.choose.ensures.rest ∙ c.place_new.ensures.window

@@ -10,7 +10,7 @@ use Rattle.pblk_world.specs.World.{World, log_of}
 use Rattle.stripe_placer.specs.Placing.{IsNext, Placing, Program, placed, program, under_way_in}
 use Rattle.stripe_placer.specs.Placing.UnitRow.{Stopped}
 use Rattle.stripe_placer.proofs.PlacingLemmas.{placed_has}
-use Rattle.world_laws.specs.LegalMounts.{IsLegalMount}
+use Rattle.pblk_world.specs.LegalMounts.{IsLegalMount}
 use Rattle.pblk_core.specs.Entries.{entry_blocks}
 use Rattle.pblk_core.specs.Filling.{Filling, followed_by}
 use Rattle.pblk_core.specs.LineRecords.{blocks_at_start, blocks_at_end, end_begins}
@@ -271,11 +271,6 @@ returns-clause-stands c = λ i w mount st.
 pub returns-clause-window : goal.returns-clause-window
 returns-clause-window c = (the_rest (goal.at.returns-clause-window c).Joined-of c.placed.new.self c.placed.ensures.placed).window
 
-pub returns-clause-pad : goal.returns-clause-pad
-returns-clause-pad c =
-    let at = (goal.at.returns-clause-pad c).Joined-of in
-    ap (λ (p : Placing). p.entries.pad) (the_rest at c.placed.new.self c.placed.ensures.placed).placer ∙ placed_pad c.args.self.now.placer (program_in at)
-
 pub returns-clause-under_way : goal.returns-clause-under_way
 returns-clause-under_way c =
     let all = goal.at.returns-clause-under_way c in
@@ -328,8 +323,22 @@ returns-clause-turn c = λ i w mount st.
     ∙ count_told i (log_of w) c.args.self.now c.args.of.now.unit c.index-turn.result.now st its.is.row.inside c.index-turn.ensures
     ∙ ap (answer_count (log_of w 0)) (sym unit)
 
-pub returns-clause-brings : goal.returns-clause-brings
-returns-clause-brings c =
-    let at = (goal.at.returns-clause-brings c).Joined-of in
+-- what is collected stays
+same_collection : (c : Joined-of) → c.match-of.self.collection ≡ (core_in c).collection
+same_collection c = elim c.match-of.branch as (λ b. c.match-of.self.collection ≡ (core_in c).collection) [
+  | in-Start v ↦ ap (λ (x : Core). x.collection) v.self-is
+  | in-Data v ↦ ap (λ (x : Core). x.collection) v.self-is
+  | in-Pad v ↦ ap (λ (x : Core). x.collection) v.self-is
+  | in-End v ↦ ap (λ (x : Core). x.collection) v.self-is
+]
+
+pub returns-clause-collecting : goal.returns-clause-collecting
+returns-clause-collecting c =
+    let at = (goal.at.returns-clause-collecting c).Joined-of in
     let rest = the_rest at c.placed.new.self c.placed.ensures.placed in
-    brings_kept c.args.self.now (record c.match-of.self { placer = c.placed.new.self }) rest.layout rest.notes rest.lines rest.live
+    record {
+      collection = same_collection at;
+      map = rest.map;
+      pad = ap (λ (p : Placing). p.entries.pad) rest.placer ∙ placed_pad c.args.self.now.placer (program_in at);
+      brings = brings_kept c.args.self.now (record c.match-of.self { placer = c.placed.new.self }) rest.layout rest.notes rest.lines rest.online;
+    }

@@ -21,7 +21,7 @@ use Rattle.pblk_model.specs.Image.{Image}
 use Rattle.pblk_world.specs.World.{World, log_of}
 use Rattle.pblk_world.specs.Events.{Stripe}
 use Rattle.pblk_world.specs.Placing.{stripe_at}
-use Rattle.world_laws.specs.LegalMounts.{IsLegalMount}
+use Rattle.pblk_world.specs.LegalMounts.{IsLegalMount}
 use Rattle.stripe_placer.specs.Placing.{Program, Placing, program, under_way_in}
 use Rattle.pblk_model.specs.Shape.{units}
 use Rattle.pblk_core.specs.Stands.{Stands, answer_count}
@@ -300,7 +300,7 @@ the_rest c i v mount st f =
             open_count = ap (λ (x : Core). x.open.count) w.self-is ∙ w.mark_data.ensures.count;
             open_slots = ap (λ (x : Core). x.open.slots.items) w.self-is ∙ w.mark_data.ensures.slots slot there
                 ∙ ap₂ (λ n (ms : List Mark). slice_set core.open.slots.items n (with_marks slot ms)) f.at marks ∙ sym (ap slots w.in-Data.is);
-            live = ap (λ (x : Core). x.live) w.self-is;
+            online = ap (λ (x : Core). x.online) w.self-is;
             resets = ap (λ (x : Core). x.resets) w.self-is;
             notes = ap (λ (x : Core). x.notes) w.self-is;
             start = ap (λ (x : Core). x.start) w.self-is;
@@ -351,7 +351,7 @@ returns-clause-stands c = λ i v knows mount st.
       holds = rest.holds;
       open_count = rest.open_count;
       open_slots = rest.open_slots;
-      live = rest.live;
+      online = rest.online;
       resets = rest.resets;
       notes = rest.notes;
       start = rest.start;
@@ -414,15 +414,6 @@ returns-clause-window c =
     let f = its_line all.After-find-index sd.image sd.world sd.legal sd.stands in
     (the_rest at sd.image sd.world sd.legal sd.stands f).window
 
-pub returns-clause-pad : goal.returns-clause-pad
-returns-clause-pad c =
-    let all = goal.at.returns-clause-pad c in
-    let at = all.Joined-of in
-    let sd = c.requires.standing in
-    let f = its_line all.After-find-index sd.image sd.world sd.legal sd.stands in
-    ap (λ (p : Placing). p.entries.pad) (the_rest at sd.image sd.world sd.legal sd.stands f).placer
-    ∙ placed_pad c.args.self.now.placer (program_in at)
-
 pub returns-clause-first : goal.returns-clause-first
 returns-clause-first c =
     let all = goal.at.returns-clause-first c in
@@ -468,10 +459,19 @@ returns-clause-turn c = λ i w mount st.
     told ∙ count_told i (log_of w) c.args.self.now c.args.of.now.unit c.index-turn.result.now st f.now.unit c.index-turn.ensures
     ∙ ap (answer_count (log_of w 0)) (sym for.unit)
 
+-- what is collected stays
+same_collection : (c : Joined-of) → c.match-of.self.collection ≡ (core_in c).collection
+same_collection c = elim c.match-of.branch as (λ b. c.match-of.self.collection ≡ (core_in c).collection) [
+  | in-Start w ↦ ap (λ (x : Core). x.collection) w.self-is
+  | in-Data w ↦ ap (λ (x : Core). x.collection) w.self-is
+  | in-Pad w ↦ ap (λ (x : Core). x.collection) w.self-is
+  | in-End w ↦ ap (λ (x : Core). x.collection) w.self-is
+]
+
 -- the line of the stripe isn't closed
-pub returns-clause-brings : goal.returns-clause-brings
-returns-clause-brings c =
-    let all = goal.at.returns-clause-brings c in
+pub returns-clause-collecting : goal.returns-clause-collecting
+returns-clause-collecting c =
+    let all = goal.at.returns-clause-collecting c in
     let at = all.Joined-of in
     let sd = c.requires.standing in
     let core : Core = core_in at in
@@ -480,12 +480,17 @@ returns-clause-brings c =
     let rest = the_rest at sd.image sd.world sd.legal sd.stands f in
     let unclosed = unclosed_by_logs sd.image sd.world core of.line sd.stands
     (line_unclosed sd.image sd.world core.placer.entries.pad f.o of sd.legal f.now) in
-    brings_none core c.match-of.self of.line (record {
-      layout = rest.layout;
-      newest = ap (λ (n : LineNotes). n.newest) rest.notes;
-      others = λ other apart. record {
-        notes = ap (λ (n : LineNotes). slice_get n.rows.items other) rest.notes;
-        rows = ap (λ (t : Table). slice_get t.rows other) rest.lines ∙ placed_elsewhere core.holds.rows.items of.line other of.positions core.lines apart;
-        live = ap (λ us. slice_get us.items other) rest.live;
-      };
-    }) (λ note there. unclosed note (ap (λ (n : LineNotes). slice_get n.rows.items of.line) (sym rest.notes) ∙ there))
+    record {
+      collection = same_collection at;
+      map = rest.map;
+      pad = ap (λ (p : Placing). p.entries.pad) rest.placer ∙ placed_pad c.args.self.now.placer of;
+      brings = brings_none core c.match-of.self of.line (record {
+        layout = rest.layout;
+        newest = ap (λ (n : LineNotes). n.newest) rest.notes;
+        others = λ other apart. record {
+          notes = ap (λ (n : LineNotes). slice_get n.rows.items other) rest.notes;
+          rows = ap (λ (t : Table). slice_get t.rows other) rest.lines ∙ placed_elsewhere core.holds.rows.items of.line other of.positions core.lines apart;
+          online = ap (λ us. slice_get us.items other) rest.online;
+        };
+      }) (λ note there. unclosed note (ap (λ (n : LineNotes). slice_get n.rows.items of.line) (sym rest.notes) ∙ there));
+    }

@@ -1,20 +1,22 @@
-use Rattle.std.proofs.Common.{ℕ, ◌≡◌, ◌<◌, ◌≤◌, ◌^◌, ◌&&◌, not, max, Bool, Some, List, [], length, sym, subst, ap, ◌∙◌, arith}
+use Rattle.std.proofs.Common.{ℕ, ◌≡◌, ◌<◌, ◌^◌, ◌&&◌, not, Bool, Some, List, [], length, sym, subst, ap, ◌∙◌}
 use Rattle.std.specs.FinMap as fin
 use Rattle.std.proofs.lemmas.Option.{same_Some}
 use Rattle.pblk_model.specs.Image.{Image}
 use Rattle.pblk_world.specs.EngineLog.{Taken, taken_by}
 use Rattle.pblk_world.specs.Events.{EngineEvent, Decides, Take}
 use Rattle.pblk_world.specs.World.{World, Logs, log_of}
-use Rattle.world_laws.specs.LegalMounts.{IsLegalMount}
+use Rattle.pblk_world.specs.LegalMounts.{IsLegalMount}
 use Rattle.core_laws.specs.Stepping.{after}
 use Rattle.pblk_core.specs.Collecting.{HasPassed, weighed}
-use Rattle.pblk_core.specs.Copies.{victim_asks}
+use Rattle.pblk_core.specs.Copies.{is_copying}
+use Rattle.pblk_core.specs.Keeping.{still_copying}
 use Rattle.pblk_core.specs.Named.{pad_of}
 use Rattle.pblk_core.specs.Stands.{Stands}
 use Rattle.pblk_core.specs.Taken.{entry_of, mark_of}
 use Rattle.pblk_core.specs.declared.collecting.Collection.{Collection}
 use Rattle.pblk_core.specs.declared.target_core.Core.{Core}
 use Rattle.pblk_core.proofs.Collected.{collected}
+use Rattle.pblk_core.proofs.KeptStripes.{taking_chosen}
 use Rattle.pblk_core.proofs.SmallCalls.{collecting_stands}
 use Rattle.pblk_core.proofs.BarrenLines.{barren_but}
 use Rattle.pblk_core.proofs.TabledLines.{tabled_by_logs, tabled_same}
@@ -44,11 +46,15 @@ module _ (old entered ended : Core) (is : IsEnded old entered ended) where
       (sym (ap (λ (x : Core). fin.get x.map lba) is.whole) ∙ there)
 
 -- by what the calls before the choice left
-ended_by : (old entered looked ended : Core) (barren : Bool) → entered.collection ≡ old.collection
+ended_by : (old entered looked ended : Core) (barren copying : Bool) → entered.collection ≡ old.collection
     → looked ≡ record entered { collection = record entered.collection { barren = barren } }
-    → ended ≡ record looked { collection = ended.collection }
-    → ended.collection ≡ record looked.collection { under_way = ended.collection.under_way } → IsEnded old entered ended
-ended_by old entered looked ended barren same look whole own =
+    → ended ≡ record looked { collection = record looked.collection { under_way = copying } } → IsEnded old entered ended
+ended_by old entered looked ended barren copying same look is =
+    let same_collection : ended.collection ≡ record looked.collection { under_way = copying } = ap (λ (x : Core). x.collection) is in
+    let whole : ended ≡ record looked { collection = ended.collection } = is
+    ∙ ap (λ (k : Collection). record looked { collection = k }) (sym same_collection) in
+    let own : ended.collection ≡ record looked.collection { under_way = ended.collection.under_way } =
+    same_collection ∙ ap (λ b. record looked.collection { under_way = b }) (sym (ap (λ (k : Collection). k.under_way) same_collection)) in
     let told : ended.collection.barren ≡ barren = ap (λ (k : Collection). k.barren) own ∙ ap (λ (x : Core). x.collection.barren) look in
     record {
       whole = whole ∙ ap (λ (x : Core). record x { collection = ended.collection }) look;
@@ -70,13 +76,12 @@ returns c = record {
         asked = c.choose.ensures.asked;
       });
   legal = c.enter-loser.ensures.legal;
-  pushed = c.choose.ensures.window ∙ ap (λ (x : Core). x.window) is.whole ∙ c.enter-loser.ensures.pushed;
-  copying = λ copy. c.choose.ensures.copying ∙ c.end_copy.ensures.copy copy;
-  copying_still = λ user. c.choose.ensures.copying ∙ c.end_copy.ensures.user user ∙ ap (λ (x : Core). x.collection.under_way) c.look_again.ensures
-      ∙ ap (λ (k : Collection). k.under_way) c.enter-loser.ensures.collection;
-  pad = pads;
-  pad_most = pads_most;
-  rows = c.choose.ensures.rows ∙ ap (λ (x : Core). x.placer.units) is.whole ∙ c.enter-loser.ensures.rows;
+  pushed = ap (λ (x : Core). x.window) c.choose.ensures.rest ∙ ap (λ (x : Core). x.window) is.whole ∙ c.enter-loser.ensures.pushed;
+  kept = taking_chosen old ended chosen (ap (λ (x : Core). pad_of x) is.whole ∙ c.enter-loser.ensures.pad) c.choose.ensures.asked
+      c.choose.ensures.rows c.choose.ensures.copying c.args.entry.class (ap (λ (x : Core). x.placer.units) is.whole ∙ c.enter-loser.ensures.rows)
+      (ap (λ (x : Core). is_copying x) c.end_copy.ensures
+      ∙ ap (λ (x : Core). still_copying c.args.entry.class (is_copying x)) c.look_again.ensures
+      ∙ ap (λ (k : Collection). still_copying c.args.entry.class k.under_way) c.enter-loser.ensures.collection);
 }
   where
     old : Core
@@ -92,8 +97,7 @@ returns c = record {
     chosen = c.choose.new.self
 
     is : IsEnded old entered ended
-    is = ended_by old entered c.look_again.new.self ended _ c.enter-loser.ensures.collection c.look_again.ensures
-        c.end_copy.ensures.unchanged c.end_copy.ensures.collection
+    is = ended_by old entered c.look_again.new.self ended _ _ c.enter-loser.ensures.collection c.look_again.ensures c.end_copy.ensures
 
     event : EngineEvent
     event = Take (entry_of c.args.entry) (mark_of c.args.self.now.map c.args.entry)
@@ -107,18 +111,6 @@ returns c = record {
 
     few : (t : Taken) → taken_by (Decides (Take (entry_of c.args.entry) (mark_of c.args.self.now.map c.args.entry))) ≡ Some t → t.entry.position < 2 ^ 62
     few t one = subst (λ (u : Taken). u.entry.position < 2 ^ 62) (same_Some _ t one) c.requires.position
-
-    pads : pad_of c.args.self.now ≤ pad_of c.choose.new.self
-    pads =
-        let more : pad_of c.choose.new.self ≡ max (pad_of c.end_copy.new.self) (victim_asks c.choose.new.self) = c.choose.ensures.asked in
-        let same : pad_of c.end_copy.new.self ≡ pad_of c.args.self.now = ap (λ (x : Core). pad_of x) is.whole ∙ c.enter-loser.ensures.pad in
-        omega arith
-
-    pads_most : pad_of c.choose.new.self ≤ max (pad_of c.args.self.now) (victim_asks c.choose.new.self)
-    pads_most =
-        let more : pad_of c.choose.new.self ≡ max (pad_of c.end_copy.new.self) (victim_asks c.choose.new.self) = c.choose.ensures.asked in
-        let same : pad_of c.end_copy.new.self ≡ pad_of c.args.self.now = ap (λ (x : Core). pad_of x) is.whole ∙ c.enter-loser.ensures.pad in
-        omega arith
 
 pub enter-loser-requires-clause-standing : goal.enter-loser-requires-clause-standing
 enter-loser-requires-clause-standing c = record {
@@ -144,15 +136,15 @@ choose-requires c =
     let old : Core = c.args.self.now in
     let entered : Core = c.enter-loser.new.self in
     let ended : Core = c.end_copy.new.self in
-    let is : IsEnded old entered ended = ended_by old entered c.look_again.new.self ended _ c.enter-loser.ensures.collection c.look_again.ensures
-    c.end_copy.ensures.unchanged c.end_copy.ensures.collection in
+    let is : IsEnded old entered ended =
+    ended_by old entered c.look_again.new.self ended _ _ c.enter-loser.ensures.collection c.look_again.ensures c.end_copy.ensures in
     record {
       tabled = tabled_by_logs old ended was logs
           (stands_ended old entered ended is was.image logs (c.enter-loser.ensures.stands was.image was.world [] was.legal was.stands))
           (same_count old entered ended is) (λ line at_work. sym (same_victim old entered ended is) ∙ at_work);
       barren = barren_but old entered ended c.enter-loser.result c.may_collect-may_be.result was.collects.barren c.enter-loser.ensures.brings
           (λ was_barren. c.may_collect-may_be.ensures (ap (λ (k : Collection). k.barren) c.enter-loser.ensures.collection ∙ was_barren))
-          (ap (λ (k : Collection). k.barren) c.end_copy.ensures.collection ∙ ap (λ (x : Core). x.collection.barren) c.look_again.ensures
+          (ap (λ (x : Core). x.collection.barren) c.end_copy.ensures ∙ ap (λ (x : Core). x.collection.barren) c.look_again.ensures
           ∙ ap (λ (k : Collection). k.barren && not c.may_collect-may_be.result) c.enter-loser.ensures.collection)
           (λ line none. ap (λ (x : Core). weighed x line) is.whole ∙ none);
     }

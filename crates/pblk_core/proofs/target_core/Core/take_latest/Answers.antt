@@ -36,7 +36,7 @@ returns c = record {
           window = c.keep.ensures.window;
           placer = c.keep.ensures.placer;
           open_lines = ap (λ s. s.open) c.keep.ensures.unchanged;
-          live = ap (λ s. s.live) c.keep.ensures.unchanged;
+          online = ap (λ s. s.online) c.keep.ensures.unchanged;
           resets = ap (λ s. s.resets) c.keep.ensures.unchanged;
           notes = ap (λ s. s.notes) c.keep.ensures.unchanged;
           start = ap (λ s. s.start) c.keep.ensures.unchanged;
@@ -67,7 +67,7 @@ returns c = record {
       notes = ap (λ s. slice_get s.notes.rows.items other) c.keep.ensures.unchanged;
       rows = ap (λ s. slice_get s.lines.rows other) c.keep.ensures.unchanged ∙ ap (λ (t : Table). slice_get t.rows other) c.supersede-loser.ensures.lines
           ∙ lost_elsewhere _ _ c.args.entry.position other c.args.self.now.lines (λ e. apart (c.supersede-loser.ensures.line ∙ e));
-      live = ap (λ s. slice_get s.live.items other) c.keep.ensures.unchanged;
+      online = ap (λ s. slice_get s.online.items other) c.keep.ensures.unchanged;
     };
   });
   legal = λ i w mount st block sector. subst (λ (m : Mark). MayTake i (log_of w) (entry_of c.args.entry) m) (sym mark)

@@ -31,7 +31,7 @@ returns c = record {
           window = c.keep.ensures.window;
           placer = c.keep.ensures.placer;
           open_lines = ap (λ s. s.open) c.keep.ensures.unchanged;
-          live = ap (λ s. s.live) c.keep.ensures.unchanged;
+          online = ap (λ s. s.online) c.keep.ensures.unchanged;
           resets = ap (λ s. s.resets) c.keep.ensures.unchanged;
           notes = ap (λ s. s.notes) c.keep.ensures.unchanged;
           start = ap (λ s. s.start) c.keep.ensures.unchanged;
@@ -47,11 +47,13 @@ returns c = record {
         holds = c.keep.ensures.holds;
       }));
   pushed = c.keep.ensures.window;
-  pad = ap (λ p. p.entries.pad) c.keep.ensures.placer;
   rows = ap (λ p. p.units) c.keep.ensures.placer;
-  map = ap (λ s. s.map) c.keep.ensures.unchanged;
-  collection = ap (λ s. s.collection) c.keep.ensures.unchanged;
-  brings = λ line none. ap (λ (x : Core). weighed x line) c.keep.ensures.unchanged ∙ none;
+  collecting = record {
+    collection = ap (λ s. s.collection) c.keep.ensures.unchanged;
+    map = ap (λ s. s.map) c.keep.ensures.unchanged;
+    pad = ap (λ p. p.entries.pad) c.keep.ensures.placer;
+    brings = λ line none. ap (λ (x : Core). weighed x line) c.keep.ensures.unchanged ∙ none;
+  };
   legal = λ i w mount st block sector. subst (λ (m : Mark). MayTake i (log_of w) (entry_of c.args.entry) m) (sym mark)
       (may_take_stale i w c.args.self.now c.args.entry mount st
       c.requires.can c.requires.can.position

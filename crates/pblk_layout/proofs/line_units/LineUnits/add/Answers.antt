@@ -1,5 +1,5 @@
 use Rattle.std.proofs.Common.{◌||◌, ap, ◌∙◌, eqb}
-use Rattle.pblk_layout.specs.Live.{is_in}
+use Rattle.pblk_layout.specs.Online.{is_in}
 use Rattle.pblk_layout.proofs.UnitSets.{bit_added}
 use Rattle.pblk_layout.proofs.line_units.LineUnits.add.Goals as goal
 

@@ -4,7 +4,7 @@ use Rattle.pblk_model.specs.declared.shape.Shape.{Shape}
 use Rattle.pblk_model.specs.Accepted.{IsAccepted}
 use Rattle.pblk_model.specs.Image.{line_units}
 use Rattle.pblk_model.specs.Shape.{units}
-use Rattle.pblk_layout.specs.Live.{units_in}
+use Rattle.pblk_layout.specs.Online.{units_in}
 use Rattle.ocssd_drive.specs.Drive.{DriveView}
 use Rattle.ocssd_drive.specs.Units.{WornUnit}
 use Rattle.scan_recovery.specs.Traces.{IsTable}

@@ -26,7 +26,7 @@ invariant_of-self c =
     let here : slice_get stripes j ≡ Some Unanswered = its_stripe s c.args.self.now j c.self.view_is c.requires in
     let some : 1 ≤ s.unanswered = some_unanswered stripes j s.start_count s.data_count s.start_left s.data_left s.unanswered s.lost c.self.invariant.counts here in
     record {
-      keeps = answered_keeps s.live s.width s.start_count s.data_count s.stripe_count s.next j s.chunks (chunk.Closed j) c.self.invariant.keeps (refl, p.from);
+      keeps = answered_keeps s.online s.width s.start_count s.data_count s.stripe_count s.next j s.chunks (chunk.Closed j) c.self.invariant.keeps (refl, p.from);
       counts = subst (λ (xs : List Stripe). KeepsCounts xs s.start_count s.data_count s.start_left s.data_left (s.unanswered - 1) (s.lost + 1))
           (lost_outcomes s.chunks s.width s.next s.stripe_count j c.self.invariant.keeps.some (its_column s j c.self.invariant) p)
           (lost_counts stripes j s.start_count s.data_count s.start_left s.data_left (s.unanswered - 1) s.unanswered s.lost c.self.invariant.counts here (omega arith));

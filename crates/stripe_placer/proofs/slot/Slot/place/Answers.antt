@@ -22,7 +22,7 @@ invariant_of-self c =
     let j = c.args.stripe in
     let p : IsPlaceable s.chunks s.width s.next s.stripe_count j = can_be_placed s c.args.self.now j c.self.invariant c.self.view_is c.requires.next c.requires.alone in
     record {
-      keeps = placed_keeps s.live s.width s.start_count s.data_count s.stripe_count s.next j s.chunks c.self.invariant.keeps p;
+      keeps = placed_keeps s.online s.width s.start_count s.data_count s.stripe_count s.next j s.chunks c.self.invariant.keeps p;
       counts = subst (λ (xs : List Stripe). KeepsCounts xs s.start_count s.data_count s.start_left s.data_left (s.unanswered + 1) s.lost) (placed_outcomes s.chunks s.width s.next s.stripe_count j (its_column s j c.self.invariant) p)
           (placed_counts (outcomes s.chunks s.width s.next s.stripe_count) j s.start_count s.data_count s.start_left s.data_left s.unanswered s.lost c.self.invariant.counts (unplaced_is s.chunks s.width s.next s.stripe_count j p));
     }
