@@ -34,7 +34,7 @@ struct Asked {
     batch: u32,
     turns: u32,
     has_times: bool,
-    ghost few: { writers < 128 },
+    ghost few: { writers < 127 },
     ghost some: { 0 < batch },
     ghost most: { batch ≤ 16 },
 }
@@ -59,7 +59,7 @@ fn asked_by(words: &[String]) -> Result<Asked> {
     let writers = number_in(words[0].as_str())?;
     let batch = number_in(words[1].as_str())?;
     let turns = number_in(words[2].as_str())?;
-    ensure!(writers <= 127, "at most 127 writers");
+    ensure!(writers <= 126, "at most 126 writers");
     ensure!(1 <= batch && batch <= 16, "1 to 16 sectors at once");
     Ok(Asked {
         writers: writers as u8,

@@ -12,9 +12,8 @@ use Rattle.ring_crew.specs.declared.maker.Maker.{Maker}
 use Rattle.ring_crew.specs.declared.taker.Got.{Got}
 use Rattle.ring_crew.specs.declared.taker.Got.TheVariants as got
 
--- the pass is the ring's, and the batch has one free frame of the ring's pool, for sectors of at least 16 bytes
-pub record HasOneFrame (ring : Ring) (pass : Pass) (batch : BatchView) : Type 0 where
-  pub pass_of : IsPassOf ring pass
+-- the batch has one free frame of the ring's pool, for sectors of at least 16 bytes
+pub record HasOneFrame (ring : Ring) (batch : BatchView) : Type 0 where
   pub empty : batch.drafts ≡ []
   pub free : batch.free ≡ 1
   pub own : batch.region ≡ (ring_key ring).origin.region

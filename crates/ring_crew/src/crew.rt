@@ -113,7 +113,7 @@ pub fn make_and_take<R: Threads + Wait + Sync>(
 ) -> Result<Tally, AllocError>
     requires some { 0 < job.size }
     requires few { job.size < 2 ^ 16 }
-    requires makers { job.makers < 128 }
+    requires makers { job.makers < 127 }
     requires some_batch { 0 < job.batch }
     requires few_batch { job.batch ≤ 16 }
     requires long { 16 ≤ job.sector }
@@ -134,7 +134,7 @@ pub fn make_and_take<R: Threads + Wait + Sync>(
             ensures { IsTaker ring intake.exit job.size }
         { take_all(rt, &ring, &mut intake, &job, &ended) },
         &mut || -> Result<(), AllocError>
-            requires { IsSync R.row × IsCrew ring pass pool job.makers × (job.makers < 128)
+            requires { IsSync R.row × IsCrew ring pass pool job.makers × (job.makers < 127)
                 × (0 < job.batch) × (job.batch ≤ 16) × (pool.region.size ≡ job.sector)
                 × HasTurns ring job.turns }
             ensures { IsPassOf ring pass.exit

@@ -5,7 +5,6 @@ ghost use Rattle.ring_crew.specs.Ready.{HasTurns, IsMaker};
 
 use crate::sectors::number;
 use crossbeam_utils::Backoff;
-use sector_pool::Class;
 use std::sync::Wait;
 use write_ring::{Batch, Pass, Ring};
 
@@ -51,7 +50,7 @@ fn put<R: Wait>(rt: &R, ring: &Ring, maker: &mut Maker, batch: u32)
 {
     let backoff = Backoff::new();
     for _ in rt.forever() {
-        let put = ring.put(rt, &mut maker.pass, Class::User, &mut maker.batch);
+        let put = ring.put(rt, &mut maker.pass, &mut maker.batch);
         if put.is_ok() {
             return;
         }

@@ -1,6 +1,6 @@
 //! Rows of calls on one thread.
-ghost use Rattle.std.specs.Prelude.{◌≡◌, ◌<◌, ◌≤◌, ◌^◌, IsTrue};
-ghost use Rattle.write_ring.specs.Handles.{pass_view, ring_key};
+ghost use Rattle.std.specs.Prelude.{◌≡◌, ◌<◌, ◌≤◌, ◌^◌};
+ghost use Rattle.write_ring.specs.Handles.{IsPassOf, pass_view, ring_key};
 ghost use Rattle.ring_crew.specs.Ready.{HasOneFrame, IsTaker};
 
 use crate::steps::{SECTOR, Told, put_copy, put_user, took};
@@ -22,6 +22,9 @@ enum Asked {
     User(u8),
     Copy(u8),
     Take,
+    Claimed,
+    Reached,
+    AllClaimed,
 }
 
 impl Asked {
@@ -30,7 +33,7 @@ impl Asked {
         match self {
             Asked::User(lba) => Asked::User(lba.wrapping_add(by)),
             Asked::Copy(lba) => Asked::Copy(lba.wrapping_add(by)),
-            Asked::Take => Asked::Take,
+            other => other,
         }
     }
 }
@@ -50,19 +53,23 @@ fn ask(
 ) -> Told
     requires sectors { 64 ≤ (ring_key ring.now).capacity }
     requires taker { IsTaker ring.now intake.old room }
-    requires ready { HasOneFrame ring.now pass.old batch.old }
+    requires pass { IsPassOf ring.now pass.old }
+    requires shares { (pass_view pass.old).pass.shares ≡ 127 }
+    requires ready { HasOneFrame ring.now batch.old }
     requires size { batch.old.region.size ≡ 16 }
-    requires copies { IsTrue (pass_view pass.old).pass.copier }
     ensures taker { IsTaker ring.now intake.new room }
-    ensures ready { HasOneFrame ring.now pass.new batch.new }
+    ensures pass { IsPassOf ring.now pass.new }
+    ensures shares { (pass_view pass.new).pass.shares ≡ 127 }
+    ensures ready { HasOneFrame ring.now batch.new }
     ensures region { batch.new.region ≡ batch.old.region }
-    ensures shares { (pass_view pass.new).pass.shares ≡ (pass_view pass.old).pass.shares }
-    ensures copier { (pass_view pass.new).pass.copier ≡ (pass_view pass.old).pass.copier }
 {
     match asked {
         Asked::User(lba) => put_user(ring, pass, batch, u64::from(lba) % SECTORS),
-        Asked::Copy(lba) => put_copy(ring, pass, batch, u64::from(lba) % SECTORS),
+        Asked::Copy(lba) => put_copy(ring, intake, batch, room, u64::from(lba) % SECTORS),
         Asked::Take => took(ring, intake, room),
+        Asked::Claimed => Told::Claimed(ring.claimed(pass)),
+        Asked::Reached => Told::Claimed(ring.reached(intake)),
+        Asked::AllClaimed => Told::Claimed(ring.all_claimed(intake, pass)),
     }
 }
 
@@ -77,14 +84,15 @@ fn repeat(
 ) -> Option<Row>
     requires sectors { 64 ≤ (ring_key ring.now).capacity }
     requires taker { IsTaker ring.now intake.old room }
-    requires ready { HasOneFrame ring.now pass.old batch.old }
+    requires pass { IsPassOf ring.now pass.old }
+    requires shares { (pass_view pass.old).pass.shares ≡ 127 }
+    requires ready { HasOneFrame ring.now batch.old }
     requires size { batch.old.region.size ≡ 16 }
-    requires copies { IsTrue (pass_view pass.old).pass.copier }
     ensures taker { IsTaker ring.now intake.new room }
-    ensures ready { HasOneFrame ring.now pass.new batch.new }
+    ensures pass { IsPassOf ring.now pass.new }
+    ensures shares { (pass_view pass.new).pass.shares ≡ 127 }
+    ensures ready { HasOneFrame ring.now batch.new }
     ensures region { batch.new.region ≡ batch.old.region }
-    ensures shares { (pass_view pass.new).pass.shares ≡ (pass_view pass.old).pass.shares }
-    ensures copier { (pass_view pass.new).pass.copier ≡ (pass_view pass.old).pass.copier }
 {
     let Row(asked, times, expected) = row;
     for by in 0..times {
@@ -107,14 +115,15 @@ fn walk(
 ) -> Option<Row>
     requires sectors { 64 ≤ (ring_key ring.now).capacity }
     requires taker { IsTaker ring.now intake.old room }
-    requires ready { HasOneFrame ring.now pass.old batch.old }
+    requires pass { IsPassOf ring.now pass.old }
+    requires shares { (pass_view pass.old).pass.shares ≡ 127 }
+    requires ready { HasOneFrame ring.now batch.old }
     requires size { batch.old.region.size ≡ 16 }
-    requires copies { IsTrue (pass_view pass.old).pass.copier }
     ensures taker { IsTaker ring.now intake.new room }
-    ensures ready { HasOneFrame ring.now pass.new batch.new }
+    ensures pass { IsPassOf ring.now pass.new }
+    ensures shares { (pass_view pass.new).pass.shares ≡ 127 }
+    ensures ready { HasOneFrame ring.now batch.new }
     ensures region { batch.new.region ≡ batch.old.region }
-    ensures shares { (pass_view pass.new).pass.shares ≡ (pass_view pass.old).pass.shares }
-    ensures copier { (pass_view pass.new).pass.copier ≡ (pass_view pass.old).pass.copier }
 {
     for &row in rows {
         if let Some(wrong) = repeat(ring, intake, pass, batch, room, row) {
@@ -153,7 +162,6 @@ fn rows_on_a_ring(
     };
     ring.grant(&mut intake, (first + u64::from(room)).min(MOST));
     let wrong = walk(&ring, &mut intake, &mut pass, &mut batch, room, rows);
-    ring.note(&mut pass, &mut intake);
     ring.close(intake, pass, &mut pool);
     batch.close(&mut pool);
     end(pool);
@@ -167,8 +175,11 @@ fn users_fill_what_is_granted_and_copies_the_reserve(rt: HostRuntime) -> Result<
         Row(Asked::User(56), 1, Told::Full(56, 56)),
         Row(Asked::Copy(56), 8, Told::Put(56)),
         Row(Asked::Copy(0), 1, Told::Full(64, 64)),
+        Row(Asked::Claimed, 1, Told::Claimed(64)),
+        Row(Asked::Reached, 1, Told::Claimed(64)),
         Row(Asked::Take, 64, Told::Took(0, 0)),
         Row(Asked::Take, 1, Told::Empty(64)),
+        Row(Asked::AllClaimed, 1, Told::Claimed(64)),
     ];
     assert_eq!(rt; rows_on_a_ring(rt.alloc(), 56, 8, 0, &rows)?, None);
     Ok(())
@@ -180,6 +191,7 @@ fn a_small_ring_is_wrapped_and_closed_with_entries_in_it(rt: HostRuntime) -> Res
         Row(Asked::User(10), 3, Told::Put(0)),
         Row(Asked::User(13), 1, Told::Full(3, 3)),
         Row(Asked::Copy(14), 1, Told::Put(3)),
+        Row(Asked::AllClaimed, 1, Told::Claimed(4)),
         Row(Asked::Copy(15), 1, Told::Full(4, 4)),
         Row(Asked::Take, 1, Told::Took(0, 10)),
         Row(Asked::User(13), 1, Told::Full(4, 4)),
@@ -193,6 +205,7 @@ fn a_small_ring_is_wrapped_and_closed_with_entries_in_it(rt: HostRuntime) -> Res
         Row(Asked::Take, 1, Told::Empty(6)),
         Row(Asked::Copy(16), 1, Told::Put(6)),
         Row(Asked::User(17), 1, Told::Put(7)),
+        Row(Asked::AllClaimed, 1, Told::Claimed(8)),
     ];
     assert_eq!(rt; rows_on_a_ring(rt.alloc(), 3, 1, 0, &rows)?, None);
     Ok(())

@@ -1,10 +1,10 @@
 //! One sector goes in or comes out, and what the ring told.
-ghost use Rattle.std.specs.Prelude.{◌≡◌, ◌<◌, IsTrue};
-ghost use Rattle.write_ring.specs.Handles.{pass_view, ring_key};
+ghost use Rattle.std.specs.Prelude.{◌≡◌, ◌<◌};
+ghost use Rattle.write_ring.specs.Handles.{IsPassOf, pass_view, ring_key};
 ghost use Rattle.ring_crew.specs.Ready.{HasOneFrame, IsTaker};
 
 use ring_crew::{Got, grant, number, take};
-use sector_pool::{Class, Source};
+use sector_pool::Source;
 use write_ring::{Batch, Intake, Pass, Ring, TryPut};
 
 /// How many bytes each sector has.
@@ -27,6 +27,8 @@ pub enum Told {
     Empty(u64),
     /// The position.
     Unfilled(u64),
+    /// What a load of `claimed` found.
+    Claimed(u64),
 }
 
 impl Told {
@@ -59,16 +61,17 @@ fn refused(by: TryPut) -> Told {
 
 /// A user writes a sector.
 pub fn put_user(ring: &Ring, pass: &mut Pass, batch: &mut Batch, lba: u64) -> Told
-    requires ready { HasOneFrame ring.now pass.old batch.old }
+    requires pass { IsPassOf ring.now pass.old }
+    requires ready { HasOneFrame ring.now batch.old }
     requires size { batch.old.region.size ≡ 16 }
     requires lba { lba < (ring_key ring.now).capacity }
-    ensures ready { HasOneFrame ring.now pass.new batch.new }
+    ensures pass { IsPassOf ring.now pass.new }
+    ensures ready { HasOneFrame ring.now batch.new }
     ensures region { batch.new.region ≡ batch.old.region }
     ensures shares { (pass_view pass.new).pass.shares ≡ (pass_view pass.old).pass.shares }
-    ensures copier { (pass_view pass.new).pass.copier ≡ (pass_view pass.old).pass.copier }
 {
     batch.fill(lba, None, &image(lba));
-    match ring.try_put(pass, Class::User, batch) {
+    match ring.try_put(pass, batch) {
         Ok(place) => Told::Put(place.first),
         Err(by) => {
             batch.clear();
@@ -77,16 +80,15 @@ pub fn put_user(ring: &Ring, pass: &mut Pass, batch: &mut Batch, lba: u64) -> To
     }
 }
 
-/// A copy of a sector.
-pub fn put_copy(ring: &Ring, pass: &mut Pass, batch: &mut Batch, lba: u64) -> Told
-    requires ready { HasOneFrame ring.now pass.old batch.old }
-    requires copies { IsTrue (pass_view pass.old).pass.copier }
+/// The intake copies a sector.
+pub fn put_copy(ring: &Ring, intake: &mut Intake, batch: &mut Batch, room: u32, lba: u64) -> Told
+    requires taker { IsTaker ring.now intake.old room }
+    requires ready { HasOneFrame ring.now batch.old }
     requires size { batch.old.region.size ≡ 16 }
     requires lba { lba < (ring_key ring.now).capacity }
-    ensures ready { HasOneFrame ring.now pass.new batch.new }
+    ensures taker { IsTaker ring.now intake.new room }
+    ensures ready { HasOneFrame ring.now batch.new }
     ensures region { batch.new.region ≡ batch.old.region }
-    ensures shares { (pass_view pass.new).pass.shares ≡ (pass_view pass.old).pass.shares }
-    ensures copier { (pass_view pass.new).pass.copier ≡ (pass_view pass.old).pass.copier }
 {
     let source = Source {
         line: 0,
@@ -94,7 +96,7 @@ pub fn put_copy(ring: &Ring, pass: &mut Pass, batch: &mut Batch, lba: u64) -> To
         position: 0,
     };
     batch.fill(lba, Some(source), &image(lba));
-    match ring.try_put(pass, Class::Copy, batch) {
+    match ring.try_copy(intake, batch) {
         Ok(place) => Told::Put(place.first),
         Err(by) => {
             batch.clear();

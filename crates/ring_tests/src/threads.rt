@@ -29,7 +29,7 @@ fn a_pass_is_split_for_each_maker_and_joined_again(rt: HostRuntime) -> Result<()
     let job = Job {
         size: 16,
         sector: 16,
-        makers: 127,
+        makers: 126,
         batch: 1,
         turns: 20,
         looks: true,
@@ -38,8 +38,8 @@ fn a_pass_is_split_for_each_maker_and_joined_again(rt: HostRuntime) -> Result<()
     assert_eq!(rt;
         tally,
         Tally {
-            taken: 2540,
-            right: 2540
+            taken: 2520,
+            right: 2520
         }
     );
     Ok(())

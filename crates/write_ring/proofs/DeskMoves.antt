@@ -66,7 +66,7 @@ module _ {S : Type 0} (key : Key) (FreeOf : Key → S → Type 0) (Blank : S →
               h.took h.claimed h.taken h.freed 0) (sym (set-get_or s.words i 0))
               (stock_back key.size key.first (FreeOf key) Blank (CarriesOf key) (FitsOf key) s.words s.homes s.views by v w h.took h.claimed h.taken h.freed p x
               stock there only h.numbers.order h.numbers.below h.numbers.room (omega arith) blank
-              (record { pass = refl; heard = refl; took_is = own.0; taken_is = own.1; away_is = refl }));
+              (record { pass = refl; took_is = own.0; taken_is = own.1; away_is = refl }));
           keys = keys_stay key FreeOf Blank CarriesOf FitsOf s.views by v w h.keys there refl refl refl;
         },
         refl,
@@ -109,7 +109,7 @@ module _ {S : Type 0} (key : Key) (FreeOf : Key → S → Type 0) (Blank : S →
               (set s.views by w) h.took h.claimed h.taken h.freed (h.freed + 1)) (sym freed_is)
               (stock_out key.size key.first (FreeOf key) Blank (CarriesOf key) (FitsOf key) s.words s.homes s.views by v w h.took h.claimed h.taken h.freed
               stock there only (omega arith) h.numbers.below h.numbers.room
-              (record { pass = refl; heard = refl; took_is = own.0; taken_is = own.1; away_is = omega arith })));
+              (record { pass = refl; took_is = own.0; taken_is = own.1; away_is = omega arith })));
           keys = keys_stay key FreeOf Blank CarriesOf FitsOf s.views by v w h.keys there refl refl refl;
         },
         (c, cell.2, ap (λ k. (w, (slot k v.intake.freed, c) ∷ [])) (sym all_slots)),
@@ -178,7 +178,7 @@ module _ {S : Type 0} (key : Key) (FreeOf : Key → S → Type 0) (Blank : S →
               (set s.homes (slot key.size f) (some x)) (set s.views by w) h.took h.claimed h.taken (f + 1) 0
               (stock_freed key.size key.first (FreeOf key) Blank (CarriesOf key) (FitsOf key) s.words s.homes s.views by v w h.took h.claimed h.taken f x
               stock there only large below (omega arith) (omega arith) (subst (λ k. FreeOf k x) known free)
-              (record { pass = refl; heard = refl; took_is = own.0; taken_is = own.1; away_is = refl }))
+              (record { pass = refl; took_is = own.0; taken_is = own.1; away_is = refl }))
               (λ q. turns_stay key.size s.words 16 (f + 1) q (omega arith));
           keys = keys_stay key FreeOf Blank CarriesOf FitsOf s.views by v w h.keys there refl refl refl;
         },

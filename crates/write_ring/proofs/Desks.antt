@@ -11,7 +11,7 @@ use Rattle.write_ring.specs.declared.view.Desk.{Desk}
 use Rattle.write_ring.specs.declared.view.View.{View}
 use Rattle.write_ring.specs.Cells.{slot, turn_at}
 use Rattle.write_ring.specs.Rule.{AllViews, away_number}
-use Rattle.write_ring.specs.Stock.{HasOpen, HasPut, IsOpen, IsPut, Begins, Sides, Entered, IsEntry, Stock}
+use Rattle.write_ring.specs.Stock.{HasOpen, HasPut, IsOpen, IsPut, Sides, Entered, IsEntry, Stock}
 use Rattle.write_ring.specs.Steps.{put_row}
 use Rattle.write_ring.proofs.Views.{sum_two, each_changed}
 use Rattle.write_ring.proofs.ClaimLists.{rows_both, copy_rows_both, grown, inside}
@@ -65,11 +65,11 @@ module _ {S : Type 0} (size first : ℕ) (Free Blank : S → Type 0) (Carries : 
       → first ≤ freed → freed ≤ taken → claimed ≤ freed + size
       → v.pass.next < v.pass.until → turn_at size v.pass.next < length words → slot size v.pass.next < length homes
       → Carries c r → r.position ≡ v.pass.next → r.copy ≡ v.pass.copy → Fits r
-      → w.pass ≡ put_row v.pass r → w.intake ≡ v.intake → w.heard ≡ v.heard
+      → w.pass ≡ put_row v.pass r → w.intake ≡ v.intake
       → Stock size first Free Blank Carries Fits (set words (turn_at size v.pass.next) (v.pass.next - first + 1)) (set homes (slot size v.pass.next) (some c))
       (set views by w) took claimed taken freed away
-  stock_filled words homes views by v w took claimed taken freed away c r h there tiles low order room some_open long wide carries at class fits puts same_desk
-      same_heard =
+  stock_filled words homes views by v w took claimed taken freed away c r h there tiles low order room some_open long wide carries at class fits puts
+      same_desk =
       let p = v.pass.next in
       let n = p - first + 1 in
       let words' = set words (turn_at size p) n in
@@ -97,7 +97,6 @@ module _ {S : Type 0} (size first : ℕ) (Free Blank : S → Type 0) (Carries : 
                   let now = turn x (omega (arith, was.0)) (omega arith) other in
                   (was.0, omega (arith, was.1));
               desk = e.desk;
-              heard = e.heard;
             })
             (record {
               sides = subst Sides (sym puts) (put_sides v.pass r mine.sides some_open at class);
@@ -110,7 +109,6 @@ module _ {S : Type 0} (size first : ℕ) (Free Blank : S → Type 0) (Carries : 
                   let now = turn x (omega (arith, was.0)) (omega arith) (λ e. omega arith) in
                   (was.0, omega (arith, was.1));
               desk = subst (λ (d : Desk). IsTrue d.on → (d.took ≡ took) × (d.taken ≡ taken) × (away_number d.away ≡ away)) (sym same_desk) mine.desk;
-              heard = subst (λ l. Begins l took) (sym same_heard) mine.heard;
             });
         cells = filled size first Free Blank (IsEntry size first Free Blank Carries Fits views) (IsEntry size first Free Blank Carries Fits views')
             (IsOpen views) (IsOpen views') words homes claimed taken freed away p c h.cells low order room after below long wide

@@ -1,5 +1,5 @@
 -- A ring begins with a free frame in each slot. At its end one seat has all claims, and all that was taken is what it put.
-use Rattle.std.proofs.Common.{◌≡◌, ◌≢◌, ◌⊎◌, ℕ, zero, suc, ◌+◌, ◌%◌, ◌^◌, ◌<◌, ◌≤◌, List, [], ◌∷◌, length, Bool, true, false, IsTrue, None, if◌then◌else◌, refl, sym, ap, ◌∙◌, subst, ⊎_elim, inl, inr, arith}
+use Rattle.std.proofs.Common.{◌≡◌, ◌⊎◌, ℕ, zero, suc, ◌+◌, ◌%◌, ◌^◌, ◌<◌, ◌≤◌, List, [], ◌∷◌, length, Bool, true, false, IsTrue, None, if◌then◌else◌, refl, sym, ap, ◌∙◌, subst, ⊎_elim, inl, inr, arith}
 use Rattle.std.proofs.Math.Nat.{mod-lt}
 use Rattle.std.specs.Prelude.{slice_index}
 use Rattle.std.specs.List.{AllByRecursion}
@@ -7,7 +7,7 @@ use mathlib.Core.Option.{some, some-ne-none, some-injective}
 use mathlib.Core.Logic.{dite}
 use native.Mathlib.Decide.{ℕ_discrete, dec_le}
 use lib.ListN.{get_elem?}
-use Rattle.atomic_table.specs.Table.{State, Final, Seen, opening}
+use Rattle.atomic_table.specs.Table.{Final, Seen, opening}
 use Rattle.atomic_table.proofs.Lists.{at_snoc, at_map}
 use Rattle.pblk_model.specs.RingState.{between, covers, covers_copy}
 use Rattle.write_ring.specs.declared.view.Key.{Key}
@@ -18,11 +18,9 @@ use Rattle.write_ring.specs.Rule.{Words, Each, away_number}
 use Rattle.write_ring.specs.Stock.{rows_at, copies_at, HasOpen, HasPut, Entered}
 use Rattle.write_ring.specs.Kept.{HasKey}
 use Rattle.write_ring.specs.Steps.{first_view}
-use Rattle.write_ring.proofs.Views.{sum_two, sum_alone}
 use Rattle.write_ring.proofs.ClaimLists.{empty, inside}
-use Rattle.write_ring.proofs.SeatMoves.{has, shares}
 use Rattle.write_ring.proofs.Joins.{fresh_sides, none_ahead}
-use Rattle.write_ring.proofs.Moves.{Rule}
+use Rattle.write_ring.proofs.Moves.{Rule, all_claims, no_others}
 
 each_there : {S : Type 0} (P : S → Type 0) (xs : List S) (i : ℕ) → AllByRecursion P xs → i < length xs → (x : S) × (get_elem? xs i ≡ some x) × P x
 each_there P [] i all lt = absurd (omega arith)
@@ -83,7 +81,6 @@ module _ {S : Type 0} (key : Key) (FreeOf : Key → S → Type 0) (Blank : S →
             sides = fresh_sides 128 true;
             ahead = λ x had. none_ahead 128 true x had;
             desk = λ yes. (refl, refl, refl);
-            heard = ([], refl);
           });
           cells = record {
             away_below = λ p is. absurd (omega arith);
@@ -107,15 +104,6 @@ module _ {S : Type 0} (key : Key) (FreeOf : Key → S → Type 0) (Blank : S →
       alone_there : (P : View → Type 0) (j : ℕ) (u : View) → get_elem? (first_view key ∷ []) j ≡ some u → P (first_view key) → P u
       alone_there P j u there is = ⊎_elim (λ none_there. absurd (some-ne-none u (sym none_there)))
           (λ (same : first_view key ≡ u). subst P same is) (at_snoc [] (first_view key) u j there)
-
-  -- the seat that has all shares has all that was put
-  all_here : (s : State S View) (h : Rule key FreeOf Blank CarriesOf FitsOf s) (by : ℕ) (v : View) → get_elem? s.views by ≡ some v → v.pass.shares ≡ 128
-      → (j : ℕ) (u : View) → j ≢ by → get_elem? s.views j ≡ some u → (x : ℕ) → covers x u.pass.claims ≡ 0
-  all_here s h by v there all j u apart at x =
-      let two = sum_two shares s.views j by u v apart at there in
-      let sum = h.seats.shares in
-      let bare = (h.seats.each j u at).bare (omega arith) in
-      ap (covers x) bare
 
   -- What the last seat knows, where it has all shares and is the intake, with nothing open and no slot out.
   pub record Ended (v : View) (xs : List S) : Type 0 where
@@ -143,7 +131,7 @@ module _ {S : Type 0} (key : Key) (FreeOf : Key → S → Type 0) (Blank : S →
       let taken_is : v.intake.taken ≡ h.taken = own.1 in
       let away_is : h.away ≡ 0 = sym own.2 ∙ ap away_number home in
       let none_open : (x : ℕ) → between v.pass.next v.pass.until x ≡ 0 = λ x. ap (λ k. between v.pass.next k x) (sym rest) ∙ empty x v.pass.next in
-      let others = all_here s h by v there all in
+      let others = no_others key FreeOf Blank CarriesOf FitsOf s h by v there all in
       let cells = h.stock.cells in
       let room = h.numbers.room in
       let below = h.numbers.below in
@@ -151,7 +139,7 @@ module _ {S : Type 0} (key : Key) (FreeOf : Key → S → Type 0) (Blank : S →
         claimed = h.claimed;
         order = omega (arith, h.numbers.order);
         room = omega arith;
-        tiled = λ x. sym (sum_alone (has x) s.views by v there (λ j u apart at. others j u apart at x)) ∙ h.seats.tiles x;
+        tiled = all_claims key FreeOf Blank CarriesOf FitsOf s h by v there all;
         filled = λ x. let sides = mine.sides.all x in let none_now = none_open x in omega arith;
         copies = λ x. let sides = mine.sides.copies x in let none_now =
             none_copied v.pass.copy (between v.pass.next v.pass.until x) (none_open x) in omega arith;

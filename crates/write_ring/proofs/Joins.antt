@@ -1,28 +1,30 @@
--- A ring begins, its seats are split and joined, and at the end one seat has all claims.
-use Rattle.std.proofs.Common.{◌≡◌, ℕ, ◌+◌, ◌<◌, ◌≤◌, List, [], ◌∷◌, ◌++◌, length, set, Bool, true, false, IsTrue, ◌||◌, if◌then◌else◌, refl, sym, ap, ◌∙◌, subst, arith}
+-- Seats are split and joined.
+use Rattle.std.proofs.Common.{◌≡◌, ◌⊎◌, ℕ, ◌+◌, ◌<◌, ◌≤◌, List, [], ◌∷◌, ◌++◌, length, set, max, Bool, true, false, not, IsTrue, ◌||◌, if◌then◌else◌, refl, sym, ap, ◌∙◌, subst, inl, inr, arith}
 use Rattle.std.proofs.lemmas.Bool.{or_parts}
-use Rattle.std.proofs.lemmas.List.{append-nil}
-use Rattle.std.specs.List.{AllByRecursion}
 use Rattle.lemmas.proofs.Lists.{all_append}
+use Rattle.lemmas.proofs.Maps.{all_filter}
 use mathlib.Core.Option.{some, some-ne-none}
 use lib.ListN.{get_elem?}
 use Rattle.atomic_table.specs.Table.{State, Splits, Joins}
 use Rattle.atomic_table.proofs.Lists.{at_longer, set_else}
+use Rattle.pblk_model.specs.declared.ring.Claim.{Claim}
 use Rattle.pblk_model.specs.RingState.{between, covers, covers_copy, IsGranted}
 use Rattle.write_ring.specs.declared.view.LastFound.{LastFound}
+use Rattle.write_ring.specs.declared.view.Desk.{Desk}
 use Rattle.write_ring.specs.declared.view.Key.{Key}
 use Rattle.write_ring.specs.declared.view.Part.{Part}
 use Rattle.write_ring.specs.declared.view.Row.{Row}
 use Rattle.write_ring.specs.declared.view.View.{View}
 use Rattle.write_ring.specs.Rule.{Each, Seats, away_number, one_if}
-use Rattle.write_ring.specs.Stock.{HasOpen, HasPut, Begins, Sides, Entered}
+use Rattle.write_ring.specs.Stock.{HasOpen, HasPut, Sides, Entered}
 use Rattle.write_ring.specs.Kept.{HasKey}
-use Rattle.write_ring.specs.Steps.{joined_part, joined_pass, less_share, new_pass, no_desk, no_part, note_of, only_intake, spent, told, with_desk, without_intake}
+use Rattle.write_ring.specs.Steps.{joined_part, joined_pass, less_share, new_pass, no_part, only_intake, spent, with_intake, without_intake}
 use Rattle.write_ring.proofs.Views.{sum_changed, sum_more, each_changed, each_more}
 use Rattle.write_ring.proofs.ClaimLists.{covers_both, copies_both, rows_both, copy_rows_both, empty}
 use Rattle.write_ring.proofs.SomeViews.{behind_at}
 use Rattle.write_ring.proofs.SeatMoves.{has, shares, copier, on, never, idle, nobody}
 use Rattle.write_ring.proofs.Stocks.{stock_split, stock_joined}
+use Rattle.write_ring.proofs.Classes.{copies_sides, parted_claims, put_parted, users_sides}
 use Rattle.write_ring.proofs.Moves.{Rule}
 
 pub fresh_sides : (shares : ℕ) (copier : Bool) → Sides (record no_part { shares = shares; copier = copier })
@@ -129,199 +131,153 @@ module _ (key : Key) where
     sides = fresh_sides 0 false;
     ahead = λ x has. none_ahead 0 false x has;
     desk = λ yes. never yes;
-    heard = (took, refl);
   }
 
 module _ {S : Type 0} (key : Key) (FreeOf : Key → S → Type 0) (Blank : S → Type 0) (CarriesOf : Key → S → Row → Type 0) (FitsOf : Key → Row → Type 0) where
+  -- What the two seats have that a seat is split into: together they have what it had, and each is as a seat has to be.
+  record Halves (s : State S View) (h : Rule key FreeOf Blank CarriesOf FitsOf s) (v left right : View) : Type 0 where
+    claims : (x : ℕ) → covers x left.pass.claims + covers x right.pass.claims ≡ covers x v.pass.claims
+    shares_add : left.pass.shares + right.pass.shares ≡ v.pass.shares
+    copiers : copier left + copier right ≡ copier v
+    ons : on left + on right ≡ on v
+    each : Each h.claimed h.freed h.granted left
+    right_each : Each h.claimed h.freed h.granted right
+    entered : Entered key.size key.first s.words h.took h.taken h.away left
+    right_entered : Entered key.size key.first s.words h.took h.taken h.away right
+    puts : (r : Row) → HasPut r v.pass → HasPut r left.pass ⊎ HasPut r right.pass
+    opens : (q : ℕ) → HasOpen q v.pass → HasOpen q left.pass ⊎ HasOpen q right.pass
+    known : HasKey key left
+    right_known : HasKey key right
+
+  splits : (by : ℕ) (v left right : View) → ((s : State S View) (h : Rule key FreeOf Blank CarriesOf FitsOf s) → get_elem? s.views by ≡ some v
+      → Halves s h v left right)
+      → Splits (Rule key FreeOf Blank CarriesOf FitsOf) by v left right
+  splits by v left right halves s h there =
+      let parts = halves s h there in
+      record {
+        claimed = h.claimed;
+        taken = h.taken;
+        freed = h.freed;
+        granted = h.granted;
+        away = h.away;
+        took = h.took;
+        words = h.words;
+        numbers = h.numbers;
+        seats = seats_split key h.claimed h.freed h.granted s.views by v left right h.seats there parts.claims parts.shares_add parts.copiers parts.ons
+            parts.each parts.right_each;
+        stock = stock_split key.size key.first (FreeOf key) Blank (CarriesOf key) (FitsOf key) s.words s.homes s.views by v left right h.took
+            h.claimed h.taken h.freed h.away h.stock there parts.entered parts.right_entered parts.puts parts.opens;
+        keys = each_more (HasKey key) (set s.views by left) right
+            (each_changed (HasKey key) s.views by left (λ j u apart at. h.keys j u at) parts.known) parts.right_known;
+      }
+
   pub splits_pass : (by : ℕ) (v : View) → 2 ≤ v.pass.shares → Splits (Rule key FreeOf Blank CarriesOf FitsOf) by v (less_share v) (new_pass v.key)
-  splits_pass by v two s h there =
-      let w = less_share v in
+  splits_pass by v two = splits by v (less_share v) (new_pass v.key) (λ s h there.
       let mine = h.seats.each by v there in
       let its = h.stock.entered by v there in
       let known = h.keys by v there in
       record {
-        claimed = h.claimed;
-        taken = h.taken;
-        freed = h.freed;
-        granted = h.granted;
-        away = h.away;
-        took = h.took;
-        words = h.words;
-        numbers = h.numbers;
-        seats = seats_split key h.claimed h.freed h.granted s.views by v w (new_pass v.key) h.seats there (λ x. omega arith) (omega arith) (omega arith)
-            (omega arith)
-            (record {
-              bare = λ none. absurd (omega arith);
-              no_copy = mine.no_copy;
-              users = mine.users;
-              saw_claimed = mine.saw_claimed;
-              saw_freed = mine.saw_freed;
-              saw_granted = mine.saw_granted;
-              intake = mine.intake;
-            })
-            (idle v.key h.claimed h.freed h.granted);
-        stock = stock_split key.size key.first (FreeOf key) Blank (CarriesOf key) (FitsOf key) s.words s.homes s.views by v w (new_pass v.key) h.took
-            h.claimed h.taken h.freed h.away h.stock there
-            (record { sides = record { all = its.sides.all; copies = its.sides.copies }; ahead = its.ahead; desk = its.desk; heard = its.heard })
-            (record { sides = fresh_sides 1 false; ahead = λ x has. none_ahead 1 false x has; desk = λ yes. never yes; heard = (h.took, refl) })
-            (λ r is. is) (λ q is. is);
-        keys = each_more (HasKey key) (set s.views by w) (new_pass v.key)
-            (each_changed (HasKey key) s.views by w (λ j u apart at. h.keys j u at)
-            (record { pass = λ some_shares. known.pass (omega arith); desk = known.desk }))
-            (record { pass = λ _. known.pass (omega arith); desk = λ yes. never yes });
-      }
+        claims = λ x. omega arith;
+        shares_add = omega arith;
+        copiers = omega arith;
+        ons = omega arith;
+        each = record {
+          bare = λ none. absurd (omega arith);
+          no_copy = mine.no_copy;
+          users = mine.users;
+          saw_claimed = mine.saw_claimed;
+          saw_freed = mine.saw_freed;
+          saw_granted = mine.saw_granted;
+          intake = mine.intake;
+        };
+        right_each = idle v.key h.claimed h.freed h.granted;
+        entered = record { sides = record { all = its.sides.all; copies = its.sides.copies }; ahead = its.ahead; desk = its.desk };
+        right_entered = record { sides = fresh_sides 1 false; ahead = λ x has. none_ahead 1 false x has; desk = λ yes. never yes };
+        puts = λ r is. inl is;
+        opens = λ q is. inl is;
+        known = record { pass = λ some_shares. known.pass (omega arith); desk = known.desk };
+        right_known = record { pass = λ _. known.pass (omega arith); desk = λ yes. never yes };
+      })
 
-  pub splits_intake : (by : ℕ) (v : View) → Splits (Rule key FreeOf Blank CarriesOf FitsOf) by v (without_intake v) (only_intake v)
-  splits_intake by v s h there =
-      let w = without_intake v in
-      let i = only_intake v in
+  -- the intake leaves a seat with the copies, where nothing is open
+  pub splits_intake : (by : ℕ) (v : View) → 2 ≤ v.pass.shares → v.pass.next ≡ v.pass.until
+      → Splits (Rule key FreeOf Blank CarriesOf FitsOf) by v (without_intake v) (only_intake v)
+  splits_intake by v two rest = splits by v (without_intake v) (only_intake v) (λ s h there.
       let mine = h.seats.each by v there in
       let its = h.stock.entered by v there in
       let known = h.keys by v there in
+      let p = v.pass in
       record {
-        claimed = h.claimed;
-        taken = h.taken;
-        freed = h.freed;
-        granted = h.granted;
-        away = h.away;
-        took = h.took;
-        words = h.words;
-        numbers = h.numbers;
-        seats = seats_split key h.claimed h.freed h.granted s.views by v w i h.seats there (λ x. omega arith) (omega arith) (omega arith) (omega arith)
-            (record {
-              bare = mine.bare;
-              no_copy = mine.no_copy;
-              users = mine.users;
-              saw_claimed = mine.saw_claimed;
-              saw_freed = mine.saw_freed;
-              saw_granted = mine.saw_granted;
-              intake = λ no. never no;
-            })
-            (record {
-              bare = λ e. refl;
-              no_copy = λ e x. refl;
-              users = tt;
-              saw_claimed = omega arith;
-              saw_freed = omega arith;
-              saw_granted = omega arith;
-              intake = mine.intake;
-            });
-        stock = stock_split key.size key.first (FreeOf key) Blank (CarriesOf key) (FitsOf key) s.words s.homes s.views by v w i h.took
-            h.claimed h.taken h.freed h.away h.stock there
-            (record { sides = its.sides; ahead = its.ahead; desk = λ yes. never yes; heard = its.heard })
-            (record { sides = fresh_sides 0 false; ahead = λ x has. none_ahead 0 false x has; desk = its.desk; heard = (h.took, refl) })
-            (λ r is. is) (λ q is. is);
-        keys = each_more (HasKey key) (set s.views by w) i
-            (each_changed (HasKey key) s.views by w (λ j u apart at. h.keys j u at) (record { pass = known.pass; desk = λ yes. never yes }))
-            (record { pass = λ yes. absurd (yes refl); desk = known.desk });
-      }
+        claims = λ x.
+            let parted = parted_claims x p.claims in
+            let users = parted.users in
+            let copies = parted.copies in
+            omega arith;
+        shares_add = omega arith;
+        copiers = omega arith;
+        ons = omega arith;
+        each = record {
+          bare = λ none. absurd (omega arith);
+          no_copy = λ _ x. (parted_claims x p.claims).no_copies;
+          users = all_filter (IsGranted h.granted) (λ (c : Claim). not c.copy) p.claims mine.users;
+          saw_claimed = mine.saw_claimed;
+          saw_freed = mine.saw_freed;
+          saw_granted = mine.saw_granted;
+          intake = λ no. never no;
+        };
+        right_each = record {
+          bare = λ none. absurd (omega arith);
+          no_copy = λ none x. (parted_claims x p.claims).all_copies ∙ mine.no_copy none x;
+          users = all_filter (IsGranted h.granted) (λ (c : Claim). c.copy) p.claims mine.users;
+          saw_claimed = mine.saw_claimed;
+          saw_freed = mine.saw_freed;
+          saw_granted = mine.saw_granted;
+          intake = mine.intake;
+        };
+        entered = record { sides = users_sides p its.sides rest; ahead = λ x has. its.ahead x has; desk = λ yes. never yes };
+        right_entered = record { sides = copies_sides p its.sides rest; ahead = λ x has. none_ahead 0 false x has; desk = its.desk };
+        puts = λ r is. put_parted p r is;
+        opens = λ q is. inl is;
+        known = record { pass = λ _. known.pass (omega arith); desk = λ yes. never yes };
+        right_known = record { pass = λ _. known.pass (omega arith); desk = known.desk };
+      })
 
-  -- a note of what the intake took
-  pub splits_note : (by : ℕ) (v : View) → IsTrue v.intake.on → Splits (Rule key FreeOf Blank CarriesOf FitsOf) by v v (note_of v)
-  splits_note by v is_on s h there =
-      let mine = h.seats.each by v there in
-      let its = h.stock.entered by v there in
-      let own = its.desk is_on in
-      let i = note_of v in
-      record {
-        claimed = h.claimed;
-        taken = h.taken;
-        freed = h.freed;
-        granted = h.granted;
-        away = h.away;
-        took = h.took;
-        words = h.words;
-        numbers = h.numbers;
-        seats = seats_split key h.claimed h.freed h.granted s.views by v v i h.seats there (λ x. omega arith) (omega arith) (omega arith) (omega arith) mine
-            (record {
-              bare = λ e. refl;
-              no_copy = λ e x. refl;
-              users = tt;
-              saw_claimed = omega arith;
-              saw_freed = omega arith;
-              saw_granted = omega arith;
-              intake = λ yes. never yes;
-            });
-        stock = stock_split key.size key.first (FreeOf key) Blank (CarriesOf key) (FitsOf key) s.words s.homes s.views by v v i h.took
-            h.claimed h.taken h.freed h.away h.stock there its
-            (record {
-              sides = fresh_sides 0 false;
-              ahead = λ x has. none_ahead 0 false x has;
-              desk = λ yes. never yes;
-              heard =
-                  ([], sym own.0 ∙ sym (append-nil v.intake.took));
-            })
-            (λ r is. is) (λ q is. is);
-        keys = each_more (HasKey key) (set s.views by v) i (each_changed (HasKey key) s.views by v (λ j u apart at. h.keys j u at) (h.keys by v there))
-            (record { pass = λ yes. absurd (yes refl); desk = λ yes. never yes });
-      }
+  -- all goes out of a seat
+  pub splits_all : (by : ℕ) (v : View) → Splits (Rule key FreeOf Blank CarriesOf FitsOf) by v spent v
+  splits_all by v = splits by v spent v (λ s h there. record {
+    claims = λ x. omega arith;
+    shares_add = omega arith;
+    copiers = omega arith;
+    ons = omega arith;
+    each = nobody h.claimed h.freed h.granted;
+    right_each = h.seats.each by v there;
+    entered = spent_entered key s.words h.took h.taken h.away;
+    right_entered = h.stock.entered by v there;
+    puts = λ r is. inr is;
+    opens = λ q is. inr is;
+    known = record { pass = λ yes. absurd (yes refl); desk = λ yes. never yes };
+    right_known = h.keys by v there;
+  })
 
-  pub joins_pass : (by : ℕ) (v : View) (other : ℕ) (w : View) → 0 < v.pass.shares → w.intake ≡ no_desk → w.pass.next ≡ w.pass.until
-      → Joins (Rule key FreeOf Blank CarriesOf FitsOf) by v other w (joined_pass v w) spent
-  joins_pass by v other w sharing only rest s h there differ also =
-      let b = joined_pass v w in
-      let mine = h.seats.each by v there in
-      let was_there = sym (set_else s.views by other b differ) ∙ also in
-      let its = h.seats.each other w was_there in
-      let off : on w ≡ 0 = ap (λ d. one_if d.on) only in
-      let my = h.stock.entered by v there in
-      let their = h.stock.entered other w was_there in
-      let known = h.keys by v there in
-      record {
-        claimed = h.claimed;
-        taken = h.taken;
-        freed = h.freed;
-        granted = h.granted;
-        away = h.away;
-        took = h.took;
-        words = h.words;
-        numbers = h.numbers;
-        seats = seats_joined key h.claimed h.freed h.granted s.views by v other w b h.seats there also (λ x. covers_both x v.pass.claims w.pass.claims)
-            refl (or_counted v.pass.copier w.pass.copier) (omega arith)
-            (record {
-              bare = λ none. absurd (omega arith);
-              no_copy = λ none x.
-                  let neither = or_parts v.pass.copier w.pass.copier none in
-                  let both : covers_copy x b.pass.claims ≡ covers_copy x v.pass.claims + covers_copy x w.pass.claims =
-                  copies_both x v.pass.claims w.pass.claims in
-                  let one = mine.no_copy neither.0 x in
-                  let two = its.no_copy neither.1 x in
-                  omega arith;
-              users = all_append (IsGranted h.granted) v.pass.claims w.pass.claims mine.users its.users;
-              saw_claimed = mine.saw_claimed;
-              saw_freed = mine.saw_freed;
-              saw_granted = mine.saw_granted;
-              intake = mine.intake;
-            });
-        stock = stock_joined key.size key.first (FreeOf key) Blank (CarriesOf key) (FitsOf key) s.words s.homes s.views by v other w b spent h.took
-            h.claimed h.taken h.freed h.away h.stock there differ also
-            (record { sides = joined_sides v.pass w.pass my.sides their.sides rest; ahead = my.ahead; desk = my.desk; heard = my.heard })
-            (spent_entered key s.words h.took h.taken h.away)
-            (λ r had. (had.0, at_longer v.pass.puts w.pass.puts had.0 r had.1))
-            (λ r had. (length v.pass.puts + had.0, behind_at v.pass.puts w.pass.puts had.0 (length v.pass.puts + had.0) r refl had.1))
-            (λ q had. had) (λ q had. let low = had.0 in let high = had.1 in absurd (omega arith));
-        keys = each_changed (HasKey key) (set s.views by b) other spent
-            (λ j u _ at. each_changed (HasKey key) s.views by b (λ i x _ here. h.keys i x here)
-            (record { pass = λ _. known.pass (omega arith); desk = known.desk }) j u at)
-            (record { pass = λ yes. absurd (yes refl); desk = λ yes. never yes });
-      }
+  -- What a seat has once another went into it: what both had.
+  record Whole (s : State S View) (h : Rule key FreeOf Blank CarriesOf FitsOf s) (v w b : View) : Type 0 where
+    claims : (x : ℕ) → covers x b.pass.claims ≡ covers x v.pass.claims + covers x w.pass.claims
+    shares_add : b.pass.shares ≡ v.pass.shares + w.pass.shares
+    copiers : copier b ≤ copier v + copier w
+    ons : on b ≤ on v + on w
+    each : Each h.claimed h.freed h.granted b
+    entered : Entered key.size key.first s.words h.took h.taken h.away b
+    puts : (r : Row) → HasPut r v.pass → HasPut r b.pass
+    its_puts : (r : Row) → HasPut r w.pass → HasPut r b.pass
+    opens : (q : ℕ) → HasOpen q v.pass → HasOpen q b.pass
+    its_opens : (q : ℕ) → HasOpen q w.pass → HasOpen q b.pass
+    known : HasKey key b
 
-  -- at closing, and where a note is joined: a seat that has claimed nothing goes into a pass
-  joins_idle : (by : ℕ) (v : View) (other : ℕ) (w b : View) → 0 < v.pass.shares → w.pass ≡ no_part → b.pass ≡ v.pass → b.found ≡ v.found → b.key ≡ v.key
-      → on b ≤ on v + on w
-      → ((s : State S View) (h : Rule key FreeOf Blank CarriesOf FitsOf s) → get_elem? s.views by ≡ some v → get_elem? s.views other ≡ some w
-      → (IsTrue b.intake.on → (b.intake.freed ≡ h.freed) × (b.intake.granted ≡ h.granted))
-      × (IsTrue b.intake.on → (b.intake.took ≡ h.took) × (b.intake.taken ≡ h.taken) × (away_number b.intake.away ≡ h.away)) × Begins b.heard h.took)
+  joins : (by : ℕ) (v : View) (other : ℕ) (w b : View)
+      → ((s : State S View) (h : Rule key FreeOf Blank CarriesOf FitsOf s) → get_elem? s.views by ≡ some v → get_elem? s.views other ≡ some w → Whole s h v w b)
       → Joins (Rule key FreeOf Blank CarriesOf FitsOf) by v other w b spent
-  joins_idle by v other w b sharing idle_pass same_pass same_found same_key ons says s h there differ also =
-      let mine = h.seats.each by v there in
-      let was_there = sym (set_else s.views by other b differ) ∙ also in
-      let my = h.stock.entered by v there in
-      let known = h.keys by v there in
-      let said = says s h there was_there in
-      let no_shares : w.pass.shares ≡ 0 = ap (λ p. p.shares) idle_pass in
-      let same_shares : b.pass.shares ≡ v.pass.shares = ap (λ p. p.shares) same_pass in
-      let same_copier : copier b ≡ copier v = ap (λ p. one_if p.copier) same_pass in
+  joins by v other w b whole s h there differ also =
+      let all = whole s h there (sym (set_else s.views by other b differ) ∙ also) in
       record {
         claimed = h.claimed;
         taken = h.taken;
@@ -331,46 +287,92 @@ module _ {S : Type 0} (key : Key) (FreeOf : Key → S → Type 0) (Blank : S →
         took = h.took;
         words = h.words;
         numbers = h.numbers;
-        seats = seats_joined key h.claimed h.freed h.granted s.views by v other w b h.seats there also
-            (λ x.
-            let none : covers x w.pass.claims ≡ 0 = ap (λ p. covers x p.claims) idle_pass in
-            let same : covers x b.pass.claims ≡ covers x v.pass.claims = ap (λ p. covers x p.claims) same_pass in
-            omega arith)
-            (omega arith) (omega arith) ons
-            (record {
-              bare = subst (λ (p : Part). p.shares ≡ 0 → p.claims ≡ []) (sym same_pass) mine.bare;
-              no_copy = subst (λ (p : Part). p.copier ≡ false → (x : ℕ) → covers_copy x p.claims ≡ 0) (sym same_pass) mine.no_copy;
-              users = subst (λ (p : Part). AllByRecursion (IsGranted h.granted) p.claims) (sym same_pass) mine.users;
-              saw_claimed = subst (λ (f : LastFound). f.claimed ≤ h.claimed) (sym same_found) mine.saw_claimed;
-              saw_freed = subst (λ (f : LastFound). f.freed ≤ h.freed) (sym same_found) mine.saw_freed;
-              saw_granted = subst (λ (f : LastFound). f.granted ≤ h.granted) (sym same_found) mine.saw_granted;
-              intake = said.0;
-            });
+        seats = seats_joined key h.claimed h.freed h.granted s.views by v other w b h.seats there also all.claims all.shares_add all.copiers all.ons all.each;
         stock = stock_joined key.size key.first (FreeOf key) Blank (CarriesOf key) (FitsOf key) s.words s.homes s.views by v other w b spent h.took
-            h.claimed h.taken h.freed h.away h.stock there differ also
-            (record {
-              sides = subst Sides (sym same_pass) my.sides;
-              ahead = λ x has. my.ahead x (subst (HasOpen x) same_pass has);
-              desk = said.1;
-              heard = said.2;
-            })
-            (spent_entered key s.words h.took h.taken h.away)
-            (λ r. subst (HasPut r) (sym same_pass))
-            (λ r had. absurd (some-ne-none r (sym (ap (λ (p : Part). get_elem? p.puts had.0) (sym idle_pass) ∙ had.1))))
-            (λ q. subst (HasOpen q) (sym same_pass))
-            (λ q had. none_ahead 0 false q (subst (HasOpen q) idle_pass had));
+            h.claimed h.taken h.freed h.away h.stock there differ also all.entered (spent_entered key s.words h.took h.taken h.away)
+            all.puts all.its_puts all.opens all.its_opens;
         keys = each_changed (HasKey key) (set s.views by b) other spent
-            (λ j u _ at. each_changed (HasKey key) s.views by b (λ i x _ here. h.keys i x here)
-            (record { pass = λ _. same_key ∙ known.pass (omega arith); desk = λ _. same_key ∙ known.pass (omega arith) }) j u at)
+            (λ j u _ at. each_changed (HasKey key) s.views by b (λ i x _ here. h.keys i x here) all.known j u at)
             (record { pass = λ yes. absurd (yes refl); desk = λ yes. never yes });
       }
 
-  pub joins_intake : (by : ℕ) (v : View) (other : ℕ) (w : View) → 0 < v.pass.shares → w.pass ≡ no_part
-      → Joins (Rule key FreeOf Blank CarriesOf FitsOf) by v other w (with_desk v w) spent
-  joins_intake by v other w sharing only = joins_idle by v other w (with_desk v w) sharing only refl refl refl (omega arith)
-      (λ s h there also. ((h.seats.each other w also).intake, (h.stock.entered other w also).desk, (h.stock.entered by v there).heard))
+  -- a seat with nothing open goes into a pass, which has the one's desk or the other's
+  joins_part : (by : ℕ) (v : View) (other : ℕ) (w : View) (found : LastFound) (desk : Desk) → 0 < v.pass.shares → w.pass.next ≡ w.pass.until
+      → one_if desk.on ≤ on v + on w
+      → ((s : State S View) (h : Rule key FreeOf Blank CarriesOf FitsOf s) → get_elem? s.views by ≡ some v → get_elem? s.views other ≡ some w
+      → (found.claimed ≤ h.claimed) × (found.freed ≤ h.freed) × (found.granted ≤ h.granted)
+      × (IsTrue desk.on → (desk.freed ≡ h.freed) × (desk.granted ≡ h.granted))
+      × (IsTrue desk.on → (desk.took ≡ h.took) × (desk.taken ≡ h.taken) × (away_number desk.away ≡ h.away)))
+      → Joins (Rule key FreeOf Blank CarriesOf FitsOf) by v other w (record v { found = found; pass = joined_part v.pass w.pass; intake = desk }) spent
+  joins_part by v other w found desk sharing rest ons says =
+      joins by v other w (record v { found = found; pass = joined_part v.pass w.pass; intake = desk }) (λ s h there also.
+      let mine = h.seats.each by v there in
+      let its = h.seats.each other w also in
+      let my = h.stock.entered by v there in
+      let their = h.stock.entered other w also in
+      let known = h.keys by v there in
+      let said = says s h there also in
+      record {
+        claims = λ x. covers_both x v.pass.claims w.pass.claims;
+        shares_add = refl;
+        copiers = or_counted v.pass.copier w.pass.copier;
+        ons = ons;
+        each = record {
+          bare = λ none. absurd (omega arith);
+          no_copy = λ none x.
+              let neither = or_parts v.pass.copier w.pass.copier none in
+              let both : covers_copy x (v.pass.claims ++ w.pass.claims) ≡ covers_copy x v.pass.claims + covers_copy x w.pass.claims =
+              copies_both x v.pass.claims w.pass.claims in
+              let one = mine.no_copy neither.0 x in
+              let two = its.no_copy neither.1 x in
+              omega arith;
+          users = all_append (IsGranted h.granted) v.pass.claims w.pass.claims mine.users its.users;
+          saw_claimed = said.0;
+          saw_freed = said.1;
+          saw_granted = said.2;
+          intake = said.3;
+        };
+        entered = record { sides = joined_sides v.pass w.pass my.sides their.sides rest; ahead = λ x has. my.ahead x has; desk = said.4 };
+        puts = λ r had. (had.0, at_longer v.pass.puts w.pass.puts had.0 r had.1);
+        its_puts = λ r had. (length v.pass.puts + had.0, behind_at v.pass.puts w.pass.puts had.0 (length v.pass.puts + had.0) r refl had.1);
+        opens = λ q had. had;
+        its_opens = λ q had. let low = had.0 in let high = had.1 in absurd (omega arith);
+        known = record { pass = λ _. known.pass (λ none. omega arith); desk = λ _. known.pass (λ none. omega arith) };
+      })
 
-  pub joins_note : (by : ℕ) (v : View) (other : ℕ) (w : View) → 0 < v.pass.shares → w.pass ≡ no_part → w.intake ≡ no_desk
-      → Joins (Rule key FreeOf Blank CarriesOf FitsOf) by v other w (told v w) spent
-  joins_note by v other w sharing only idle_desk = joins_idle by v other w (told v w) sharing only refl refl refl (omega arith)
-      (λ s h there also. ((h.seats.each by v there).intake, (h.stock.entered by v there).desk, (h.stock.entered other w also).heard))
+  pub joins_pass : (by : ℕ) (v : View) (other : ℕ) (w : View) → 0 < v.pass.shares → w.pass.next ≡ w.pass.until
+      → Joins (Rule key FreeOf Blank CarriesOf FitsOf) by v other w (joined_pass v w) spent
+  joins_pass by v other w sharing rest = joins_part by v other w v.found v.intake sharing rest (omega arith) (λ s h there also.
+      let mine = h.seats.each by v there in
+      (mine.saw_claimed, mine.saw_freed, mine.saw_granted, mine.intake, (h.stock.entered by v there).desk))
+
+  -- the intake goes into a pass
+  pub joins_intake : (by : ℕ) (v : View) (other : ℕ) (w : View) → 0 < v.pass.shares → w.pass.next ≡ w.pass.until
+      → Joins (Rule key FreeOf Blank CarriesOf FitsOf) by v other w (with_intake v w) spent
+  joins_intake by v other w sharing rest =
+      joins_part by v other w (with_intake v w).found w.intake sharing rest (omega arith) (λ s h there also.
+      let mine = h.seats.each by v there in
+      let its = h.seats.each other w also in
+      let one = mine.saw_claimed in
+      let two = its.saw_claimed in
+      (most v.found.claimed w.found.claimed h.claimed one two, mine.saw_freed, mine.saw_granted, its.intake, (h.stock.entered other w also).desk))
+    where
+      most : (a b c : ℕ) → a ≤ c → b ≤ c → max a b ≤ c
+      most a b c le lt = grind arith
+
+  -- all goes into a seat out of which all went
+  pub joins_all : (by : ℕ) (v : View) (other : ℕ) (w : View) → v ≡ spent → Joins (Rule key FreeOf Blank CarriesOf FitsOf) by v other w w spent
+  joins_all by v other w none = subst (λ u. Joins (Rule key FreeOf Blank CarriesOf FitsOf) by u other w w spent) (sym none)
+      (joins by spent other w w (λ s h there also. record {
+        claims = λ x. omega arith;
+        shares_add = omega arith;
+        copiers = omega arith;
+        ons = omega arith;
+        each = h.seats.each other w also;
+        entered = h.stock.entered other w also;
+        puts = λ r had. absurd (some-ne-none r (sym had.1));
+        its_puts = λ r had. had;
+        opens = λ q had. none_ahead 0 false q had;
+        its_opens = λ q had. had;
+        known = h.keys other w also;
+      }))

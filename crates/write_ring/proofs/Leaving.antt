@@ -12,7 +12,7 @@ use Rattle.write_ring.specs.declared.view.Key.{Key}
 use Rattle.write_ring.specs.declared.view.View.{View}
 use Rattle.write_ring.specs.Endings.{HasFrame, IsLeft}
 use Rattle.write_ring.specs.Frames.{IsFree, IsBlank, Carries, Fits}
-use Rattle.write_ring.specs.Steps.{with_desk}
+use Rattle.write_ring.specs.Steps.{with_intake}
 use Rattle.write_ring.proofs.Ends.{Ended, ends}
 use Rattle.write_ring.proofs.Moves.{Rule}
 use Rattle.write_ring.proofs.Slots.{apart}
@@ -65,10 +65,11 @@ left_of key v xs e = record {
       );
 }
 
--- the last pass has all shares, and the intake went into it
-pub ends_with : (key : Key) (ws : List ℕ) (xs : List Cell) (by : ℕ) (me : Me Cell View) (v w : View) (held : List (ℕ × Cell)) → me ≡ (with_desk v w, held)
-    → v.pass.shares ≡ 128 → v.pass.next ≡ v.pass.until → IsTrue w.intake.on → w.intake.away ≡ None
-    → Final (Seen (Rule key IsFree IsBlank Carries Fits) by me.0) ws xs → Ended key IsFree IsBlank Carries Fits (with_desk v w) xs
-ends_with key ws xs by me v w held is all none_open is_on home last =
-    ends key IsFree IsBlank Carries Fits ws xs by (with_desk v w) all is_on home none_open
+-- the last pass has all shares but the intake's one, and the intake went into it
+pub ends_with : (key : Key) (ws : List ℕ) (xs : List Cell) (by : ℕ) (me : Me Cell View) (v w : View) (held : List (ℕ × Cell)) → me ≡ (with_intake v w, held)
+    → v.pass.shares ≡ 127 → w.pass.shares ≡ 1 → v.pass.next ≡ v.pass.until → IsTrue w.intake.on → w.intake.away ≡ None
+    → Final (Seen (Rule key IsFree IsBlank Carries Fits) by me.0) ws xs → Ended key IsFree IsBlank Carries Fits (with_intake v w) xs
+ends_with key ws xs by me v w held is most one none_open is_on home last =
+    let all : v.pass.shares + w.pass.shares ≡ 128 = omega arith in
+    ends key IsFree IsBlank Carries Fits ws xs by (with_intake v w) all is_on home none_open
     (subst (λ (m : Me Cell View). Final (Seen (Rule key IsFree IsBlank Carries Fits) by m.0) ws xs) is last)

@@ -7,7 +7,10 @@ pub mod SlotMoves
 pub mod DeskMoves
 pub mod Joins
 pub mod Ends
-pub mod Notes
+pub mod Copies
+pub mod Filters
+pub mod Classes
+pub mod Together
 pub mod Slots
 pub mod Chain
 pub mod SomeViews

@@ -1,9 +1,10 @@
 -- Each kind of step keeps the rule, and tells what it says.
-use Rattle.std.proofs.Common.{◌≡◌, ◌≢◌, ℕ, ◌+◌, ◌^◌, ◌<◌, ◌≤◌, List, ◌++◌, set, IsTrue, refl, sym, ap, ◌∙◌, subst, arith}
+use Rattle.std.proofs.Common.{◌≡◌, ◌≢◌, ℕ, ◌+◌, ◌^◌, ◌<◌, ◌≤◌, List, set, IsTrue, refl, sym, ap, ◌∙◌, subst, arith}
 use Rattle.std.specs.Prelude.{slice_index}
 use mathlib.Core.Option.{some}
 use lib.ListN.{get_elem?}
 use Rattle.atomic_table.specs.Table.{State, Allows, keeps}
+use Rattle.pblk_model.specs.RingState.{between, covers}
 use Rattle.write_ring.specs.declared.view.LastFound.{LastFound}
 use Rattle.write_ring.specs.declared.view.Key.{Key}
 use Rattle.write_ring.specs.declared.view.Row.{Row}
@@ -11,10 +12,12 @@ use Rattle.write_ring.specs.declared.view.View.{View}
 use Rattle.write_ring.specs.Rule.{AllViews, away_number, claimed_at, freed_at, granted_at}
 use Rattle.write_ring.specs.Stock.{Stock, HasOpen, HasPut, Sides}
 use Rattle.write_ring.specs.Kept.{Kept, HasKey}
-use Rattle.write_ring.specs.Steps.{LieBelow, granted_to, saw_claimed, saw_freed, saw_granted, with_found}
-use Rattle.write_ring.proofs.Views.{each_changed}
+use Rattle.write_ring.specs.Steps.{granted_to, saw_claimed, saw_freed, saw_granted, with_found}
+use Rattle.write_ring.specs.Tells.{SeesClaimed}
+use Rattle.write_ring.proofs.Views.{each_changed, sum_alone, sum_two}
 use Rattle.write_ring.proofs.Words.{same_words, granted_word, turns_stay}
-use Rattle.write_ring.proofs.SeatMoves.{looked, own_below, granted_more_seats}
+use Rattle.write_ring.proofs.SeatMoves.{has, shares, looked, own_below, granted_more_seats}
+use Rattle.write_ring.proofs.Copies.{granted_or_copied}
 use Rattle.write_ring.proofs.Stocks.{stock_words, stock_changed}
 
 module _ {S : Type 0} (key : Key) (FreeOf : Key → S → Type 0) (Blank : S → Type 0) (CarriesOf : Key → S → Row → Type 0) (FitsOf : Key → Row → Type 0) where
@@ -36,10 +39,10 @@ module _ {S : Type 0} (key : Key) (FreeOf : Key → S → Type 0) (Blank : S →
 
   -- the goods, where a seat's view changes in nothing that they read, and a word is stored that is no turn word
   pub goods_stay : (s : State S View) (by : ℕ) (v w : View) (i n : ℕ) (took : List Row) (claimed taken freed away : ℕ)
-      → Goods s.words s s.views took claimed taken freed away → get_elem? s.views by ≡ some v → i < 48 → w.pass ≡ v.pass → w.heard ≡ v.heard
+      → Goods s.words s s.views took claimed taken freed away → get_elem? s.views by ≡ some v → i < 48 → w.pass ≡ v.pass
       → w.intake.on ≡ v.intake.on → w.intake.took ≡ v.intake.took → w.intake.taken ≡ v.intake.taken → w.intake.away ≡ v.intake.away
       → Goods (set s.words i n) s (set s.views by w) took claimed taken freed away
-  goods_stay s by v w i n took claimed taken freed away h there low same_pass same_heard same_on same_took same_taken same_away =
+  goods_stay s by v w i n took claimed taken freed away h there low same_pass same_on same_took same_taken same_away =
       let mine = h.entered by v there in
       stock_words key.size key.first (FreeOf key) Blank (CarriesOf key) (FitsOf key) s.words (set s.words i n) s.homes
       (set s.views by w) took claimed taken freed away
@@ -48,7 +51,6 @@ module _ {S : Type 0} (key : Key) (FreeOf : Key → S → Type 0) (Blank : S →
         sides = subst Sides (sym same_pass) mine.sides;
         ahead = λ x has. mine.ahead x (subst (HasOpen x) same_pass has);
         desk = λ is_on. let own = mine.desk (sym same_on ∙ is_on) in (same_took ∙ own.0, same_taken ∙ own.1, ap away_number same_away ∙ own.2);
-        heard = subst (λ l. (rest : List Row) × (took ≡ l ++ rest)) (sym same_heard) mine.heard;
       })
       (λ r. subst (HasPut r) (sym same_pass)) (λ q. subst (HasOpen q) (sym same_pass)))
       (λ q. turns_stay key.size s.words i n q low)
@@ -75,38 +77,67 @@ module _ {S : Type 0} (key : Key) (FreeOf : Key → S → Type 0) (Blank : S →
           words = same_words key.size s.words i h.claimed h.freed h.granted h.words;
           numbers = h.numbers;
           seats = looked key h.claimed h.freed h.granted s.views by v (found n) h.seats there told.0 told.1 told.2;
-          stock = goods_stay s by v w i n h.took h.claimed h.taken h.freed h.away h.stock there low refl refl refl refl refl refl;
+          stock = goods_stay s by v w i n h.took h.claimed h.taken h.freed h.away h.stock there low refl refl refl refl refl;
           keys = keys_stay s.views by v w h.keys there refl refl refl;
         },
         (refl, told.3),
       )
 
-  pub looks_claimed : (by : ℕ) (v : View) (held : List (ℕ × S)) (slots : ℕ) → 0 < v.pass.shares
-      → Allows Rule slots by (v, held) claimed_at (λ n. n)
-      (λ n m. (m ≡ (saw_claimed v n, held)) × ((n ≤ 2 ^ 62) × LieBelow n v.pass.claims × (v.key.first ≤ n)))
-  looks_claimed by v held slots sharing =
-      looks by v held slots 0 (λ n. (saw_claimed v n).found) (λ n. (n ≤ 2 ^ 62) × LieBelow n v.pass.claims × (v.key.first ≤ n)) (omega arith)
-      (λ s h there.
+  -- a seat beside the one that has all shares has no claim
+  pub no_others : (s : State S View) (h : Rule s) (by : ℕ) (v : View) → get_elem? s.views by ≡ some v → v.pass.shares ≡ 128
+      → (j : ℕ) (u : View) → j ≢ by → get_elem? s.views j ≡ some u → (x : ℕ) → covers x u.pass.claims ≡ 0
+  no_others s h by v there all j u apart at x =
+      let two = sum_two shares s.views j by u v apart at there in
+      let sum = h.seats.shares in
+      ap (covers x) ((h.seats.each j u at).bare (omega arith))
+
+  -- the claims of the seat that has all shares are all claims
+  pub all_claims : (s : State S View) (h : Rule s) (by : ℕ) (v : View) → get_elem? s.views by ≡ some v → v.pass.shares ≡ 128
+      → (x : ℕ) → covers x v.pass.claims ≡ between key.first h.claimed x
+  all_claims s h by v there all x =
+      sym (sum_alone (has x) s.views by v there (λ j u apart at. no_others s h by v there all j u apart at x)) ∙ h.seats.tiles x
+
+  sees_claimed : (s : State S View) (h : Rule s) (by : ℕ) (v : View) → get_elem? s.views by ≡ some v → 0 < v.pass.shares → (n : ℕ) → n ≡ h.claimed
+      → SeesClaimed v n
+  sees_claimed s h by v there sharing n is =
       let mine = h.seats.each by v there in
-      let is = h.words.at_claimed in
-      let most = h.numbers.most in
-      let below = own_below key h.claimed h.freed h.granted s.views by v h.seats there in
       let known = ap (λ (k : Key). k.first) ((h.keys by v there).pass (λ without. omega arith)) in
+      let saw = mine.saw_claimed in
       let low = h.numbers.low in
       let order = h.numbers.order in
       let taken = h.numbers.below in
-      (omega arith, mine.saw_freed, mine.saw_granted, (omega arith, (λ x above. below x (omega arith)), omega arith)))
+      record {
+        rises = omega arith;
+        low = omega arith;
+        most = omega (arith, h.numbers.most);
+        own = λ x above. own_below key h.claimed h.freed h.granted s.views by v h.seats there x (omega arith);
+        all = λ all x. all_claims s h by v there all x ∙ ap (λ k. between k h.claimed x) (sym known) ∙ ap (λ k. between v.key.first k x) (sym is);
+        taken = λ is_on. let own = (h.stock.entered by v there).desk is_on in omega (arith, own.1);
+        reached = λ is_on copies x from below none.
+            let own = mine.intake is_on in
+            let lower = granted_or_copied key h.claimed h.freed h.granted s.views by v h.seats there copies x (omega arith) (omega arith) none in
+            omega (arith, own.1);
+      }
 
-  pub looks_freed : (by : ℕ) (v : View) (held : List (ℕ × S)) (slots : ℕ)
-      → Allows Rule slots by (v, held) freed_at (λ n. n) (λ n m. (m ≡ (saw_freed v n, held)) × (n ≤ 2 ^ 62))
-  looks_freed by v held slots = looks by v held slots 16 (λ n. (saw_freed v n).found) (λ n. n ≤ 2 ^ 62) (omega arith)
+  pub looks_claimed : (by : ℕ) (v : View) (held : List (ℕ × S)) (slots : ℕ) → 0 < v.pass.shares
+      → Allows Rule slots by (v, held) claimed_at (λ n. n) (λ n m. (m ≡ (saw_claimed v n, held)) × SeesClaimed v n)
+  looks_claimed by v held slots sharing = looks by v held slots 0 (λ n. (saw_claimed v n).found) (SeesClaimed v) (omega arith)
+      (λ s h there.
+      let mine = h.seats.each by v there in
+      let is = h.words.at_claimed in
+      (omega arith, mine.saw_freed, mine.saw_granted, sees_claimed s h by v there sharing (slice_index s.words claimed_at) is))
+
+  pub looks_freed : (by : ℕ) (v : View) (held : List (ℕ × S)) (slots : ℕ) → IsTrue v.intake.on
+      → Allows Rule slots by (v, held) freed_at (λ n. n) (λ n m. (m ≡ (saw_freed v n, held)) × ((n ≤ 2 ^ 62) × (n ≡ v.intake.freed)))
+  looks_freed by v held slots is_on = looks by v held slots 16 (λ n. (saw_freed v n).found) (λ n. (n ≤ 2 ^ 62) × (n ≡ v.intake.freed)) (omega arith)
       (λ s h there.
       let mine = h.seats.each by v there in
       let is = h.words.at_freed in
       let most = h.numbers.most in
       let order = h.numbers.order in
       let below = h.numbers.below in
-      (mine.saw_claimed, omega arith, mine.saw_granted, omega arith))
+      let own = mine.intake is_on in
+      (mine.saw_claimed, omega arith, mine.saw_granted, (omega arith, omega (arith, own.0))))
 
   pub looks_granted : (by : ℕ) (v : View) (held : List (ℕ × S)) (slots : ℕ)
       → Allows Rule slots by (v, held) granted_at (λ n. n) (λ n m. (m ≡ (saw_granted v n, held)) × (n ≤ 2 ^ 62))
@@ -125,17 +156,6 @@ module _ {S : Type 0} (key : Key) (FreeOf : Key → S → Type 0) (Blank : S →
       let is = h.words.at_granted in
       let own = mine.intake is_on in
       (mine.saw_claimed, mine.saw_freed, omega arith, omega (arith, own.1)))
-
-  -- the intake finds in `claimed` at least what it has taken
-  pub looks_past : (by : ℕ) (v : View) (held : List (ℕ × S)) (slots : ℕ) → IsTrue v.intake.on
-      → Allows Rule slots by (v, held) claimed_at (λ n. n) (λ n m. (m ≡ (saw_claimed v n, held)) × (v.intake.taken ≤ n))
-  looks_past by v held slots is_on = looks by v held slots 0 (λ n. (saw_claimed v n).found) (λ n. v.intake.taken ≤ n) (omega arith)
-      (λ s h there.
-      let mine = h.seats.each by v there in
-      let is = h.words.at_claimed in
-      let below = h.numbers.below in
-      let own = (h.stock.entered by v there).desk is_on in
-      (omega arith, mine.saw_freed, mine.saw_granted, omega (arith, own.1)))
 
   pub grants : (by : ℕ) (v : View) (held : List (ℕ × S)) (slots to : ℕ) → IsTrue v.intake.on → v.intake.granted ≤ to
       → to + key.reserve ≤ v.intake.freed + key.size → to ≤ 2 ^ 62
@@ -159,7 +179,7 @@ module _ {S : Type 0} (key : Key) (FreeOf : Key → S → Type 0) (Blank : S →
           words = granted_word key.size s.words h.claimed h.freed h.granted to h.words;
           numbers = record { low = n.low; order = n.order; below = n.below; room = n.room; most = n.most; grants = omega arith; most_granted = most };
           seats = granted_more_seats key h.claimed h.freed h.granted to s.views by v h.seats there is_on (omega arith);
-          stock = goods_stay s by v (granted_to v to) 32 to h.took h.claimed h.taken h.freed h.away h.stock there (omega arith) refl refl refl refl refl refl;
+          stock = goods_stay s by v (granted_to v to) 32 to h.took h.claimed h.taken h.freed h.away h.stock there (omega arith) refl refl refl refl refl;
           keys = keys_stay s.views by v (granted_to v to) h.keys there refl refl refl;
         },
         refl,

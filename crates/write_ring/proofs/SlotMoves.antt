@@ -1,5 +1,5 @@
 -- Each kind of step on a slot keeps the rule, and tells what it says.
-use Rattle.std.proofs.Common.{◌≡◌, ◌≢◌, ℕ, ◌+◌, ◌-◌, ◌%◌, ◌^◌, ◌<◌, ◌≤◌, eqb, List, [], ◌∷◌, ◌++◌, set, Bool, true, false, true≢false, IsTrue, None, refl, sym, ap, ◌∙◌, subst, arith}
+use Rattle.std.proofs.Common.{◌≡◌, ℕ, ◌+◌, ◌-◌, ◌%◌, ◌^◌, ◌<◌, ◌≤◌, eqb, List, [], ◌∷◌, ◌++◌, set, Bool, true, false, true≢false, IsTrue, None, refl, sym, ap, ◌∙◌, subst, arith}
 use Rattle.std.proofs.Common.{if◌then◌else◌}
 use Rattle.std.proofs.lemmas.List.{set-get_or}
 use Rattle.std.proofs.Math.Nat.{mod-lt}
@@ -32,6 +32,7 @@ use Rattle.write_ring.proofs.Takings.{stock_taken}
 use Rattle.write_ring.proofs.Users.{user_granted}
 use Rattle.write_ring.proofs.Slots.{named_fits}
 use Rattle.write_ring.proofs.Chain.{taking}
+use Rattle.write_ring.proofs.Copies.{granted_or_copied, own_copy}
 use Rattle.write_ring.proofs.Moves.{Rule, Goods, keys_stay, goods_stay}
 
 -- a pass with nothing open claims
@@ -110,13 +111,24 @@ module _ {S : Type 0} (key : Key) (FreeOf : Key → S → Type 0) (Blank : S →
               (set s.views by w) h.took new h.taken h.freed h.away
               (stock_claimed key.size key.first (FreeOf key) Blank (CarriesOf key) (FitsOf key) s.words s.homes (homes_after s.homes [] t.act) s.views by v w
               h.took old new h.taken h.freed h.away stock there order below (omega arith) fits
-              (claim_sides v.pass (claim_to old new copy) its.sides rest) refl ends refl refl refl rest
+              (claim_sides v.pass (claim_to old new copy) its.sides rest) refl ends refl refl rest
               (λ k not. t.others k (λ p le lt. not p le (omega arith))))
               (λ q. turns_stay key.size s.words 0 new q (omega arith));
           keys = keys_stay key FreeOf Blank CarriesOf FitsOf s.views by v w h.keys there refl refl refl;
         },
         (
-          ((λ _. (refl, own_below key old h.freed h.granted s.views by v seats there)), (λ no. absurd (no hit))),
+          (
+            (λ _. (
+              refl,
+              own_below key old h.freed h.granted s.views by v seats there,
+              λ is_on copies x from below none.
+                  let own = mine.intake is_on in
+                  let known = ap (λ (k : Key). k.first) ((h.keys by v there).desk is_on) in
+                  let lower = granted_or_copied key old h.freed h.granted s.views by v seats there copies x (omega arith) below none in
+                  omega (arith, own.1),
+            )),
+            (λ no. absurd (no hit)),
+          ),
           (
             (λ _. (
               t.values,
@@ -143,7 +155,7 @@ module _ {S : Type 0} (key : Key) (FreeOf : Key → S → Type 0) (Blank : S →
           numbers = h.numbers;
           seats = looked key h.claimed h.freed h.granted s.views by v (met_claimed v n).found h.seats there mine.saw_claimed mine.saw_freed mine.saw_granted;
           stock = goods_stay key FreeOf Blank CarriesOf FitsOf s by v (met_claimed v n) 0 n h.took h.claimed h.taken h.freed h.away h.stock there (omega arith)
-              refl refl refl refl refl refl;
+              refl refl refl refl refl;
           keys = keys_stay key FreeOf Blank CarriesOf FitsOf s.views by v (met_claimed v n) h.keys there refl refl refl;
         },
         (((λ yes. absurd (miss yes)), (λ no. (refl, omega arith))), ((λ yes. absurd (miss yes)), (λ _. refl))),
@@ -206,7 +218,7 @@ module _ {S : Type 0} (key : Key) (FreeOf : Key → S → Type 0) (Blank : S →
               });
           stock = stock_filled key.size key.first (FreeOf key) Blank (CarriesOf key) (FitsOf key) s.words s.homes s.views by v w h.took
               h.claimed h.taken h.freed h.away c r h.stock there h.seats.tiles low order room some_open (omega arith) (omega arith)
-              (subst (λ k. CarriesOf k c r) known carries) at class (subst (λ k. FitsOf k r) known fit) refl refl refl;
+              (subst (λ k. CarriesOf k c r) known carries) at class (subst (λ k. FitsOf k r) known fit) refl refl;
           keys = keys_stay key FreeOf Blank CarriesOf FitsOf s.views by v w h.keys there refl refl refl;
         },
         refl,
@@ -298,7 +310,6 @@ module _ {S : Type 0} (key : Key) (FreeOf : Key → S → Type 0) (Blank : S →
               (stock_taken key.size key.first (FreeOf key) Blank (CarriesOf key) (FitsOf key) s.words s.homes s.views by v w h.took h.claimed h.taken h.freed r
               stock there only order less room named cell.2.2 cell.2.3 cell.2.4 (record {
                 pass = refl;
-                heard = refl;
                 took_is = ap (λ l. l ++ r ∷ []) own.0;
                 taken_is = omega arith;
                 away_is = omega arith;
@@ -317,6 +328,8 @@ module _ {S : Type 0} (key : Key) (FreeOf : Key → S → Type 0) (Blank : S →
             (λ user. let lower = user_granted key s.words h.took h.claimed h.freed h.granted h.taken 0 s.views r h.seats stock.entered cell.2.4 user in
                 let at = cell.2.2 in omega arith),
             omega arith,
+            (λ copies copy. own_copy key h.claimed h.freed h.granted s.views by v h.seats there copies key.size key.first s.words h.took h.taken 0 r
+                stock.entered cell.2.4 copy),
           )),
           (λ no. absurd (no names)),
         ),
@@ -340,7 +353,7 @@ module _ {S : Type 0} (key : Key) (FreeOf : Key → S → Type 0) (Blank : S →
               (sym (set-get_or s.words i 0))
               (stock_changed key.size key.first (FreeOf key) Blank (CarriesOf key)
               (FitsOf key) s.words s.homes s.views by v w h.took h.claimed h.taken h.freed h.away
-              h.stock there (record { sides = its.sides; ahead = its.ahead; desk = its.desk; heard = its.heard }) (λ r is. is) (λ q is. is));
+              h.stock there (record { sides = its.sides; ahead = its.ahead; desk = its.desk }) (λ r is. is) (λ q is. is));
           keys = keys_stay key FreeOf Blank CarriesOf FitsOf s.views by v w h.keys there refl refl refl;
         },
         ((λ names. absurd (other names)), (λ _. refl)),

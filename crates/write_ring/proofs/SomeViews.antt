@@ -27,7 +27,7 @@ module _ {A : Type 0} where
   behind_at (x ∷ l) m i zero a is there = absurd (omega arith)
   behind_at (x ∷ l) m i (suc n) a is there = behind_at l m i n a (omega arith) there
 
-  same_place : (l : List A) (i j : ℕ) (a b : A) → i ≡ j → get_elem? l i ≡ some a → get_elem? l j ≡ some b → a ≡ b
+  pub same_place : (l : List A) (i j : ℕ) (a b : A) → i ≡ j → get_elem? l i ≡ some a → get_elem? l j ≡ some b → a ≡ b
   same_place l i j a b same here there = some-injective a b (sym here ∙ ap (λ k. get_elem? l k) same ∙ there)
 
 module _ (P : View → Type 0) where
@@ -41,6 +41,15 @@ module _ (P : View → Type 0) where
 
   pub some_more : (views : List View) (w : View) → SomeView P views → SomeView P (views ++ w ∷ [])
   some_more views w h = (h.0, h.1, at_longer views (w ∷ []) h.0 h.1 h.2, h.3)
+
+  -- a seat is split in two, and it holds of either
+  pub some_split : (views : List View) (by : ℕ) (v left right : View) → get_elem? views by ≡ some v → (P v → P left ⊎ P right) → SomeView P views
+      → SomeView P (set views by left ++ right ∷ [])
+  some_split views by v left right there parts h = dite (ℕ_discrete h.0 by)
+      (λ same. ⊎_elim (λ is. some_more (set views by left) right (some_here views by v left there is))
+      (λ is. (length (set views by left), right, behind_at (set views by left) (right ∷ []) 0 (length (set views by left)) right (omega arith) refl, is))
+      (parts (subst P (same_place views h.0 by h.1 v same h.2 there) h.3)))
+      (λ differ. some_more (set views by left) right (h.0, h.1, set_else views by h.0 left differ ∙ h.2, h.3))
 
   pub some_joined : (views : List View) (by : ℕ) (v : View) (other : ℕ) (w b spent : View) → get_elem? views by ≡ some v → other ≢ by
       → get_elem? (set views by b) other ≡ some w → (P v → P b) → (P w → P b) → SomeView P views → SomeView P (set (set views by b) other spent)

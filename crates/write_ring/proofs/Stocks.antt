@@ -1,6 +1,5 @@
 -- Each kind of step keeps what the ring keeps of its entries.
-use Rattle.std.proofs.Common.{◌≡◌, ◌≢◌, ℕ, ◌+◌, ◌<◌, ◌≤◌, List, [], ◌∷◌, ◌++◌, set, IsTrue, refl, sym, ap, ◌∙◌, subst, arith}
-use Rattle.std.proofs.lemmas.List.{append_assoc}
+use Rattle.std.proofs.Common.{◌≡◌, ◌≢◌, ◌⊎◌, ℕ, ◌+◌, ◌<◌, ◌≤◌, List, [], ◌∷◌, ◌++◌, set, IsTrue, refl, sym, ap, ◌∙◌, subst, arith}
 use Rattle.std.specs.Prelude.{slice_index}
 use mathlib.Core.Option.{Option, some}
 use mathlib.Core.Logic.{dite}
@@ -11,18 +10,15 @@ use Rattle.write_ring.specs.declared.view.Row.{Row}
 use Rattle.write_ring.specs.declared.view.View.{View}
 use Rattle.write_ring.specs.Cells.{slot, turn_at}
 use Rattle.write_ring.specs.Rule.{AllViews, away_number}
-use Rattle.write_ring.specs.Stock.{HasOpen, HasPut, IsOpen, IsPut, Begins, Sides, Entered, IsEntry, IsStory, Stock}
+use Rattle.write_ring.specs.Stock.{HasOpen, HasPut, IsOpen, IsPut, Sides, Entered, IsEntry, IsStory, Stock}
 use Rattle.write_ring.proofs.Views.{sum_one, each_changed, each_more}
 use Rattle.write_ring.proofs.ClaimLists.{none_above, inside}
-use Rattle.write_ring.proofs.SomeViews.{some_here, some_changed, some_more, some_joined}
+use Rattle.write_ring.proofs.SomeViews.{some_here, some_changed, some_split, some_joined}
 use Rattle.write_ring.proofs.Slots.{claimed_slots, left_alone}
 
 -- how often a seat has claimed x
 abbrev pub claims_at : ℕ → View → ℕ
 claims_at x u = covers x u.pass.claims
-
-pub begins_longer : (heard took more : List Row) → Begins heard took → Begins heard (took ++ more)
-begins_longer heard took more h = (h.0 ++ more, ap (λ k. k ++ more) h.1 ∙ append_assoc heard h.0 more)
 
 module _ (size first : ℕ) where
   pub turned : (words words' : List ℕ) (took : List Row) (taken away : ℕ) (u : View)
@@ -32,7 +28,6 @@ module _ (size first : ℕ) where
     sides = h.sides;
     ahead = λ x has. let was = h.ahead x has in let now = same x in (was.0, omega (arith, was.1));
     desk = h.desk;
-    heard = h.heard;
   }
 
   -- an open position was claimed
@@ -99,14 +94,15 @@ module _ {S : Type 0} (size first : ℕ) (Free Blank : S → Type 0) (Carries : 
   pub stock_split : (words : List ℕ) (homes : List (Option S)) (views : List View) (by : ℕ) (v w right : View) (took : List Row) (claimed taken freed away : ℕ)
       → Stock size first Free Blank Carries Fits words homes views took claimed taken freed away → get_elem? views by ≡ some v
       → Entered size first words took taken away w → Entered size first words took taken away right
-      → ((r : Row) → HasPut r v.pass → HasPut r w.pass) → ((q : ℕ) → HasOpen q v.pass → HasOpen q w.pass)
+      → ((r : Row) → HasPut r v.pass → HasPut r w.pass ⊎ HasPut r right.pass)
+      → ((q : ℕ) → HasOpen q v.pass → HasOpen q w.pass ⊎ HasOpen q right.pass)
       → Stock size first Free Blank Carries Fits words homes (set views by w ++ right ∷ []) took claimed taken freed away
   stock_split words homes views by v w right took claimed taken freed away h there mine its puts opens =
-      let one = stock_changed words homes views by v w took claimed taken freed away h there mine puts opens in
-      stock_seen words homes (set views by w) (set views by w ++ right ∷ []) took claimed taken freed away one
-      (each_more (Entered size first words took taken away) (set views by w) right one.entered its)
-      (λ r is. some_more (λ u. HasPut r u.pass) (set views by w) right is)
-      (λ q is. some_more (λ u. HasOpen q u.pass) (set views by w) right is)
+      stock_seen words homes views (set views by w ++ right ∷ []) took claimed taken freed away h
+      (each_more (Entered size first words took taken away) (set views by w) right
+      (each_changed (Entered size first words took taken away) views by w (λ j u apart at. h.entered j u at) mine) its)
+      (λ r is. some_split (λ u. HasPut r u.pass) views by v w right there (puts r) is)
+      (λ q is. some_split (λ u. HasOpen q u.pass) views by v w right there (opens q) is)
 
   -- a seat goes into another
   pub stock_joined : (words : List ℕ) (homes : List (Option S)) (views : List View) (by : ℕ) (v : View) (other : ℕ) (w b spent : View) (took : List Row)
@@ -128,11 +124,11 @@ module _ {S : Type 0} (size first : ℕ) (Free Blank : S → Type 0) (Carries : 
       (claimed new taken freed away : ℕ)
       → Stock size first Free Blank Carries Fits words homes views took claimed taken freed away → get_elem? views by ≡ some v
       → freed ≤ taken → taken ≤ claimed → claimed ≤ new → new ≤ freed + size
-      → Sides w.pass → w.pass.next ≡ claimed → w.pass.until ≡ new → w.pass.puts ≡ v.pass.puts → w.intake ≡ v.intake → w.heard ≡ v.heard
+      → Sides w.pass → w.pass.next ≡ claimed → w.pass.until ≡ new → w.pass.puts ≡ v.pass.puts → w.intake ≡ v.intake
       → v.pass.next ≡ v.pass.until
       → ((k : ℕ) → ((p : ℕ) → claimed ≤ p → p < new → k ≢ slot size p) → get_elem? homes' k ≡ get_elem? homes k)
       → Stock size first Free Blank Carries Fits words homes' (set views by w) took new taken freed away
-  stock_claimed words homes homes' views by v w took claimed new taken freed away h there order below rises room sides from to puts same_desk same_heard rest
+  stock_claimed words homes homes' views by v w took claimed new taken freed away h there order below rises room sides from to puts same_desk rest
       others =
       let views' = set views by w in
       let mine = h.entered by v there in
@@ -153,7 +149,6 @@ module _ {S : Type 0} (size first : ℕ) (Free Blank : S → Type 0) (Carries : 
                     (λ other. omega arith),
               );
           desk = subst (λ d. IsTrue d.on → (d.took ≡ took) × (d.taken ≡ taken) × (away_number d.away ≡ away)) (sym same_desk) mine.desk;
-          heard = subst (λ l. Begins l took) (sym same_heard) mine.heard;
         });
         cells = claimed_slots size first Free Blank (IsEntry size first Free Blank Carries Fits views') (IsOpen views') (IsOpen views') words homes homes'
             claimed new taken freed away

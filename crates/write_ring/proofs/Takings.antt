@@ -10,12 +10,12 @@ use Rattle.write_ring.specs.declared.view.Row.{Row}
 use Rattle.write_ring.specs.declared.view.View.{View}
 use Rattle.write_ring.specs.Cells.{Cells, IsNamed, slot, turn_at}
 use Rattle.write_ring.specs.Rule.{AllViews, away_number}
-use Rattle.write_ring.specs.Stock.{HasOpen, HasPut, IsOpen, IsPut, Begins, Sides, Entered, IsEntry, Stock}
+use Rattle.write_ring.specs.Stock.{HasOpen, HasPut, IsOpen, IsPut, Sides, Entered, IsEntry, Stock}
 use Rattle.write_ring.proofs.Views.{each_changed}
 use Rattle.write_ring.proofs.SeatMoves.{never}
 use Rattle.write_ring.proofs.SomeViews.{last_at, some_changed}
 use Rattle.write_ring.proofs.Slots.{taken_out, given_back, taken_free, freed_next, left_alone}
-use Rattle.write_ring.proofs.Stocks.{begins_longer, entry_grows, story_grows}
+use Rattle.write_ring.proofs.Stocks.{entry_grows, story_grows}
 
 -- no other seat is the intake
 abbrev pub IsOnly : ℕ → List View → Type 0
@@ -24,7 +24,6 @@ IsOnly by views = (j : ℕ) (u : View) → j ≢ by → get_elem? views j ≡ so
 -- the intake's view changes in what it has taken and has with it
 pub record Turned (v w : View) (took : List Row) (taken away : ℕ) : Type 0 where
   pub pass : w.pass ≡ v.pass
-  pub heard : w.heard ≡ v.heard
   pub took_is : w.intake.took ≡ took
   pub taken_is : w.intake.taken ≡ taken
   pub away_is : away_number w.intake.away ≡ away
@@ -46,13 +45,11 @@ module _ (size first : ℕ) where
         sides = e.sides;
         ahead = e.ahead;
         desk = λ yes. never (sym (only j u apart at) ∙ yes);
-        heard = e.heard;
       })
       (record {
         sides = subst Sides (sym turned.pass) mine.sides;
         ahead = λ x has. mine.ahead x (subst (HasOpen x) turned.pass has);
         desk = λ _. (turned.took_is, turned.taken_is, turned.away_is);
-        heard = subst (λ l. Begins l took) (sym turned.heard) mine.heard;
       })
 
 module _ {S : Type 0} (size first : ℕ) (Free Blank : S → Type 0) (Carries : S → Row → Type 0) (Fits : Row → Type 0) where
@@ -92,13 +89,11 @@ module _ {S : Type 0} (size first : ℕ) (Free Blank : S → Type 0) (Carries : 
               sides = e.sides;
               ahead = next u e;
               desk = λ yes. never (sym (only j u apart its) ∙ yes);
-              heard = begins_longer u.heard took (r ∷ []) e.heard;
             })
             (record {
               sides = subst Sides (sym turned.pass) mine.sides;
               ahead = λ x has. next v mine x (subst (HasOpen x) turned.pass has);
               desk = λ _. (turned.took_is, turned.taken_is, turned.away_is);
-              heard = subst (λ l. Begins l more) (sym turned.heard) (begins_longer v.heard took (r ∷ []) mine.heard);
             });
         cells = taken_out size first Free Blank (IsEntry size first Free Blank Carries Fits (set views by w)) (IsOpen (set views by w)) words homes
             claimed taken freed (cells_after words homes views by v w took claimed taken freed 0 h there turned.pass) order below room named;

@@ -1,5 +1,6 @@
 -- Sums over all seats, and what holds of each, where one seat's view changes or a seat is added.
 use Rattle.std.proofs.Common.{◌≡◌, ◌≢◌, ℕ, zero, suc, ◌+◌, ◌≤◌, List, [], ◌∷◌, ◌++◌, set, refl, sym, ap, subst, ⊎_elim, arith}
+use Rattle.std.proofs.lemmas.Bool.{cases_lt}
 use mathlib.Core.Option.{some, some-ne-none, some-injective}
 use lib.ListN.{get_elem?}
 use Rattle.atomic_table.proofs.Lists.{at_set, at_snoc}
@@ -40,6 +41,13 @@ module _ (f : View → ℕ) where
   sum_two (u ∷ views) (suc i) (suc j) v w apart here there =
       let later = sum_two views i j v w (λ e. apart (ap suc e)) here there in
       omega arith
+
+  -- some seat has a part of it
+  pub sum_some : (views : List View) → 1 ≤ total f views → (j : ℕ) × (u : View) × (get_elem? views j ≡ some u) × (1 ≤ f u)
+  sum_some [] some_of = absurd (omega arith)
+  sum_some (u ∷ views) some_of =
+      ⊎_elim (λ none. let later = sum_some views (omega arith) in (suc later.0, later.1, later.2, later.3)) (λ here. (zero, u, refl, here))
+      (cases_lt (f u) 1)
 
   sum_none : (views : List View) → AllViews (λ u. f u ≡ 0) views → total f views ≡ 0
   sum_none [] none = refl

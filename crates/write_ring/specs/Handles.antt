@@ -1,8 +1,7 @@
 -- What contracts see of a ring and of its seats.
-use Rattle.std.specs.Prelude.{◌≡◌, ◌≢◌, ℕ, ◌+◌, ◌<◌, ◌≤◌, ◌^◌, List, [], ◌∷◌, ◌++◌, length, min}
+use Rattle.std.specs.Prelude.{◌≡◌, ◌≢◌, ℕ, ◌+◌, ◌<◌, ◌≤◌, ◌^◌, List, [], ◌∷◌, ◌++◌, true, false, length, min}
 use mathlib.Core.Option.{some}
 use lib.ListN.{get_elem?}
-use Rattle.pblk_model.specs.declared.ring.Claim.{Claim}
 use Rattle.pblk_model.specs.RingState.{between, covers, covers_copy}
 use Rattle.sector_pool.specs.declared.entry.Class.{Class}
 use Rattle.sector_pool.specs.declared.entry.Class.TheVariants as class
@@ -87,8 +86,11 @@ pub record HasTaken (v : View) (e : Entry) (w : View) : Type 0 where
   pub granted : w.intake.granted ≡ v.intake.granted
   pub fits : Fits v.key (entry_row e)
   pub own : e.frame.region ≡ v.key.origin.region
+  pub small : e.position < 2 ^ 62
   pub user : e.class ≡ class.User → e.position < v.intake.granted
   pub room : e.position < v.intake.freed + v.key.size
+  -- a copy is the one that the intake put there
+  pub copy : e.class ≡ class.Copy → HasPut (entry_row e) v.pass
 
 -- the turn word of the next position's slot named another, and nobody had claimed the position when `claimed` was loaded next
 abbrev pub WasEmpty : ℕ → View → View → Type 0
@@ -98,14 +100,25 @@ WasEmpty claimed v w = (claimed ≡ v.intake.taken) × (w.found.claimed ≡ clai
 abbrev pub WasUnfilled : ℕ → View → View → Type 0
 WasUnfilled at v w = (at ≡ v.intake.taken) × (at < w.found.claimed) × (w.found.turn + v.key.first ≢ at + 1) × (w.intake ≡ v.intake)
 
--- each position from the ring's first one to some number has one claim of these, and no other position has one
-abbrev pub IsTiled : ℕ → List Claim → Type 0
-IsTiled first claims = (claimed : ℕ) × ((x : ℕ) → covers x claims ≡ between first claimed x)
+-- each position from the ring's first one to n has one claim of the pass or of the intake, and no other position has one
+abbrev pub AreAllClaims : ℕ → ℕ → Part → Part → Type 0
+AreAllClaims first n pass copies = (x : ℕ) → covers x pass.claims + covers x copies.claims ≡ between first n x
+
+-- these are all claims, to some number
+abbrev pub IsTiled : ℕ → Part → Part → Type 0
+IsTiled first pass copies = (claimed : ℕ) × AreAllClaims first claimed pass copies
+
+-- the shares, the claims and the puts are the same
+pub record IsSamePart (p q : Part) : Type 0 where
+  pub shares : q.shares ≡ p.shares
+  pub claims : q.claims ≡ p.claims
+  pub puts : q.puts ≡ p.puts
 
 -- each position of the claims was put once, each for copies as a copy
 abbrev pub IsFilled : Part → Type 0
 IsFilled p = ((x : ℕ) → rows_at x p.puts ≡ covers x p.claims) × ((x : ℕ) → copies_at x p.puts ≡ covers_copy x p.claims)
 
--- each row that was taken is the one that the pass put at the next position
-abbrev pub IsAsPut : ℕ → List Row → Part → Type 0
-IsAsPut first took p = (i : ℕ) (r : Row) → get_elem? took i ≡ some r → (r.position ≡ first + i) × HasPut r p
+-- each row that was taken is the one that was put at the next position: a user's by the pass, and a copy by the intake
+abbrev pub IsAsPut : ℕ → List Row → Part → Part → Type 0
+IsAsPut first took pass copies = (i : ℕ) (r : Row) → get_elem? took i ≡ some r → (r.position ≡ first + i)
+    × (r.copy ≡ false → HasPut r pass) × (r.copy ≡ true → HasPut r copies)

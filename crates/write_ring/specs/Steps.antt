@@ -1,8 +1,10 @@
 -- How a seat's view changes at each kind of step, and what the step tells.
-use Rattle.std.specs.Prelude.{◌≡◌, ◌≢◌, ℕ, ◌+◌, ◌-◌, ◌<◌, ◌≤◌, List, [], ◌∷◌, ◌++◌, Bool, true, false, ◌||◌, None, Some}
+use Rattle.std.specs.Prelude.{◌≡◌, ◌≢◌, ℕ, ◌+◌, ◌-◌, ◌<◌, ◌≤◌, List, [], ◌∷◌, ◌++◌, Bool, true, false, ◌||◌, not, IsTrue, None, Some, filter, max}
+use mathlib.Core.Option.{some}
+use lib.ListN.{get_elem?}
 use Rattle.pblk_model.specs.Frames.{Region}
 use Rattle.pblk_model.specs.declared.ring.Claim.{Claim}
-use Rattle.pblk_model.specs.RingState.{covers}
+use Rattle.pblk_model.specs.RingState.{covers, covers_copy}
 use Rattle.write_ring.specs.declared.view.Row.{Row}
 use Rattle.write_ring.specs.declared.view.LastFound.{LastFound}
 use Rattle.write_ring.specs.declared.view.Part.{Part}
@@ -28,7 +30,7 @@ no_key =
 
 -- what is left of a seat that went into another
 abbrev pub spent : View
-spent = record { found = nothing_found; pass = no_part; intake = no_desk; heard = []; key = no_key }
+spent = record { found = nothing_found; pass = no_part; intake = no_desk; key = no_key }
 
 -- The seat with which a ring begins: the first pass and the intake in one.
 -- The pass has all shares and may claim for copies. Nothing is claimed, taken, freed or granted beyond the ring's first position.
@@ -37,13 +39,12 @@ first_view key = record {
   found = nothing_found;
   pass = record no_part { shares = 128; copier = true };
   intake = record { on = true; took = []; taken = key.first; away = None; freed = key.first; granted = key.first };
-  heard = [];
   key = key;
 }
 
 -- a pass that was split off, with one share
 abbrev pub new_pass : Key → View
-new_pass key = record { found = nothing_found; pass = record no_part { shares = 1 }; intake = no_desk; heard = []; key = key }
+new_pass key = record { found = nothing_found; pass = record no_part { shares = 1 }; intake = no_desk; key = key }
 
 abbrev pub with_found : View → LastFound → View
 with_found v found = record v { found = found }
@@ -106,10 +107,16 @@ freed_next v = record v { intake = record v.intake { away = None; freed = v.inta
 abbrev pub LieBelow : ℕ → List Claim → Type 0
 LieBelow n claims = (x : ℕ) → n ≤ x → covers x claims ≡ 0
 
+-- Each position from the ring's first one to n is granted to users, or is one of the seat's own copies.
+-- It's known of a seat that is the intake and claims the copies.
+abbrev pub AreGrantedOrCopies : ℕ → View → Type 0
+AreGrantedOrCopies n v = (x : ℕ) → v.key.first ≤ x → x < n → covers_copy x v.pass.claims ≡ 0 → x < v.intake.granted
+
 -- What a claim of the positions from `old` to `new` tells.
--- It found `old` and has them, or it found more and has none.
+-- It found `old` and has them, or it found more and has none. Where it has them, the intake knows what lies below them.
 abbrev pub Claims : Bool → View → ℕ → ℕ → ℕ → View → Type 0
-Claims copy v old new n w = (n ≡ old → (w ≡ claimed_to v old new copy) × (LieBelow old v.pass.claims))
+Claims copy v old new n w = (n ≡ old → (w ≡ claimed_to v old new copy) × LieBelow old v.pass.claims
+    × (IsTrue v.intake.on → IsTrue v.pass.copier → AreGrantedOrCopies old v))
     × (n ≢ old → (w ≡ met_claimed v n) × (old < n))
 
 -- the intake stored `to` in `granted`
@@ -132,19 +139,39 @@ joined_part p q = record p {
 abbrev pub joined_pass : View → View → View
 joined_pass v w = with_pass v (joined_part v.pass w.pass)
 
+-- all that was claimed and put is of this class: a pass's is for users, and the intake's are copies
+pub record IsOfClass (copy : Bool) (p : Part) : Type 0 where
+  pub claims : (i : ℕ) (c : Claim) → get_elem? p.claims i ≡ some c → c.copy ≡ copy
+  pub puts : (i : ℕ) (r : Row) → get_elem? p.puts i ≡ some r → r.copy ≡ copy
+
+-- a part without its copies and with a share less, and its copies with that share
+abbrev pub users_part : Part → Part
+users_part p = record p {
+  shares = p.shares - 1;
+  copier = false;
+  claims = filter (λ (c : Claim). not c.copy) p.claims;
+  puts = filter (λ (r : Row). not r.copy) p.puts;
+}
+
+abbrev pub copies_part : Part → Part
+copies_part p = record no_part {
+  shares = 1;
+  copier = p.copier;
+  claims = filter (λ (c : Claim). c.copy) p.claims;
+  puts = filter (λ (r : Row). r.copy) p.puts;
+}
+
+-- the intake leaves a seat, and the copies go with it
 abbrev pub without_intake : View → View
-without_intake v = record v { intake = no_desk }
+without_intake v = record v { pass = users_part v.pass; intake = no_desk }
 
 abbrev pub only_intake : View → View
-only_intake v = record spent { intake = v.intake; key = v.key }
+only_intake v = record v { pass = copies_part v.pass }
 
--- at closing the last pass becomes the intake too
-abbrev pub with_desk : View → View → View
-with_desk v w = record v { intake = w.intake }
-
--- a note of what the intake took, and a pass that was told of it
-abbrev pub note_of : View → View
-note_of v = record spent { heard = v.intake.took }
-
-abbrev pub told : View → View → View
-told v w = record v { heard = w.heard }
+-- a pass takes the intake in, with its copies: what either found of `claimed` the seat of both has found
+abbrev pub with_intake : View → View → View
+with_intake v w = record v {
+  found = record v.found { claimed = max v.found.claimed w.found.claimed };
+  pass = joined_part v.pass w.pass;
+  intake = w.intake;
+}

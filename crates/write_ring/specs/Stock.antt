@@ -1,5 +1,5 @@
 -- What a ring keeps of the entries: which position each seat has filled, what the intake took, and what lies in the slots.
-use Rattle.std.specs.Prelude.{◌≡◌, ℕ, ◌+◌, ◌<◌, ◌≤◌, List, [], ◌∷◌, ◌++◌, true, IsTrue, length, if◌then◌else◌, slice_index}
+use Rattle.std.specs.Prelude.{◌≡◌, ℕ, ◌+◌, ◌<◌, ◌≤◌, List, [], ◌∷◌, IsTrue, length, if◌then◌else◌, slice_index}
 use mathlib.Core.Option.{Option, some}
 use lib.ListN.{get_elem?}
 use Rattle.pblk_model.specs.RingState.{between, covers, covers_copy}
@@ -36,14 +36,6 @@ IsOpen views p = SomeView (λ u. HasOpen p u.pass) views
 abbrev pub IsPut : List View → Row → Type 0
 IsPut views r = SomeView (λ u. HasPut r u.pass) views
 
--- the one list is the other's beginning
-abbrev pub Begins : List Row → List Row → Type 0
-Begins heard took = (rest : List Row) × (took ≡ heard ++ rest)
-
--- each copy of these rows is one that the pass put
-abbrev pub CopiesArePut : List Row → View → Type 0
-CopiesArePut rows v = (i : ℕ) (r : Row) → get_elem? rows i ≡ some r → r.copy ≡ true → HasPut r v.pass
-
 -- each position that the pass claimed is open or was put once, and each for copies in its class
 pub record Sides (part : Part) : Type 0 where
   pub all : (x : ℕ) → covers x part.claims ≡ between part.next part.until x + rows_at x part.puts
@@ -54,7 +46,6 @@ pub record Entered (size first : ℕ) (words : List ℕ) (took : List Row) (take
   pub sides : Sides u.pass
   pub ahead : (x : ℕ) → HasOpen x u.pass → (taken ≤ x) × (slice_index words (turn_at size x) + first ≤ x)
   pub desk : IsTrue u.intake.on → (u.intake.took ≡ took) × (u.intake.taken ≡ taken) × (away_number u.intake.away ≡ away)
-  pub heard : Begins u.heard took
 
 module _ {S : Type 0} (size first : ℕ) (Free Blank : S → Type 0) (Carries : S → Row → Type 0) (Fits : Row → Type 0) where
   -- the slot has the entry of p, as some seat put it

@@ -2,15 +2,17 @@
 //! in their order (Bjørling, González, Bonnet, FAST 2017, write buffering).
 //!
 //! A position is a number that the ring hands out. A writer claims positions for users below what the intake
-//! has granted, and for copies wherever the ring has room, so that users never take the reserve. A claim is
-//! one compare-exchange on the word `claimed`. Position `p` has the slot `p` modulo the ring's size. A writer
-//! exchanges the free frame there for its entry, and then the slot's turn word names the position.
+//! has granted, and the intake itself claims some for copies, wherever the ring has room: so users never take
+//! the reserve. A claim is one compare-exchange on the word `claimed`. Position `p` has the slot `p` modulo
+//! the ring's size. Who claimed it exchanges the free frame there for its entry, and then the slot's turn word
+//! names the position.
 #![tactic(auto)]
 
 mod batch;
 mod cell;
 mod claims;
 mod closing;
+mod copying;
 mod draft;
 mod laws;
 mod opening;
@@ -21,6 +23,7 @@ mod seats;
 mod table;
 mod taking;
 mod view;
+mod writing;
 
 pub use batch::Batch;
 pub use laws::a_ring_is_in_a_ring_state;

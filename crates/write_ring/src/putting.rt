@@ -1,6 +1,6 @@
-// Entries go into the ring.
-ghost use Rattle.std.specs.Prelude.{◌≡◌, ◌+◌, ◌<◌, ◌≤◌, ◌%◌, ◌^◌, ℕ, IfOk, IfErr, OnOk, Err, IsTrue};
-ghost use Rattle.std.specs.Prelude.{[], ◌∷◌, length};
+// Entries go into the ring, by a pass or by the intake.
+ghost use Rattle.std.specs.Prelude.{◌≡◌, ◌+◌, ◌<◌, ◌≤◌, ◌%◌, ◌^◌, ℕ, IfOk, IfErr, OnOk, Err};
+ghost use Rattle.std.specs.Prelude.{[], ◌∷◌, length, IsTrue};
 ghost use Rattle.std.specs.List.{AllByRecursion};
 ghost use Rattle.atomic_table.specs.Table.{rest};
 ghost use Rattle.pblk_model.specs.Frames.{FrameView};
@@ -9,22 +9,20 @@ ghost use Rattle.write_ring.specs.declared.cell.Cell.TheVariants as cell;
 ghost use Rattle.write_ring.specs.declared.seats.TryPut.TheVariants as Refused;
 ghost use Rattle.write_ring.specs.Batches.{CanPut, rows_from};
 ghost use Rattle.write_ring.specs.Frames.{Fits, IsFree, is_copy, entry_row};
-ghost use Rattle.write_ring.specs.Handles.{HadRoom, HasPlace, IsPassOf, WasFull, WasRaced};
-ghost use Rattle.write_ring.specs.Handles.{pass_view, puts_rows, ring_key};
-ghost use Rattle.write_ring.specs.Steps.{put_next, with_pass};
+ghost use Rattle.write_ring.specs.Handles.{HadRoom, HasPlace, WasFull, WasRaced};
+ghost use Rattle.write_ring.specs.Handles.{puts_rows, ring_key};
+ghost use Rattle.write_ring.specs.Steps.{AreGrantedOrCopies, IsOfClass, put_next, with_pass};
 ghost use Rattle.write_ring.specs.Tells.{HasSlots};
 
 use crate::batch::Batch;
 use crate::cell::Cell;
 use crate::draft::Draft;
 use crate::rule::Fill;
-use crate::seats::{Full, Pass, Place, TryPut};
+use crate::seats::{Place, TryPut};
 use crate::table::{LINE, Ring, TURNS};
 use crate::view::View;
 use atomic_table::Seat;
-use crossbeam_utils::Backoff;
 use sector_pool::{Class, Entry, Frame};
-use std::sync::Wait;
 
 impl Ring {
     // Puts the entry of the seat's first open position in its slot, and names the position.
@@ -99,115 +97,83 @@ impl Ring {
         }
     }
 
-    /// Claims positions that no other claim has for the filled frames of the batch, by one exchange, and puts
-    /// them there. It never waits. Afterwards the batch has as many free frames.
-    ///
-    /// Refused with `Full` exactly where `claimed`, as it was read, and the number of filled frames are above
-    /// the limit that was read next: `granted` for users, and the end of the ring's room, or 2^62 where that
-    /// is less, for copies. Refused with `Raced` exactly where the exchange found another number than that
-    /// load. After a refusal the batch is unchanged.
-    pub fn try_put(&self, pass: &mut Pass, class: Class, batch: &mut Batch) -> Result<Place, TryPut>
-        requires ring { IsPassOf self.now pass.old }
+    // Claims positions for the filled frames of a batch, and puts them there, as `try_put` and `try_copy` say.
+    pub(crate) fn claim_and_put(
+        &self,
+        seat: &mut Seat<Cell, View>,
+        class: Class,
+        batch: &mut Batch,
+    ) -> Result<Place, TryPut>
+        requires ring { seat.old.table_id ≡ self.now.table.shared.table_id }
+        requires key { seat.old.me.0.key ≡ ring_key self.now }
+        requires at_rest { seat.old.me.1 ≡ [] }
+        requires sharing { 0 < seat.old.me.0.pass.shares }
+        requires all_put { seat.old.me.0.pass.next ≡ seat.old.me.0.pass.until }
+        requires copier { class ≡ kind.Copy → IsTrue seat.old.me.0.pass.copier }
+        requires intake { class ≡ kind.Copy → IsTrue seat.old.me.0.intake.on }
+        requires class { IsOfClass (is_copy class) seat.old.me.0.pass }
         requires some { 0 < length batch.old.drafts }
         requires fits { AllByRecursion (CanPut class (ring_key self.now)) batch.old.drafts }
         requires own { batch.old.region ≡ (ring_key self.now).origin.region }
-        requires copier { class ≡ kind.Copy → IsTrue (pass_view pass.old).pass.copier }
-        ensures ring { IsPassOf self.now pass.new }
+        ensures ring { seat.new.table_id ≡ seat.old.table_id }
+        ensures key { seat.new.me.0.key ≡ seat.old.me.0.key }
+        ensures at_rest { seat.new.me.1 ≡ [] }
+        ensures same_shares { seat.new.me.0.pass.shares ≡ seat.old.me.0.pass.shares }
+        ensures all_put { seat.new.me.0.pass.next ≡ seat.new.me.0.pass.until }
+        ensures same_copier { seat.new.me.0.pass.copier ≡ seat.old.me.0.pass.copier }
+        ensures class { IsOfClass (is_copy class) seat.new.me.0.pass }
+        ensures same_desk { seat.new.me.0.intake ≡ seat.old.me.0.intake }
         ensures region { batch.new.region ≡ batch.old.region }
+        ensures rises { seat.old.me.0.found.claimed ≤ seat.new.me.0.found.claimed }
+        ensures freed { class ≡ kind.Copy
+            → seat.new.me.0.found.freed ≡ seat.old.me.0.intake.freed }
 
         // The place, and the entries there.
-        ensures place { IfOk result (λ p. HasPlace class batch.old.drafts p (pass_view pass.old)
-            (pass_view pass.new)) }
+        ensures place { IfOk result (λ p. HasPlace class batch.old.drafts p seat.old.me.0
+            seat.new.me.0) }
         ensures empty { OnOk result (batch.new.drafts ≡ []) }
         ensures free { OnOk result
             (batch.new.free ≡ batch.old.free + length batch.old.drafts) }
         ensures place_room { IfOk result (λ p. HadRoom class (ring_key self.now)
-            batch.old.drafts p.first (pass_view pass.new)) }
-        ensures place_steps { IfOk result
-            (λ _. (pass_view pass.new).found.steps ≡ (pass_view pass.old).found.steps + 3) }
+            batch.old.drafts p.first seat.new.me.0) }
+        ensures place_steps { OnOk result
+            (seat.new.me.0.found.steps ≡ seat.old.me.0.found.steps + 3) }
+        ensures reached { IfOk result (λ p. class ≡ kind.Copy
+            → AreGrantedOrCopies p.first seat.old.me.0) }
 
         // What it is refused with, and that nothing was done then.
-        ensures unchanged { IfErr result
-            (λ _. (pass_view pass.new).pass ≡ (pass_view pass.old).pass) }
+        ensures unchanged { IfErr result (λ _. seat.new.me.0.pass ≡ seat.old.me.0.pass) }
         ensures same_batch { IfErr result (λ _. batch.new ≡ batch.old) }
-        ensures same_shares { (pass_view pass.new).pass.shares ≡ (pass_view pass.old).pass.shares }
-        ensures same_copier { (pass_view pass.new).pass.copier ≡ (pass_view pass.old).pass.copier }
         ensures full { (claimed limit : ℕ) → result ≡ Err (Refused.Full claimed limit)
             → WasFull class (ring_key self.now) batch.old.drafts
-            (record { claimed = claimed; limit = limit }) (pass_view pass.new) }
+            (record { claimed = claimed; limit = limit }) seat.new.me.0 }
         ensures full_steps { (claimed limit : ℕ) → result ≡ Err (Refused.Full claimed limit)
-            → (pass_view pass.new).found.steps ≡ (pass_view pass.old).found.steps + 2 }
+            → seat.new.me.0.found.steps ≡ seat.old.me.0.found.steps + 2 }
         ensures raced { (expected found : ℕ) → result ≡ Err (Refused.Raced expected found)
-            → WasRaced expected found (pass_view pass.new) }
+            → WasRaced expected found seat.new.me.0 }
         ensures raced_room { (expected found : ℕ) → result ≡ Err (Refused.Raced expected found)
-            → HadRoom class (ring_key self.now) batch.old.drafts expected
-            (pass_view pass.new) }
+            → HadRoom class (ring_key self.now) batch.old.drafts expected seat.new.me.0 }
         ensures raced_steps { (expected found : ℕ) → result ≡ Err (Refused.Raced expected found)
-            → (pass_view pass.new).found.steps ≡ (pass_view pass.old).found.steps + 3 }
+            → seat.new.me.0.found.steps ≡ seat.old.me.0.found.steps + 3 }
     {
-        let claimed = self.claimed(pass);
-        let limit = self.limit(pass, class);
+        let claimed = self.look_claimed(seat);
+        let limit = self.limit(seat, class);
         let count = batch.filled();
         let end = claimed + u64::from(count);
         if end > limit {
             return Err(TryPut::Full { claimed, limit });
         }
-        let found = self.exchange(&mut pass.seat, class, claimed, end);
+        let found = self.exchange(seat, class, claimed, end);
         if found != claimed {
             return Err(TryPut::Raced {
                 expected: claimed,
                 found,
             });
         }
-        self.put_batch(&mut pass.seat, class, claimed, batch);
+        self.put_batch(seat, class, claimed, batch);
         Ok(Place {
             first: claimed,
             count,
         })
-    }
-
-    /// The same, and tries again after each race, with longer and longer pauses.
-    pub fn put<R: Wait>(
-        &self,
-        rt: &R,
-        pass: &mut Pass,
-        class: Class,
-        batch: &mut Batch,
-    ) -> Result<Place, Full>
-        requires ring { IsPassOf self.now pass.old }
-        requires some { 0 < length batch.old.drafts }
-        requires fits { AllByRecursion (CanPut class (ring_key self.now)) batch.old.drafts }
-        requires own { batch.old.region ≡ (ring_key self.now).origin.region }
-        requires copier { class ≡ kind.Copy → IsTrue (pass_view pass.old).pass.copier }
-        ensures ring { IsPassOf self.now pass.new }
-        ensures region { batch.new.region ≡ batch.old.region }
-        ensures place { IfOk result (λ p. HasPlace class batch.old.drafts p (pass_view pass.old)
-            (pass_view pass.new)) }
-        ensures place_room { IfOk result (λ p. HadRoom class (ring_key self.now)
-            batch.old.drafts p.first (pass_view pass.new)) }
-        ensures place_steps { IfOk result
-            (λ _. (pass_view pass.old).found.steps + 3 ≤ (pass_view pass.new).found.steps) }
-        ensures empty { OnOk result (batch.new.drafts ≡ []) }
-        ensures free { OnOk result
-            (batch.new.free ≡ batch.old.free + length batch.old.drafts) }
-        ensures unchanged { IfErr result
-            (λ _. (pass_view pass.new).pass ≡ (pass_view pass.old).pass) }
-        ensures same_batch { IfErr result (λ _. batch.new ≡ batch.old) }
-        ensures same_shares { (pass_view pass.new).pass.shares ≡ (pass_view pass.old).pass.shares }
-        ensures same_copier { (pass_view pass.new).pass.copier ≡ (pass_view pass.old).pass.copier }
-        ensures full { IfErr result (λ e. WasFull class (ring_key self.now)
-            batch.old.drafts e (pass_view pass.new)) }
-        ensures full_steps { IfErr result
-            (λ _. (pass_view pass.old).found.steps + 2 ≤ (pass_view pass.new).found.steps) }
-    {
-        let backoff = Backoff::new();
-        for _ in rt.forever() {
-            match self.try_put(pass, class, batch) {
-                Ok(place) => return Ok(place),
-                Err(TryPut::Full { claimed, limit }) => return Err(Full { claimed, limit }),
-                Err(TryPut::Raced { .. }) => backoff.snooze(),
-            }
-        }
-        unreachable!()
     }
 }

@@ -1,17 +1,16 @@
 // How a ring begins and ends, and how its seats are split and joined.
-ghost use Rattle.std.specs.Prelude.{◌≡◌, ◌+◌, ◌-◌, ◌<◌, ◌≤◌, ◌^◌, ◌++◌, ◌||◌, [], true, IsTrue};
+ghost use Rattle.std.specs.Prelude.{◌≡◌, ◌+◌, ◌-◌, ◌<◌, ◌≤◌, ◌^◌, ◌++◌, [], true};
 ghost use Rattle.std.specs.Prelude.{IfOk, IfErr, OnOk};
 ghost use Rattle.pblk_model.specs.Frames.{count_left, count_out};
-ghost use Rattle.write_ring.specs.Handles.{IsAsPut, IsFilled, IsIntakeOf, IsPassOf, IsTiled};
-ghost use Rattle.write_ring.specs.Handles.{intake_view, pass_view, ring_key};
+ghost use Rattle.write_ring.specs.Handles.{AreAllClaims, IsAsPut, IsFilled, IsIntakeOf, IsPassOf};
+ghost use Rattle.write_ring.specs.Handles.{IsSamePart, IsTiled, intake_view, pass_view, ring_key};
 ghost use Rattle.write_ring.specs.Steps.{no_desk, no_part, nothing_found};
-ghost use Rattle.write_ring.specs.Stock.{CopiesArePut};
 
 use crate::closing::give_slots;
 use crate::opening::{first_cells, first_words, give_cells};
-use crate::rule::{Handed, LookHeard, Notes, Parted, Passes};
+use crate::rule::{Handed, Moved, Parted, Passes};
 use crate::seats::{Intake, Pass};
-use crate::table::{CLAIMED, Ring};
+use crate::table::Ring;
 use crate::view::Key;
 use atomic_table::{Refused, Table};
 use sector_pool::Pool;
@@ -20,7 +19,7 @@ use std::alloc::{AllocError, Global};
 impl Ring {
     /// A ring of `n` positions, of which `reserve` are kept for copies, over the first sectors of a target's
     /// capacity. `n` frames of the pool go into its slots. Its first position is `first`, and so far nothing
-    /// is claimed, freed or granted beyond it. The first pass alone may claim for copies.
+    /// is claimed, freed or granted beyond it. The pass has all shares but the intake's one.
     ///
     /// Fails only where there isn't as much memory, and the pool is unchanged then. No later call takes any.
     pub fn new(
@@ -41,19 +40,23 @@ impl Ring {
         ensures capacity { IfOk result (λ r. (ring_key r.0).capacity ≡ capacity) }
         ensures region { IfOk result (λ r. (ring_key r.0).origin.region ≡ pool.old.region) }
         ensures rings { IfOk result (λ r. IsIntakeOf r.0 r.1 × IsPassOf r.0 r.2) }
-        ensures intake { IfOk result (λ r. (intake_view r.1).intake ≡ record {
-          on = true;
-          took = [];
-          taken = first;
-          away = None;
-          freed = first;
-          granted = first;
+        ensures intake { IfOk result (λ r. intake_view r.1 ≡ record {
+          found = nothing_found;
+          pass = record no_part { shares = 1; copier = true };
+          intake = record {
+            on = true;
+            took = [];
+            taken = first;
+            away = None;
+            freed = first;
+            granted = first;
+          };
+          key = ring_key r.0;
         }) }
         ensures pass { IfOk result (λ r. pass_view r.2 ≡ record {
           found = nothing_found;
-          pass = record no_part { shares = 128; copier = true };
+          pass = record no_part { shares = 127 };
           intake = no_desk;
-          heard = [];
           key = ring_key r.0;
         }) }
 
@@ -94,7 +97,7 @@ impl Ring {
         }
     }
 
-    /// A pass for another thread, with one of the shares. It has no claims, and none of its will be copies.
+    /// A pass for another thread, with one of the shares. It has no claims.
     pub fn split(&self, pass: &mut Pass) -> Pass
         requires ring { IsPassOf self.now pass.old }
         requires shares { 2 ≤ (pass_view pass.old).pass.shares }
@@ -106,7 +109,6 @@ impl Ring {
           found = nothing_found;
           pass = record no_part { shares = 1 };
           intake = no_desk;
-          heard = [];
           key = ring_key self.now;
         } }
     {
@@ -124,7 +126,6 @@ impl Ring {
             pass_view pass.new ≡ record old {
               pass = record old.pass {
                 shares = old.pass.shares + its.shares;
-                copier = old.pass.copier || its.copier;
                 claims = old.pass.claims ++ its.claims;
                 puts = old.pass.puts ++ its.puts;
               };
@@ -134,35 +135,53 @@ impl Ring {
         self.table.shared.join_seat::<Passes>(&mut pass.seat, seat);
     }
 
-    /// Tells the pass that copies what the intake has taken: each copy among it is one that this pass put.
-    pub fn note(&self, pass: &mut Pass, intake: &mut Intake)
-        requires ring { IsPassOf self.now pass.old }
+    /// Loads `claimed` once, where the pass has all shares that the intake hasn't. Each position from the
+    /// ring's first one to the answer is in one claim of the pass or of the intake, and no other position is
+    /// in any: so their claims are all that there are.
+    pub fn all_claimed(&self, intake: &mut Intake, pass: &mut Pass) -> u64
         requires intake_ring { IsIntakeOf self.now intake.old }
-        requires copier { IsTrue (pass_view pass.old).pass.copier }
-        ensures ring { IsPassOf self.now pass.new }
+        requires ring { IsPassOf self.now pass.old }
+        requires shares { (pass_view pass.old).pass.shares ≡ 127 }
         ensures intake_ring { IsIntakeOf self.now intake.new }
-        ensures copies { CopiesArePut (intake_view intake.old).intake.took (pass_view pass.new) }
-        ensures same_pass { (pass_view pass.new).pass ≡ (pass_view pass.old).pass }
-        ensures same_intake { intake_view intake.new ≡ intake_view intake.old }
+        ensures ring { IsPassOf self.now pass.new }
+        ensures all { AreAllClaims (ring_key self.now).first result (pass_view pass.new).pass
+            (intake_view intake.new).pass }
+        ensures found { let old = pass_view pass.old in pass_view pass.new ≡ record old {
+          found = record old.found { steps = old.found.steps + 1; claimed = result };
+        } }
+        ensures same_copies { IsSamePart (intake_view intake.old).pass
+            (intake_view intake.new).pass }
+        ensures same_desk { (intake_view intake.new).intake ≡ (intake_view intake.old).intake }
+        ensures intake_found { (intake_view intake.new).found ≡ (pass_view pass.new).found }
+        ensures rises { (pass_view pass.old).found.claimed ≤ result }
+        ensures intake_rises { (intake_view intake.old).found.claimed ≤ result }
+        ensures taken { (intake_view intake.old).intake.taken ≤ result }
+        ensures most { result ≤ 2 ^ 62 }
     {
         let shared = &self.table.shared;
-        let note = shared.split_seat::<Notes>(&mut intake.seat);
-        shared.join_seat::<Notes>(&mut pass.seat, note);
-        shared.load::<LookHeard>(&mut pass.seat, CLAIMED);
+        let desk = shared.split_seat::<Moved>(&mut intake.seat);
+        shared.join_seat::<Handed>(&mut pass.seat, desk);
+        let claimed = self.look_claimed(&mut pass.seat);
+        let back = shared.split_seat::<Parted>(&mut pass.seat);
+        shared.join_seat::<Moved>(&mut intake.seat, back);
+        claimed
     }
 
-    /// Ends the ring, and gives the frames in its slots back to their pool. The pass has all shares, so its
-    /// lists have all claims and all that was put. Each position that was claimed is in one claim and in no
-    /// other, each was put once, and what the intake took is what was put there.
+    /// Ends the ring, and gives the frames in its slots back to their pool. The pass has all shares that the
+    /// intake hasn't, so the lists of the two have all claims and all that was put. Each position that was
+    /// claimed is in one claim and in no other, each was put once, and what the intake took is what was put
+    /// there: users' entries by the pass, and copies by the intake itself.
     pub fn close(self, intake: Intake, pass: Pass, pool: &mut Pool)
         requires intake_ring { IsIntakeOf self intake }
         requires ring { IsPassOf self pass }
-        requires shares { (pass_view pass).pass.shares ≡ 128 }
+        requires shares { (pass_view pass).pass.shares ≡ 127 }
         requires own { pool.old.region ≡ (ring_key self).origin.region }
-        ensures tiled { IsTiled (ring_key self).first (pass_view pass).pass.claims }
+        ensures tiled { IsTiled (ring_key self).first (pass_view pass).pass
+            (intake_view intake).pass }
         ensures filled { IsFilled (pass_view pass).pass }
+        ensures copies_filled { IsFilled (intake_view intake).pass }
         ensures taken { IsAsPut (ring_key self).first (intake_view intake).intake.took
-            (pass_view pass).pass }
+            (pass_view pass).pass (intake_view intake).pass }
         ensures region { pool.new.region ≡ pool.old.region }
         ensures left { count_left pool.new.left + (intake_view intake).intake.taken
             ≡ count_left pool.old.left + (intake_view intake).intake.freed + (ring_key self).size }

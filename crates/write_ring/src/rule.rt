@@ -5,13 +5,11 @@ ghost use Rattle.write_ring.specs.declared.cell.Cell.TheVariants as cell;
 ghost use Rattle.write_ring.specs.Cells.{slot};
 ghost use Rattle.write_ring.specs.Frames.{Carries, Fits, IsBlank, IsFree, front_row};
 ghost use Rattle.write_ring.specs.Kept.{Kept};
-ghost use Rattle.write_ring.specs.Stock.{CopiesArePut};
-ghost use Rattle.write_ring.specs.Steps.{Claims, LieBelow, first_view, freed_next, gave_back};
-ghost use Rattle.write_ring.specs.Steps.{granted_to, joined_pass, less_share, new_pass, note_of};
-ghost use Rattle.write_ring.specs.Steps.{only_intake, put_next, saw_claimed, saw_freed};
-ghost use Rattle.write_ring.specs.Steps.{saw_granted, spent, told, took_free, with_desk};
-ghost use Rattle.write_ring.specs.Steps.{without_intake};
-ghost use Rattle.write_ring.specs.Tells.{Finds, Gains};
+ghost use Rattle.write_ring.specs.Steps.{Claims, first_view, freed_next, gave_back, granted_to};
+ghost use Rattle.write_ring.specs.Steps.{joined_pass, less_share, new_pass, only_intake, put_next};
+ghost use Rattle.write_ring.specs.Steps.{saw_claimed, saw_freed, saw_granted, spent, took_free};
+ghost use Rattle.write_ring.specs.Steps.{with_intake, without_intake};
+ghost use Rattle.write_ring.specs.Tells.{Finds, Gains, SeesClaimed};
 
 use crate::cell::Cell;
 use crate::view::{Key, View};
@@ -30,29 +28,15 @@ impl TableRule<Cell, View, Key> for Order {
 pub(crate) struct LookClaimed;
 
 impl Play<Cell, View> for LookClaimed {
-    ghost then = { λ s m n w. (w ≡ (saw_claimed m.0 n, m.1))
-        × ((n ≤ 2 ^ 62) × LieBelow n m.0.pass.claims × (m.0.key.first ≤ n)) };
+    ghost then = { λ s m n w. (w ≡ (saw_claimed m.0 n, m.1)) × SeesClaimed m.0 n };
 }
 
-/// A load of `claimed` by the intake.
-pub(crate) struct LookPast;
-
-impl Play<Cell, View> for LookPast {
-    ghost then = { λ s m n w. (w ≡ (saw_claimed m.0 n, m.1)) × (m.0.intake.taken ≤ n) };
-}
-
-/// A load of `claimed` by the pass that copies, after a note was joined.
-pub(crate) struct LookHeard;
-
-impl Play<Cell, View> for LookHeard {
-    ghost then = { λ s m n w. (w ≡ (saw_claimed m.0 n, m.1)) × CopiesArePut m.0.heard m.0 };
-}
-
-/// A load of `freed`.
+/// A load of `freed` by the intake, which knows it.
 pub(crate) struct LookFreed;
 
 impl Play<Cell, View> for LookFreed {
-    ghost then = { λ s m n w. (w ≡ (saw_freed m.0 n, m.1)) × (n ≤ 2 ^ 62) };
+    ghost then = { λ s m n w. (w ≡ (saw_freed m.0 n, m.1))
+        × ((n ≤ 2 ^ 62) × (n ≡ m.0.intake.freed)) };
 }
 
 /// A load of `granted`.
@@ -143,7 +127,7 @@ impl Join<View> for Passes {
     ghost spent = { spent };
 }
 
-/// The intake leaves the seat with which the ring begins.
+/// The intake leaves a seat, with the copies.
 pub(crate) struct Parted;
 
 impl Split<View> for Parted {
@@ -152,26 +136,26 @@ impl Split<View> for Parted {
     ghost right = { only_intake };
 }
 
-/// A note of what the intake took goes into the pass that copies.
-pub(crate) struct Notes;
+/// All that a seat knows goes out of it, and back into it.
+pub(crate) struct Moved;
 
-impl Split<View> for Notes {
-    ghost left = { λ v. v };
+impl Split<View> for Moved {
+    ghost left = { λ _. spent };
 
-    ghost right = { note_of };
+    ghost right = { λ v. v };
 }
 
-impl Join<View> for Notes {
-    ghost both = { told };
+impl Join<View> for Moved {
+    ghost both = { λ _ w. w };
 
     ghost spent = { spent };
 }
 
-/// At closing the intake goes into the pass.
+/// The intake goes into a pass.
 pub(crate) struct Handed;
 
 impl Join<View> for Handed {
-    ghost both = { with_desk };
+    ghost both = { with_intake };
 
     ghost spent = { spent };
 }

@@ -1,6 +1,6 @@
 // The two kinds of seat, and what the ring answers.
-ghost use Rattle.std.specs.Prelude.{◌≡◌, ◌<◌, ◌≤◌, ◌^◌, IsTrue, None, []};
-ghost use Rattle.write_ring.specs.Steps.{no_desk, no_part};
+ghost use Rattle.std.specs.Prelude.{◌≡◌, ◌<◌, ◌≤◌, ◌^◌, IsTrue, None, [], true, false};
+ghost use Rattle.write_ring.specs.Steps.{IsOfClass, no_desk};
 
 use crate::cell::Cell;
 use crate::view::View;
@@ -8,18 +8,22 @@ use atomic_table::Seat;
 use sector_pool::Entry;
 use thiserror::Error;
 
-/// The right to put entries into one ring, with the lists of its claims and of what it put.
+/// The right to put users' entries into one ring, with the lists of its claims and of what it put.
 ///
-/// Each has at least one of the 128 shares. It can't be dropped: it ends in `Ring::join` or `Ring::close`.
+/// Each has at least one of the 127 shares that the intake hasn't. It can't be dropped: it ends in
+/// `Ring::join` or `Ring::close`.
 pub struct Pass {
     pub(crate) seat: Seat<Cell, View>,
     ghost at_rest: { seat.me.1 ≡ [] },
     ghost some: { 0 < seat.me.0.pass.shares },
     ghost only: { seat.me.0.intake ≡ no_desk },
     ghost all_put: { seat.me.0.pass.next ≡ seat.me.0.pass.until },
+    ghost for_users: { seat.me.0.pass.copier ≡ false },
+    ghost users: { IsOfClass false seat.me.0.pass },
 }
 
-/// The one right to take entries from a ring, to free their slots and to grant positions to users.
+/// The one right to take entries from a ring, to free their slots, to grant positions to users, and to put
+/// copies in. It has the last of the 128 shares, and the lists of its claims and of the copies that it put.
 ///
 /// It can't be dropped: it ends in `Ring::close`.
 pub struct Intake {
@@ -28,7 +32,10 @@ pub struct Intake {
     pub(crate) freed: u64,
     ghost at_rest: { seat.me.1 ≡ [] },
     ghost on: { IsTrue seat.me.0.intake.on },
-    ghost only: { seat.me.0.pass ≡ no_part },
+    ghost one: { seat.me.0.pass.shares ≡ 1 },
+    ghost all_put: { seat.me.0.pass.next ≡ seat.me.0.pass.until },
+    ghost for_copies: { seat.me.0.pass.copier ≡ true },
+    ghost copies: { IsOfClass true seat.me.0.pass },
     ghost home: { seat.me.0.intake.away ≡ None },
     ghost taken_is: { seat.me.0.intake.taken ≡ taken },
     ghost freed_is: { seat.me.0.intake.freed ≡ freed },

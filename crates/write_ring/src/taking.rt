@@ -6,13 +6,13 @@ ghost use Rattle.write_ring.specs.declared.seats.Taken.TheVariants as answer;
 ghost use Rattle.write_ring.specs.Frames.{Carries, Fits};
 ghost use Rattle.write_ring.specs.Handles.{HasTaken, IsIntakeOf, WasEmpty, WasUnfilled};
 ghost use Rattle.write_ring.specs.Handles.{intake_view, ring_key};
-ghost use Rattle.write_ring.specs.Steps.{gave_back, saw_claimed};
+ghost use Rattle.write_ring.specs.Steps.{gave_back};
 ghost use Rattle.write_ring.specs.Tells.{Finds};
 
 use crate::cell::Cell;
-use crate::rule::{Find, Free, GiveBack, Grant, LookOwn, LookPast, TakeEmpty};
+use crate::rule::{Find, Free, GiveBack, Grant, LookOwn, TakeEmpty};
 use crate::seats::{Intake, Taken};
-use crate::table::{CLAIMED, FREED, GRANTED, LINE, Ring, TURNS};
+use crate::table::{FREED, GRANTED, LINE, Ring, TURNS};
 use crate::view::View;
 use atomic_table::Seat;
 use sector_pool::{Entry, Frame};
@@ -55,25 +55,17 @@ impl Ring {
         entry
     }
 
-    // Loads `claimed`, which is at least what was taken.
-    fn look_past(&self, intake: &mut Intake) -> u64
-        requires ring { IsIntakeOf self.now intake.old }
-        ensures ring { IsIntakeOf self.now intake.new }
-        ensures found { intake_view intake.new ≡ saw_claimed (intake_view intake.old) result }
-        ensures past { (intake_view intake.old).intake.taken ≤ result }
-    {
-        self.table
-            .shared
-            .load::<LookPast>(&mut intake.seat, CLAIMED)
-    }
-
-    /// Takes the next position's entry, as its maker filled it, where it is there.
+    /// Takes the next position's entry, as its maker filled it, where it is there. A copy is the one that
+    /// this intake put there.
     ///
     /// `Unfilled` comes exactly where the turn word of its slot didn't name a claimed position when it was
     /// loaded, and `Empty` exactly where `claimed`, loaded next, was that position.
     pub fn take(&self, intake: &mut Intake) -> Taken
         requires ring { IsIntakeOf self.now intake.old }
         ensures ring { IsIntakeOf self.now intake.new }
+        ensures same_pass { (intake_view intake.new).pass ≡ (intake_view intake.old).pass }
+        ensures rises { (intake_view intake.old).found.claimed
+            ≤ (intake_view intake.new).found.claimed }
         ensures steps { (intake_view intake.new).found.steps
             ≡ (intake_view intake.old).found.steps + 2 }
         ensures entry { (e : EntryOf) → result ≡ answer.Entry e
@@ -90,7 +82,7 @@ impl Ring {
             intake.taken += 1;
             return Taken::Entry(entry);
         }
-        let claimed = self.look_past(intake);
+        let claimed = self.look_claimed(&mut intake.seat);
         if claimed == at {
             Taken::Empty { claimed }
         } else {
@@ -107,6 +99,9 @@ impl Ring {
         ensures ring { IsIntakeOf self.now intake.new }
         ensures freed { let old = (intake_view intake.old).intake in
             (intake_view intake.new).intake ≡ record old { freed = old.freed + 1 } }
+        ensures same_pass { (intake_view intake.new).pass ≡ (intake_view intake.old).pass }
+        ensures same_claimed { (intake_view intake.new).found.claimed
+            ≡ (intake_view intake.old).found.claimed }
     {
         let slot = (intake.freed % self.size) as usize;
         let shared = &self.table.shared;

@@ -91,8 +91,6 @@ pub struct View {
     pub pass: Part,
     /// What it knows as the intake.
     pub intake: Desk,
-    /// What the intake had taken, where a note told of it.
-    pub heard: LinkedList<Row>,
     /// What the ring was made with.
     pub key: Key,
 }

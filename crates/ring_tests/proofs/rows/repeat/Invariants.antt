@@ -1,10 +1,9 @@
 use Rattle.std.proofs.Common.{◌≡◌}
-use Rattle.write_ring.specs.Handles.{pass_view}
+use Rattle.write_ring.specs.Handles.{IsPassOf, pass_view}
 use Rattle.ring_crew.specs.Ready.{HasOneFrame, IsTaker}
 use Rattle.ring_tests.proofs.rows.repeat.Given as goal
 
 abbrev pub invariant-loop-by : goal.invariant-loop-by
 invariant-loop-by l =
-    IsTaker l.ring l.intake l.room × HasOneFrame l.ring l.pass l.batch × (l.batch.region ≡ l.fn.batch.region)
-    × ((pass_view l.pass).pass.shares ≡ (pass_view l.fn.pass).pass.shares)
-    × ((pass_view l.pass).pass.copier ≡ (pass_view l.fn.pass).pass.copier)
+    IsTaker l.ring l.intake l.room × IsPassOf l.ring l.pass × ((pass_view l.pass).pass.shares ≡ 127) × HasOneFrame l.ring l.batch
+    × (l.batch.region ≡ l.fn.batch.region)

@@ -4,4 +4,4 @@ use Rattle.write_ring.proofs.Moves.{looks_freed}
 use Rattle.write_ring.proofs.table.Ring.look_freed.Goals as goal
 
 pub load-requires : goal.load-requires
-load-requires c = (c.requires.ring.0, omega (arith, c.args.self.now.words), looks_freed _ IsFree IsBlank Carries Fits _ _ _ _)
+load-requires c = (c.requires.ring, omega (arith, c.args.self.now.words), looks_freed _ IsFree IsBlank Carries Fits _ _ _ _ c.requires.on)

@@ -29,5 +29,9 @@ new-requires c =
 
 pub split_seat-intake-requires : goal.split_seat-intake-requires
 split_seat-intake-requires c =
-    let e = c.in-Ok.ensures.ok in
-    (e.2, omega (arith, e.0, ap length c.as_slice.ensures.value, c.in_ok-words.ensures.long), splits_intake _ IsFree IsBlank Carries Fits _ _)
+    let e = c.in-Ok.ensures.ok in (
+      e.2,
+      omega (arith, e.0, ap length c.as_slice.ensures.value, c.in_ok-words.ensures.long),
+      splits_intake _ IsFree IsBlank Carries Fits _ _ (omega (arith, ap (λ m. m.0.pass.shares) e.4))
+          (ap (λ m. m.0.pass.next) e.4 ∙ sym (ap (λ m. m.0.pass.until) e.4)),
+    )

@@ -6,3 +6,4 @@ use Rattle.write_ring.proofs.table.Ring.put.Given as goal
 abbrev pub invariant-loop : goal.invariant-loop
 invariant-loop g l = IsPassOf l.self l.pass × ((pass_view l.pass).pass ≡ (pass_view l.fn.pass).pass) × (l.batch ≡ l.fn.batch)
     × ((pass_view l.fn.pass).found.steps ≤ (pass_view l.pass).found.steps)
+    × ((pass_view l.fn.pass).found.claimed ≤ (pass_view l.pass).found.claimed)

@@ -1,7 +1,0 @@
-use Rattle.std.proofs.Common.{arith}
-use Rattle.write_ring.specs.Frames.{IsFree, IsBlank, Carries, Fits}
-use Rattle.write_ring.proofs.Moves.{looks_claimed}
-use Rattle.write_ring.proofs.table.Ring.claimed.Goals as goal
-
-pub load-requires : goal.load-requires
-load-requires c = (c.requires.ring.0, omega (arith, c.args.self.now.words), looks_claimed _ IsFree IsBlank Carries Fits _ _ _ _ c.args.pass.now.some)
