@@ -59,8 +59,6 @@ pub mod LinesInRange
 pub mod LineRoom
 pub mod LandedCounts
 pub mod PartLengths
-pub mod BegunOnce
-pub mod KnownImages
 pub mod KeptLines
 pub mod Followed
 pub mod PlainOpenings
@@ -188,3 +186,5 @@ pub mod LatestSources
 pub mod AnsweredTops
 pub mod WrittenPositions
 pub mod FailedThen
+pub mod ToldTables
+pub mod ToldSpent

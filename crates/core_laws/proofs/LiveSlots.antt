@@ -43,7 +43,7 @@ use Rattle.world_laws.proofs.StripePlaces.{kth_place}
 use Rattle.world_laws.proofs.Stripes.{life_of_stripe, opening_then}
 use Rattle.world_laws.proofs.NextPrograms.{landed_of_answered}
 use Rattle.core_laws.specs.SlotOf.{address_in, media_of, readable_block, slot_by, slot_of, slot_of_entry, slot_of_winner}
-use Rattle.core_laws.proofs.BegunOnce.{begun_once}
+use Rattle.world_laws.proofs.EarlierLogs.{some_begun}
 use Rattle.core_laws.proofs.DoneLines.{is_done}
 use Rattle.core_laws.proofs.KnownFilling.{HasLoss}
 use Rattle.core_laws.proofs.LastTakes.{last_is, last_none}
@@ -186,7 +186,7 @@ module _ (i : Image) (w : World) (mount : IsLegalMount i w) where
             let low : t.entry.position < older.newest.front =
             freed_below_front i w life.0 p t.entry.position mount.legal (have_places i w mount.accepted mount.legal) f of_opening landed holds in
             let some : f.number < length log = get_below log f.number f.logged f.there in
-            let b = begun_once i w mount.legal (omega arith) in
+            let b = some_begun i w mount.legal (omega arith) in
             let within : older.newest.front ≤ front = newest_within b.0 b.1 older.newest older.is_newest in
             absurd (omega arith)
 

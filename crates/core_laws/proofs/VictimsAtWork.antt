@@ -35,7 +35,7 @@ use Rattle.core_laws.specs.CandidateLines.{IsCandidate, IsNextVictim}
 use Rattle.core_laws.specs.ClosedLines.{ClosedLine, closed_line, closed_with}
 use Rattle.core_laws.proofs.CandidateLines.{candidate_when}
 use Rattle.core_laws.proofs.ChosenVictims.{next_victim_is}
-use Rattle.core_laws.proofs.BegunOnce.{begun_once}
+use Rattle.world_laws.proofs.EarlierLogs.{some_begun}
 use Rattle.core_laws.proofs.ClosedKept.{closed_same, unnumbered}
 use Rattle.core_laws.proofs.Engine.{openings_before}
 use Rattle.core_laws.proofs.FreedWidths.{numbered_stands, numbered_stands_at}
@@ -196,7 +196,7 @@ module _ (i : Image) (w : World) (mount : IsLegalMount i w) (line from seq : ℕ
 
     module _ (over : are_over i (engine_prefix from (log_of w)) line ≡ true) where
       b : (x : Begun) × (begun (log_of w 0) ≡ Some x)
-      b = begun_once i w mount.legal (omega arith)
+      b = some_begun i w mount.legal (omega arith)
 
       over_then : (life : LineLife) → life_of (take from (log_of w 0)) line ≡ life → (unit : ℕ) (c : Chunk)
           → chunk_in (known_image i (engine_prefix from (log_of w))) line unit ≡ Some c → is_over_state (is_as_found life) c.state ≡ true

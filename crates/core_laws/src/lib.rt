@@ -20,12 +20,16 @@
 //!   reset, and of the newest start record that has landed. By these a target tells which lines may
 //!   be freed, and which is collected next: that line stays closed until it is freed, and what is
 //!   live in it is what the map names there.
+//! - What the tables hold, and which lines are spent, depends on what the engine was told alone. So
+//!   it is the same however the logs grow by what units do that the engine hasn't named.
 //! - When a mount has just begun, each line, each sector and the units of each line are as they
 //!   were found. Each front is at the end that was found, and nothing was taken, opened or placed.
 #![tactic(auto)]
 
+mod growth;
 mod laws;
 
+pub use growth::{a_targets_tables_are_by_what_was_told, spent_lines_are_by_what_was_told};
 pub use laws::{
     a_line_may_be_freed_where_it_is_spent, the_front_synced_never_falls, the_history_is_the_latest,
 };

@@ -80,11 +80,15 @@ pub record IsUnnotedReset (logs : Logs) (unit number : ℕ) : Type 0 where
   pub not_stopped : was_stopped event.outcome ≡ false
   pub unnoted : ¬ Contains (named_events (logs 0) unit) number
 
+-- The engine has noted each reset that wasn't stopped.
+abbrev pub AreResetsNoted : Logs → Type 0
+AreResetsNoted logs = (unit number : ℕ) → ¬ IsUnnotedReset logs unit number
+
 -- At rest with this pad target.
 pub record IsResting (i : Image) (logs : Logs) (asked : ℕ) : Type 0 where
   pub no_work : HasNoWork i logs asked
   pub stripes : (p : Placed) → Contains (placements (logs 0)) p → is_answered (logs 0) p ≡ true
-  pub resets : (unit number : ℕ) → ¬ IsUnnotedReset logs unit number
+  pub resets : AreResetsNoted logs
   pub none_to_free : (line : ℕ) → ¬ MayFree i logs line
 
 -- A length of the engine's log, once the mount has begun, is at rest for a pad target.

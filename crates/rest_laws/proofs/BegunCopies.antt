@@ -25,7 +25,7 @@ use Rattle.world_laws.proofs.KeptChunks.{found_before}
 use Rattle.world_laws.proofs.NextLives.{IsDecided, IsOpenSince, decided, open_since}
 use Rattle.world_laws.proofs.Positions.{position_below}
 use Rattle.world_laws.proofs.Stripes.{life_of_stripe, opening_then}
-use Rattle.core_laws.proofs.BegunOnce.{begun_once}
+use Rattle.world_laws.proofs.EarlierLogs.{some_begun}
 use Rattle.core_laws.proofs.LandedNow.{found_below}
 use Rattle.core_laws.proofs.LastTakes.{last_is, last_none}
 use Rattle.rest_laws.proofs.LengthLogs.{IsWorldAt, found_then_at, victim_at, world_at}
@@ -100,7 +100,7 @@ module _ (i : Image) (w : World) (mount : IsLegalMount i w) where
   source_before a lba source some inside None last its t at after =
       let wins : winner (counted (found_image i (log_of w))) lba ≡ Some its.winning =
       ap (λ (j : Image). winner (counted j) lba) (sym (found_then_at i w a mount.legal some inside)) ∙ its.is_winner in
-      let b = begun_once i w mount.legal (omega arith) in
+      let b = some_begun i w mount.legal (omega arith) in
       let low : its.winning.position < t.entry.position = found_below i w mount b.0 its.winning t b.1
       (winner_is_winner (found_image i (log_of w)) lba its.winning wins).there at in
       let position : source.position ≡ its.winning.position = its.position in

@@ -34,7 +34,7 @@ use Rattle.world_laws.proofs.StripeLines.{IsGone, open_or_gone}
 use Rattle.world_laws.proofs.Tellings.{IsNamedAt, IsToldBefore, last_program}
 use Rattle.world_laws.proofs.ToldBefore.{going_before, IsProgram, no_both, program, told_itself}
 use Rattle.core_laws.specs.FaultlessMounts.{is_answered, IsFaultlessMount}
-use Rattle.core_laws.proofs.BegunOnce.{begun_once}
+use Rattle.world_laws.proofs.EarlierLogs.{some_begun}
 use Rattle.core_laws.proofs.EachChunk.{chunks_pass}
 use Rattle.rest_laws.specs.TidyMounts.{HasNoFailures}
 use Rattle.rest_laws.specs.Tidy.{HasWholeChunks, has_free_chunks, IsFaultless, IsFoundFaultless, IsTidy, is_free_state}
@@ -209,4 +209,4 @@ module _ (i : Image) (w : World) (mount : IsLegalMount i w) (b : Begun) (begins 
 pub left_tidy : (i : Image) (w : World) → IsLegalMount i w → 0 < length (log_of w 0) → HasNoFailures (log_of w) → IsTidy i → is_due i (log_of w) ≡ false
     → IsTidy (media i (log_of w))
 left_tidy i w mount some fine tidy not_due =
-    let b = begun_once i w mount.legal some in stays_tidy i w mount b.0 b.1 fine tidy not_due
+    let b = some_begun i w mount.legal some in stays_tidy i w mount b.0 b.1 fine tidy not_due

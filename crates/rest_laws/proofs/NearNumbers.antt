@@ -41,7 +41,7 @@ use Rattle.world_laws.proofs.ToldSince.{told_up_to}
 use Rattle.world_laws.proofs.ToldTables.{left_told, newest_told}
 use Rattle.core_laws.specs.InOrder.{FitsItsLine}
 use Rattle.core_laws.proofs.LosslessMounts.{IsLosslessMount}
-use Rattle.core_laws.proofs.BegunOnce.{begun_once}
+use Rattle.world_laws.proofs.EarlierLogs.{some_begun}
 use Rattle.core_laws.proofs.EachChunk.{all_hold}
 use Rattle.core_laws.proofs.LandedOver.{over_is}
 use Rattle.core_laws.proofs.LineRoom.{has_room}
@@ -335,7 +335,7 @@ pub numbers_left : (i : Image) (w : World) → IsLegalMount i w → NoStripeLost
     → end (media i (log_of w)) < 2 ^ 60 → ((h : StartRecord) → head (media i (log_of w)) ≡ Some h → h.seq < 2 ^ 60)
     → HasNumbersLeft i.shape (log_of w 0)
 numbers_left i w mount none_lost sealed some low low_seq =
-    let b = begun_once i w mount.legal some in
+    let b = some_begun i w mount.legal some in
     let near : b.0.beginning.seq + length (openings (log_of w 0)) ≤ next_seq (head (media i (log_of w))) + 2 =
     next_near i w b.0 mount none_lost sealed b.1 in
     let first : next_seq (head (media i (log_of w))) ≤ 2 ^ 60 = low_head (head (media i (log_of w))) low_seq in

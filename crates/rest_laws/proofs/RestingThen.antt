@@ -30,7 +30,7 @@ use Rattle.world_laws.proofs.Stripes.{IsOpening, opening_is}
 use Rattle.world_laws.proofs.ToldImages.{found_at, image_same, told_then}
 use Rattle.world_laws.proofs.ToldTables.{addresses_told, due_told, open_told, room_told}
 use Rattle.core_laws.specs.Spent.{OpensWhenFull}
-use Rattle.core_laws.proofs.BegunOnce.{begun_once}
+use Rattle.world_laws.proofs.EarlierLogs.{some_begun}
 use Rattle.rest_laws.specs.RestingMounts.{IsRestingMount}
 use Rattle.rest_laws.specs.Tidy.{AreWide, HasWholeChunks, has_free_chunks, IsFaultless, IsTidy}
 use Rattle.rest_laws.specs.TidyMounts.{HasNumbersLeft, HasRoom, IsTidyMount}
@@ -93,7 +93,7 @@ module _ (i : Image) (w : World) (is : IsTidyMount i w) where
     told = told_at i w n is.mount.legal within v
 
     b : (x : Begun) × (begun (log_of w 0) ≡ Some x)
-    b = begun_once i w is.mount.legal (omega (arith, some, within))
+    b = some_begun i w is.mount.legal (omega (arith, some, within))
 
     begins : begun (log_of (world_at i w n is.mount.legal within).world 0) ≡ Some b.0
     begins = ap begun v.own ∙ begun_taken n (log_of w 0) some ∙ b.1

@@ -29,7 +29,7 @@ use Rattle.world_laws.proofs.ToldImages.{image_same, told_back}
 use Rattle.world_laws.proofs.ToldDecisions.{opening_told}
 use Rattle.world_laws.proofs.ToldTables.{addresses_told, free_addresses_told}
 use Rattle.core_laws.specs.OpenAddresses.{keeps_placed}
-use Rattle.core_laws.proofs.BegunOnce.{begun_once}
+use Rattle.world_laws.proofs.EarlierLogs.{some_begun}
 use Rattle.room_law.specs.Counting.{State}
 use Rattle.rest_laws.specs.RoomRuns.{HasNumbers, IsReasonedMount}
 use Rattle.rest_laws.specs.RoomSteps.{free_data, free_lines, has_entry, keeps_free, keeps_room, keeps_unreset, unreset_lines}
@@ -112,7 +112,7 @@ module _ (i : Image) (w : World) (is : IsReasonedMount i w) (n : ℕ) (some : 0 
       omega (arith, length-take n (log_of w 0), inside)
 
   b : (b : Begun) × (begun (log_of (step_at i w n l is.mount there).before 0) ≡ Some b)
-  b = begun_once i v was.legal has_one
+  b = some_begun i v was.legal has_one
 
   none_lost : NoStripeLost (log_of (step_at i w n l is.mount there).before 0)
   none_lost = subst NoStripeLost st.was.own (all_taken (λ m. decides is_losing m.event ≡ false) n (log_of w 0) is.none_lost)

@@ -24,7 +24,7 @@ use Rattle.lemmas.proofs.Parts.{got_within, take_next}
 use Rattle.world_laws.proofs.Beginnings.{first_begins}
 use Rattle.world_laws.proofs.FitMedia.{found_fit}
 use Rattle.world_laws.proofs.ToldImages.{found_at}
-use Rattle.core_laws.proofs.BegunOnce.{begun_once}
+use Rattle.world_laws.proofs.EarlierLogs.{some_begun}
 use Rattle.core_laws.proofs.MadeLists.{sum_none}
 use Rattle.room_law.specs.Counting.{AtStart, IsReached, IsStart, NoCopy, State}
 use Rattle.room_law.specs.Counting as counting
@@ -118,7 +118,7 @@ module _ (i : Image) (w : World) (is : IsReasonedMount i w) (some : 1 ≤ length
     empty = ap (λ (j : Image). are_empty j line) known_is_found ∙ free_empty (chunks_of (found_image i (log_of w)) line) free
 
     same_shape : (found_image i (log_of w)).shape ≡ i.shape
-    same_shape = let b = begun_once i w is.mount.legal some in ap (λ (x : Option Begun). (found_by i (log_of w) x).shape) b.1
+    same_shape = let b = some_begun i w is.mount.legal some in ap (λ (x : Option Begun). (found_by i (log_of w) x).shape) b.1
 
     no_start : start_of (found_image i (log_of w)) line ≡ None
     no_start = blank_start (found_image i (log_of w)) line (subst IsAccepted (sym same_shape) is.mount.accepted)

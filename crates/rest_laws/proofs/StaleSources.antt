@@ -43,7 +43,7 @@ use Rattle.world_laws.proofs.Stripes.{life_of_stripe, opening_then}
 use Rattle.world_laws.proofs.ToldImages.{image_same}
 use Rattle.world_laws.proofs.WinnerBlocks.{HasBlock, counted_block}
 use Rattle.world_laws.proofs.WinnerLines.{counted_has_start}
-use Rattle.core_laws.proofs.BegunOnce.{begun_once}
+use Rattle.world_laws.proofs.EarlierLogs.{some_begun}
 use Rattle.core_laws.proofs.FreedWidths.{not_given_up}
 use Rattle.core_laws.proofs.LastTakes.{last_is, last_none}
 use Rattle.rest_laws.specs.AtWork.{WasTakenSince}
@@ -185,7 +185,7 @@ module _ (i : Image) (w : World) (mount : IsLegalMount i w) (a lba : ℕ) (sourc
 
   module _ (its : IsPlaceOfWinner i (logs_at a (log_of w)) lba source) (last : last_take (log_of w 0) lba ≡ None) where
     b : (x : Begun) × (begun (log_of w 0) ≡ Some x)
-    b = begun_once i w mount.legal (omega (arith, some, within))
+    b = some_begun i w mount.legal (omega (arith, some, within))
 
     wins : winner (counted (found_image i (log_of w))) lba ≡ Some its.winning
     wins = ap (λ (j : Image). winner (counted j) lba) (sym (found_then_at i w a mount.legal some within)) ∙ its.is_winner

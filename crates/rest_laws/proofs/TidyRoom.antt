@@ -12,7 +12,7 @@ use Rattle.pblk_world.specs.Space.{position_limit}
 use Rattle.pblk_world.specs.World.{World, log_of}
 use Rattle.pblk_world.specs.Orders.{AreAfterResets}
 use Rattle.pblk_world.specs.Reasons.{HasReasons}
-use Rattle.core_laws.proofs.BegunOnce.{begun_once}
+use Rattle.world_laws.proofs.EarlierLogs.{some_begun}
 use Rattle.rest_laws.specs.RoomRuns.{IsReasonedMount}
 use Rattle.rest_laws.specs.Tidy.{has_free_chunks, IsTidy}
 use Rattle.rest_laws.specs.TidyMounts.{HasRoom, IsTidyMount}
@@ -31,7 +31,7 @@ module _ (i : Image) (w : World) (is : IsTidyMount i w) where
           (sym (ap (λ (xs : List Logged). found_by i (log_of w) (begun xs)) e)) is.tidy.some_free
       by (l ∷ log) e =
           let long : length (log_of w 0) ≡ length (l ∷ log) = ap (λ (xs : List Logged). length xs) e in
-          let b = begun_once i w is.mount.legal (omega arith) in
+          let b = some_begun i w is.mount.legal (omega arith) in
           let tidy : IsTidy (found_image i (log_of w)) = found_tidy i w is.mount b.0 b.1 is.tidy is.found_faultless in
           subst (λ (s : Shape). 4 ≤ length (filter (has_free_chunks (found_image i (log_of w))) (range_with_len 0 s.chunks)))
           (ap (λ (x : Option Begun). (found_by i (log_of w) x).shape) b.1) tidy.some_free

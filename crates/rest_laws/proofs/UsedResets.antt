@@ -7,7 +7,7 @@ use Rattle.std.proofs.lemmas.Bool.{cases_lt, eqb-true}
 use Rattle.std.proofs.lemmas.Option.{none-some, same_Some}
 use Rattle.std.proofs.Math.Seq.{take-length}
 use Rattle.pblk_model.specs.Chunk.{Chunk}
-use Rattle.pblk_model.specs.ChunkStep.{ChunkCommand, Read, Reset, Write}
+use Rattle.pblk_model.specs.ChunkStep.{Reset}
 use Rattle.pblk_model.specs.Found.{IsUsed}
 use Rattle.pblk_model.specs.Image.{Image, IsFit}
 use Rattle.pblk_model.specs.StartRecord.{StartRecord}
@@ -39,6 +39,7 @@ use Rattle.world_laws.proofs.LifeUnits.{begun_within, chunk_known}
 use Rattle.world_laws.proofs.Made.{known_within}
 use Rattle.world_laws.proofs.MediaChunks.{chunk_of_media}
 use Rattle.world_laws.proofs.NextLives.{life_next}
+use Rattle.world_laws.proofs.NotedResets.{reset_is}
 use Rattle.world_laws.proofs.Openings.{opened_at}
 use Rattle.world_laws.proofs.Resets.{IsReset, empty_until, reset}
 use Rattle.world_laws.proofs.ToldBefore.{IsActive, IsNamedFor, all_named, going_before}
@@ -62,11 +63,6 @@ going_reset (Stopped k) done = absurd done
 abbrev pub may_note : (logs : Logs) (unit number : ℕ) → MayNoteReset logs unit number → IsUnheardReset logs unit number
 may_note logs unit number may =
     record { reset = may.reset; new = may.new; is_reset = may.is_reset; going = going_reset may.reset.outcome may.not_stopped }
-
-reset_is : (command : ChunkCommand) → is_reset command ≡ true → command ≡ Reset
-reset_is (Write at blocks) e = absurd cc
-reset_is (Read b) e = absurd cc
-reset_is Reset e = refl
 
 pub unnoted : (logs : Logs) (unit number : ℕ) → IsUnnotedReset logs unit number → IsUnheardReset logs unit number
 unnoted logs unit number is = by (split_then (λ (l : Logged). unit_event_of l.event) (slice_get (logs (suc unit)) number) is.event is.is_known)

@@ -1,29 +1,24 @@
 -- The first event of an engine that knows all logs.
-use Rattle.std.proofs.Common.{◌≡◌, inl, ℕ, ◌+◌, ◌<◌, ◌≤◌, ◌&&◌, zero, suc, nat_lt, false, cond, Some, None, Option, List, [], ◌∷◌, ◌++◌, length, take, refl, sym, ap, ◌∙◌, arith}
-use Rattle.std.specs.Prelude.{slice_get, slice_index}
-use Rattle.std.specs.List.{Contains, filter, filter_map}
-use Rattle.std.specs.Option.{option_map, option_map_or}
+use Rattle.std.proofs.Common.{◌≡◌, ℕ, ◌+◌, ◌<◌, ◌≤◌, ◌&&◌, zero, suc, nat_lt, false, cond, Some, List, [], ◌∷◌, ◌++◌, length, take, refl, sym, ap, ◌∙◌, arith}
+use Rattle.std.specs.Prelude.{slice_index}
+use Rattle.std.specs.List.{Contains, filter}
+use Rattle.std.specs.Option.{option_map_or}
 use Rattle.std.proofs.Math.Seq.{take-length}
 use Rattle.pblk_model.specs.declared.shape.Shape.{Shape}
-use Rattle.pblk_model.specs.Chunk.{Chunk}
-use Rattle.pblk_model.specs.UnitLog.{UnitEvent, after_log}
 use Rattle.pblk_model.specs.Image.{Image}
-use Rattle.pblk_laws.specs.LineBlocks.{chunk_in}
 use Rattle.pblk_world.specs.Events.{Beginning, Begin, Decides, Logged}
 use Rattle.pblk_world.specs.World.{World, Logs, log_of, known, knows_engine, cut_logs, media, unit_event_of}
 use Rattle.pblk_world.specs.EngineLog.{begun, answers}
-use Rattle.pblk_world.specs.Lines.{found_by, found_image, told_by, told_events, known_image}
+use Rattle.pblk_world.specs.Lines.{found_by, found_image}
 use Rattle.pblk_world.specs.Commanding.{ends_program, ends_stripe, ended_stripes}
 use Rattle.pblk_world.specs.Opening.{MayBegin}
 use Rattle.pblk_world.specs.Legal.{IsLegal}
 use Rattle.world_laws.proofs.Made.{known_within}
 use Rattle.pblk_world.specs.LegalMounts.{IsLegalMount}
-use Rattle.step_laws.specs.Whole.{knows_all, after_begin, IsLevel, IsKnown}
-use Rattle.step_laws.proofs.ChunkEvents.{same_images}
-use Rattle.step_laws.proofs.EngineSteps.{decided_legal, engine_logs, media_still}
+use Rattle.step_laws.specs.Whole.{knows_all, after_begin, IsLevel}
+use Rattle.step_laws.proofs.EngineSteps.{decided_legal, engine_logs}
 use Rattle.step_laws.proofs.Knowing.{known_whole}
 use Rattle.step_laws.proofs.Levels.{level_by}
-use Rattle.lemmas.proofs.Maps.{numbered_at}
 use Rattle.lemmas.proofs.Numbers.{fun_same}
 
 pub mount_begins : (i : Image) (w : World) (b : Beginning) → IsLegalMount i w → MayBegin i (log_of w) b → IsLegalMount i (after_begin i.shape b w)
@@ -61,31 +56,6 @@ found_is i w b legal none =
     go (suc unit) =
         ap (take (slice_index (knows_all i.shape w) (suc unit))) (ap (λ (logs : Logs). logs (suc unit)) (engine_logs i.shape (Begin b) w))
         ∙ ap (λ n. take n (log_of w (suc unit))) (known_whole i w legal (suc unit)) ∙ take-length (log_of w (suc unit))
-
-untold : (s : Shape) (o : Option (List Chunk)) → option_map (λ cs. after_log s cs []) o ≡ o
-untold s None = refl
-untold s (Some chunks) = refl
-
-image_is : (i : Image) (w : World) (b : Beginning) → IsLegal i w → log_of w 0 ≡ []
-    → known_image i (log_of (after_begin i.shape b w)) ≡ media i (log_of (after_begin i.shape b w))
-image_is i w b legal none =
-    let new : Logs = log_of (after_begin i.shape b w) in
-    same_images i.shape (known_image i new).units (media i (log_of w)).units
-    (λ unit. one unit ∙ ap (λ (j : Image). slice_get j.units unit) (found_is i w b legal none))
-    ∙ sym (media_still i i.shape (Begin b) w)
-  where
-    one : (unit : ℕ) → slice_get (known_image i (log_of (after_begin i.shape b w))).units unit ≡ slice_get
-        (found_image i (log_of (after_begin i.shape b w))).units unit
-    one unit =
-        let new : Logs = log_of (after_begin i.shape b w) in
-        let none_told : told_events new (0 + unit) ≡ [] =
-        ap (λ (log : List Logged). filter_map (λ (l : Logged). told_by new (0 + unit) l.event) log) (first_log i.shape w b none) in
-        numbered_at (λ unit. after_log i.shape unit.1 (told_events new unit.0)) 0 (found_image i new).units unit
-        ∙ ap (λ (es : List UnitEvent). option_map (λ cs. after_log i.shape cs es) (slice_get (found_image i new).units unit)) none_told
-        ∙ untold i.shape (slice_get (found_image i new).units unit)
-
-pub known_is : (i : Image) (w : World) (b : Beginning) → IsLegal i w → log_of w 0 ≡ [] → IsKnown i (after_begin i.shape b w)
-known_is i w b legal none unit line = inl (ap (λ (j : Image). chunk_in j line unit) (image_is i w b legal none))
 
 -- ---- nothing is under way
 

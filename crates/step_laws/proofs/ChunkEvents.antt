@@ -5,7 +5,7 @@ use Rattle.std.specs.Option.{option_map, option_map_or, option_and_then}
 use native.Mathlib.Decide.{ℕ_discrete}
 use Rattle.pblk_model.specs.declared.shape.Shape.{Shape}
 use Rattle.pblk_model.specs.Chunk.{Chunk}
-use Rattle.pblk_model.specs.ChunkStep.{ChunkCommand, Write, Read, Reset}
+use Rattle.pblk_model.specs.ChunkStep.{ChunkCommand, Read}
 use Rattle.pblk_model.specs.UnitLog.{UnitOutcome, Answered, Failed, Stopped, UnitEvent, after_outcome, after_event}
 use Rattle.pblk_model.specs.Image.{Image}
 use Rattle.pblk_laws.specs.LineBlocks.{chunk_in}
@@ -64,15 +64,6 @@ pub turned_here : (s : Shape) (j k : Image) (unit : ℕ) (e : UnitEvent) → IsT
     → chunk_in k e.chunk unit ≡ option_map (λ c. after_outcome s c e.command e.outcome) (chunk_in j e.chunk unit)
 turned_here s j k unit e is = ap (option_and_then (λ (chunks : List Chunk). slice_get chunks e.chunk)) is.own ∙ chunk_turned s (slice_get j.units unit) e
 
--- a chunk is that of the command, or another
-pub here_or_beside : (unit chunk other line : ℕ) → ((other ≡ unit) × (line ≡ chunk)) ⊎ ((other ≢ unit) ⊎ (line ≢ chunk))
-here_or_beside unit chunk other line = go (ℕ_discrete other unit) (ℕ_discrete line chunk)
-  where
-    go : Dec (other ≡ unit) → Dec (line ≡ chunk) → ((other ≡ unit) × (line ≡ chunk)) ⊎ ((other ≢ unit) ⊎ (line ≢ chunk))
-    go (yes same) (yes its) = inl (same, its)
-    go (yes same) (no apart) = inr (inr apart)
-    go (no apart) its = inr (inl apart)
-
 pub turned_beside : (s : Shape) (j k : Image) (unit : ℕ) (e : UnitEvent) (other line : ℕ) → IsTurned s j k unit e → (other ≢ unit) ⊎ (line ≢ e.chunk)
     → chunk_in k line other ≡ chunk_in j line other
 turned_beside s j k unit e other line is (inl apart) = ap (option_and_then (λ (chunks : List Chunk). slice_get chunks line)) (is.others other apart)
@@ -93,29 +84,3 @@ fetch_leaves s c e block is = ap (λ (command : ChunkCommand). after_outcome s c
     go (Answered answer) = refl
     go (Failed k) = refl
     go (Stopped k) = refl
-
--- a command of a stopped unit
-pub stop_leaves : (s : Shape) (c : Chunk) (e : UnitEvent) → e.outcome ≡ Stopped 0 → after_outcome s c e.command e.outcome ≡ c
-stop_leaves s c e is = ap (after_outcome s c e.command) is ∙ go e.command
-  where
-    go : (command : ChunkCommand) → after_outcome s c command (Stopped 0) ≡ c
-    go (Write at blocks) = refl
-    go (Read b) = refl
-    go Reset = refl
-
--- so the chunks are as they were
-same_chunk : (f : Chunk → Chunk) (o : Option Chunk) → ((c : Chunk) → f c ≡ c) → option_map f o ≡ o
-same_chunk f None same = refl
-same_chunk f (Some c) same = ap (λ (d : Chunk). Some d) (same c)
-
-pub turned_still : (s : Shape) (j k : Image) (unit : ℕ) (e : UnitEvent) → IsTurned s j k unit e
-    → ((c : Chunk) → after_outcome s c e.command e.outcome ≡ c) → (other line : ℕ) → chunk_in k line other ≡ chunk_in j line other
-turned_still s j k unit e is leaves other line = go (here_or_beside unit e.chunk other line)
-  where
-    here : chunk_in k e.chunk unit ≡ chunk_in j e.chunk unit
-    here = turned_here s j k unit e is ∙ same_chunk (λ (c : Chunk). after_outcome s c e.command e.outcome) (chunk_in j e.chunk unit) leaves
-
-    go : ((other ≡ unit) × (line ≡ e.chunk)) ⊎ ((other ≢ unit) ⊎ (line ≢ e.chunk)) → chunk_in k line other ≡ chunk_in j line other
-    go (inl same) = subst (λ u. chunk_in k line u ≡ chunk_in j line u) (sym same.0)
-        (subst (λ n. chunk_in k n unit ≡ chunk_in j n unit) (sym same.1) here)
-    go (inr apart) = turned_beside s j k unit e other line is apart

@@ -9,9 +9,8 @@ use Rattle.pblk_world.specs.World.{World, log_of}
 use Rattle.pblk_world.specs.LegalMounts.{IsLegalMount}
 use Rattle.core_laws.proofs.FreedLines.{room_freed}
 use Rattle.step_laws.specs.FreedWorlds.{MightFree, freed_world}
-use Rattle.step_laws.specs.Whole.{IsKnown, IsLevel, engine_step, knows_all}
+use Rattle.step_laws.specs.Whole.{IsLevel, engine_step, knows_all}
 use Rattle.step_laws.proofs.EngineSteps.{begun_still, decided_legal, engine_logs}
-use Rattle.step_laws.proofs.Known.{known_still}
 use Rattle.step_laws.proofs.Levels.{level_by}
 
 pub later_then : (s : Shape) (w : World) (lines : List ℕ) → (later : World) × (freed_world s w lines ≡ later ++ w)
@@ -45,7 +44,3 @@ module _ (i : Image) (w : World) (b : Begun) (begins : begun (log_of w 0) ≡ So
 pub level_then : (s : Shape) (w : World) (lines : List ℕ) → IsLevel w → IsLevel (freed_world s w lines)
 level_then s w [] level = level
 level_then s w (line ∷ lines) level = level_by s (Free line) (freed_world s w lines) (λ unit. refl) (level_then s w lines level)
-
-pub known_then : (i : Image) (w : World) (lines : List ℕ) → IsKnown i w → IsKnown i (freed_world i.shape w lines)
-known_then i w [] known = known
-known_then i w (line ∷ lines) known = known_still i (freed_world i.shape w lines) (Free line) refl (λ unit. refl) (known_then i w lines known)

@@ -1,7 +1,5 @@
 -- The reset of a chunk of a line that was given up, and how the engine notes it.
-use Rattle.std.proofs.Common.{◌≡◌, ◌⊎◌, ℕ, ◌<◌, true, false, Some, None, Option, List, [], ◌∷◌, length, refl, sym, subst, ap, ◌∙◌, arith}
-use Rattle.std.specs.List.{list_any}
-use Rattle.std.proofs.lemmas.Option.{same_Some}
+use Rattle.std.proofs.Common.{◌≡◌, ℕ, ◌<◌, true, false, None, Option, List, [], ◌∷◌, length, refl, sym, subst, ap, ◌∙◌, arith}
 use Rattle.pblk_model.specs.declared.shape.Shape.{Shape}
 use Rattle.pblk_model.specs.declared.chunk.ChunkState.{ChunkState}
 use Rattle.pblk_model.specs.declared.chunk.ChunkState.TheVariants as states
@@ -10,23 +8,21 @@ use Rattle.pblk_model.specs.ChunkStep.{ChunkCommand, Done, Gave, Empty, Refused,
 use Rattle.pblk_model.specs.UnitLog.{UnitOutcome, Answered, Failed, Stopped, UnitEvent, IsOutcome}
 use Rattle.pblk_model.specs.Found.{IsUsed}
 use Rattle.pblk_model.specs.Image.{Image}
-use Rattle.pblk_laws.specs.LineBlocks.{chunk_in}
 use Rattle.pblk_world.specs.Events.{ResetDone, Maker, Logged}
-use Rattle.pblk_world.specs.World.{World, Logs, log_of, unit_events}
+use Rattle.pblk_world.specs.World.{World, log_of}
 use Rattle.pblk_world.specs.EngineLog.{Begun, begun}
-use Rattle.pblk_world.specs.Lines.{is_given_up, known_image}
-use Rattle.pblk_world.specs.Commanding.{is_program, was_stopped, is_stopped_reset, IsCommand}
+use Rattle.pblk_world.specs.Lines.{is_given_up}
+use Rattle.pblk_world.specs.Commanding.{is_program, was_stopped, IsCommand}
 use Rattle.pblk_world.specs.Answering.{IsDoneReset, MayNoteReset}
 use Rattle.pblk_world.specs.Legal.{IsLegal}
 use Rattle.pblk_world.specs.LegalMounts.{IsLegalMount}
 use Rattle.core_laws.specs.PlacerOf.{unanswered_on, was_stopped_on}
-use Rattle.core_laws.proofs.BegunOnce.{begun_once}
-use Rattle.step_laws.specs.NextEvents.{CanDo, CanReset}
-use Rattle.step_laws.specs.Whole.{after_unit, next_event, after_reset_noted, IsLevel, IsKnownChunk, IsKnown}
+use Rattle.world_laws.proofs.EarlierLogs.{some_begun}
+use Rattle.step_laws.specs.NextEvents.{CanReset}
+use Rattle.step_laws.specs.Whole.{after_unit, next_event, after_reset_noted, IsLevel}
 use Rattle.step_laws.proofs.EngineSteps.{engine_next}
-use Rattle.step_laws.proofs.Known.{known_told, known_at_stop, used_or_stopped}
 use Rattle.step_laws.proofs.Levels.{ends_by_command, level_by, level_unit}
-use Rattle.step_laws.proofs.UnitSteps.{engine_log, found_there, is_new, unit_next}
+use Rattle.step_laws.proofs.UnitSteps.{engine_log, is_new, unit_next}
 use Rattle.step_laws.proofs.Waiting.{waits_still, stopped_now}
 
 -- a chunk that holds something doesn't refuse a reset
@@ -35,22 +31,6 @@ reset_taken states.Free used = absurd used
 reset_taken states.Open used = refl
 reset_taken states.Closed used = refl
 reset_taken states.Offline used = absurd used
-
--- What the engine knows of a chunk is enough to have it reset.
-pub can_reset : (i : Image) (logs : Logs) (unit : ℕ) (e : UnitEvent) (c : Chunk) → CanDo i logs unit e → e.command ≡ Reset
-    → is_given_up (logs 0) e.chunk ≡ true → IsKnownChunk i logs unit e.chunk → chunk_in (known_image i logs) e.chunk unit ≡ Some c → IsUsed c.state
-    → CanReset i logs unit e
-can_reset i logs unit e c can resets given known there used =
-    let its = used_or_stopped i logs unit e.chunk c known there used in
-    let same : its.0 ≡ can.event.found = same_Some its.0 can.event.found (sym its.1 ∙ found_there i logs unit e can) in
-    record {
-      can = can;
-      command = resets;
-      given = record {
-        line = given;
-        used = subst (λ (d : Chunk). IsUsed d.state ⊎ (list_any (is_stopped_reset e.chunk) (unit_events logs unit) ≡ true)) same its.2;
-      };
-    }
 
 -- a reset that wasn't stopped was done, or failed
 done_reset : (s : Shape) (c : Chunk) (outcome : UnitOutcome) → IsOutcome s c Reset outcome → was_stopped outcome ≡ false → IsDoneReset outcome
@@ -79,7 +59,7 @@ module _ (i : Image) (w : World) (unit : ℕ) (e : UnitEvent) (maker : Maker) (r
 
   pub reset_next : IsLegalMount i w → IsLegalMount i (after_unit i.shape unit e maker w)
   reset_next mount =
-      let begins = begun_once i w mount.legal some in
+      let begins = some_begun i w mount.legal some in
       let c : Chunk = reset.can.event.found in
       unit_next i w unit e maker mount reset.can
       (subst (λ (command : ChunkCommand). IsCommand i (log_of w) unit c e.chunk command (begun (log_of w 0))) (sym reset.command)
@@ -87,10 +67,6 @@ module _ (i : Image) (w : World) (unit : ℕ) (e : UnitEvent) (maker : Maker) (r
 
   pub reset_level : IsLevel w → IsLevel (after_unit i.shape unit e maker w)
   reset_level level = level_unit i.shape unit e maker w (ends_by_command e (ap is_program reset.command)) level
-
-  -- where it was stopped it isn't noted
-  pub reset_stopped : was_stopped e.outcome ≡ true → IsLegal i w → IsKnown i w → IsKnown i (after_unit i.shape unit e maker w)
-  reset_stopped stopped legal known = known_at_stop i w unit e maker legal reset.can stopped known
 
   -- ---- it is noted
 
@@ -109,13 +85,9 @@ module _ (i : Image) (w : World) (unit : ℕ) (e : UnitEvent) (maker : Maker) (r
 
     pub noted_legal : IsLegalMount i w → IsLegalMount i end_
     noted_legal mount =
-        let begins = begun_once i w mount.legal some in
+        let begins = some_begun i w mount.legal some in
         engine_next i mid begins.0 (ResetDone unit (next_event w unit)) (reset_next mount)
         (ap begun (engine_log i.shape unit e maker w) ∙ begins.1) (may_note mount.legal).0
-
-    pub noted_known : IsLegalMount i w → IsKnown i w → IsKnown i end_
-    noted_known mount = known_told i w unit e maker (ResetDone unit (next_event w unit)) reset.can ends mount.legal (reset_next mount).legal
-        some (λ logs u. refl)
 
   pub noted_level : IsLevel w → IsLevel end_
   noted_level level = level_by i.shape (ResetDone unit (next_event w unit)) mid (λ u. refl) (reset_level level)

@@ -4,13 +4,12 @@ pub mod EngineSteps
 pub mod NextProgram
 pub mod UnitSteps
 pub mod Programs
-pub mod OtherUnits
 pub mod UnitStays
 pub mod SpentStays
 pub mod FreedWorlds
 pub mod Fetches
-pub mod Known
 pub mod Levels
+pub mod NotedSteps
 pub mod Waiting
 pub mod Noted
 pub mod Beginning
@@ -29,3 +28,5 @@ pub mod WinnerBlocks
 pub mod SlotBlocks
 pub mod LatestSectors
 pub mod CopiedBlocks
+pub mod LookedUp
+pub mod KeptSources

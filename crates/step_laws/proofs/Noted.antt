@@ -5,17 +5,15 @@ use Rattle.pblk_model.specs.ChunkStep.{Done}
 use Rattle.pblk_model.specs.UnitLog.{UnitEvent, Answered, Failed, Stopped}
 use Rattle.pblk_model.specs.Image.{Image}
 use Rattle.pblk_world.specs.Events.{EngineEvent, Landed, Lost, Again, Decides, Maker}
-use Rattle.pblk_world.specs.World.{World, Logs, log_of, unit_event_at}
+use Rattle.pblk_world.specs.World.{World, log_of}
 use Rattle.pblk_world.specs.EngineLog.{begun, Placed, placed_by, Answer, DidLand, WasLost, answer_by}
-use Rattle.pblk_world.specs.Lines.{told_by}
 use Rattle.pblk_world.specs.Commanding.{is_program, was_stopped, ends_program}
 use Rattle.core_laws.specs.PlacerOf.{unanswered_on, was_stopped_on}
 use Rattle.core_laws.proofs.PlainStripes.{one_unanswered}
 use Rattle.pblk_world.specs.LegalMounts.{IsLegalMount}
 use Rattle.step_laws.specs.NextEvents.{CanProgram}
-use Rattle.step_laws.specs.Whole.{noted, after_unit, next_event, after_landing, after_losing, after_stopping, IsLevel, IsKnown}
+use Rattle.step_laws.specs.Whole.{noted, after_unit, next_event, after_landing, after_losing, after_stopping, IsLevel}
 use Rattle.step_laws.proofs.EngineSteps.{engine_next}
-use Rattle.step_laws.proofs.Known.{known_still, known_told, known_at_stop}
 use Rattle.step_laws.proofs.Levels.{ends_by_stop, level_by, level_unit, level_answered}
 use Rattle.step_laws.proofs.Programs.{program_begun, program_next, may_land, may_lose, may_offer_again}
 use Rattle.step_laws.proofs.UnitSteps.{engine_log, engine_longer}
@@ -37,7 +35,6 @@ module _ (i : Image) (w : World) (unit : ℕ) (p : Placed) (e : UnitEvent) (make
 
   module _ (tells : EngineEvent) (answer : Answer) (goes_on : was_stopped e.outcome ≡ false)
       (answers : (u : ℕ) → answer_by u (Decides tells) ≡ (if unit == u then Some answer else None))
-      (told : (logs : Logs) (u : ℕ) → told_by logs u (Decides tells) ≡ (if unit == u then unit_event_at logs u (next_event w unit) else None))
       (places : placed_by (log_of mid 0) (length (log_of mid 0)) (Decides tells) ≡ None) where
     abbrev answered : World
     answered = noted i.shape tells mid
@@ -53,9 +50,6 @@ module _ (i : Image) (w : World) (unit : ℕ) (p : Placed) (e : UnitEvent) (make
 
     answered_level : IsLevel w → IsLevel answered
     answered_level = level_answered i w unit e maker tells answer mount.legal some ends own_answer others_answer
-
-    answered_known : IsKnown i w → IsKnown i answered
-    answered_known = known_told i w unit e maker tells can.can goes_on mount.legal mid_legal.legal some told
 
     -- the unit's stripe is answered, those of the others wait as before
     answered_waits : unanswered_on (log_of answered 0) unit ≡ None
@@ -80,16 +74,13 @@ module _ (i : Image) (w : World) (unit : ℕ) (p : Placed) (e : UnitEvent) (make
         (may_land i w unit p e maker can mount.legal done)
 
     pub landing_level : IsLevel w → IsLevel landed
-    landing_level = answered_level lands (DidLand (next_event w unit)) (ap was_stopped done) (λ u. refl) (λ logs u. refl) refl
-
-    pub landing_known : IsKnown i w → IsKnown i landed
-    landing_known = answered_known lands (DidLand (next_event w unit)) (ap was_stopped done) (λ u. refl) (λ logs u. refl) refl
+    landing_level = answered_level lands (DidLand (next_event w unit)) (ap was_stopped done) (λ u. refl) refl
 
     pub own_waits : unanswered_on (log_of landed 0) unit ≡ None
-    own_waits = answered_waits lands (DidLand (next_event w unit)) (ap was_stopped done) (λ u. refl) (λ logs u. refl) refl
+    own_waits = answered_waits lands (DidLand (next_event w unit)) (ap was_stopped done) (λ u. refl) refl
 
     pub others_wait : (u : ℕ) → u ≢ unit → unanswered_on (log_of landed 0) u ≡ unanswered_on (log_of w 0) u
-    others_wait = others_still lands (DidLand (next_event w unit)) (ap was_stopped done) (λ u. refl) (λ logs u. refl) refl
+    others_wait = others_still lands (DidLand (next_event w unit)) (ap was_stopped done) (λ u. refl) refl
 
     -- the stripes of the same units were stopped
     pub landing_stops : (u : ℕ) → was_stopped_on (log_of landed 0) u ≡ was_stopped_on (log_of w 0) u
@@ -111,16 +102,13 @@ module _ (i : Image) (w : World) (unit : ℕ) (p : Placed) (e : UnitEvent) (make
         (may_lose i w unit p e maker can k mount.legal failed)
 
     pub losing_level : IsLevel w → IsLevel lost
-    losing_level = answered_level loses (WasLost (next_event w unit)) (ap was_stopped failed) (λ u. refl) (λ logs u. refl) refl
-
-    pub losing_known : IsKnown i w → IsKnown i lost
-    losing_known = answered_known loses (WasLost (next_event w unit)) (ap was_stopped failed) (λ u. refl) (λ logs u. refl) refl
+    losing_level = answered_level loses (WasLost (next_event w unit)) (ap was_stopped failed) (λ u. refl) refl
 
     pub own_lost : unanswered_on (log_of lost 0) unit ≡ None
-    own_lost = answered_waits loses (WasLost (next_event w unit)) (ap was_stopped failed) (λ u. refl) (λ logs u. refl) refl
+    own_lost = answered_waits loses (WasLost (next_event w unit)) (ap was_stopped failed) (λ u. refl) refl
 
     pub others_lost : (u : ℕ) → u ≢ unit → unanswered_on (log_of lost 0) u ≡ unanswered_on (log_of w 0) u
-    others_lost = others_still loses (WasLost (next_event w unit)) (ap was_stopped failed) (λ u. refl) (λ logs u. refl) refl
+    others_lost = others_still loses (WasLost (next_event w unit)) (ap was_stopped failed) (λ u. refl) refl
 
     pub losing_stops : (u : ℕ) → was_stopped_on (log_of lost 0) u ≡ was_stopped_on (log_of w 0) u
     losing_stops u = stopped_now i.shape loses mid u ∙ ap (λ log. was_stopped_on log u) (engine_log i.shape unit e maker w)
@@ -142,10 +130,6 @@ module _ (i : Image) (w : World) (unit : ℕ) (p : Placed) (e : UnitEvent) (make
 
     pub stopping_level : IsLevel w → IsLevel stopped
     stopping_level level = level_by i.shape (Again unit (next_event w unit)) mid (λ u. refl) (level_unit i.shape unit e maker w (ends_by_stop e was) level)
-
-    pub stopping_known : IsKnown i w → IsKnown i stopped
-    stopping_known known = known_still i mid (Again unit (next_event w unit)) refl (λ u. refl)
-        (known_at_stop i w unit e maker mount.legal can.can was known)
 
     -- the same stripes wait for their answers
     pub stopping_waits : (u : ℕ) → unanswered_on (log_of stopped 0) u ≡ unanswered_on (log_of w 0) u

@@ -20,7 +20,7 @@ use Rattle.pblk_world.specs.Commanding.{was_stopped, has_stopped, IsCommand}
 use Rattle.pblk_world.specs.Answering.{IsNew}
 use Rattle.pblk_world.specs.Legal.{IsAllowed, IsLegal}
 use Rattle.pblk_world.specs.LegalMounts.{IsLegalMount}
-use Rattle.core_laws.proofs.BegunOnce.{begun_once}
+use Rattle.world_laws.proofs.EarlierLogs.{some_begun}
 use Rattle.core_laws.specs.StripePrograms.{HasHappened}
 use Rattle.core_laws.proofs.Happened.{happened}
 use Rattle.pblk_world.specs.Makers.{is_made_by, commands_of}
@@ -30,7 +30,7 @@ use Rattle.step_laws.proofs.ChunkEvents.{IsTurned, turned_here, turned_beside}
 use Rattle.step_laws.proofs.Knowing.{next_legal}
 use Rattle.lemmas.proofs.Lists.{all_contains}
 use Rattle.lemmas.proofs.Maps.{all_filter_map, more}
-use Rattle.lemmas.proofs.Parts.{all_by_get, get_last, get_more, get_whole_within}
+use Rattle.lemmas.proofs.Parts.{all_by_get, get_last, get_whole_within}
 use Rattle.lemmas.proofs.Tests.{not_both, or_no, other_number, same_number}
 use Rattle.pblk_world.proofs.WorldLemmas.{length_media, log_elsewhere, log_here, media_at}
 
@@ -91,13 +91,6 @@ pub events_elsewhere : (s : Shape) (unit : ℕ) (e : UnitEvent) (maker : Maker) 
     → unit_events (log_of (unit_step s unit e maker w ∷ w)) other ≡ unit_events (log_of w) other
 events_elsewhere s unit e maker w other apart = ap (λ (log : List Logged). filter_map (λ l. unit_event_of l.event) log)
     (other_log s unit e maker w (suc other) (λ same. let is : suc other ≡ suc unit = same in apart (omega arith)))
-
--- those that it had keep their numbers
-pub events_kept : (s : Shape) (unit : ℕ) (e : UnitEvent) (maker : Maker) (w : World) (n : ℕ) (x : UnitEvent)
-    → slice_get (unit_events (log_of w) unit) n ≡ Some x
-    → slice_get (unit_events (log_of (unit_step s unit e maker w ∷ w)) unit) n ≡ Some x
-events_kept s unit e maker w n x there =
-    ap (λ (es : List UnitEvent). slice_get es n) (events_now s unit e maker w) ∙ get_more (unit_events (log_of w) unit) (e ∷ []) n x there
 
 -- whether one of them was stopped
 pub stops_now : (s : Shape) (unit : ℕ) (e : UnitEvent) (maker : Maker) (w : World)
@@ -180,7 +173,7 @@ named_within i w unit legal =
 
 pub has_begun : (i : Image) (w : World) (unit k : ℕ) (p : Placed) → IsLegal i w → slice_get (placed_on (log_of w 0) unit) k ≡ Some p
     → (b : Begun) × (begun (log_of w 0) ≡ Some b)
-has_begun i w unit k p legal there = begun_once i w legal (some (log_of w 0) there)
+has_begun i w unit k p legal there = some_begun i w legal (some (log_of w 0) there)
   where
     some : (log : List Logged) → slice_get (placed_on log unit) k ≡ Some p → 0 < length log
     some [] e = absurd (none-some p e)

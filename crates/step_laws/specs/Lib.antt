@@ -3,3 +3,4 @@ pub mod FreedWorlds
 pub mod NextEvents
 pub mod Opened
 pub mod SlotBlocks
+pub mod LookedUp

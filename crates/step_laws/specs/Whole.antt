@@ -1,20 +1,16 @@
 -- Steps that are made one after another. The author of each knows every log to its end.
-use Rattle.std.specs.Prelude.{ℕ, suc, ◌+◌, ◌≡◌, ◌⊎◌, true, List, ◌∷◌, map, length, slice_get, Some}
+use Rattle.std.specs.Prelude.{ℕ, suc, ◌+◌, ◌≡◌, List, ◌∷◌, map, length}
 use Rattle.std.specs.List.{range_with_len}
-use Rattle.std.specs.Option.{option_map}
 use Rattle.pblk_model.specs.declared.shape.Shape.{Shape}
 use Rattle.pblk_model.specs.Shape.{units}
 use Rattle.pblk_model.specs.Chunk.{Block}
 use Rattle.pblk_model.specs.ChunkStep.{ChunkAnswer, Write, Read, Reset, Done}
-use Rattle.pblk_model.specs.UnitLog.{UnitOutcome, UnitEvent, Answered, after_outcome}
-use Rattle.pblk_model.specs.Image.{Image}
-use Rattle.pblk_laws.specs.LineBlocks.{chunk_in}
+use Rattle.pblk_model.specs.UnitLog.{UnitOutcome, UnitEvent, Answered}
 use Rattle.pblk_world.specs.Events.{Beginning, EngineEvent, Begin, Landed, Lost, Again, ResetDone, Stripe, Decides, Does, Maker, Step}
 use Rattle.pblk_world.specs.Makers.{maker_of, opening_worker}
-use Rattle.pblk_world.specs.World.{World, Logs, log_of, unit_events, media}
+use Rattle.pblk_world.specs.World.{World, log_of}
 use Rattle.pblk_world.specs.EngineLog.{answers}
-use Rattle.pblk_world.specs.Lines.{known_image}
-use Rattle.pblk_world.specs.Commanding.{was_stopped, ended_stripes}
+use Rattle.pblk_world.specs.Commanding.{ended_stripes}
 
 -- the lengths of all logs, in the order of their authors' numbers
 abbrev pub knows_all : Shape → World → List ℕ
@@ -101,22 +97,3 @@ after_reset_noted s unit e maker w = noted s (ResetDone unit (next_event w unit)
 -- stopped isn't ended, and has no answer.
 abbrev pub IsLevel : World → Type 0
 IsLevel w = (unit : ℕ) → ended_stripes (log_of w (suc unit)) ≡ length (answers (log_of w 0) unit)
-
--- A command on the chunk was stopped, and the engine knows the chunk as that command found it: of
--- what a stop leaves it isn't told.
-pub record IsKnownBefore (i : Image) (logs : Logs) (unit line : ℕ) : Type 0 where
-  pub number : ℕ
-  pub event : UnitEvent
-  pub there : slice_get (unit_events logs unit) number ≡ Some event
-  pub of_line : event.chunk ≡ line
-  pub stopped : was_stopped event.outcome ≡ true
-  pub left : chunk_in (media i logs) line unit ≡ option_map (λ c. after_outcome i.shape c event.command event.outcome)
-      (chunk_in (known_image i logs) line unit)
-
--- The engine knows the chunk as it is, unless a command on it was stopped.
-abbrev pub IsKnownChunk : Image → Logs → ℕ → ℕ → Type 0
-IsKnownChunk i logs unit line = (chunk_in (known_image i logs) line unit ≡ chunk_in (media i logs) line unit) ⊎ IsKnownBefore i logs unit line
-
--- so it knows all chunks
-abbrev pub IsKnown : Image → World → Type 0
-IsKnown i w = (unit line : ℕ) → IsKnownChunk i (log_of w) unit line

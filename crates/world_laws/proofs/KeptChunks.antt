@@ -74,7 +74,7 @@ never_one line n life knows (Decides (Free other)) is = by (other == line) is
     by false e = e
 never_one line n life knows e is = is
 
-never_before : (log : List Logged) (line k d : ℕ) → k + d ≤ length log → last_opening (life_of (take (k + d) log) line) ≡ None
+pub never_before : (log : List Logged) (line k d : ℕ) → k + d ≤ length log → last_opening (life_of (take (k + d) log) line) ≡ None
     → last_opening (life_of (take k log) line) ≡ None
 never_before log line k zero inside is = let same : k ≡ k + 0 = omega arith in ap (λ n. last_opening (life_of (take n log) line)) same ∙ is
 never_before log line k (suc d) inside is =

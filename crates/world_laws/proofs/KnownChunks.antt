@@ -49,11 +49,11 @@ module _ (i : Image) (w : World) (legal : IsLegal i w) (b : Begun) (begins : beg
 
   -- ---- a chunk stays where no such command is
 
-  abbrev AreGoing : ℕ → Type 0
+  abbrev pub AreGoing : ℕ → Type 0
   AreGoing to = (n : ℕ) (l : Logged) (e : UnitEvent) → n < to → slice_get (log_of w (suc unit)) n ≡ Some l → unit_event_of l.event ≡ Some e
       → was_stopped e.outcome ≡ false
 
-  abbrev NoActive : ℕ → ℕ → Type 0
+  abbrev pub NoActive : ℕ → ℕ → Type 0
   NoActive from to = (n : ℕ) (l : Logged) (e : UnitEvent) → from ≤ n → n < to → IsActive i w legal b begins unit line n l e → ⊥
 
   quiet_one : (n : ℕ) (l : Logged) → slice_index b.knows (suc unit) ≤ n → slice_get (log_of w (suc unit)) n ≡ Some l → AreGoing (suc n) → NoActive n (suc n)
@@ -79,7 +79,7 @@ module _ (i : Image) (w : World) (legal : IsLegal i w) (b : Begun) (begins : beg
       go true same = by_command d.event.command refl (eqb-true d.event.chunk line same)
       go false other = d.others line (eqb-false d.event.chunk line other)
 
-  quiet_until : (from d : ℕ) → slice_index b.knows (suc unit) ≤ from → from + d ≤ length (log_of w (suc unit)) → AreGoing (from + d) → NoActive from (from + d)
+  pub quiet_until : (from d : ℕ) → slice_index b.knows (suc unit) ≤ from → from + d ≤ length (log_of w (suc unit)) → AreGoing (from + d) → NoActive from (from + d)
       → chunk_after i (log_of w) line unit (from + d) ≡ chunk_after i (log_of w) line unit from
   quiet_until from zero low inside going none = let same : from + 0 ≡ from = omega arith in ap (chunk_after i (log_of w) line unit) same
   quiet_until from (suc d) low inside going none =

@@ -5,6 +5,8 @@ pub mod ToldDecisions
 pub mod Engine
 pub mod Made
 pub mod ToldSince
+pub mod ToldPads
+pub mod GrownLogs
 pub mod Beginnings
 pub mod Later
 pub mod Fronts
@@ -93,3 +95,7 @@ pub mod FoundWinners
 pub mod FoundFits
 pub mod MayBegin
 pub mod BegunWithFound
+pub mod NotedResets
+pub mod NotedChunks
+pub mod MarkedBlocks
+pub mod EarlierLogs

@@ -34,7 +34,7 @@ free_told i a b h line =
     by_three i a b (λ log found known. not (has_number i b (life_of log line) line) && are_empty known line && nat_lt 0 (line_data known line)) h
     ∙ ap (λ n. not n && are_empty (known_image i a) line && nat_lt 0 (line_data (known_image i a) line)) (number_told i a b h (life_of (a 0) line) line)
 
-over_told : (i : Image) (a b : Logs) → AreSameTold i a b → (line : ℕ) → are_over i b line ≡ are_over i a line
+pub over_told : (i : Image) (a b : Logs) → AreSameTold i a b → (line : ℕ) → are_over i b line ≡ are_over i a line
 over_told i a b h line = by_three i a b (λ log found known. list_all (λ c. is_over_state (is_as_found (life_of log line)) c.state) (chunks_of known line)) h
 
 pub left_told : (i : Image) (a b : Logs) → AreSameTold i a b → (line : ℕ) → has_stripe_left i b line ≡ has_stripe_left i a line
@@ -120,7 +120,7 @@ takers_told i a b h line =
 
 -- ---- the victim
 
-positions_told : (i : Image) (a b : Logs) → AreSameTold i a b → (life : LineLife) (line : ℕ) → positions_in i b life line ≡ positions_in i a life line
+pub positions_told : (i : Image) (a b : Logs) → AreSameTold i a b → (life : LineLife) (line : ℕ) → positions_in i b life line ≡ positions_in i a life line
 positions_told i a b h AsFound line = ap (λ (f : Image). map (λ (r : Record). r.position) (filter (λ r. r.line == line) (counted f))) h.found
 positions_told i a b h (Opened o) line =
     ap (λ (known : Image). filter_map (position_in i.shape) (flat_map (λ (c : Chunk). c.blocks) (chunks_of known line))) (image_same i a b h)

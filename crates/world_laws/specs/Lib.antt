@@ -5,6 +5,7 @@ pub mod KnownChunks
 pub mod KnownCut
 pub mod LifeBlocks
 pub mod Losing
+pub mod Merged
 pub mod MountBeginnings
 pub mod Padding
 pub mod SameImages

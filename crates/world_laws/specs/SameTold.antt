@@ -1,5 +1,5 @@
 -- Logs that say the same to whoever reads the engine's log and the unit events that it names.
-use Rattle.std.specs.Prelude.{ℕ, suc, ◌≡◌}
+use Rattle.std.specs.Prelude.{ℕ, suc, ◌≡◌, take}
 use Rattle.std.specs.List.{Contains}
 use Rattle.pblk_model.specs.Image.{Image}
 use Rattle.pblk_world.specs.Events.{Logged}
@@ -19,3 +19,8 @@ pub record AreSameNamed (logs other : Logs) : Type 0 where
   pub own : other 0 ≡ logs 0
   pub named : (unit : ℕ) (l : Logged) → Contains (logs 0) l
       → prefixes l other (suc unit) ≡ prefixes l logs (suc unit)
+
+-- The engine's log is the same, and each unit's log goes on from what it was.
+pub record UnitsWentOn (logs other : Logs) : Type 0 where
+  pub own : other 0 ≡ logs 0
+  pub units : (unit : ℕ) → (n : ℕ) × (logs (suc unit) ≡ take n (other (suc unit)))

@@ -1,5 +1,5 @@
 -- Blocks of these worlds are blocks of the small drive.
-use Rattle.std.proofs.Common.{◌≡◌, ℕ, ◌^◌, ◌<◌, ◌≤◌, ◌≢◌, zero, suc, List, [], ◌∷◌, length, take, drop, replicate, arith, lit<}
+use Rattle.std.proofs.Common.{◌≡◌, ℕ, ◌^◌, ◌<◌, ◌≤◌, ◌≢◌, List, [], length, drop, arith, lit<}
 use Rattle.std.specs.List.{AllByRecursion, Contains}
 use Rattle.std.proofs.lemmas.List.{length-take, length-drop, length-replicate}
 use Rattle.pblk_model.specs.declared.chunk.ChunkState.TheVariants as states

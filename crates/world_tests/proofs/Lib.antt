@@ -15,3 +15,4 @@ pub mod OtherWorlds
 pub mod OlderWorld
 pub mod FillingWorld
 pub mod FilledWorld
+pub mod RewrittenWorld

@@ -52,10 +52,10 @@ begins = record {
   strays = refl;
 }
 
-abbrev beginning : Begun
+abbrev pub beginning : Begun
 beginning = record { beginning = record { first = 1; seq = 2; strays = [] }; knows = 0 ∷ 0 ∷ 0 ∷ [] }
 
-abbrev found_record : Record
+abbrev pub found_record : Record
 found_record = record { line = 0; seq = 1; at = 4; position = 0; lba = Some 5; sector = sector }
 
 found_is_latest : IsLatest older_image (named take_found older_begun) 5 (record { line = 0; at = 4; position = 0 }) (sector_block 0)
@@ -211,7 +211,7 @@ frees_older = record {
 
 -- It is legal by the prefixes that its steps name.
 
-older_legal : AllByRecursion (IsBlock small) (meta_blocks 2 younger_spelling) → IsLegal older_image older_world
+pub older_legal : AllByRecursion (IsBlock small) (meta_blocks 2 younger_spelling) → IsLegal older_image older_world
 unfolding IsLegal
 older_legal metas = (
   legal_on older_image.units copied_landed free_older (lit≤ tt) refl refl refl refl (beginning, refl, frees_older),
@@ -242,7 +242,7 @@ older_legal metas = (
   ),
 )
 
-younger_written_whole : length (start_bytes small (start_with rows)) ≡ 2048 → AllByRecursion (λ x. x < 256) (start_bytes small (start_with rows))
+pub younger_written_whole : length (start_bytes small (start_with rows)) ≡ 2048 → AllByRecursion (λ x. x < 256) (start_bytes small (start_with rows))
     → AllByRecursion (IsBlock small) (meta_blocks 2 younger_spelling)
 unfolding younger_spelling
 younger_written_whole long each = metas_are 2 (lit< tt) (start_bytes small (start_with rows)) long each

@@ -1,5 +1,5 @@
 -- The worlds with a stray line and with a stop are legal, and the wrong ones beside them aren't.
-use Rattle.std.proofs.Common.{◌≡◌, ℕ, ◌-◌, ◌^◌, ◌≢◌, ◌⊎◌, suc, true, false, Some, List, [], ◌∷◌, length, replicate, refl, sym, ap, ◌∙◌, subst, arith, lit<, lit≤, inl, inr}
+use Rattle.std.proofs.Common.{◌≡◌, ℕ, ◌-◌, ◌^◌, ◌≢◌, ◌⊎◌, true, false, Some, List, [], ◌∷◌, replicate, refl, sym, ap, ◌∙◌, subst, arith, lit<, lit≤, inl, inr}
 use Rattle.std.specs.Prelude.{slice_get}
 use Rattle.std.specs.List.{AllByRecursion}
 use Rattle.std.proofs.lemmas.Option.{same_Some}

@@ -1,5 +1,5 @@
 -- The worlds in which a sector is written again before its stripe has landed are legal.
-use Rattle.std.proofs.Common.{◌≡◌, ℕ, ◌<◌, length, [], ◌∷◌, refl, lit<, lit≤}
+use Rattle.std.proofs.Common.{◌≡◌, ◌<◌, length, refl, lit<, lit≤}
 use Rattle.std.specs.List.{AllByRecursion}
 use Rattle.pblk_model.specs.Shape.{small}
 use Rattle.pblk_model.specs.Chunk.{IsBlock}

@@ -10,3 +10,4 @@ pub mod Older
 pub mod Crowded
 pub mod Filled
 pub mod Takers
+pub mod Rewritten

@@ -1,6 +1,6 @@
--- A world over an image of an older mount: its first line has a start record and a sector, and its chunks were closed early.
+-- A world over an image of an older mount: its first line has a start record, a sector, and pads up to the ends of its chunks.
 -- The sector is copied into the next line, and the first line is freed.
-use Rattle.std.specs.Prelude.{ℕ, List, [], ◌∷◌, replicate, Some}
+use Rattle.std.specs.Prelude.{ℕ, List, [], ◌∷◌, ◌++◌, replicate, Some}
 use Rattle.pblk_model.specs.declared.chunk.ChunkState.TheVariants as states
 use Rattle.pblk_model.specs.Shape.{small}
 use Rattle.pblk_model.specs.Chunk.{free_chunk}
@@ -17,8 +17,8 @@ use Rattle.world_tests.specs.Simple.{spelling, data_blocks}
 abbrev pub older_image : Image
 older_image = record {
   shape = small;
-  units = (record { state = states.Closed; blocks = meta_blocks 1 spelling } ∷ replicate 7 free_chunk)
-      ∷ (record { state = states.Closed; blocks = data_blocks } ∷ replicate 7 free_chunk) ∷ [];
+  units = (record { state = states.Closed; blocks = meta_blocks 1 spelling ++ replicate 20 (pad_block small) } ∷ replicate 7 free_chunk)
+      ∷ (record { state = states.Closed; blocks = data_blocks ++ replicate 20 (pad_block small) } ∷ replicate 7 free_chunk) ∷ [];
 }
 
 abbrev pub begin_older : Step

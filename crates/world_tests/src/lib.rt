@@ -9,6 +9,7 @@ mod left;
 mod older;
 mod other;
 mod overwritten;
+mod rewritten;
 mod simple;
 mod takers;
 mod wrong;
@@ -26,6 +27,9 @@ pub use other::{
     wrong_strays_are_refused,
 };
 pub use overwritten::{a_world_with_an_overwritten_line_is_legal, needed_lines_are_kept};
+pub use rewritten::{
+    a_block_isnt_told_by_its_sector_alone, a_world_with_a_rewritten_block_is_legal,
+};
 pub use simple::a_world_is_legal;
 pub use takers::{
     a_taker_counts_from_the_landing_on, worlds_with_a_sector_taken_in_flight_are_legal,

@@ -1,4 +1,4 @@
-use Rattle.core_laws.proofs.BegunOnce.{begun_once}
+use Rattle.world_laws.proofs.EarlierLogs.{some_begun}
 use Rattle.rest_laws.proofs.RoomChanges.{before}
 use Rattle.rest_laws.proofs.UnresetChanges.{engine_keeps_unreset, free_adds, reset_moves, reset_takes, unit_keeps_unreset}
 use Rattle.rest_laws.proofs.room.freed_lines_are_to_be_reset.Goals as goal
@@ -7,13 +7,13 @@ pub returns : goal.returns
 returns c = record {
   unit = λ i s w unit mount own. unit_keeps_unreset i s w mount unit own;
   kept = λ i s w e is.
-      let b = begun_once i w (before i s w is.mount).legal is.has_begun in engine_keeps_unreset i s w is.mount is.own b.0 b.1 e is.decides;
+      let b = some_begun i w (before i s w is.mount).legal is.has_begun in engine_keeps_unreset i s w is.mount is.own b.0 b.1 e is.decides;
   free = λ i s w line is.
-      let b = begun_once i w (before i s w is.mount).legal is.has_begun in free_adds i s w is.mount is.own b.0 b.1 line is.decides;
+      let b = some_begun i w (before i s w is.mount).legal is.has_begun in free_adds i s w is.mount is.own b.0 b.1 line is.decides;
   reset = λ i s w e is.
-      let b = begun_once i w (before i s w is.step.mount).legal is.step.has_begun in
+      let b = some_begun i w (before i s w is.step.mount).legal is.step.has_begun in
       reset_takes i s w is.step.mount is.step.own b.0 b.1 is.unit is.number e is.step.decides is.there;
   sum = λ i s w e is.
-      let b = begun_once i w (before i s w is.step.mount).legal is.step.has_begun in
+      let b = some_begun i w (before i s w is.step.mount).legal is.step.has_begun in
       reset_moves i s w is.step.mount is.step.own b.0 b.1 is.unit is.number e is.step.decides is.there;
 }
