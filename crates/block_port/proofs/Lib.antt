@@ -1,2 +1,5 @@
 pub mod OwnLemmas
 pub mod PortLemmas
+pub mod Ordering
+pub mod Rising
+pub mod PlacedLines

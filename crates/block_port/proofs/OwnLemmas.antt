@@ -1,5 +1,5 @@
 -- Lemmas on the words of Own.
-use Rattle.std.proofs.Common.{List, [], ap, arith, drop, length, refl, suc, take, zero, ℕ, ◌*◌, ◌++◌, ◌+◌, ◌-◌, ◌∙◌, ◌∷◌, ◌≡◌, ◌≤◌}
+use Rattle.std.proofs.Common.{List, [], ap, arith, drop, length, refl, suc, take, zero, ℕ, ◌*◌, ◌++◌, ◌+◌, ◌∙◌, ◌∷◌, ◌≡◌, ◌≤◌}
 use Rattle.std.proofs.lemmas.List.{drop-append-le, length-drop, take-append-le}
 use Rattle.block_port.specs.Own.{placed_from, sectors_of}
 use Rattle.lemmas.proofs.Numbers.{suc-times}

@@ -10,11 +10,8 @@ use Rattle.block_port.specs.Port.{ModelPort, Learns, Rise, positions}
 use Rattle.plain_port.specs.Sectors.{put_from}
 use Rattle.plain_port.specs.Plain.{lines_in, with_write}
 use Rattle.block_port.proofs.OwnLemmas.{length_sectors}
+use Rattle.block_port.proofs.PlacedLines.{rise_order}
 use Rattle.block_port.proofs.PortLemmas.{rise_append, rise_placed}
-
-pub rise_ends : (a b : ℕ) (xs : List PlacedSector) → Rise a b xs → a ≤ b
-rise_ends a b [] h = h
-rise_ends a b (x ∷ xs) h = let later = rise_ends (x.position + 1) b xs h.1 in omega (arith, later, h.0)
 
 pub rise_later : (a b c : ℕ) (xs : List PlacedSector) → Rise a b xs → b ≤ c → Rise a c xs
 rise_later a b c [] h le = omega (arith, h, le)
@@ -24,7 +21,7 @@ rise_later a b c (x ∷ xs) h le = (h.0, rise_later (x.position + 1) b c xs h.1 
 pub users_all : (a b c : ℕ) (xs : List PlacedSector) → Rise a b xs → b ≤ c → users (positions xs) c ≡ length xs
 users_all a b c [] h le = refl
 users_all a b c (x ∷ xs) h le =
-    let ends = rise_ends (x.position + 1) b xs h.1 in
+    let ends = rise_order (x.position + 1) b xs h.1 in
     let below : x.position < c = omega (arith, ends, le) in
     rw (lt-ltb x.position c below) (ap suc (users_all (x.position + 1) b c xs h.1 le))
 
