@@ -1,2 +1,2 @@
 pub mod Choice
-pub mod Search
+pub mod Tournament

@@ -5,6 +5,8 @@
 #![tactic(auto)]
 
 mod candidate;
+mod held;
+mod tournament;
 mod victims;
 
 pub use candidate::Candidate;

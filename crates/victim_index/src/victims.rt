@@ -2,9 +2,10 @@
 
 ghost use Rattle.std.specs.Prelude.{◌≡◌, ◌+◌, ◌<◌, ◌^◌, length, replicate, slice_set, Some, None, IfOk, IfSome, IfNone};
 ghost use Rattle.victim_index.specs.Choice.{IsBest, HoldsNone};
-ghost use Rattle.victim_index.specs.Search.{IsBestBelow};
 
 use crate::candidate::Candidate;
+use crate::held::Held;
+use crate::tournament::{named, settle};
 use std::alloc::{AllocError, Global};
 use std::marker::Model;
 
@@ -14,18 +15,22 @@ use std::marker::Model;
 /// and None where it isn't held.
 #[derive(Drop)]
 pub struct Victims {
+    // what is held of each line
     rows: Vec<Option<Candidate>>,
+    // the better of each two lines, of each two of these, and so on up to the best of all
+    winners: Vec<Option<Held>>,
 }
 
 impl Model for Victims {
     ghost use Rattle.std.specs.Prelude.{◌<◌, ◌^◌, List, length, Option};
     ghost use Rattle.victim_index.specs.declared.candidate.Candidate.{Candidate};
+    ghost use Rattle.victim_index.specs.Tournament.{IsTournament};
 
     ghost Value = { List (Option Candidate) };
 
     ghost view = { λ v. v.rows.items };
 
-    ghost invariant = { λ v. length v.rows.items < 2 ^ 32 };
+    ghost invariant = { λ v. IsTournament v.rows.items v.winners.items };
 }
 
 impl Victims {
@@ -36,7 +41,8 @@ impl Victims {
         ensures { IfOk result (λ v. v ≡ replicate lines None) }
     {
         let rows = vec![in alloc; None; lines as usize]?;
-        Ok(Victims { rows })
+        let winners = vec![in alloc; None; lines as usize]?;
+        Ok(Victims { rows, winners })
     }
 
     /// Holds a line with this, whether or not it was held before. The line is one of the drive's.
@@ -45,7 +51,7 @@ impl Victims {
         ensures { self.new ≡ slice_set self.old line
             (Some (record { failed = failed; live = live; seq = seq })) }
     {
-        self.rows[line as usize] = Some(Candidate { failed, live, seq });
+        self.put(line, Some(Candidate { failed, live, seq }));
     }
 
     /// Holds a line no more, if it was held. The line is one of the drive's.
@@ -53,7 +59,16 @@ impl Victims {
         requires { line < length self.old }
         ensures { self.new ≡ slice_set self.old line None }
     {
-        self.rows[line as usize] = None;
+        self.put(line, None);
+    }
+
+    // Makes this what is held of a line.
+    fn put(&mut self, line: u32, row: Option<Candidate>)
+        requires { line < length self.old }
+        ensures { self.new ≡ slice_set self.old line row }
+    {
+        self.rows[line as usize] = row;
+        settle(&self.rows, &mut self.winners, line);
     }
 
     /// The line that is collected first of those that are held. None exactly where none is held.
@@ -64,41 +79,10 @@ impl Victims {
         ensures best { IfSome result (IsBest self.now) }
         ensures none { IfNone result (HoldsNone self.now) }
     {
-        best_of(&self.rows)
-    }
-}
-
-/// A line that is held.
-#[derive(Clone, Copy)]
-struct Held {
-    line: u32,
-    candidate: Candidate,
-}
-
-/// The line that is collected first.
-fn best_of(rows: &[Option<Candidate>]) -> Option<u32>
-    requires { length rows.now < 2 ^ 32 }
-    ensures best { IfSome result (IsBest rows.now) }
-    ensures none { IfNone result (HoldsNone rows.now) }
-{
-    let mut best = None;
-    for line in 0..rows.len() {
-        best = better(rows, best, line as u32);
-    }
-    Some(best?.line)
-}
-
-/// The best of the lines up to this one, by the best of those before it.
-fn better(rows: &[Option<Candidate>], best: Option<Held>, line: u32) -> Option<Held>
-    requires inside { line < length rows.now }
-    requires best { IsBestBelow rows.now line best }
-    ensures { IsBestBelow rows.now (line + 1) result }
-{
-    let Some(candidate) = rows[line as usize] else {
-        return best;
-    };
-    match best {
-        Some(held) if !candidate.is_preferred(&held.candidate) => best,
-        _ => Some(Held { line, candidate }),
+        if self.rows.is_empty() {
+            return None;
+        }
+        let best = named(&self.rows, &self.winners, 1)?;
+        Some(best.line)
     }
 }
