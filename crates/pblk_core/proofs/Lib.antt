@@ -35,6 +35,7 @@ pub mod NotedEntries
 pub mod HeldPositions
 pub mod TakenHolds
 pub mod StandsTaken
+pub mod StandsTold
 pub mod StandsStale
 pub mod UnitRows
 pub mod SmallCalls

@@ -19,6 +19,10 @@ use Rattle.pblk_core.specs.declared.target_core.Core.{Core}
 abbrev pub is_copying : Core → Bool
 is_copying c = c.collection.under_way
 
+-- how far the search for the victim's sectors has come: none below this one is on the drive in it
+abbrev pub searched_to : Core → ℕ
+searched_to c = c.collection.cursor
+
 -- By the core's tables.
 
 -- the row of the victim at work

@@ -10,7 +10,7 @@ use Rattle.pblk_model.specs.StartRecord.{Row as OlderLine}
 use Rattle.pblk_meta.specs.Records.{start_numbers}
 use Rattle.pblk_world.specs.Events.{Logged}
 use Rattle.pblk_world.specs.World.{World, Logs, log_of}
-use Rattle.pblk_world.specs.EngineLog.{Begun, begun, Opening, Taken, takes, openings, answers}
+use Rattle.pblk_world.specs.EngineLog.{Begun, begun, Opening, Placed, Taken, takes, openings, answers, turn}
 use Rattle.pblk_world.specs.Fronts.{first_position, user_takes}
 use Rattle.pblk_world.specs.Lines.{known_image}
 use Rattle.pblk_world.specs.Space.{freed, placed_front, open_addresses}
@@ -77,6 +77,10 @@ under_way s log = length (filter (λ unit. is_some (unanswered_on log unit)) (ra
 -- how many stripes of each unit were answered, or 2^64 - 1 where that is less
 abbrev pub answer_count : List Logged → ℕ → ℕ
 answer_count log unit = min (length (answers log unit)) (2 ^ 64 - 1)
+
+-- the turn of a stripe on its unit, as it tells it: 2^64 - 1 where that is less
+abbrev pub turn_told : List Logged → Placed → ℕ
+turn_told log p = min (turn log p) (2 ^ 64 - 1)
 
 abbrev pub answer_counts : Shape → List Logged → List ℕ
 answer_counts s log = map (answer_count log) (range_with_len 0 (units s))

@@ -11,7 +11,7 @@ ghost use Rattle.pblk_world.specs.World.{log_of};
 ghost use Rattle.l2p_map.specs.declared.slot.Slot.TheVariants.{Media};
 ghost use Rattle.pblk_core.specs.Mounts.{ByItsLogs, CollectsStill, StandsStill, WhereCollecting};
 ghost use Rattle.pblk_core.specs.Collecting.{HasPassed, IsBarrenRightly, IsCollecting, IsCopyReady, IsTabled, victim_after, weighed};
-ghost use Rattle.pblk_core.specs.Copies.{copy_due, is_copying, victim_asks};
+ghost use Rattle.pblk_core.specs.Copies.{copy_due, is_copying, searched_to, victim_asks};
 ghost use Rattle.pblk_core.specs.Named.{may_copy, pad_of};
 ghost use Rattle.pblk_world.specs.Victims.{next_victim};
 ghost use Rattle.stripe_placer.specs.Placing.{padded_to};
@@ -80,6 +80,7 @@ impl Core {
     pub fn copy_ready(&self) -> Option<CopyJob>
         requires collecting { IsCollecting self.now }
         ensures ready { IfSome result (IsCopyReady self.now) }
+        ensures from { IfSome result (λ job. searched_to self.now ≤ job.lba) }
         ensures due { IfSome result (λ job.
             WhereCollecting self.now (λ i w. IsCopyDue i (log_of w))) }
         ensures none { IfNone result (WhereCollecting self.now (λ i w.
@@ -129,6 +130,21 @@ impl Core {
         None
     }
 
+    /// Keeps how far the search for the victim's sectors has come: to the sector that `copy_ready`
+    /// names. The next search begins there, also where the copy can't be begun yet. So one pass
+    /// over the map is enough for each victim.
+    pub fn copy_found(&mut self, job: &CopyJob)
+        requires ready { IsCopyReady self.old job.now }
+        ensures stands { StandsStill self.old self.new }
+        ensures collects { CollectsStill self.old self.new }
+        ensures ready { IsCopyReady self.new job.now }
+        ensures searched { searched_to self.new ≡ job.now.lba }
+        ensures copying { is_copying self.new ≡ is_copying self.old }
+        ensures rest { self.new ≡ record self.old { collection = self.new.collection } }
+    {
+        self.collection.cursor = job.lba;
+    }
+
     /// Begins the copy that `copy_ready` names. It is under way until its entry is taken.
     pub fn copy_claimed(&mut self, job: &CopyJob)
         requires ready { IsCopyReady self.old job.now }
@@ -137,7 +153,7 @@ impl Core {
         ensures copying { is_copying self.new ≡ true }
         ensures rest { self.new ≡ record self.old { collection = self.new.collection } }
     {
-        self.collection.cursor = job.lba;
+        self.copy_found(job);
         self.collection.under_way = true;
     }
 

@@ -1,17 +1,19 @@
 //! The core of a target: its tables, and how it begins, answers and ends.
 
-ghost use Rattle.std.specs.Prelude.{ℕ, ◌≡◌, ◌+◌, ◌*◌, ◌<◌, ◌^◌, ◌↔◌, true, false, [], length, drop, Some, IfOk, IfSome, IsNone, OnSome, IfNone, slice_get};
+ghost use Rattle.std.specs.Prelude.{ℕ, ◌≡◌, ◌+◌, ◌-◌, ◌*◌, ◌<◌, ◌^◌, ◌↔◌, ◌++◌, true, false, List, [], length, drop, Some, IfOk, IfSome, IsNone, IsTrue, OnSome, IfNone, slice_get};
 ghost use Rattle.std.specs.FinMap as fin;
 ghost use Rattle.pblk_model.specs.Accepted.{IsAccepted};
 ghost use Rattle.pblk_model.specs.Found.{IsFitFound};
 ghost use Rattle.pblk_model.specs.Image.{Image, IsFit};
 ghost use Rattle.pblk_model.specs.Shape.{units};
+ghost use Rattle.pblk_world.specs.Events.{Logged};
 ghost use Rattle.pblk_world.specs.EngineLog.{Placed, answers, is_answered, placements, turn};
 ghost use Rattle.pblk_world.specs.World.{World, log_of};
 ghost use Rattle.pblk_world.specs.Lines.{known_image, is_given_up, are_empty};
 ghost use Rattle.pblk_world.specs.Fronts.{taken, synced, user_takes};
 ghost use Rattle.write_window.specs.Window as view;
 ghost use Rattle.pblk_world.specs.LegalMounts.{IsLegalMount};
+ghost use Rattle.core_laws.specs.PlacerOf.{unanswered_on};
 ghost use Rattle.core_laws.specs.SlotOf.{slot_of};
 ghost use Rattle.pblk_core.specs.Resets.{resets_of};
 ghost use Rattle.pblk_core.specs.Named.{pad_of, padded};
@@ -22,9 +24,11 @@ ghost use Rattle.core_laws.specs.WindowOf.{users_below};
 ghost use Rattle.pblk_core.specs.Collecting.{Collects};
 ghost use Rattle.pblk_core.specs.Copies.{is_copying};
 ghost use Rattle.pblk_core.specs.Made.{IsMadeOn};
-ghost use Rattle.pblk_core.specs.Landing.{NoneUnderWay};
+ghost use Rattle.pblk_core.specs.Landing.{IsUnderWayOn, NoneUnderWay};
+ghost use Rattle.pblk_core.specs.Losing.{HasItsEntries};
+ghost use Rattle.pblk_core.specs.declared.target_core.Core.{Core};
 ghost use Rattle.pblk_core.specs.Mounts.{BeginsWith, CollectsStill, InItsMount, StandsStill};
-ghost use Rattle.pblk_core.specs.Stands.{Stands, IsStanding, answer_count};
+ghost use Rattle.pblk_core.specs.Stands.{Stands, IsStanding, answer_count, turn_told};
 
 use crate::collecting::Collection;
 use crate::hold::Holds;
@@ -201,6 +205,16 @@ impl Core {
         self.answers[unit as usize]
     }
 
+    /// Whether the program of a stripe is under way on a unit of the drive: the stripe was placed,
+    /// isn't answered, and isn't to be offered again.
+    pub fn is_under_way(&self, unit: u32) -> bool
+        requires standing { IsStanding self.now }
+        requires inside { unit < units self.now.layout }
+        ensures { IsTrue result ↔ IsUnderWayOn self.now unit }
+    {
+        self.placer.under_way(unit).is_some()
+    }
+
     /// Where the latest content of a sector is. The sector is below the capacity.
     pub fn look(&self, lba: u64) -> Slot
         requires { lba < fin.len self.now.map }
@@ -291,6 +305,29 @@ pub fn a_stripe_waits_while_its_turn_is_the_number_of_answers()
     ensures { (i : Image) (w : World) (k : ℕ) (p : Placed) → IsLegalMount i w
         → slice_get (placements (log_of w 0)) k ≡ Some p → (is_answered (log_of w 0) p ≡ false)
         ↔ (turn (log_of w 0) p ≡ length (answers (log_of w 0) p.stripe.unit)) }
+{}
+
+/// A stripe tells its turn, and a core how many stripes of a unit were answered, both as far as
+/// numbers below 2^64 - 1 tell. Where the two are one number below that, the stripe is the one of
+/// its unit that isn't answered. The turn of a stripe that isn't answered is the number of its
+/// unit's answers, and it stays as the log grows.
+///
+/// Where the program of that stripe is under way, the core has the entries that it holds.
+pub fn a_turn_tells_which_stripe_waits()
+    ensures waits { (i : Image) (w : World) (k : ℕ) (p : Placed) → IsLegalMount i w
+        → slice_get (placements (log_of w 0)) k ≡ Some p
+        → turn_told (log_of w 0) p ≡ answer_count (log_of w 0) p.stripe.unit
+        → turn_told (log_of w 0) p < 2 ^ 64 - 1
+        → unanswered_on (log_of w 0) p.stripe.unit ≡ Some p }
+    ensures turn { (log : List Logged) (unit : ℕ) (p : Placed) → unanswered_on log unit ≡ Some p
+        → turn_told log p ≡ answer_count log unit }
+    ensures stays { (log more : List Logged) (k : ℕ) (p : Placed)
+        → slice_get (placements log) k ≡ Some p
+        → (slice_get (placements (log ++ more)) k ≡ Some p)
+        × (turn_told (log ++ more) p ≡ turn_told log p) }
+    ensures entries { (i : Image) (w : World) (c : Core) (p : Placed) → IsLegalMount i w
+        → Stands i (log_of w) c → unanswered_on (log_of w 0) p.stripe.unit ≡ Some p
+        → HasItsEntries c p.stripe }
 {}
 
 /// Where no reset is named, each chunk of a line that was given up is Free or Offline.
