@@ -16,7 +16,7 @@ use Rattle.block_target.specs.Mount.{IsMount, IsSound, MountView, engine_log, lo
 use Rattle.block_target.specs.declared.heart.Heart.{Heart}
 use Rattle.block_target.proofs.EngineLengths.{IsLeft, deeds_left}
 use Rattle.block_target.proofs.GoingOn.{goes_none, moved_on, sound_on}
-use Rattle.block_target.proofs.PadsAsked.{MayAsk}
+use Rattle.world_laws.proofs.GrownLogs.{MayAsk}
 
 -- what is asked for is nothing that was done
 pub sound_asked : (v : MountView) (pad asked : ℕ) → IsSound v → IsSound (with_asked v pad asked)
@@ -65,7 +65,6 @@ mount_asked {v} {h} {f} m new asked to may beats rows copying within = record {
   granted = refl;
   level = m.level;
   noted = m.noted;
-  known = m.known;
   resting = λ unit of is. m.resting unit of (ap (λ us. slice_get us unit) (sym rows) ∙ is);
   idle = copying ∙ m.idle;
   settled = m.settled;

@@ -35,7 +35,9 @@ use Rattle.world_laws.proofs.FoundFits.{found_fits}
 use Rattle.scan_recovery.specs.DriveFaults.{NoDriveFaults}
 use Rattle.step_laws.specs.Opened.{AreArmed, IsArmed, new_events, after_units}
 use Rattle.step_laws.specs.Whole.{knows_all, after_begin}
-use Rattle.step_laws.proofs.Beginning.{mount_begins, begun_is, found_is, known_is, begins_level}
+use Rattle.world_laws.proofs.NotedResets.{noted_before}
+use Rattle.step_laws.proofs.NotedSteps.{noted_decided}
+use Rattle.step_laws.proofs.Beginning.{mount_begins, begun_is, found_is, begins_level}
 use Rattle.step_laws.proofs.EngineSteps.{engine_logs, media_still}
 use Rattle.step_laws.proofs.FreedWorlds.{room_then}
 use Rattle.step_laws.proofs.Worlds.{legal_mount, logs_are, media_are, stops_there, units_quiet}
@@ -60,7 +62,6 @@ use Rattle.block_target.proofs.AllAnswered.{answered_first}
 use Rattle.block_target.proofs.FreedMounts.{mount_freed, takes_then, world_freed}
 use Rattle.block_target.proofs.GoingOn.{goes_none}
 use Rattle.block_target.proofs.InOrder.{in_order_decided}
-use Rattle.block_target.proofs.NotedResets.{noted_before, noted_decided}
 use Rattle.block_target.proofs.GrantedTakes.{none_taken}
 use Rattle.block_target.proofs.Reasoned.{begun_decided, urgent_decided}
 
@@ -247,7 +248,7 @@ module _ (s : Shape) (us new : List ModelUnit) (f : Found) (accepted : IsAccepte
         mount_freed sound (goes_none (first_view wear h.granted (pad_of h.core)) sound) (first_deeds us new f) wear h end filling all refl
         (has i before (knows_all s before) begins_there).0 frees (begins_level i before b legal_before.legal none_before)
         (noted_decided s (Begin b) before (noted_before i before legal_before.legal none_before))
-        (known_is i before b legal_before.legal none_before) resting idle stripe (omega arith)
+        resting idle stripe (omega arith)
 
     -- by the lists that are kept of it
     pub mount_opens : NoneUnderWay h.core → is_copying h.core ≡ false → filling.shape ≡ s

@@ -20,7 +20,7 @@ use Rattle.pblk_core.proofs.CopiesDue.{copy_by_test, copy_due_is}
 use Rattle.block_target.specs.Mount.{IsMount, MountView, engine_log, logs_in, world_in}
 use Rattle.block_target.specs.declared.heart.Heart.{Heart}
 use Rattle.block_target.proofs.EngineLengths.{IsLeft, deeds_left}
-use Rattle.block_target.proofs.Reasoned.{IsBegunIn}
+use Rattle.world_laws.proofs.GrownLogs.{IsBegunIn}
 
 module _ {v : MountView} {h : Heart} {f : Filling} (m : IsMount v h f) (job : CopyJob) (ready : IsCopyReady h.core job) where
   pub inside : job.lba < v.image.shape.capacity

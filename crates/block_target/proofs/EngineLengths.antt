@@ -4,7 +4,6 @@ use Rattle.std.proofs.Common.{◌≡◌, ℕ, false, ◌+◌, ◌-◌, ◌≤◌
 use Rattle.std.specs.Prelude.{slice_get}
 use Rattle.std.specs.List.{fold}
 use Rattle.std.proofs.Math.Seq.{take-length}
-use Rattle.std.proofs.lemmas.List.{take-append-le}
 use Rattle.std.proofs.lemmas.List.Sums.{fold-append}
 use Rattle.pblk_model.specs.declared.shape.Shape.{Shape}
 use Rattle.pblk_model.specs.Image.{Image}
@@ -16,19 +15,22 @@ use Rattle.pblk_world.specs.Space.{room}
 use Rattle.pblk_world.proofs.Growing.{grows}
 use Rattle.pblk_world.specs.LegalMounts.{IsLegalMount}
 use Rattle.core_laws.specs.SlotOf.{slot_of}
+use Rattle.world_laws.specs.SameTold.{AreSameTold}
+use Rattle.world_laws.proofs.GrownLogs.{at_named}
+use Rattle.world_laws.proofs.ToldPads.{at_work_told, pads_told}
+use Rattle.world_laws.proofs.ToldTables.{room_told}
 use Rattle.core_laws.specs.Spent.{IsSpent}
+use Rattle.core_laws.proofs.ToldSpent.{spent_told}
+use Rattle.core_laws.proofs.ToldTables.{slot_told}
 use Rattle.step_laws.specs.Whole.{engine_step, unit_step, next_maker, opening_maker}
 use Rattle.step_laws.proofs.Knowing.{known_whole}
-use Rattle.step_laws.proofs.SpentStays.{spent_stays}
 use Rattle.step_laws.proofs.UnitSteps.{engine_log}
-use Rattle.step_laws.proofs.UnitStays.{room_stays, slot_stays}
+use Rattle.step_laws.proofs.UnitStays.{named_stays, told_stays}
 use Rattle.step_laws.specs.Opened.{after_events, after_units}
 use Rattle.pblk_core.specs.Copies.{is_copy_due}
 use Rattle.pblk_core.specs.Named.{work_of}
 use Rattle.block_target.specs.Deeds.{Deed, Readies, Decides, Does, Lands, Loses, NotesReset, Offers, after_deed, world_of, last_event}
-use Rattle.block_target.proofs.CopiesTold.{copies_beside, pads_beside, victim_beside}
-use Rattle.block_target.proofs.OnceRoom.{last_within}
-use Rattle.block_target.proofs.UnitStands.{work_beside}
+use Rattle.pblk_core.proofs.StandsTold.{copies_told, work_told}
 use Rattle.lemmas.proofs.Numbers.{fun_same}
 use Rattle.lemmas.proofs.Parts.{get_last}
 use Rattle.pblk_world.proofs.WorldLemmas.{log_elsewhere, log_here}
@@ -188,14 +190,14 @@ unit_left i w unit e maker mount was = record {
   mount = was.mount;
   own = was.own ∙ sym engine;
   logs = ap (λ n. logs_at n (log_of next)) (ap (λ (log : List Logged). length log) engine)
-      ∙ fun_same (logs_at (length (log_of w 0)) (log_of next)) (logs_at (length (log_of w 0)) (log_of w)) each ∙ was.logs;
-  work = λ pad. was.work pad ∙ sym (work_beside i w unit e maker pad mount);
-  pads = λ asked. was.pads asked ∙ sym (pads_beside i w unit e maker mount asked);
-  victim = was.victim ∙ sym (victim_beside i w unit e maker mount);
-  copies = was.copies ∙ sym (copies_beside i w unit e maker mount);
-  slots = λ lba. was.slots lba ∙ sym (slot_stays i w unit e maker lba mount.legal);
-  room = was.room ∙ sym (room_stays i w unit e maker mount.legal);
-  spent = λ line is. spent_stays i w unit e maker line mount (was.spent line is);
+      ∙ at_named (log_of w) (log_of next) (length (log_of w 0)) (named_stays i w unit e maker mount.legal) ∙ was.logs;
+  work = λ pad. was.work pad ∙ sym (work_told i (log_of w) (log_of next) told pad [] false);
+  pads = λ asked. was.pads asked ∙ sym (pads_told i (log_of w) (log_of next) asked told);
+  victim = was.victim ∙ sym (at_work_told i (log_of w) (log_of next) told);
+  copies = was.copies ∙ sym (copies_told i (log_of w) (log_of next) told);
+  slots = λ lba. was.slots lba ∙ sym (slot_told i (log_of w) (log_of next) told lba);
+  room = was.room ∙ sym (room_told i (log_of w) (log_of next) told);
+  spent = λ line is. spent_told i (log_of w) (log_of next) told line (was.spent line is);
 }
   where
     next : World
@@ -204,13 +206,8 @@ unit_left i w unit e maker mount was = record {
     engine : log_of next 0 ≡ log_of w 0
     engine = engine_log i.shape unit e maker w
 
-    each : (author : ℕ) → logs_at (length (log_of w 0)) (log_of next) author ≡ logs_at (length (log_of w 0)) (log_of w) author
-    each zero = ap (take (length (log_of w 0))) engine
-    each (suc u) =
-        let more : (more : List Logged) × (log_of next (suc u) ≡ log_of w (suc u) ++ more) = grows (unit_step i.shape unit e maker w ∷ []) w (suc u) in
-        ap₂ (λ (own log : List Logged). take (knows_last (slice_get own (length (log_of w 0) - 1)) (suc u)) log) engine more.1
-        ∙ take-append-le (knows_last (slice_get (log_of w 0) (length (log_of w 0) - 1)) (suc u)) (log_of w (suc u)) more.0
-        (last_within i w (length (log_of w 0) - 1) (suc u) mount.legal)
+    told : AreSameTold i (log_of w) (log_of next)
+    told = told_stays i w unit e maker mount.legal
 
 events_left : (i : Image) (unit : ℕ) (w : World) (events : List UnitEvent) → IsLegalMount i (after_events i.shape unit w events) → IsLeft i w
     → IsLeft i (after_events i.shape unit w events)

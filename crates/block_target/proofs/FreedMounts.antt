@@ -6,23 +6,24 @@ use Rattle.pblk_core.specs.Copies.{is_copying}
 use Rattle.pblk_core.specs.Filling.{Filling}
 use Rattle.pblk_core.specs.Landing.{NoneUnderWay}
 use Rattle.pblk_core.specs.Named.{pad_of}
+use Rattle.pblk_world.specs.AtRest.{AreResetsNoted}
 use Rattle.pblk_world.specs.EngineLog.{begun, takes}
 use Rattle.pblk_world.specs.Events.{Free}
 use Rattle.pblk_world.specs.World.{World, log_of}
+use Rattle.step_laws.proofs.NotedSteps.{noted_then}
 use Rattle.step_laws.specs.FreedWorlds.{MightFree, freed_world}
-use Rattle.step_laws.specs.Whole.{IsKnown, IsLevel, engine_step}
+use Rattle.step_laws.specs.Whole.{IsLevel, engine_step}
 use Rattle.step_laws.proofs.EngineSteps.{engine_next}
-use Rattle.step_laws.proofs.FreedWorlds.{begun_then, known_then, later_then, level_then}
+use Rattle.step_laws.proofs.FreedWorlds.{begun_then, later_then, level_then}
 use Rattle.stripe_placer.specs.Placing.{UnitRow}
 use Rattle.unit_port.specs.Unit.{ModelUnit}
 use Rattle.block_target.specs.Deeds.{Decides, Deed, world_of}
 use Rattle.block_target.specs.Freed.{HaveFreed, freed_deeds}
 use Rattle.block_target.specs.Heart.{IsHeart}
 use Rattle.block_target.specs.declared.heart.Heart.{Heart}
-use Rattle.block_target.specs.Mount.{AreResetsNoted, IsMount, IsSound, MountView, engine_log}
+use Rattle.block_target.specs.Mount.{IsMount, IsSound, MountView, engine_log}
 use Rattle.block_target.proofs.DeedsLemmas.{world_more}
 use Rattle.block_target.proofs.EngineLengths.{no_shorter}
-use Rattle.block_target.proofs.NotedResets.{noted_then}
 use Rattle.block_target.proofs.GoingOn.{GoesOn, Leaves, begun_on, goes_decided, leaves_on, mount_on, moved_on, none_taken, takes_still}
 
 -- ---- what was done
@@ -93,25 +94,25 @@ module _ {v : MountView} {w : World} {us : List ModelUnit} (sound : IsSound v) (
     rests_still : NoneUnderWay h.core → NoneUnderWay new.core
     rests_still rests unit of at = rests unit of (ap (λ (rows : List UnitRow). slice_get rows unit) (sym frees.rows) ∙ at)
 
-    pub mount_freed : IsLevel w → AreResetsNoted (log_of w) → IsKnown v.image w → NoneUnderWay h.core → is_copying h.core ≡ false → f.shape ≡ v.image.shape
+    pub mount_freed : IsLevel w → AreResetsNoted (log_of w) → NoneUnderWay h.core → is_copying h.core ≡ false → f.shape ≡ v.image.shape
         → v.asked ≤ pad_of h.core
         → IsMount (moved_on v after us wear new.granted (pad_of new.core)) new f
-    mount_freed level noted known rests idle shape pads =
+    mount_freed level noted rests idle shape pads =
         mount_on sound goes_then after wear new f its_world (frees.freed v.image w goes.legal stands).stands
-        (level_then v.image.shape w frees.lines level) (noted_then v.image.shape w frees.lines noted) (known_then v.image w frees.lines known)
+        (level_then v.image.shape w frees.lines level) (noted_then v.image.shape w frees.lines noted)
         (rests_still rests) (frees.copying ∙ idle)
         (frees.none v.image w goes.legal stands) shape (le_trans pads frees.pad)
 
-    pub leaves_freed : (more : List Deed) → deeds ≡ v.deeds ++ more → IsLevel w → AreResetsNoted (log_of w) → IsKnown v.image w → NoneUnderWay h.core
+    pub leaves_freed : (more : List Deed) → deeds ≡ v.deeds ++ more → IsLevel w → AreResetsNoted (log_of w) → NoneUnderWay h.core
         → is_copying h.core ≡ false
         → f.shape ≡ v.image.shape → takes (log_of w 0) ≡ takes (engine_log v) → wear ≡ v.wear → v.granted ≤ h.granted → v.asked ≤ pad_of h.core
         → Leaves v (moved_on v after us wear new.granted (pad_of new.core)) new f
-    leaves_freed more grown level noted known rests idle shape untaken same_wear grants pads =
+    leaves_freed more grown level noted rests idle shape untaken same_wear grants pads =
         leaves_on sound goes_then after (more ++ freed_deeds [] frees.lines) wear new f
         (frees.deeds ∙ freed_more deeds frees.lines ∙ ap (λ (ds : List Deed). ds ++ freed_deeds [] frees.lines) grown
         ∙ append_assoc v.deeds more (freed_deeds [] frees.lines))
         its_world (frees.freed v.image w goes.legal stands).stands
-        (level_then v.image.shape w frees.lines level) (noted_then v.image.shape w frees.lines noted) (known_then v.image w frees.lines known)
+        (level_then v.image.shape w frees.lines level) (noted_then v.image.shape w frees.lines noted)
         (rests_still rests) (frees.copying ∙ idle)
         (frees.none v.image w goes.legal stands) shape (none_taken sound goes_then (takes_then v.image.shape w frees.lines ∙ untaken))
         same_wear (subst (λ n. v.granted ≤ n) (sym frees.granted) grants) (le_trans pads frees.pad)

@@ -19,29 +19,31 @@ use Rattle.pblk_core.specs.Named.{pad_of}
 use Rattle.pblk_world.proofs.EngineLogLemmas.{takes_more}
 use Rattle.pblk_world.proofs.Growing.{grows}
 use Rattle.pblk_world.proofs.WorldLemmas.{log_here}
-use Rattle.pblk_world.specs.AtRest.{logs_at}
+use Rattle.pblk_world.specs.AtRest.{AreResetsNoted, logs_at}
 use Rattle.pblk_world.specs.EngineLog.{Begun, begun, begun_by, Taken, taken_by, takes}
 use Rattle.pblk_world.specs.Events.{Decides as Event, EngineEvent, Logged, Maker}
 use Rattle.pblk_world.specs.Fronts.{first_position, is_users, synced, taken, user_takes}
 use Rattle.pblk_world.specs.Lines.{found_image}
 use Rattle.pblk_world.specs.World.{World, log_of, unit_event_of, unit_events}
 use Rattle.step_laws.proofs.EngineSteps.{engine_logs, events_still, media_still, stops_still}
-use Rattle.step_laws.proofs.UnitStays.{found_stays}
+use Rattle.step_laws.proofs.UnitStays.{named_stays, told_stays}
 use Rattle.step_laws.proofs.UnitSteps.{engine_log as engine_beside, events_elsewhere, events_now, media_elsewhere, stops_elsewhere}
-use Rattle.step_laws.specs.Whole.{IsKnown, IsLevel, engine_step, knows_all, unit_step}
+use Rattle.step_laws.specs.Whole.{IsLevel, engine_step, knows_all, unit_step}
 use Rattle.unit_port.specs.Unit.{ModelUnit}
 use Rattle.world_laws.proofs.Begun.{first_is as first_of}
 use Rattle.pblk_world.specs.Reasons.{AreBegun, AreUrgent}
+use Rattle.world_laws.specs.SameTold.{AreSameNamed}
 use Rattle.world_laws.proofs.Fronts.{begun_later, synced_later}
+use Rattle.world_laws.proofs.GrownLogs.{copies_named, order_named, stripes_named}
 use Rattle.scan_recovery.specs.DriveFaults.{AreStepsOf}
 use Rattle.block_target.specs.Arm.{IsArm}
 use Rattle.block_target.specs.Deeds.{Deed, world_of}
 use Rattle.block_target.specs.Heart.{IsHeart}
 use Rattle.block_target.specs.declared.heart.Heart.{Heart}
-use Rattle.block_target.specs.Mount.{HaveGrown, IsMount, IsSameMount, IsSound, AreResetsNoted, MountView, engine_log, logs_in, world_in}
+use Rattle.block_target.specs.Mount.{HaveGrown, IsMount, IsSameMount, IsSound, MountView, engine_log, logs_in, world_in}
 use Rattle.pblk_world.specs.Orders.{AreInOrder, IsInOrder, NoneToFree}
-use Rattle.block_target.proofs.InOrder.{in_order_beside, in_order_decided}
-use Rattle.block_target.proofs.Reasoned.{HasReason, begun_beside, begun_decided, urgent_beside, urgent_decided}
+use Rattle.block_target.proofs.InOrder.{in_order_decided}
+use Rattle.block_target.proofs.Reasoned.{HasReason, begun_decided, urgent_decided}
 use Rattle.lemmas.proofs.Parts.{get_set_other, get_set_same, got_within}
 
 -- ---- a unit, as the world goes on
@@ -148,16 +150,19 @@ module _ {v : MountView} {w : World} {us : List ModelUnit} (goes : GoesOn v w us
     whole = ap (λ (x : World). unit_step v.image.shape number e maker w ∷ x) goes.whole;
     made = ((by, omega arith), goes.made);
     legal = legal;
-    found = found_stays v.image w number e maker goes.legal.legal ∙ goes.found;
+    found = (told_stays v.image w number e maker goes.legal.legal).found ∙ goes.found;
     count = set_length us number new ∙ goes.count;
     each = each;
-    begun = λ were. begun_beside v.image w goes.legal.legal number e maker (goes.begun were);
-    urgent = λ were. urgent_beside v.image w goes.legal.legal number e maker (goes.urgent were);
-    in_order = λ were. in_order_beside v.image w goes.legal.legal number e maker (goes.in_order were);
+    begun = λ were. copies_named v.image (log_of w) (log_of next) named (goes.begun were);
+    urgent = λ were. stripes_named v.image (log_of w) (log_of next) named (goes.urgent were);
+    in_order = λ were. order_named v.image (log_of w) (log_of next) named (goes.in_order were);
   }
     where
       next : World
       next = unit_step v.image.shape number e maker w ∷ w
+
+      named : AreSameNamed (log_of w) (log_of next)
+      named = named_stays v.image w number e maker goes.legal.legal
 
       here : slice_get (slice_set us number new) number ≡ Some new
       here = get_set_same us number new (slice_get_within us number was there)
@@ -289,9 +294,9 @@ module _ {v : MountView} {w : World} {us : List ModelUnit} (sound : IsSound v) (
 
   -- with a heart that stands for it
   pub mount_on : (deeds : List Deed) (wear : List (List ℕ)) (h : Heart) (f : Filling) → world_of v.image.shape deeds ≡ w → IsHeart v.image (log_of w) h
-      → IsLevel w → AreResetsNoted (log_of w) → IsKnown v.image w → NoneUnderWay h.core → is_copying h.core ≡ false → NoneToFree v.image (log_of w)
+      → IsLevel w → AreResetsNoted (log_of w) → NoneUnderWay h.core → is_copying h.core ≡ false → NoneToFree v.image (log_of w)
       → f.shape ≡ v.image.shape → v.asked ≤ pad_of h.core → IsMount (moved_on v deeds us wear h.granted (pad_of h.core)) h f
-  mount_on deeds wear h f is stands level noted known rests idle settled shape pads = record {
+  mount_on deeds wear h f is stands level noted rests idle settled shape pads = record {
     sound = sound_on deeds wear h.granted (pad_of h.core) is;
     heart = subst (λ (x : World). IsHeart v.image (log_of x) h) (sym is) stands;
     pad = refl;
@@ -299,7 +304,6 @@ module _ {v : MountView} {w : World} {us : List ModelUnit} (sound : IsSound v) (
     granted = refl;
     level = subst IsLevel (sym is) level;
     noted = subst (λ (x : World). AreResetsNoted (log_of x)) (sym is) noted;
-    known = subst (IsKnown v.image) (sym is) known;
     resting = rests;
     idle = idle;
     settled = subst (λ (x : World). NoneToFree v.image (log_of x)) (sym is) settled;
@@ -307,12 +311,12 @@ module _ {v : MountView} {w : World} {us : List ModelUnit} (sound : IsSound v) (
   }
 
   pub leaves_on : (deeds more : List Deed) (wear : List (List ℕ)) (h : Heart) (f : Filling) → deeds ≡ v.deeds ++ more → world_of v.image.shape deeds ≡ w
-      → IsHeart v.image (log_of w) h → IsLevel w → AreResetsNoted (log_of w) → IsKnown v.image w → NoneUnderWay h.core → is_copying h.core ≡ false
+      → IsHeart v.image (log_of w) h → IsLevel w → AreResetsNoted (log_of w) → NoneUnderWay h.core → is_copying h.core ≡ false
       → NoneToFree v.image (log_of w)
       → f.shape ≡ v.image.shape → KeepsUsers (engine_log v) (log_of w 0) → wear ≡ v.wear → v.granted ≤ h.granted → v.asked ≤ pad_of h.core
       → Leaves v (moved_on v deeds us wear h.granted (pad_of h.core)) h f
-  leaves_on deeds more wear h f grown is stands level noted known rests idle settled shape keeps same_wear grants pads = record {
-    mount = mount_on deeds wear h f is stands level noted known rests idle settled shape pads;
+  leaves_on deeds more wear h f grown is stands level noted rests idle settled shape keeps same_wear grants pads = record {
+    mount = mount_on deeds wear h f is stands level noted rests idle settled shape pads;
     same = subst (λ (ds : List Deed). IsSameMount v (moved_on v ds us wear h.granted (pad_of h.core))) (sym grown)
         (same_on more wear h.granted (pad_of h.core) (sym (ap (world_of v.image.shape) grown) ∙ is) keeps same_wear grants);
     asked = refl;

@@ -39,7 +39,7 @@ use Rattle.core_laws.proofs.ChunksInRows.{rows_of_chunks}
 use Rattle.pblk_world.specs.Reasons.{WasAsked, WasRoom}
 use Rattle.block_target.specs.Heart.{IsBeating, IsHeart, IsRenewed, OfItsMount, decided}
 use Rattle.block_target.specs.declared.heart.Heart.{Heart}
-use Rattle.block_target.proofs.CopiesTold.{pads_told}
+use Rattle.world_laws.proofs.ToldPads.{pads_told}
 use Rattle.block_target.proofs.HeartGrants.{all_granted, grant_kept}
 use Rattle.block_target.proofs.OnceRoom.{greater, room_later, room_less}
 use Rattle.block_target.proofs.PadsAsked.{asked_greater, asked_later, asked_less, asks_at_most}
@@ -142,7 +142,7 @@ module _ (i : Image) (w : World) (e : EngineEvent) (knows : List ℕ) where
       within = le_refl (length (log_of later 0));
       why = inr (
           let is : pad_target i ends_at 0 ≡ pad_target i (log_of later) 0 =
-          pads_told i (log_of later) ends_at (same_told i later ends_at legal same_named) 0 in
+          pads_told i (log_of later) ends_at 0 (same_told i later ends_at legal same_named) in
           omega (arith, is));
     }
 

@@ -5,19 +5,18 @@ use Rattle.std.specs.Prelude.{⊤, slice_get}
 use Rattle.std.proofs.lemmas.Bool.{cases_lt}
 use Rattle.std.proofs.lemmas.Option.{none-some, same_Some, slice_get_within}
 use Rattle.pblk_model.specs.Image.{Image}
-use Rattle.pblk_model.specs.UnitLog.{UnitEvent}
 use Rattle.pblk_world.specs.AtRest.{logs_at}
 use Rattle.pblk_world.specs.EngineLog.{Begun, begun, begun_by}
-use Rattle.pblk_world.specs.Events.{Again, Begin, Beginning, Decides, Does, EngineEvent, Event, Free, Landed, Logged, Lost, Maker, Open, Place, ResetDone, Take}
+use Rattle.pblk_world.specs.Events.{Again, Begin, Beginning, Decides, Does, EngineEvent, Event, Free, Landed, Logged, Lost, Open, Place, ResetDone, Take}
 use Rattle.pblk_world.specs.Legal.{IsLegal}
 use Rattle.pblk_world.specs.World.{World, Logs, known, log_of}
 use Rattle.core_laws.specs.StripePrograms.{HasHappened}
 use Rattle.core_laws.proofs.Happened.{happened}
-use Rattle.step_laws.specs.Whole.{engine_step, unit_step}
+use Rattle.step_laws.specs.Whole.{engine_step}
 use Rattle.lemmas.proofs.Parts.{get_taken, got_within}
 use Rattle.pblk_world.specs.Orders.{AreAfterResets, AreInOrder, AreOpenedFull, IsInOrder, NoneToFree, NoneWasLeft}
 use Rattle.block_target.proofs.OnceRoom.{same_lengths}
-use Rattle.block_target.proofs.Reasoned.{added, at_before, none_added}
+use Rattle.block_target.proofs.Reasoned.{added, at_before}
 
 -- ---- a longer world
 
@@ -55,10 +54,6 @@ module _ (i : Image) (w : World) (legal : IsLegal i w) where
       subst (λ (logs : Logs). IsInOrder i logs other)
       (sym (ap (λ n. logs_at n (log_of (engine_step i.shape e w ∷ w))) same
       ∙ same_lengths i (engine_step i.shape e w ∷ []) w (length (log_of w 0)) legal some_before (le_refl (length (log_of w 0))))) its)
-
-  pub in_order_beside : (unit : ℕ) (e : UnitEvent) (maker : Maker) → AreInOrder i (log_of w) → AreInOrder i (log_of (unit_step i.shape unit e maker w ∷ w))
-  in_order_beside unit e maker = in_order_later i (unit_step i.shape unit e maker w ∷ []) w legal (λ k knows other from some at.
-      absurd (none_added i.shape unit e maker w k (record { event = Decides other; knows = knows }) from at))
 
 -- ---- what follows of the log
 

@@ -5,7 +5,6 @@ pub mod ClosedEnd
 pub mod TidyCloses
 pub mod ClosedPorts
 pub mod CopiedMount
-pub mod CopiesTold
 pub mod DeviceFronts
 pub mod EngineLengths
 pub mod GrantedRoom
@@ -15,7 +14,6 @@ pub mod Moments
 pub mod NamedAnswers
 pub mod AllAnswered
 pub mod InOrder
-pub mod NotedResets
 pub mod OrderedMounts
 pub mod PlacedSpent
 pub mod PumpedFrames
@@ -36,7 +34,6 @@ pub mod Spent
 pub mod TakenMount
 pub mod KeptRoom
 pub mod TakenSectors
-pub mod UnitStands
 pub mod UrgentStripes
 pub mod Written
 pub mod MountLemmas

@@ -1,6 +1,6 @@
 -- The logs at a length of the engine's log stay as the world grows. So does what there once was
 -- room for.
-use Rattle.std.proofs.Common.{◌≡◌, ◌⊎◌, inl, inr, ℕ, ◌-◌, ◌<◌, ◌≤◌, max, zero, suc, Some, None, Option, List, [], ◌∷◌, ◌++◌, length, take, refl, sym, subst, ap, ap₂, ◌∙◌, arith, le_trans, le_refl}
+use Rattle.std.proofs.Common.{◌≡◌, ◌⊎◌, inl, inr, ℕ, ◌-◌, ◌<◌, ◌≤◌, max, zero, suc, Some, None, Option, List, ◌∷◌, ◌++◌, length, take, refl, sym, subst, ap, ap₂, ◌∙◌, arith, le_trans, le_refl}
 use Rattle.std.specs.Prelude.{slice_get}
 use Rattle.std.proofs.lemmas.Bool.{cases_order}
 use Rattle.std.proofs.lemmas.List.{take-append-le}
@@ -15,6 +15,8 @@ use Rattle.pblk_world.proofs.Growing.{grows}
 use Rattle.core_laws.specs.StripePrograms.{HasHappened}
 use Rattle.core_laws.proofs.Happened.{happened}
 use Rattle.step_laws.specs.Whole.{unit_step}
+use Rattle.world_laws.proofs.GrownLogs.{at_named}
+use Rattle.step_laws.proofs.UnitStays.{named_stays}
 use Rattle.step_laws.proofs.UnitSteps.{engine_log}
 use Rattle.pblk_world.specs.Reasons.{WasRoom}
 use Rattle.lemmas.proofs.Numbers.{fun_same}
@@ -52,7 +54,7 @@ pub same_beside : (i : Image) (w : World) (unit : ℕ) (e : UnitEvent) (maker : 
     ≡ logs_at (length (log_of w 0)) (log_of w)
 same_beside i w unit e maker legal some =
     ap (λ (log : List Logged). logs_at (length log) (log_of (unit_step i.shape unit e maker w ∷ w))) (engine_log i.shape unit e maker w)
-    ∙ same_lengths i (unit_step i.shape unit e maker w ∷ []) w (length (log_of w 0)) legal some (le_refl (length (log_of w 0)))
+    ∙ at_named (log_of w) (log_of (unit_step i.shape unit e maker w ∷ w)) (length (log_of w 0)) (named_stays i w unit e maker legal)
 
 -- ---- what there was room for
 

@@ -3,7 +3,7 @@
 use Rattle.std.proofs.Common.{◌≡◌, ◌≢◌, ℕ, length, sym, subst, ◌∙◌}
 use Rattle.pblk_world.specs.AtRest.{logs_at}
 use Rattle.pblk_world.specs.World.{log_of}
-use Rattle.step_laws.proofs.SpentStays.{none_by_spent}
+use Rattle.core_laws.proofs.ToldSpent.{none_by_spent}
 use Rattle.pblk_core.specs.Filling.{Filling}
 use Rattle.pblk_core.specs.declared.work.Work.{Work}
 use Rattle.pblk_core.specs.declared.work.Work.TheVariants as works

@@ -6,15 +6,15 @@ use Rattle.std.specs.List.{filter, last_or}
 use Rattle.std.specs.Option.{option_and_then, option_map, option_map_or}
 use Rattle.std.proofs.lemmas.Bool.{cases_lt}
 use Rattle.pblk_model.specs.Image.{Image}
-use Rattle.pblk_world.specs.AtRest.{IsCopyDue, asked_by, logs_at, pad_target, victim_now}
+use Rattle.pblk_world.specs.AtRest.{asked_by, logs_at, pad_target, victim_now}
 use Rattle.pblk_world.specs.EngineLog.{Taken, life_of, takes}
-use Rattle.pblk_world.specs.Fronts.{taken}
 use Rattle.pblk_world.specs.Legal.{IsLegal}
 use Rattle.pblk_world.specs.Space.{is_due}
 use Rattle.pblk_world.specs.Victims.{live, taken_up_to, took_from}
 use Rattle.pblk_world.specs.World.{World, Logs, log_of}
 use Rattle.pblk_world.specs.LegalMounts.{IsLegalMount}
 use Rattle.pblk_world.specs.Reasons.{WasAsked}
+use Rattle.world_laws.proofs.GrownLogs.{MayAsk}
 use Rattle.core_laws.specs.RowsOf.{row_of_line, taker_by}
 use Rattle.core_laws.proofs.TakenRows.{taker_is}
 use Rattle.core_laws.proofs.VictimsAtWork.{IsVictim, victim_is_closed}
@@ -28,10 +28,6 @@ use Rattle.block_target.proofs.OnceRoom.{same_lengths}
 use Rattle.lemmas.proofs.Tests.{le_of_lt_false}
 
 -- ---- at an earlier length
-
--- so far pads may be asked for, as these logs are
-abbrev pub MayAsk : Image → ℕ → Logs → Type 0
-MayAsk i upto logs = ((upto ≤ taken (logs 0)) × (¬ IsCopyDue i logs)) ⊎ (upto ≤ pad_target i logs 0)
 
 less_far : (i : Image) (logs : Logs) (upto less : ℕ) → less ≤ upto → MayAsk i upto logs → MayAsk i less logs
 less_far i logs upto less low (inl own) = inl (le_trans low own.0, own.1)

@@ -33,7 +33,7 @@ use Rattle.core_laws.proofs.SteppingLemmas.{found_kept}
 use Rattle.core_laws.proofs.TakenNumbers.{first_stays}
 use Rattle.step_laws.specs.Whole.{engine_step, knows_all}
 use Rattle.step_laws.proofs.EngineSteps.{engine_logs}
-use Rattle.step_laws.proofs.SpentStays.{none_by_spent}
+use Rattle.core_laws.proofs.ToldSpent.{none_by_spent}
 use Rattle.lemmas.proofs.Lists.{all_contains, all_imply, among_contained, among_more}
 use Rattle.lemmas.proofs.Maps.{any_agree, filter_same}
 use Rattle.lemmas.proofs.Numbers.{fun_same}

@@ -12,7 +12,7 @@ use Rattle.pblk_world.specs.Opening.{MayOpen}
 use Rattle.pblk_world.specs.World.{World, log_of}
 use Rattle.pblk_world.specs.LegalMounts.{IsLegalMount}
 use Rattle.step_laws.proofs.EngineSteps.{engine_next}
-use Rattle.step_laws.proofs.Known.{known_still}
+use Rattle.step_laws.proofs.NotedSteps.{noted_decided}
 use Rattle.step_laws.proofs.Levels.{level_by}
 use Rattle.step_laws.specs.Whole.{engine_step, knows_all}
 use Rattle.stripe_placer.specs.Placing.{UnitRow}
@@ -23,7 +23,6 @@ use Rattle.block_target.specs.Mount.{IsMount, MountView, engine_log, logs_in, wo
 use Rattle.block_target.specs.declared.heart.Heart.{Heart}
 use Rattle.block_target.proofs.DeedsLemmas.{world_more}
 use Rattle.block_target.proofs.FreedMounts.{leaves_freed}
-use Rattle.block_target.proofs.NotedResets.{noted_decided}
 use Rattle.block_target.proofs.OrderedMounts.{lacks_address_now, none_to_free_now, none_to_reset_now}
 use Rattle.block_target.proofs.GoingOn.{GoesOn, Leaves, goes_decided, goes_none, longer_decided, moved_on, takes_still}
 use Rattle.block_target.proofs.MountLemmas.{asked_within}
@@ -62,7 +61,6 @@ module _ {v : MountView} {h : Heart} {f : Filling} (m : IsMount v h f) (line : �
       leaves_freed m.sound goes done v.wear mid new f last its_world (stands mid beats) frees (Decides (Open line start) ∷ []) refl
       (level_by v.image.shape (Open line start) (world_in v) (λ unit. refl) m.level)
       (noted_decided v.image.shape (Open line start) (world_in v) m.noted)
-      (known_still v.image (world_in v) (Open line start) refl (λ unit. refl) m.known)
       (λ unit of is. m.resting unit of (ap (λ (us : List UnitRow). slice_get us unit) (sym rows) ∙ is)) (copying ∙ m.idle) m.stripe
       (takes_still v.image.shape (Open line start) (world_in v) refl) refl grants (asked_within m (pad_of mid.core) pads)
 

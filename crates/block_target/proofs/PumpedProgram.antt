@@ -7,7 +7,7 @@ use Rattle.pblk_model.specs.UnitLog.{Answered, Failed, Stopped, UnitEvent, UnitO
 use Rattle.pblk_world.proofs.Answered.{answers_fit}
 use Rattle.pblk_world.proofs.WorldLemmas.{log_here}
 use Rattle.pblk_world.specs.Answering.{MayLand, MayLose, MayOfferAgain}
-use Rattle.pblk_world.specs.AtRest.{logs_at}
+use Rattle.pblk_world.specs.AtRest.{AreResetsNoted, logs_at}
 use Rattle.pblk_world.specs.Commanding.{is_reset}
 use Rattle.pblk_world.specs.EngineLog.{Answer, Placed, answers, placed_on, takes}
 use Rattle.pblk_world.specs.Events.{Again, EngineEvent, Landed, Lost, Logged, Place, Stripe}
@@ -20,13 +20,13 @@ use Rattle.core_laws.specs.PlacerOf.{unanswered_on}
 use Rattle.pblk_world.specs.LegalMounts.{IsLegalMount}
 use Rattle.pblk_world.specs.Orders.{NoneToFree}
 use Rattle.step_laws.proofs.EngineSteps.{engine_next}
-use Rattle.step_laws.proofs.Known.{known_still}
 use Rattle.step_laws.proofs.Levels.{level_by}
-use Rattle.step_laws.proofs.Noted.{landing_known, landing_legal, landing_level, losing_known, losing_legal, losing_level, stopping_known, stopping_legal, stopping_level}
+use Rattle.step_laws.proofs.NotedSteps.{no_reset, noted_beside, noted_decided}
+use Rattle.step_laws.proofs.Noted.{landing_legal, landing_level, losing_legal, losing_level, stopping_legal, stopping_level}
 use Rattle.step_laws.proofs.Programs.{may_land, may_offer_again, of_stripe, unit_in_range}
 use Rattle.step_laws.specs.NextEvents.{CanProgram}
 use Rattle.step_laws.proofs.UnitSteps.{engine_longer, is_new}
-use Rattle.step_laws.specs.Whole.{IsKnown, IsLevel, after_unit, engine_step, knows_all, next_event, next_maker, noted}
+use Rattle.step_laws.specs.Whole.{IsLevel, after_unit, engine_step, knows_all, next_event, next_maker, noted}
 use Rattle.stripe_placer.specs.Placing.{Program}
 use Rattle.stripe_placer.specs.Placing.UnitRow.{UnderWay}
 use Rattle.unit_port.specs.Armed.{is_fail, is_stop}
@@ -43,7 +43,7 @@ use Rattle.block_target.specs.Deeds.{Decides, Deed, Does, Lands, Loses, Offers, 
 use Rattle.block_target.specs.Freed.{HaveFreed}
 use Rattle.block_target.specs.Heart.{BeatsAfter, IsBeating, IsHeart, OfItsMount, BeatsAfterAnswer, CanNote}
 use Rattle.scan_recovery.specs.DriveFaults.{IsDriveFaultAt, NoDriveFaults, is_fetch}
-use Rattle.block_target.specs.Mount.{AreResetsNoted, IsMount, MountView, engine_log, work_in, world_in}
+use Rattle.block_target.specs.Mount.{IsMount, MountView, engine_log, work_in, world_in}
 use Rattle.block_target.specs.declared.heart.Heart.{Heart}
 use Rattle.block_target.proofs.DeedsLemmas.{landed_world, lost_world, stopped_world, world_more}
 use Rattle.block_target.proofs.FreedMounts.{leaves_freed}
@@ -56,7 +56,6 @@ use Rattle.block_target.proofs.GoingOn.{GoesOn, Leaves, begun_on, goes_decided, 
 use Rattle.block_target.proofs.HeartBeside.{heart_beside}
 use Rattle.block_target.proofs.MountLemmas.{asked_within}
 use Rattle.block_target.proofs.LostCommands.{is_lost_one, none_lost_one}
-use Rattle.block_target.proofs.NotedResets.{no_reset, noted_beside, noted_decided}
 use Rattle.block_target.proofs.Reasoned.{PlacesFor}
 use Rattle.block_target.proofs.UrgentStripes.{placed_for}
 use Rattle.pblk_model.proofs.MarksLemmas.{accepted_small}
@@ -98,7 +97,6 @@ pub record IsToProgram (v : MountView) (mid : Heart) (stripe : Stripe) (w : Worl
   pub level : IsLevel w
   pub noted : AreResetsNoted (log_of w)
   pub none_left : NoneToFree v.image (logs_at (length (log_of w 0)) (log_of w))
-  pub known : IsKnown v.image w
   pub takes : takes (log_of w 0) ≡ takes (engine_log v)
   pub placed : Placed
   pub waits : unanswered_on (log_of w 0) stripe.unit ≡ Some placed
@@ -168,7 +166,6 @@ module _ {v : MountView} {h : Heart} {f : Filling} (m : IsMount v h f) (named : 
       none_left = subst (NoneToFree v.image) (sym (whole_decided v.image (world_in v) (Place into.stripe) legal))
           (none_placed v.image (world_in v) m.sound.beginning into.stripe m.sound.legal legal m.sound.has_begun may m.heart.stands.full
           m.settled);
-      known = known_still v.image (world_in v) (Place into.stripe) refl (λ unit. refl) m.known;
       takes = takes_still v.image.shape (Place into.stripe) (world_in v) refl;
       placed = now_placed;
       waits = now_waits;
@@ -183,7 +180,6 @@ module _ {v : MountView} {h : Heart} {f : Filling} (m : IsMount v h f) (named : 
         level = m.level;
         noted = m.noted;
         none_left = none_to_free_now m;
-        known = m.known;
         takes = refl;
         placed = was.0.placed;
         waits = was.0.unanswered;
@@ -331,7 +327,6 @@ module _ {v : MountView} {h : Heart} {f : Filling} (m : IsMount v h f) {mid : He
           frees more.0 (is ∙ more.1)
           (landing_level v.image w stripe.unit ready.placed e (next_maker w) ready.goes.legal can done ready.level)
           (noted_decided v.image.shape note programmed noted_programmed)
-          (landing_known v.image w stripe.unit ready.placed e (next_maker w) ready.goes.legal can done ready.known)
           rests (copying ∙ m.idle) shape takes_landed same_wear grants (asked_within m (pad_of after.core) pads))
 
       pub landed_more : (last : List Deed) → last ≡ with_answer deeds stripe.unit (last_of new) (Lands stripe.unit)
@@ -410,7 +405,6 @@ module _ {v : MountView} {h : Heart} {f : Filling} (m : IsMount v h f) {mid : He
           frees more.0 (is ∙ more.1)
           (losing_level v.image w stripe.unit ready.placed e (next_maker w) ready.goes.legal can k failed ready.level)
           (noted_decided v.image.shape loss programmed noted_programmed)
-          (losing_known v.image w stripe.unit ready.placed e (next_maker w) ready.goes.legal can k failed ready.known)
           rests (copying ∙ m.idle) shape takes_lost same_wear grants (asked_within m (pad_of after.core) pads))
 
       pub lost_more : (last : List Deed) → last ≡ with_answer deeds stripe.unit (last_of new) (Loses stripe.unit)
@@ -470,7 +464,6 @@ module _ {v : MountView} {h : Heart} {f : Filling} (m : IsMount v h f) {mid : He
           frees more.0 (is ∙ more.1)
           (stopping_level v.image w stripe.unit ready.placed e (next_maker w) ready.goes.legal can k stops ready.level)
           (noted_decided v.image.shape again programmed noted_programmed)
-          (stopping_known v.image w stripe.unit ready.placed e (next_maker w) ready.goes.legal can k stops ready.known)
           rests (copying ∙ m.idle) shape takes_stopped same_wear grants (asked_within m (pad_of after.core) pads))
 
       pub stopped_more : (last : List Deed) → last ≡ with_answer deeds stripe.unit (last_of new) (Offers stripe.unit)

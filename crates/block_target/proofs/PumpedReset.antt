@@ -13,14 +13,16 @@ use Rattle.pblk_model.specs.declared.chunk.ChunkState.{ChunkState}
 use Rattle.pblk_model.specs.declared.chunk.ChunkState.TheVariants as states
 use Rattle.pblk_laws.specs.LineBlocks.{chunk_in}
 use Rattle.pblk_world.specs.Commanding.{is_stopped_reset, was_stopped}
-use Rattle.pblk_world.specs.EngineLog.{takes}
+use Rattle.pblk_world.specs.EngineLog.{is_opened, life_of, takes}
 use Rattle.pblk_world.specs.Events.{EngineEvent, ResetDone}
-use Rattle.pblk_world.specs.Lines.{known_image}
+use Rattle.pblk_world.specs.Lines.{known_image, strays_of}
 use Rattle.pblk_world.specs.World.{World, log_of, media, unit_events}
 use Rattle.pblk_world.specs.LegalMounts.{IsLegalMount}
+use Rattle.pblk_world.proofs.LinesLemmas.{not_given_up}
+use Rattle.world_laws.proofs.NotedChunks.{as_known, used_or_stopped}
 use Rattle.pblk_world.specs.Orders.{NoneToFree}
-use Rattle.step_laws.proofs.GivenUp.{may_note, noted_known, noted_legal, noted_level, reset_level, reset_stopped}
-use Rattle.step_laws.proofs.Known.{known_as_is, used_or_stopped}
+use Rattle.step_laws.proofs.GivenUp.{may_note, noted_legal, noted_level, reset_level}
+use Rattle.step_laws.proofs.NotedSteps.{noted_beside, noted_reset}
 use Rattle.step_laws.proofs.Readied.{stop_is}
 use Rattle.step_laws.proofs.SpentStays.{none_beside}
 use Rattle.step_laws.proofs.UnitStays.{known_stays}
@@ -48,7 +50,6 @@ use Rattle.block_target.proofs.GoingOn.{GoesOn, Leaves, goes_decided, goes_given
 use Rattle.block_target.proofs.HeartBeside.{heart_beside}
 use Rattle.block_target.proofs.MountLemmas.{asked_within}
 use Rattle.block_target.proofs.LostCommands.{is_lost_one, none_lost_one}
-use Rattle.block_target.proofs.NotedResets.{noted_beside, noted_reset}
 use Rattle.block_target.proofs.OnceRoom.{same_beside}
 use Rattle.block_target.proofs.OrderedMounts.{none_to_free_now}
 
@@ -71,7 +72,11 @@ module _ {v : MountView} {h : Heart} {f : Filling} (m : IsMount v h f) (line uni
   -- the chunk, as it stands on the drive
   found : (d : Chunk) × (chunk_in (media i (log_of w)) line unit ≡ Some d)
       × (IsUsed d.state ⊎ (list_any (is_stopped_reset line) (unit_events (log_of w) unit) ≡ true))
-  found = used_or_stopped i (log_of w) unit line is.chunk (m.known unit line) is.is_chunk (is_used is.chunk.state is.used)
+  found = used_or_stopped i w m.sound.legal.legal m.sound.beginning m.sound.has_begun unit line m.noted is.chunk is.is_chunk
+      (is_used is.chunk.state is.used)
+
+  not_opened : is_opened (life_of (log_of w 0) line) ≡ false
+  not_opened = not_given_up (strays_of (log_of w 0)) line (life_of (log_of w 0) line) is.given_up
 
   -- what the unit's log had when it was handed in
   abbrev pub before_of : (was : ModelUnit) → slice_get v.units unit ≡ Some was → ModelUnit
@@ -143,7 +148,6 @@ module _ {v : MountView} {h : Heart} {f : Filling} (m : IsMount v h f) (line uni
           (ap (world_of i.shape) done ∙ given_world i.shape v.deeds unit (last_of new) e given.last) heart_left
           (reset_level i w unit e (next_maker w) can m.level)
           (noted_beside i.shape unit e (next_maker w) w (λ reset. ap was_stopped stops) m.noted)
-          (reset_stopped i w unit e (next_maker w) can (ap was_stopped stops) m.sound.legal.legal m.known)
           m.resting m.idle (none_beside i w m.sound.beginning unit e (next_maker w) m.sound.legal given.legal m.sound.has_begun m.heart.stands.full
           m.settled) m.stripe (none_taken m.sound goes takes_left) same_wear low (asked_within m (pad_of h.core) (le_refl (pad_of h.core))))
 
@@ -164,7 +168,10 @@ module _ {v : MountView} {h : Heart} {f : Filling} (m : IsMount v h f) (line uni
       -- the engine knew the chunk as it was
       known_then : chunk_in (known_image i (log_of left)) line unit ≡ Some found.0
       known_then = ap (λ (j : Image). chunk_in j line unit) (known_stays i w unit e (next_maker w) m.sound.legal.legal)
-          ∙ known_as_is i (log_of w) unit line (running i (log_of w) unit e can.can ends) (m.known unit line) ∙ found.1
+          ∙ is.is_chunk
+          ∙ sym (as_known i w m.sound.legal.legal m.sound.beginning m.sound.has_begun unit line m.noted is.chunk not_opened
+          (running i (log_of w) unit e can.can ends) is.is_chunk)
+          ∙ found.1
 
       is_reset : (state : ChunkState) (c : Chunk) → slice_get new.media line ≡ Some c → state ≡ c.state → IsResetTo i (log_of left) unit number line state
       is_reset state c at is_state =
@@ -227,7 +234,6 @@ module _ {v : MountView} {h : Heart} {f : Filling} (m : IsMount v h f) (line uni
           (lasts ∙ append_assoc v.deeds (Does unit (last_of new) ∷ []) (NotesReset unit ∷ []))
           (noted_level i w unit e (next_maker w) can m.level)
           (noted_reset i.shape unit e (next_maker w) w m.noted)
-          (noted_known i w unit e (next_maker w) can ends m.sound.legal m.known)
           (λ other of there. m.resting other of (ap (λ (us : List UnitRow). slice_get us other) (sym rows) ∙ there)) (copying ∙ m.idle) m.stripe takes_noted
           same_wear grants (asked_within m (pad_of after.core) pads))
 

@@ -20,7 +20,7 @@ use Rattle.pblk_world.specs.Commanding.{is_program, is_reset}
 use Rattle.pblk_world.specs.Events.{Maker}
 use Rattle.pblk_world.specs.World.{World, log_of, media}
 use Rattle.step_laws.proofs.Fetches.{media_stays}
-use Rattle.step_laws.proofs.Known.{known_at_fetch}
+use Rattle.step_laws.proofs.NotedSteps.{no_reset, noted_beside}
 use Rattle.step_laws.proofs.SpentStays.{none_beside}
 use Rattle.step_laws.proofs.Levels.{ends_by_command, level_unit}
 use Rattle.step_laws.proofs.UnitSteps.{found_there}
@@ -43,7 +43,6 @@ use Rattle.block_target.proofs.GivenCommands.{can_do}
 use Rattle.block_target.proofs.GoingOn.{GoesOn, Leaves, goes_given, goes_none, leaves_on, moved_on, none_taken, one_more, takes_beside}
 use Rattle.block_target.proofs.MountLemmas.{asked_within}
 use Rattle.block_target.proofs.HeartBeside.{heart_beside}
-use Rattle.block_target.proofs.NotedResets.{no_reset, noted_beside}
 use Rattle.block_target.proofs.LostCommands.{is_lost_one, none_lost_one}
 use Rattle.lemmas.proofs.Parts.{all_get, got_within}
 use Rattle.lemmas.proofs.Tests.{lt_true}
@@ -210,7 +209,6 @@ module _ {v : MountView} {h : Heart} {f : Filling} (m : IsMount v h f) (unit chu
         (heart_beside v.image w unit e (next_maker w) h m.sound.legal m.heart)
         (level_unit v.image.shape unit e (next_maker w) w (ends_by_command e (ap is_program given.command_is)) m.level)
         (noted_beside v.image.shape unit e (next_maker w) w (no_reset e (ap is_reset given.command_is)) m.noted)
-        (known_at_fetch v.image w unit e (next_maker w) m.sound.legal.legal number given.command_is m.known)
         m.resting m.idle (none_beside v.image w m.sound.beginning unit e (next_maker w) m.sound.legal given.legal m.sound.has_begun
         m.heart.stands.full m.settled) m.stripe (none_taken m.sound goes (takes_beside v.image.shape unit e (next_maker w) w)) same_wear low
         (asked_within m (pad_of h.core) (le_refl (pad_of h.core))))

@@ -9,28 +9,21 @@ use Rattle.std.proofs.lemmas.Option.{same_Some, slice_get_within}
 use Rattle.pblk_model.specs.declared.chunk.Mark.{Mark}
 use Rattle.pblk_model.specs.declared.shape.Shape.{Shape}
 use Rattle.pblk_model.specs.Image.{Image}
-use Rattle.pblk_model.specs.UnitLog.{UnitEvent}
 use Rattle.lemmas.proofs.Parts.{get_first, get_last}
-use Rattle.pblk_world.specs.AtRest.{IsCopyDue, IsUrgent, logs_at}
-use Rattle.pblk_world.specs.Events.{EngineEvent, Begin, Take, Open, Place, Landed, Lost, Again, ResetDone, Free, Entry, Event, Decides, Does, Logged, Maker, Source, Step, Stripe}
+use Rattle.pblk_world.specs.AtRest.{IsUrgent, logs_at}
+use Rattle.pblk_world.specs.Events.{EngineEvent, Begin, Take, Open, Place, Landed, Lost, Again, ResetDone, Free, Entry, Event, Decides, Does, Logged, Source, Step, Stripe}
 use Rattle.pblk_world.specs.EngineLog.{bears_position}
-use Rattle.pblk_world.specs.Fronts.{last_take}
 use Rattle.pblk_world.specs.Legal.{IsLegal}
-use Rattle.pblk_world.specs.Taking.{IsPlaceOfLatest}
 use Rattle.pblk_world.specs.World.{World, Logs, log_of}
 use Rattle.pblk_world.proofs.Growing.{grows}
 use Rattle.pblk_world.proofs.WorldLemmas.{log_here}
-use Rattle.step_laws.specs.Whole.{engine_step, unit_step}
-use Rattle.step_laws.proofs.UnitSteps.{engine_log}
+use Rattle.step_laws.specs.Whole.{engine_step}
 use Rattle.pblk_world.specs.Reasons.{AreBegun, AreUrgent, WasBegun, WasUrgent}
+use Rattle.world_laws.proofs.GrownLogs.{IsBegunIn}
 use Rattle.block_target.proofs.OnceRoom.{room_later, same_lengths}
 use Rattle.block_target.proofs.PadsAsked.{asked_later}
 
 -- ---- a longer world
-
--- a copy is due there, of this sector from this source
-abbrev pub IsBegunIn : Image → ℕ → Source → Logs → Type 0
-IsBegunIn i lba source logs = (due : IsCopyDue i logs) × (source.line ≡ due.line) × IsPlaceOfLatest i logs lba source (last_take (logs 0) lba)
 
 module _ (i : Image) (later w : World) (legal : IsLegal i w) where
   engine : (more : List Logged) × (log_of (later ++ w) 0 ≡ log_of w 0 ++ more)
@@ -143,15 +136,6 @@ added s e w k l from at = (
         let within : k < length (log_of (engine_step s e w ∷ w) 0) = slice_get_within (log_of (engine_step s e w ∷ w) 0) k l at in
         omega (arith, long)
 
--- a step of a unit adds none
-pub none_added : (s : Shape) (unit : ℕ) (e : UnitEvent) (maker : Maker) (w : World) (k : ℕ) (l : Logged) → length (log_of w 0) ≤ k
-    → slice_get (log_of (unit_step s unit e maker w ∷ w) 0) k ≡ Some l → ⊥
-none_added s unit e maker w k l from at =
-    let within : k < length (log_of (unit_step s unit e maker w ∷ w) 0) = slice_get_within (log_of (unit_step s unit e maker w ∷ w) 0) k l at in
-    let same : length (log_of (unit_step s unit e maker w ∷ w) 0) ≡ length (log_of w 0) =
-    ap (λ (log : List Logged). length log) (engine_log s unit e maker w) in
-    omega (arith, same)
-
 module _ (i : Image) (w : World) (legal : IsLegal i w) where
   pub begun_decided : (e : EngineEvent) → HasReason i (log_of w) e → AreBegun i (log_of w) → AreBegun i (log_of (engine_step i.shape e w ∷ w))
   begun_decided e reason = are_begun_later i (engine_step i.shape e w ∷ []) w legal (λ k knows entry mark source from at of.
@@ -167,11 +151,3 @@ module _ (i : Image) (w : World) (legal : IsLegal i w) where
       let its : PlacesFor i (log_of w) stripe = subst (λ (l : Logged). ReasonOf i (log_of w) l.event) is.1 reason in
       subst (WasUrgent i (log_of (engine_step i.shape e w ∷ w))) (sym is.0)
       (urgent_later i (engine_step i.shape e w ∷ []) w legal (length (log_of w 0)) (le_refl (length (log_of w 0))) (its position bears)))
-
-  pub urgent_beside : (unit : ℕ) (e : UnitEvent) (maker : Maker) → AreUrgent i (log_of w) → AreUrgent i (log_of (unit_step i.shape unit e maker w ∷ w))
-  urgent_beside unit e maker = are_urgent_later i (unit_step i.shape unit e maker w ∷ []) w legal (λ k knows stripe position from at bears.
-      absurd (none_added i.shape unit e maker w k (record { event = Decides (Place stripe); knows = knows }) from at))
-
-  pub begun_beside : (unit : ℕ) (e : UnitEvent) (maker : Maker) → AreBegun i (log_of w) → AreBegun i (log_of (unit_step i.shape unit e maker w ∷ w))
-  begun_beside unit e maker = are_begun_later i (unit_step i.shape unit e maker w ∷ []) w legal (λ k knows entry mark source from at of.
-      absurd (none_added i.shape unit e maker w k (record { event = Decides (Take entry mark); knows = knows }) from at))

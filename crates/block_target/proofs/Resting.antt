@@ -17,7 +17,7 @@ use Rattle.pblk_world.specs.Fronts.{synced, waiting}
 use Rattle.pblk_world.specs.Lines.{known_image, is_free_line, has_stripe_left}
 use Rattle.pblk_world.specs.Opening.{MayOpen}
 use Rattle.pblk_world.specs.Space.{open_addresses}
-use Rattle.pblk_world.specs.AtRest.{IsCopyDue, IsDue, IsResting, pad_target}
+use Rattle.pblk_world.specs.AtRest.{AreResetsNoted, IsCopyDue, IsDue, IsResting, pad_target}
 use Rattle.line_table.specs.Rows.{is_free}
 use Rattle.stripe_placer.specs.OpenLines.{has_left}
 use Rattle.stripe_placer.specs.Placing.{Placing, Program, UnitRow, is_ready, is_under_way, next_in, next_stripe, offers, stopped_in}
@@ -43,7 +43,6 @@ use Rattle.pblk_core.proofs.CopiesDue.{copy_by_test, test_of_copy}
 use Rattle.pblk_core.proofs.Laws.{reset_empty}
 use Rattle.pblk_core.specs.declared.work.Work.TheVariants as works
 use Rattle.pblk_core.specs.declared.work.Why.{Why}
-use Rattle.block_target.specs.Mount.{AreResetsNoted}
 use Rattle.pblk_world.specs.Orders.{AreReset, LacksAddress, NoneToFree}
 use Rattle.block_target.proofs.RestingCores.{is_way_on, way_of}
 use Rattle.lemmas.proofs.Lists.{IsAmong}

@@ -3,17 +3,17 @@ use Rattle.std.proofs.Common.{◌≡◌, ◌≤◌, ℕ, List, length, sym, subs
 use Rattle.pblk_world.specs.Events.{Logged}
 use Rattle.pblk_world.specs.World.{Logs, log_of}
 use Rattle.pblk_world.specs.Space.{room}
-use Rattle.pblk_world.specs.AtRest.{IsResting, logs_at, pad_target}
+use Rattle.pblk_world.specs.AtRest.{AreResetsNoted, IsResting, logs_at, pad_target}
+use Rattle.world_laws.proofs.NotedResets.{noted_at}
 use Rattle.step_laws.proofs.UnitSteps.{engine_longer}
 use Rattle.pblk_core.specs.Filling.{Filling}
 use Rattle.pblk_core.specs.Named.{pad_of}
 use Rattle.pblk_core.specs.declared.work.Work.TheVariants as works
 use Rattle.pblk_core.specs.declared.work.Why.{Why}
-use Rattle.block_target.specs.Mount.{MountView, AreResetsNoted, IsMount, IsMountAtRest, world_in, logs_in, engine_log, work_in}
+use Rattle.block_target.specs.Mount.{MountView, IsMount, IsMountAtRest, world_in, logs_in, engine_log, work_in}
 use Rattle.block_target.specs.declared.heart.Heart.{Heart}
 use Rattle.block_target.proofs.OrderedMounts.{its_left, none_to_free_then}
 use Rattle.block_target.proofs.Resting.{is_resting, none_copied}
-use Rattle.block_target.proofs.NotedResets.{noted_at}
 use Rattle.block_target.proofs.RestingCores.{is_way_on, none_on_way}
 
 pub spent : {v : MountView} {h : Heart} {f : Filling} (m : IsMount v h f) (reason : Why) → work_in v ≡ works.Nothing reason → IsMountAtRest v

@@ -23,9 +23,9 @@ use Rattle.pblk_world.specs.Orders.{NoneToFree}
 use Rattle.pblk_world.specs.LegalMounts.{IsLegalMount}
 use Rattle.core_laws.proofs.SpentBy.{taking_spends_none}
 use Rattle.step_laws.proofs.EngineSteps.{engine_next}
-use Rattle.step_laws.proofs.Known.{known_still}
+use Rattle.step_laws.proofs.NotedSteps.{noted_decided}
 use Rattle.step_laws.proofs.Levels.{level_by}
-use Rattle.step_laws.proofs.SpentStays.{none_by_spent}
+use Rattle.core_laws.proofs.ToldSpent.{none_by_spent}
 use Rattle.step_laws.specs.Whole.{engine_step, knows_all}
 use Rattle.stripe_placer.specs.Placing.{UnitRow}
 use Rattle.world_laws.proofs.Begun.{first_is as first_of}
@@ -37,7 +37,6 @@ use Rattle.block_target.specs.declared.heart.Heart.{Heart}
 use Rattle.block_target.proofs.DeedsLemmas.{world_more}
 use Rattle.block_target.proofs.GoingOn.{GoesOn, KeepsUsers, Leaves, begun_on, goes_decided, goes_none, leaves_on, mount_on, moved_on}
 use Rattle.block_target.proofs.MountLemmas.{asked_within}
-use Rattle.block_target.proofs.NotedResets.{noted_decided}
 use Rattle.block_target.proofs.OrderedMounts.{none_to_free_now}
 use Rattle.block_target.proofs.Reasoned.{HasReason}
 
@@ -121,7 +120,6 @@ module _ {v : MountView} {h : Heart} {f : Filling} (m : IsMount v h f) where
       mount_taken = mount_on m.sound goes deeds v.wear new f its_world stands
           (level_by v.image.shape event (world_in v) (λ unit. refl) m.level)
           (noted_decided v.image.shape event (world_in v) m.noted)
-          (known_still v.image (world_in v) event refl (λ unit. refl) m.known)
           (λ unit of is. m.resting unit of (ap (λ (us : List UnitRow). slice_get us unit) (sym rows) ∙ is)) idle none_to_free m.stripe
           (asked_within m (pad_of new.core) pads)
 
@@ -131,7 +129,6 @@ module _ {v : MountView} {h : Heart} {f : Filling} (m : IsMount v h f) where
       leaves_copied source is grants = leaves_on m.sound goes deeds (Decides event ∷ []) v.wear new f done its_world stands
           (level_by v.image.shape event (world_in v) (λ unit. refl) m.level)
           (noted_decided v.image.shape event (world_in v) m.noted)
-          (known_still v.image (world_in v) event refl (λ unit. refl) m.known)
           (λ unit of there. m.resting unit of (ap (λ (us : List UnitRow). slice_get us unit) (sym rows) ∙ there)) idle none_to_free m.stripe
           (copies_keep source is) refl grants (asked_within m (pad_of new.core) pads)
 

@@ -16,11 +16,11 @@ use Rattle.pblk_world.specs.EngineLog.{Begun, begun}
 use Rattle.pblk_world.specs.Fronts.{taken, synced, user_takes, history}
 use Rattle.pblk_world.specs.Lines.{found_image}
 use Rattle.pblk_world.specs.Space.{freed, is_due, room}
-use Rattle.pblk_world.specs.AtRest.{IsAtRest, IsCopyDue, IsUnnotedReset, logs_at}
+use Rattle.pblk_world.specs.AtRest.{AreResetsNoted, IsAtRest, IsCopyDue, logs_at}
 use Rattle.pblk_world.specs.Reasons.{AreBegun, AreUrgent}
 use Rattle.pblk_world.specs.LegalMounts.{IsLegalMount}
 use Rattle.core_laws.specs.WindowOf.{users_below}
-use Rattle.step_laws.specs.Whole.{IsLevel, IsKnown}
+use Rattle.step_laws.specs.Whole.{IsLevel}
 use Rattle.scan_recovery.specs.DriveFaults.{GrewBy}
 use Rattle.scan_recovery.specs.Units.{image_of}
 use Rattle.pblk_core.specs.Copies.{is_copying}
@@ -116,10 +116,6 @@ pub record IsSound (v : MountView) : Type 0 where
   pub urgent : AreUrgent v.image (logs_in v)
   pub in_order : AreInOrder v.image (logs_in v)
 
--- The engine has noted each reset that wasn't stopped.
-abbrev pub AreResetsNoted : Logs → Type 0
-AreResetsNoted logs = (unit number : ℕ) → ¬ IsUnnotedReset logs unit number
-
 -- Besides, the heart stands for what was done. No program is in flight, no copy is begun, and the
 -- engine has noted all that the units did but resets that were stopped. No line is left that may be
 -- freed. The pad target holds what was asked for.
@@ -131,7 +127,6 @@ pub record IsMount (v : MountView) (h : Heart) (filling : Filling) : Type 0 wher
   pub granted : v.granted ≡ h.granted
   pub level : IsLevel (world_in v)
   pub noted : AreResetsNoted (logs_in v)
-  pub known : IsKnown v.image (world_in v)
   pub resting : NoneUnderWay h.core
   pub idle : is_copying h.core ≡ false
   pub settled : NoneToFree v.image (logs_in v)

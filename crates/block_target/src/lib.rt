@@ -3,6 +3,7 @@
 
 mod arm;
 mod deeds;
+mod growth;
 mod heart;
 mod laws;
 mod mount;
@@ -12,6 +13,7 @@ mod serial;
 mod waiting;
 
 pub use block_port::{FlushErr, Front, Note, Place, Port, ReadErr, WriteErr};
+pub use growth::a_heart_stands_on_as_units_go_on;
 pub use laws::{
     a_refused_flush_tells_the_end, a_refused_opening_is_of_a_legal_world,
     a_refused_write_has_no_room,

@@ -333,8 +333,8 @@ impl<U: Unit> Mount<U> {
     }
 
     // Copies the sector that the core names: its block is fetched into a frame, and the copy is
-    // taken at the next position. Where no frame is left for it nothing is done. A copy makes no
-    // line one that may be freed.
+    // taken at the next position. Where no frame is left for it nothing is done, and no sector is
+    // looked for. A copy makes no line one that may be freed.
     fn copy(&mut self) -> Result<(), DriveErr>
         requires named { work_in self.old ≡ works.Copy }
         ensures same { IsSameMount self.old self.new }
@@ -345,15 +345,15 @@ impl<U: Unit> Mount<U> {
         ensures more { IsOk result
             → (length (engine_log self.old) < length (engine_log self.new)) ⊎ IsRingFull self.old }
     {
+        let mut frame = match self.heart.lend_frame() {
+            Some(frame) => frame,
+            None => return Ok(()),
+        };
         let job = match self.heart.core.copy_ready() {
             Some(job) => job,
             None => unreachable!(),
         };
         let (unit, block) = self.heart.core.address(job.line, job.at);
-        let mut frame = match self.heart.lend_frame() {
-            Some(frame) => frame,
-            None => return Ok(()),
-        };
         let sector = frame.bytes_mut();
         let fetched = fetch_block(
             &mut self.units,

@@ -22,6 +22,7 @@ pub mod CalmRuns
 pub mod TidyRuns
 pub mod OldHeads
 pub mod WornLines
+pub mod RefusedLines
 pub mod EventLines
 pub mod Contents
 pub mod CreatedDrives

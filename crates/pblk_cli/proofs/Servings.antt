@@ -65,6 +65,7 @@ use Rattle.pblk_cli.proofs.Histories.{history_lines, lines_taken}
 use Rattle.pblk_cli.proofs.Names.{loss_at, losses_distinct, losses_named}
 use Rattle.pblk_cli.proofs.Sessions.{answered}
 use Rattle.pblk_cli.proofs.ToldLosses.{all_told, opening_told}
+use Rattle.pblk_cli.proofs.RefusedLines.{refused_in}
 use Rattle.pblk_cli.proofs.WornCauses.{no_worns, one_worns}
 use Rattle.lemmas.proofs.Parts.{take_nothing}
 use Rattle.block_target.proofs.AllAnswered.{none_of_others, opening_answered}
@@ -338,9 +339,10 @@ module _ (s : Shape) (us : List ModelUnit) (first last : SerialView) (units : Li
             history_lines closed.mount ∙ ap (map (λ (x : PlacedSector). x.write)) lines_are
             ∙ sym (one_history commands records (device first) (device last) front one)
             ∙ ap (λ n. sector_writes n (transcript_by (commands ∷ []) records i (log_of w)).history) size_is;
-        worn = subst (λ (ws : List WornAnswer). AreRefusals (image_of s us) (log_of w) 0 ws) worns_are
+        worn = refused_in (image_of s us) (log_of w) (commands ∷ []) (transcript_by (commands ∷ []) records i (log_of w))
+            (subst (λ (ws : List WornAnswer). AreRefusals (image_of s us) (log_of w) 0 ws) worns_are
             (subst (λ (j : Image). AreRefusals j (log_of w) 0
-            (last.worns ++ settle_worns (length (flat_map lines_of last.own)) closed.settled)) mount_image closed.closed.refusals);
+            (last.worns ++ settle_worns (length (flat_map lines_of last.own)) closed.settled)) mount_image closed.closed.refusals));
         granted = subst (λ (j : Image). AreGranted j (log_of w)) mount_image closed.closed.granted;
         begun = subst (λ (j : Image). AreBegun j (log_of w)) mount_image closed.closed.begun;
         urgent = subst (λ (j : Image). AreUrgent j (log_of w)) mount_image closed.closed.urgent;
@@ -397,11 +399,12 @@ module _ (s : Shape) (us : List ModelUnit) (first last : SerialView) (units : Li
         lost = all_told us closed.mount answers mount_handed closed.closed.answered 0 (transcript_by [] records i (log_of w)) (omega arith)
             (ap opening_of unopened_is) no_lines_named;
         history_is = history_lines closed.mount ∙ ap (map (λ (x : PlacedSector). x.write)) none_left;
-        worn = subst (λ (ws : List WornAnswer). AreRefusals (image_of s us) (log_of w) 0 ws)
+        worn = refused_in (image_of s us) (log_of w) [] (transcript_by [] records i (log_of w))
+            (subst (λ (ws : List WornAnswer). AreRefusals (image_of s us) (log_of w) 0 ws)
             (no_worns last.worns last.own closed.settled (ap (λ (p : ModelPort). p.worns) same ∙ calm) (ap (λ (p : ModelPort). p.own) same ∙ unwritten)
             ∙ rw threads refl)
             (subst (λ (j : Image). AreRefusals j (log_of w) 0
-            (last.worns ++ settle_worns (length (flat_map lines_of last.own)) closed.settled)) mount_image closed.closed.refusals);
+            (last.worns ++ settle_worns (length (flat_map lines_of last.own)) closed.settled)) mount_image closed.closed.refusals));
         granted = subst (λ (j : Image). AreGranted j (log_of w)) mount_image closed.closed.granted;
         begun = subst (λ (j : Image). AreBegun j (log_of w)) mount_image closed.closed.begun;
         urgent = subst (λ (j : Image). AreUrgent j (log_of w)) mount_image closed.closed.urgent;
@@ -523,7 +526,7 @@ module _ (s : Shape) (old new : List WornUnit) (refused : AreHandedBack s (units
         named = subst (AreNewDriveFaults (units_of old) (units_of new)) (sym events_is) (loss_at (units_of old) (units_of new) unit event lost);
         lost = its_loss few;
         history_is = ap history readied.none ∙ ap (sector_writes s.sector) (sym (nothing_written left_end));
-        worn = rw (threads, closing) tt;
+        worn = refused_in as_it_was (log_of still) script (transcript_by script records as_it_was (log_of still)) (rw (threads, closing) tt);
         granted = record { each = λ k knows entry mark there its. absurd (no_event k _ there) };
         begun = record { each = λ k knows entry mark source there its. absurd (no_event k _ there) };
         urgent = record { each = λ k knows stripe position there its. absurd (no_event k _ there) };

@@ -22,7 +22,6 @@ use Rattle.pblk_world.proofs.EngineLogLemmas.{begun_knows}
 use Rattle.pblk_world.proofs.VictimsLemmas.{whole_prefix}
 use Rattle.pblk_world.specs.LegalMounts.{NoStripeLost}
 use Rattle.pblk_world.specs.Reasons.{HasReasons}
-use Rattle.block_target.specs.Refusals.{AreRefusals, IsRefusal}
 use Rattle.rest_laws.specs.Tidy.{IsTidy}
 use Rattle.rest_laws.specs.TidyMounts.{HasNoFailures, HasNumbersLeft, HasRoom, IsTidyMount}
 use Rattle.rest_laws.proofs.ClaimedCopies.{begun_in_turn}
@@ -35,23 +34,24 @@ use Rattle.rest_laws.proofs.TidyRoom.{has_room}
 use Rattle.pblk_cli.specs.Commands.{IsWorldBetween}
 use Rattle.pblk_cli.specs.Complete.{HasSmallNumbers, IsComplete}
 use Rattle.pblk_cli.specs.Stops.{HasBegun}
-use Rattle.pblk_cli.specs.Worn.{worns_of}
+use Rattle.pblk_cli.specs.Worn.{IsRefusedFor, IsRefusedThen, worns_of}
+use Rattle.pblk_cli.proofs.RefusedLines.{each_refused}
 use Rattle.pblk_cli.proofs.CalmRuns.{closed, contents_of, opened, status_zero, worns_few}
 
 -- ---- no cause of a refusal
 
-none_refused : (i : Image) (w : World) (from : ℕ) (worns : List WornAnswer) → IsTidyMount i w → HasRoom i (log_of w) → HasNumbersLeft i.shape (log_of w 0)
-    → taken (log_of w 0) + 16 ≤ position_limit (log_of w 0) → AllByRecursion (λ (a : WornAnswer). a.count ≤ 16) worns → AreRefusals i (log_of w) from worns
-    → worns ≡ []
-none_refused i w from [] is room left far few are = refl
-none_refused i w from (a ∷ worns) is room left far few are = absurd (one are.0 a.count few.0 are.2.cause)
+none_refused : (i : Image) (w : World) (worns : List WornAnswer) → IsTidyMount i w → HasRoom i (log_of w) → HasNumbersLeft i.shape (log_of w 0)
+    → taken (log_of w 0) + 16 ≤ position_limit (log_of w 0) → AllByRecursion (λ (a : WornAnswer). a.count ≤ 16) worns
+    → AllByRecursion (λ (a : WornAnswer). (n : ℕ) × IsRefusedThen i (log_of w) n a) worns → worns ≡ []
+none_refused i w [] is room left far few are = refl
+none_refused i w (a ∷ worns) is room left far few are = absurd (one are.0.0 a.count few.0 are.0.1.cause)
   where
-    one : (n count : ℕ) → count ≤ 16 → IsRefusal i (log_of w) n count a.wanted a.have → ⊥
+    one : (n count : ℕ) → count ≤ 16 → IsRefusedFor i (log_of w) n count a.wanted a.have → ⊥
     one n zero within worn =
         no_worn_flush i w n a.wanted a.have is room (left_before i.shape (log_of w 0) n worn.at_rest.has_begun left) worn
     one n (suc others) within worn =
-        no_worn_write i w n (suc others) a.wanted a.have is room (left_before i.shape (log_of w 0) n worn.worn.at_rest.has_begun left)
-        (positions_before (log_of w 0) n 16 worn.worn.at_rest.has_begun far) within worn.worn
+        no_worn_write i w n (suc others) a.wanted a.have is room (left_before i.shape (log_of w 0) n worn.0.at_rest.has_begun left)
+        (positions_before (log_of w 0) n 16 worn.0.at_rest.has_begun far) within worn.0
 
 -- ---- a run
 
@@ -111,7 +111,8 @@ module _ (found left : Drive) (options : RunOptions) (commands : List (List Comm
   room = has_room i w mount world.after_resets reasons below
 
   refused : worns_of commands t ≡ []
-  refused = none_refused i w 0 (worns_of commands t) mount room numbers positions (worns_few capacity commands t fits) world.worn
+  refused = none_refused i w (worns_of commands t) mount room numbers positions (worns_few capacity commands t fits)
+      (each_refused i (log_of w) commands t world.worn)
 
   not_due : is_due (image_of found) (log_of world.world) ≡ false
   not_due = by (world.over (opened t named) (closed commands t named refused))

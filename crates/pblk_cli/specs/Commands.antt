@@ -23,14 +23,13 @@ use Rattle.pblk_world.specs.Orders.{AreAfterResets, AreOpenedFull, NoneToFree, N
 use Rattle.pblk_world.specs.Reasons.{AreBegun, AreGranted, AreUrgent}
 use Rattle.rest_laws.specs.Tidy.{IsTidy}
 use Rattle.rest_laws.specs.TidyMounts.{HasNoFailures}
-use Rattle.block_target.specs.Refusals.{AreRefusals}
 use Rattle.command_text.specs.Says.{Says}
 use Rattle.pblk_cli.specs.Complete.{HasSmallNumbers, IsComplete}
 use Rattle.pblk_cli.specs.Contents.{numbers_text, show_text}
 use Rattle.pblk_cli.specs.Status.{status_of_run}
 use Rattle.pblk_cli.specs.Stops.{AreAllTold, AreNames, AreOutcomesBy, HasBegun, fuse_on}
 use Rattle.pblk_cli.specs.Synced.{AreFlushesSynced, IsAllSynced}
-use Rattle.pblk_cli.specs.Worn.{worns_of}
+use Rattle.pblk_cli.specs.Worn.{AreRefusedIn}
 use Rattle.pblk_cli.specs.Telling.{Call, Image, Script, ScriptUnbuilt, Failed, Missing, Memory, Ending, Gives, Refuses, Tells, Holds, IsThere, AreUntouched, Stores, FailsReading, IsMissing, FailsWriting}
 
 -- Creating.
@@ -106,8 +105,8 @@ pub record IsWorldBetween (found left : Drive) (options : RunOptions) (commands 
   pub media_are : image_of left ≡ media (image_of found) (log_of world)
   -- Its history is the printed one.
   pub history_is : history (log_of world 0) ≡ sector_writes found.sector t.history
-  -- The outcomes of each unit's commands are those that the named plans give it, and so is the named
-  -- stop's on its own unit. Any unit was stopped only where that stop fell.
+  -- Each command of a unit had the outcome that the named plans, and the named stop on its own unit,
+  -- give it. Any unit was stopped only where that stop fell.
   pub outcomes : AreOutcomesBy (image_of found) options.plans (fuse_on (image_of found) options.stop)
       (log_of world)
   -- Each `e` line names an event of its own in it: a command that was stopped, or a fetch that failed.
@@ -116,9 +115,10 @@ pub record IsWorldBetween (found left : Drive) (options : RunOptions) (commands 
   -- name them in the order of the world's steps.
   pub lost : AreAllTold (length commands) (λ unit. 0) world t
   -- Each answer for want of room was given at a length of the engine's log at which the target was at
-  -- rest. These lengths never fall from one answer to the next, and the users' sectors that were taken
-  -- by then are those that the thread had written.
-  pub worn : AreRefusals (image_of found) (log_of world) 0 (worns_of commands t)
+  -- rest. These lengths never fall from one answer of a thread to the next, and the close comes last.
+  -- What the thread had written is at most what users' writes took by then, and just that where the
+  -- script has one thread.
+  pub worn : AreRefusedIn (image_of found) (log_of world) commands t
   -- A user's sector was taken only where there had been room for it.
   pub granted : AreGranted (image_of found) (log_of world)
   -- A copy was taken only where it had been begun.

@@ -32,7 +32,6 @@ use Rattle.pblk_world.specs.LegalMounts.{IsLegalMount}
 use Rattle.pblk_world.specs.Orders.{AreAfterResets, AreOpenedFull, NoneToFree, NoneWasLeft}
 use Rattle.pblk_world.specs.Reasons.{AreBegun, AreGranted, AreUrgent}
 use Rattle.block_target.specs.Mount.{MountView}
-use Rattle.block_target.specs.Refusals.{AreRefusals}
 use Rattle.block_target.specs.Opened.{IsOpened}
 use Rattle.block_target.specs.Serial as target_port
 use Rattle.block_target.specs.Serial.{SerialView, device, lines_in}
@@ -48,7 +47,7 @@ use Rattle.run_report.specs.Recorded.{IsRecorded}
 use Rattle.run_report.specs.Report.{closing_of, opening_of, transcript_of}
 use Rattle.pblk_cli.specs.Stops.{AreAllTold, HasBegun, name_at}
 use Rattle.pblk_cli.specs.Synced.{AreFlushesSynced, IsAllSynced}
-use Rattle.pblk_cli.specs.Worn.{worns_of}
+use Rattle.pblk_cli.specs.Worn.{AreRefusedIn}
 
 -- what contracts of a target see of units, and the wear indices of their chunks
 abbrev pub units_of : List WornUnit → List ModelUnit
@@ -181,7 +180,7 @@ pub record IsServing (i : Image) (handed units : List ModelUnit) (script : List 
   -- Its history is the transcript's.
   pub history_is : history (log_of w 0) ≡ sector_writes i.shape.sector (transcript_by script records i (log_of w)).history
   -- The target was at rest at each answer for want of room.
-  pub worn : AreRefusals i (log_of w) 0 (worns_of script (transcript_by script records i (log_of w)))
+  pub worn : AreRefusedIn i (log_of w) script (transcript_by script records i (log_of w))
   -- A user's sector was taken only where there had been room for it, and a copy only where it had been
   -- begun. A stripe with an entry was placed only where it was urgent.
   pub granted : AreGranted i (log_of w)

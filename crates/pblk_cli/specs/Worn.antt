@@ -1,10 +1,17 @@
 -- What the `worn` lines of a transcript tell, each with what was asked for and what its thread had
--- written before it.
-use Rattle.std.specs.Prelude.{ℕ, ◌+◌, List, [], ◌∷◌, ◌++◌, length}
+-- written before it, and where each was given.
+use Rattle.std.specs.Prelude.{ℕ, zero, suc, ◌+◌, ◌≤◌, List, [], ◌∷◌, ◌++◌, length, slice_get, take}
+use Rattle.std.specs.Option.{unwrap_or}
+use Rattle.pblk_model.specs.Image.{Image}
 use Rattle.pblk_model.specs.declared.script.Command.{Command}
 use Rattle.pblk_model.specs.declared.script.Command.TheVariants.{Write, Read, Flush, Post, Await}
 use Rattle.pblk_model.specs.Text.{Outcome, Silent, Words, Flushed, Drive, Worn, Closing, Closed, ClosedByDrive, ClosedWorn, Transcript}
 use Rattle.block_port.specs.declared.rows.WornAnswer.{WornAnswer}
+use Rattle.block_target.specs.Refusals.{AreRefusals}
+use Rattle.pblk_world.specs.AtRest.{IsWornFlush, IsWornWrite}
+use Rattle.pblk_world.specs.Fronts.{user_takes}
+use Rattle.pblk_world.specs.Reasons.{WasRoom}
+use Rattle.pblk_world.specs.World.{Logs}
 
 -- how many sectors a command asks room for: a write for its count, and any other for none
 abbrev pub asked_by : Command → ℕ
@@ -50,3 +57,40 @@ closing_worn written (ClosedWorn wanted have) = record { written = written; coun
 -- Every `worn` line of a transcript, in order. Before the close all lines of the history were written.
 abbrev pub worns_of : List (List Command) → Transcript → List WornAnswer
 worns_of script t = threads_worns script t.outcomes ++ closing_worn (length t.history) t.closing
+
+-- those of one thread
+abbrev pub worns_in : List (List Command) → List (List Outcome) → ℕ → List WornAnswer
+worns_in script outcomes thread =
+    thread_worns 0 (unwrap_or (slice_get script thread) []) (unwrap_or (slice_get outcomes thread) [])
+
+-- Where they were given.
+
+-- A refusal for want of room there, by the count of sectors that were asked for. Several threads may
+-- write: a write wants at most room for its sectors behind all that was taken, since others may have
+-- claimed positions after it had looked.
+abbrev pub IsRefusedFor : Image → Logs → ℕ → ℕ → ℕ → ℕ → Type 0
+IsRefusedFor i logs n zero wanted have = IsWornFlush i logs n wanted have
+IsRefusedFor i logs n (suc others) wanted have =
+    IsWornWrite i logs n (suc others) wanted have × WasRoom i logs n have
+
+-- An answer is one there. What its thread had written is at most what users' writes took by then.
+pub record IsRefusedThen (i : Image) (logs : Logs) (n : ℕ) (a : WornAnswer) : Type 0 where
+  pub written : a.written ≤ length (user_takes (take n (logs 0)))
+  pub cause : IsRefusedFor i logs n a.count a.wanted a.have
+
+-- Each of these answers is one, in their order, at lengths that never fall: the first isn't below one
+-- length, and the last isn't above another.
+abbrev pub AreRefusedBetween : Image → Logs → (from upto : ℕ) → List WornAnswer → Type 0
+AreRefusedBetween i logs from upto [] = from ≤ upto
+AreRefusedBetween i logs from upto (a ∷ worns) =
+    (n : ℕ) × (from ≤ n) × IsRefusedThen i logs n a × AreRefusedBetween i logs n upto worns
+
+-- Every `worn` line of a transcript was given at a length of the engine's log at which the target was at
+-- rest. These lengths never fall from one line of a thread to the next, and the close comes last.
+pub record AreRefusedIn (i : Image) (logs : Logs) (script : List (List Command)) (t : Transcript) : Type 0 where
+  pub close : ℕ
+  pub threads : (thread : ℕ) → AreRefusedBetween i logs 0 close (worns_in script t.outcomes thread)
+  pub closing : AreRefusedBetween i logs close (length (logs 0)) (closing_worn (length t.history) t.closing)
+  -- A script of one thread has nobody beside it. So what it had written is just what users' writes took
+  -- by then, a write wants room just behind all that was taken, and all lines are in their order.
+  pub alone : length script ≤ 1 → AreRefusals i logs 0 (worns_of script t)

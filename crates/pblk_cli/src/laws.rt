@@ -1,10 +1,11 @@
 //! Laws on runs: each is the contract of a function that does no work.
 
-ghost use Rattle.std.specs.Prelude.{ℕ, ◌≡◌, ◌≤◌, ◌⊎◌, [], List, None, Some};
+ghost use Rattle.std.specs.Prelude.{ℕ, ◌≡◌, ◌≤◌, ◌⊎◌, [], List, length, None, Some};
 ghost use Rattle.std.specs.Bool.{IsTrue};
 ghost use Rattle.std.specs.List.{Contains};
 ghost use Rattle.block_port.specs.declared.rows.WornAnswer.{WornAnswer};
 ghost use Rattle.block_target.specs.Moments.{IsMoment};
+ghost use Rattle.block_target.specs.Refusals.{AreRefusals};
 ghost use Rattle.command_words.specs.Grammar.{RunOptions};
 ghost use Rattle.pblk_model.specs.declared.script.Command.{Command};
 ghost use Rattle.pblk_model.specs.CommandText.{CreateNumbers, created_drive, geometry_text};
@@ -132,6 +133,17 @@ pub fn a_run_that_leaves_the_head_keeps_nothing()
         (text : List ℕ) → (run : IsRunBetween found options commands text left)
         → IsSealed (image_of found) → head (image_of left) ≡ head (image_of found)
         → run.transcript.kept ≡ 0 }
+{}
+
+/// A script of one thread has nobody beside it. Where one of its lines is `worn`, what it had
+/// written is just what users' writes took by then, and a write wants room just behind all that was
+/// taken. These lengths of the engine's log never fall from one line to the next, the close's
+/// included.
+pub fn a_thread_alone_is_refused_for_its_own()
+    ensures { (found left : Drive) (options : RunOptions) (commands : List (List Command))
+        (t : Transcript) → (run : IsWorldBetween found left options commands t)
+        → length commands ≤ 1
+        → AreRefusals (image_of found) (log_of run.world) 0 (worns_of commands t) }
 {}
 
 /// A flush, or the close, that a run answers `worn` tells what is on the drive, as long as the

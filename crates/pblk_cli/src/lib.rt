@@ -21,7 +21,8 @@ pub use drive_run::run_drive;
 pub use laws::{
     a_run_keeps_the_numbers, a_run_loses_only_what_is_planned,
     a_run_that_leaves_the_head_keeps_nothing, a_run_without_a_stop_or_plans_is_faultless,
-    a_stopped_opening_changes_nothing, a_worn_flush_tells_the_end, an_event_line_has_its_cause,
-    the_drive_left_is_found, the_first_run_is_on_the_drive_made, the_next_run_is_on_the_drive_left,
+    a_stopped_opening_changes_nothing, a_thread_alone_is_refused_for_its_own,
+    a_worn_flush_tells_the_end, an_event_line_has_its_cause, the_drive_left_is_found,
+    the_first_run_is_on_the_drive_made, the_next_run_is_on_the_drive_left,
 };
 pub use main_call::{pblk_main, pblk_program};

@@ -1,10 +1,16 @@
-use Rattle.std.proofs.Common.{◌≡◌, ◌<◌, ◌⊎◌, inl, inr, ◌++◌, [], ◌∷◌, ℕ, List, Bool, true, false, length, map, refl, sym, subst, ap, ap₂, ◌∙◌, arith, le_refl}
-use Rattle.std.specs.Prelude.{take, drop}
+use Rattle.std.proofs.Common.{◌≡◌, ◌*◌, ◌^◌, ◌<◌, ◌⊎◌, inl, inr, ◌++◌, [], ◌∷◌, ℕ, List, Bool, true, false, Some, length, map, refl, sym, subst, ap, ap₂, ◌∙◌, arith, le_refl}
+use Rattle.std.specs.Prelude.{take, drop, slice_get}
 use Rattle.std.proofs.lemmas.List.{take-append-le}
+use Rattle.pblk_layout.specs.Online.{units_in}
+use Rattle.pblk_model.specs.LineOrder.{line_order}
+use Rattle.pblk_model.specs.Shape.{units}
 use Rattle.pblk_core.specs.Collecting.{IsCopyReady}
+use Rattle.pblk_core.specs.Copies.{is_copying}
+use Rattle.pblk_core.specs.Mounts.{WhereCollecting}
 use Rattle.pblk_core.specs.Keeping.{KeepsStripesTaking}
 use Rattle.pblk_core.specs.Named.{pad_of}
 use Rattle.pblk_core.specs.declared.collecting.CopyJob.{CopyJob}
+use Rattle.pblk_core.specs.declared.target_core.Core.{Core}
 use Rattle.pblk_core.specs.Taken.{HasItsSector}
 use Rattle.pblk_model.specs.declared.chunk.Mark.{Mark}
 use Rattle.pblk_model.specs.Frames.{FrameView, Region}
@@ -32,13 +38,18 @@ use Rattle.block_target.proofs.Resting.{copy_named}
 use Rattle.block_target.proofs.ReadFetch.{before_of, fetch_kept, fetch_lost, its_block, its_unit, leaves_fetched, readable_there, sized}
 use Rattle.block_target.proofs.ReadLook.{at_inside, fetchable, line_inside, line_live}
 use Rattle.block_target.proofs.mount.Mount.copy.Given.{Over}
-use Rattle.block_target.proofs.mount.Mount.copy.Goals.{After-copy_ready, After-fetch_block-fetched, After-regain_frame, After-take_copy, In-None-lend_frame}
+use Rattle.block_target.proofs.mount.Mount.copy.Goals.{After-copy_ready, After-fetch_block-fetched, After-regain_frame, After-take_copy, In-None}
 use Rattle.block_target.proofs.mount.Mount.copy.Goals as goal
 use Rattle.lemmas.proofs.Parts.{take_whole}
 
 not_copying : {b : Bool} {X : Type 0} → b ≡ false → (b ≡ true) ⊎ (¬ X) → X → ⊥
 not_copying calm (inl is) x = absurd cc
 not_copying calm (inr none) x = none x
+
+-- the unit and the block of a job's address, by a core
+abbrev IsPlaceBy : CopyJob → ℕ × ℕ → Core → Type 0
+IsPlaceBy job place k = (online : ℕ) → slice_get k.online.items job.line ≡ Some online
+    → slice_get (line_order k.layout (units_in online)) job.at ≡ Some place
 
 module _ (g : Over) (c : After-copy_ready g) where
   -- the mount before
@@ -49,59 +60,70 @@ module _ (g : Over) (c : After-copy_ready g) where
   m : IsMount v c.self.inside.heart c.self.inside.stripe
   m = c.self.invariant
 
+  -- a frame was lent, and the core is as it was
+  same_core : c.lend_frame.new.self.core ≡ c.self.inside.heart.core
+  same_core = ap (λ (h : Heart). h.core) c.in-Some.ensures.back
+
   due : IsCopyDue v.image (logs_in v)
   due = copy_named v.image (world_in v) v.pad (ap work_in c.self.view_is ∙ c.requires.named)
 
   -- the block at which the sector stands
-  module _ (job : CopyJob) (ready : IsCopyReady c.self.inside.heart.core job) where
+  module _ (job : CopyJob) (ready : IsCopyReady c.lend_frame.new.self.core job) where
     its : IsBlockOfSlot v.image (logs_in v) job.lba job.line job.at job.position
-    its = job_block m job ready
+    its = job_block m job (subst (λ (k : Core). IsCopyReady k job) same_core ready)
 
 pub unreachable-requires : goal.unreachable-requires
 unreachable-requires g c =
     let d = (goal.at.unreachable-requires g c).After-copy_ready in
     not_copying (m g d).idle
-    (c.in-None.ensures.none (v g d).image (world_in (v g d)) (m g d).sound.legal (m g d).heart.stands (m g d).heart.collects) (due g d)
+    (subst (λ (k : Core). WhereCollecting k (λ i w. (is_copying k ≡ true) ⊎ (¬ IsCopyDue i (log_of w)))) (same_core g d)
+    c.in-None-copy_ready.ensures.none
+    (v g d).image (world_in (v g d)) (m g d).sound.legal (m g d).heart.stands (m g d).heart.collects) (due g d)
 
 pub address-unit-requires-clause-line : goal.address-unit-requires-clause-line
 address-unit-requires-clause-line g c =
     let d = (goal.at.address-unit-requires-clause-line g c).After-copy_ready in
-    let job = c.in-Some.job in
-    line_inside (v g d) c.self.inside.heart.core job.lba job.line job.at job.position (m g d).sound.legal (m g d).heart.stands
-    (its g d job c.in-Some.ensures.ready)
+    let job = c.in-Some-copy_ready.job in
+    subst (λ (k : Core). job.line < length k.online.items) (sym (same_core g d))
+    (line_inside (v g d) c.self.inside.heart.core job.lba job.line job.at job.position (m g d).sound.legal (m g d).heart.stands
+    (its g d job c.in-Some-copy_ready.ensures.ready))
 
 pub address-unit-requires-clause-online : goal.address-unit-requires-clause-online
 address-unit-requires-clause-online g c =
     let d = (goal.at.address-unit-requires-clause-online g c).After-copy_ready in
-    let job = c.in-Some.job in
-    line_live (v g d) c.self.inside.heart.core job.lba job.line job.at job.position (m g d).sound.legal (m g d).heart.stands
-    (its g d job c.in-Some.ensures.ready)
+    let job = c.in-Some-copy_ready.job in
+    subst (λ (k : Core). (online : ℕ) → slice_get k.online.items job.line ≡ Some online → online < 2 ^ units k.layout) (sym (same_core g d))
+    (line_live (v g d) c.self.inside.heart.core job.lba job.line job.at job.position (m g d).sound.legal (m g d).heart.stands
+    (its g d job c.in-Some-copy_ready.ensures.ready))
 
 pub address-unit-requires-clause-inside : goal.address-unit-requires-clause-inside
 address-unit-requires-clause-inside g c =
     let d = (goal.at.address-unit-requires-clause-inside g c).After-copy_ready in
-    let job = c.in-Some.job in
-    at_inside (v g d) c.self.inside.heart.core job.lba job.line job.at job.position (m g d).sound.legal (m g d).heart.stands
-    (its g d job c.in-Some.ensures.ready)
+    let job = c.in-Some-copy_ready.job in
+    subst (λ (k : Core). (online : ℕ) → slice_get k.online.items job.line ≡ Some online → job.at < length (units_in online) * k.layout.clba) (sym (same_core g d))
+    (at_inside (v g d) c.self.inside.heart.core job.lba job.line job.at job.position (m g d).sound.legal (m g d).heart.stands
+    (its g d job c.in-Some-copy_ready.ensures.ready))
 
 pub fetch_block-fetched-requires-clause-size : goal.fetch_block-fetched-requires-clause-size
 fetch_block-fetched-requires-clause-size g c =
     let d = (goal.at.fetch_block-fetched-requires-clause-size g c).After-copy_ready in
-    let job = c.in-Some.job in
-    let is : IsFetchable (v g d) c.address-unit.result.0 job.line c.address-unit.result.1 (its g d job c.in-Some.ensures.ready).block =
+    let job = c.in-Some-copy_ready.job in
+    let is : IsFetchable (v g d) c.address-unit.result.0 job.line c.address-unit.result.1 (its g d job c.in-Some-copy_ready.ensures.ready).block =
     fetchable (v g d) c.self.inside.heart.core job.lba job.line job.at job.position (m g d).sound.legal (m g d).heart.stands
-    (its g d job c.in-Some.ensures.ready) c.address-unit.result c.address-unit.ensures in
+    (its g d job c.in-Some-copy_ready.ensures.ready) c.address-unit.result
+    (subst (IsPlaceBy job c.address-unit.result) (same_core g d) c.address-unit.ensures) in
     sized (m g d) c.address-unit.result.0 job.line c.address-unit.result.1 is (length c.bytes_mut-sector.result.now)
-    (c.bytes_mut-sector.ensures.size ∙ ap (λ (r : Region). r.size) c.in-Some-lend_frame.ensures.lent.own
-    ∙ ap (λ (h : Heart). h.pool.region.size) c.in-Some-lend_frame.ensures.back ∙ (m g d).heart.size)
+    (c.bytes_mut-sector.ensures.size ∙ ap (λ (r : Region). r.size) c.in-Some.ensures.lent.own
+    ∙ ap (λ (h : Heart). h.pool.region.size) c.in-Some.ensures.back ∙ (m g d).heart.size)
 
 pub fetch_block-fetched-requires-clause-there : goal.fetch_block-fetched-requires-clause-there
 fetch_block-fetched-requires-clause-there g c =
     let d = (goal.at.fetch_block-fetched-requires-clause-there g c).After-copy_ready in
-    let job = c.in-Some.job in
-    let is : IsFetchable (v g d) c.address-unit.result.0 job.line c.address-unit.result.1 (its g d job c.in-Some.ensures.ready).block =
+    let job = c.in-Some-copy_ready.job in
+    let is : IsFetchable (v g d) c.address-unit.result.0 job.line c.address-unit.result.1 (its g d job c.in-Some-copy_ready.ensures.ready).block =
     fetchable (v g d) c.self.inside.heart.core job.lba job.line job.at job.position (m g d).sound.legal (m g d).heart.stands
-    (its g d job c.in-Some.ensures.ready) c.address-unit.result c.address-unit.ensures in
+    (its g d job c.in-Some-copy_ready.ensures.ready) c.address-unit.result
+    (subst (IsPlaceBy job c.address-unit.result) (same_core g d) c.address-unit.ensures) in
     let unit = its_unit (m g d) c.address-unit.result.0 job.line c.address-unit.result.1 is in (
       (v g d).image,
       world_in (v g d),
@@ -111,26 +133,26 @@ fetch_block-fetched-requires-clause-there g c =
 
 -- ---- the ring is full
 
-module _ (g : Over) (c : In-None-lend_frame g) where
+module _ (g : Over) (c : In-None g) where
   -- the mount, by its heart
   abbrev view_with : Heart → MountView
   view_with h = mount_view c.self.inside.shape c.self.inside.drives c.self.inside.deeds (map g.U.Unit.model c.self.inside.units.items)
       (map g.U.Unit.wear c.self.inside.units.items) h.granted (pad_of h.core) c.self.inside.asked
 
   unchanged : c.self.inside.heart ≡ c.lend_frame.new.self
-  unchanged = sym c.in-None-lend_frame.ensures.unchanged
+  unchanged = sym c.in-None.ensures.unchanged
 
 pub invariant_of-self : goal.invariant_of-self
 invariant_of-self g c =
     subst (λ (h : Heart). IsMount (view_with g c h) h c.self.inside.stripe) (unchanged g c) c.self.invariant
 
-pub returns-in-None-lend_frame-clause-same : goal.returns-in-None-lend_frame-clause-same
-returns-in-None-lend_frame-clause-same g c =
+pub returns-in-None-clause-same : goal.returns-in-None-clause-same
+returns-in-None-clause-same g c =
     subst (λ (x : MountView). IsSameMount c.args.self.now x) (sym c.self.view_is ∙ ap (view_with g c) (unchanged g c)) (same_mount c.args.self.now)
 
-pub returns-in-None-lend_frame-clause-more : goal.returns-in-None-lend_frame-clause-more
-returns-in-None-lend_frame-clause-more g c = λ ok.
-    let full = c.in-None-lend_frame.ensures.full.0 refl in
+pub returns-in-None-clause-more : goal.returns-in-None-clause-more
+returns-in-None-clause-more g c = λ ok.
+    let full = c.in-None.ensures.full.0 refl in
     inr (subst IsRingFull c.self.view_is (ring_full c.self.invariant (λ held. omega (arith, held, full))))
 
 -- ---- once it was fetched
@@ -145,17 +167,20 @@ module _ (g : Over) (c : After-fetch_block-fetched g) where
   m_before = c.self.invariant
 
   abbrev job : CopyJob
-  job = c.in-Some.job
+  job = c.in-Some-copy_ready.job
+
+  core_before : c.lend_frame.new.self.core ≡ c.self.inside.heart.core
+  core_before = ap (λ (h : Heart). h.core) c.in-Some.ensures.back
 
   ready : IsCopyReady c.self.inside.heart.core job
-  ready = c.in-Some.ensures.ready
+  ready = subst (λ (k : Core). IsCopyReady k job) core_before c.in-Some-copy_ready.ensures.ready
 
   block : IsBlockOfSlot v_before.image (logs_in v_before) job.lba job.line job.at job.position
   block = job_block m_before job ready
 
   is : IsFetchable v_before c.address-unit.result.0 job.line c.address-unit.result.1 block.block
   is = fetchable v_before c.self.inside.heart.core job.lba job.line job.at job.position m_before.sound.legal m_before.heart.stands
-      block c.address-unit.result c.address-unit.ensures
+      block c.address-unit.result (subst (IsPlaceBy job c.address-unit.result) core_before c.address-unit.ensures)
 
   -- the units then
   abbrev us : List ModelUnit
@@ -171,15 +196,15 @@ module _ (g : Over) (c : After-fetch_block-fetched g) where
 
   -- the frame, with what was fetched
   abbrev frame : FrameView
-  frame = with_bytes c.in-Some-lend_frame.frame c.fetch_block-fetched.new.out
+  frame = with_bytes c.in-Some.frame c.fetch_block-fetched.new.out
 
   back : regained c.lend_frame.new.self frame ≡ c.self.inside.heart
-  back = c.in-Some-lend_frame.ensures.back
+  back = c.in-Some.ensures.back
 
   written : frame.bytes ≡ c.fetch_block-fetched.new.out
   written =
       let out = c.fetch_block-fetched.new.out in
-      let rest = drop (length out) c.in-Some-lend_frame.frame.bytes in
+      let rest = drop (length out) c.in-Some.frame.bytes in
       subst (λ n. take n (out ++ rest) ≡ out) (c.fetch_block-fetched.ensures.size ∙ c.bytes_mut-sector.ensures.size)
       (take-append-le (length out) out rest (le_refl (length out)) ∙ take_whole out)
 
@@ -209,7 +234,7 @@ pub returns-in-Err-clause-lost : goal.returns-in-Err-clause-lost
 returns-in-Err-clause-lost g c =
     let d = (goal.at.returns-in-Err-clause-lost g c).After-fetch_block-fetched in
     subst (λ (old : MountView). IsDriveFaultAt old.units (us g d) c.in-Err.e.unit c.in-Err.e.event) c.self.view_is
-    (fetch_lost (m_before g d) c.address-unit.result.0 c.in-Some.job.line c.address-unit.result.1 (is g d) c.in-Err.ensures.fetched)
+    (fetch_lost (m_before g d) c.address-unit.result.0 c.in-Some-copy_ready.job.line c.address-unit.result.1 (is g d) c.in-Err.ensures.fetched)
 
 -- ---- once the copy was taken
 
@@ -280,7 +305,7 @@ pub returns-in-Ok-clause-done : goal.returns-in-Ok-clause-done
 returns-in-Ok-clause-done g c = λ ok.
     let d = (goal.at.returns-in-Ok-clause-done g c).After-fetch_block-fetched in
     subst (λ (old : MountView). NoDriveFaults old.units (us g d)) c.self.view_is
-    (fetch_kept (m_before g d) c.address-unit.result.0 c.in-Some.job.line c.address-unit.result.1 (is g d) c.in-Ok.ensures.fetched refl)
+    (fetch_kept (m_before g d) c.address-unit.result.0 c.in-Some-copy_ready.job.line c.address-unit.result.1 (is g d) c.in-Ok.ensures.fetched refl)
 
 pub returns-in-Ok-clause-more : goal.returns-in-Ok-clause-more
 returns-in-Ok-clause-more g c = λ ok. inl
