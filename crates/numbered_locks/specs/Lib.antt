@@ -1,0 +1,4 @@
+pub mod Steps
+pub mod Cells
+pub mod Kept
+pub mod Handles
