@@ -1,0 +1,14 @@
+use Rattle.std.proofs.Common.{ap}
+use Rattle.chronicle.proofs.Rests.{noted_rests}
+use Rattle.chronicle.proofs.authors.Author.note.Goals as goal
+
+pub invariant_of-result : goal.invariant_of-result
+invariant_of-result c =
+    let new = c.note.ensures in
+    record {
+      empty = ap (λ m. m.1) new.new;
+      bystander = record {
+        rests = noted_rests _ _ c.self.inside.seat.me.0 _ new.new_of (ap (λ m. m.0) new.new) c.self.invariant.writer.rests;
+        owns_none = ap (λ m. m.0.mine.owned) new.new;
+      };
+    }
