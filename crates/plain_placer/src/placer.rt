@@ -25,9 +25,11 @@ use std::alloc::{AllocError, Global};
 use std::marker::Model;
 use stripe_placer::{Placement, StripeKind};
 
-/// What a placer has: the entries that wait, what each unit has, and the open lines with each of their stripes.
+/// What a placer has: the entries that wait, what each unit has, and the open lines with each of
+/// their stripes.
 ///
-/// Its calls are those of `stripe_placer::Placer`, where they take what they list from the allocator.
+/// Its calls are those of `stripe_placer::Placer`, where they take what they list from the
+/// allocator.
 #[derive(Drop)]
 pub struct PlainPlacer {
     layout: Layout,
@@ -261,8 +263,8 @@ impl PlainPlacer {
         Ok(positions)
     }
 
-    /// Whether an entry can wait: fewer entries wait or stand in stripes than the ring has slots, this one
-    /// isn't among them, and a new one is above all that wait and weren't lost.
+    /// Whether an entry can wait: fewer entries wait or stand in stripes than the ring has slots,
+    /// this one isn't among them, and a new one is above all that wait and weren't lost.
     pub fn can_wait(&self, alloc: Global, position: u64, lost: bool) -> Result<bool, AllocError>
         ensures room { IfOk result (λ b. OnTrue b (length (held self.now) < self.now.shape.ring)) }
         ensures another { IfOk result (λ b. OnTrue b (Contains (held self.now) position → ⊥)) }
@@ -277,8 +279,8 @@ impl PlainPlacer {
         )
     }
 
-    /// Whether a line can be begun: it is one of the drive's and isn't open, its units are some of the drive's
-    /// and leave room for data, and at most one line is open.
+    /// Whether a line can be begun: it is one of the drive's and isn't open, its units are some of
+    /// the drive's and leave room for data, and at most one line is open.
     pub fn can_begin(&self, line: u32, online: u64) -> bool
         ensures line { OnTrue result (line < self.now.shape.chunks) }
         ensures another { OnTrue result (All (λ l. l.line ≢ line) self.now.lines) }
@@ -319,8 +321,8 @@ impl PlainPlacer {
         self.entries.pad_to(position);
     }
 
-    /// Notes that a line of the drive was opened. It has data. Bit `u` of `online` is set for each unit `u` whose
-    /// chunk isn't Offline.
+    /// Notes that a line of the drive was opened. It has data. Bit `u` of `online` is set for each
+    /// unit `u` whose chunk isn't Offline.
     pub fn begin(&mut self, alloc: Global, line: u32, online: u64) -> Result<(), AllocError>
         requires units { online < 2 ^ units self.old.shape }
         requires data { data_len self.old.shape (length (units_in online)) ≢ 0 }
@@ -332,15 +334,16 @@ impl PlainPlacer {
         Ok(())
     }
 
-    /// The next stripe. Bit `u` of `busy` is set for each unit `u` that takes none. None exactly where there is
-    /// none.
+    /// The next stripe. Bit `u` of `busy` is set for each unit `u` that takes none. None exactly
+    /// where there is none.
     pub fn next_stripe(&self, busy: u64) -> Option<Placement>
         ensures { result ≡ option_map placement (next_stripe self.now busy) }
     {
         next_offer(&self.layout, &self.entries, &self.units, &self.lines, busy)
     }
 
-    /// The positions of the entries of a stripe: of the one that its unit has, and else the first that wait.
+    /// The positions of the entries of a stripe: of the one that its unit has, and else the first
+    /// that wait.
     pub fn positions_of(&self, alloc: Global, of: &Placement) -> Result<Vec<u64>, AllocError>
         ensures { IfOk result (λ v. v.items ≡ Program.positions (program self.now of.now)) }
     {

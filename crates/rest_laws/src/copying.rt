@@ -174,14 +174,14 @@ pub fn a_copied_sector_is_live_until_it_is_taken()
         → WasTakenSince (log_of w 0) lba from → is_live_in i (log_of w) line lba ≡ false }
 {}
 
-/// Let a line be at work as the victim. The copies of it since then and its live sectors are no more
-/// than its live sectors were (clause `fit`). For each of these copies an entry of its sector was
-/// taken since it was begun (clause `copy`). A copy that isn't Void is such an entry itself (clause
-/// `itself`).
+/// Let a line be at work as the victim. The copies of it since then and its live sectors are no
+/// more than its live sectors were (clause `fit`). For each of these copies an entry of its sector
+/// was taken since it was begun (clause `copy`). A copy that isn't Void is such an entry itself
+/// (clause `itself`).
 ///
 /// Let a source have held its sector's latest, and let its line have the life that it had then. If
-/// it doesn't hold the latest any more, an entry of the sector was taken since (clause `stale`). The
-/// same holds of what the engine knew as it decided an event (clause `known`).
+/// it doesn't hold the latest any more, an entry of the sector was taken since (clause `stale`).
+/// The same holds of what the engine knew as it decided an event (clause `known`).
 pub fn copies_of_a_victim_were_live()
     ensures fit { (i : Image) (w : World) (line from : ℕ) (numbers : List ℕ) → IsLegalMount i w
         → 0 < from → from ≤ length (log_of w 0) → IsAtWorkFrom i (log_of w) from line

@@ -14,8 +14,8 @@
 //! - Where no stripe is under way and none of an end record is left, only the line that was opened
 //!   last may be written to. Then the front taken is near the front freed.
 //! - As long as more data addresses are left than entries wait, a mount at rest has nothing left to
-//!   do: all that was taken below the pad target has landed, collection isn't due, and there is room
-//!   for sixteen more sectors.
+//!   do. Then all that was taken below the pad target has landed, collection isn't due, and there
+//!   is room for sixteen more sectors.
 //! - Where the engine did its work in order, and all that it took and padded had its reason, its
 //!   log makes a run of crate `room_law`. So where nothing is left to be reset, fewer entries wait
 //!   than data addresses are left, at each length of the log.

@@ -174,8 +174,8 @@ impl Placer {
         self.queue.pad_to(position);
     }
 
-    /// Notes that a line of the drive was opened. Bit `u` of `online` is set for each unit `u` whose chunk of it
-    /// isn't Offline (Open-Channel SSD Specification 2.0, Chunk states).
+    /// Notes that a line of the drive was opened. Bit `u` of `online` is set for each unit `u`
+    /// whose chunk of it isn't Offline (Open-Channel SSD Specification 2.0, Chunk states).
     ///
     /// It has no stripe left itself, its width leaves room for data, and at most one other line has
     /// a stripe left that is neither landed nor lost.
@@ -222,7 +222,8 @@ impl Placer {
         self.units[unit as usize].under_way()
     }
 
-    /// Whether the program of the stripe that a unit of the drive has was stopped, and isn't under way again.
+    /// Whether the program of the stripe that a unit of the drive has was stopped, and isn't under
+    /// way again.
     pub fn is_stopped(&self, unit: u32) -> bool
         requires { unit < units self.now.shape }
         ensures { result ≡ option_map_or is_stopped (slice_get self.now.units unit) false }
@@ -230,8 +231,8 @@ impl Placer {
         self.units[unit as usize].is_stopped()
     }
 
-    /// The positions of the entries of the stripe that a unit of the drive has, in their order: of one whose
-    /// program is under way or was stopped. There are none where it has no stripe.
+    /// The positions of the entries of the stripe that a unit of the drive has, in their order: of
+    /// one whose program is under way or was stopped. There are none where it has no stripe.
     pub fn positions(&self, unit: u32) -> &[u64]
         requires { unit < units self.now.shape }
         ensures { (row : UnitRow) → slice_get self.now.units unit ≡ Some row
@@ -281,11 +282,11 @@ impl Placer {
         self.units[of.unit as usize].end();
     }
 
-    /// Notes that the program of a stripe failed, and that its chunk is closed (Open-Channel SSD Specification
-    /// 2.0, Chunk states and write pointer). It was placed and hasn't been answered.
+    /// Notes that the program of a stripe failed, and that its chunk is closed (Open-Channel SSD
+    /// Specification 2.0, Chunk states and write pointer). It was placed and hasn't been answered.
     ///
-    /// From then on its line has pads for its other chunks, and no data or end stripe. Its entries wait again
-    /// once `wait` names them.
+    /// From then on its line has pads for its other chunks, and no data or end stripe. Its entries
+    /// wait again once `wait` names them.
     pub fn lost(&mut self, of: &Placement)
         requires { IsUnderWay self.old (program self.old of.now) }
         ensures { self.new ≡ lost self.old (program self.old of.now) }
@@ -295,8 +296,8 @@ impl Placer {
         self.units[of.unit as usize].end();
     }
 
-    /// Notes that the program of a stripe was stopped. It was placed and hasn't been answered. It stays placed,
-    /// and is offered again.
+    /// Notes that the program of a stripe was stopped. It was placed and hasn't been answered. It
+    /// stays placed, and is offered again.
     pub fn stopped(&mut self, of: &Placement)
         requires { IsUnderWay self.old (program self.old of.now) }
         ensures { self.new ≡ stopped self.old (program self.old of.now) }

@@ -110,8 +110,8 @@ pub fn an_opened_chunk_has_its_stripes()
 
 /// Let a line have been opened, and maybe freed since. From the prefix of its unit's log on that
 /// the last opening names, each block of a chunk of it is that block of a stripe of this opening,
-/// whose program is in the prefix. The blocks of a program that was done stand in the chunk until it
-/// is emptied.
+/// whose program is in the prefix. The blocks of a program that was done stand in the chunk until
+/// it is emptied.
 pub fn a_chunk_has_stripes_of_its_last_opening()
     ensures blocks { (i : Image) (w : World) (o : Opening) (line unit events at : ℕ) (c : Chunk)
         (block : Block) → IsOpenedChunk i w o line unit events c

@@ -4,7 +4,8 @@
 //!   its log and on the unit events that it names, and on nothing that a unit did since. Earlier
 //!   logs say of their time what later ones say of it.
 //! - Where logs grow by what units do alone, each event of the engine names the same, and the logs
-//!   are the same at each length of the engine's log. So are the orders and the reasons of its work.
+//!   are the same at each length of the engine's log. So are the orders and the reasons of its
+//!   work.
 //! - A line is opened with a start record that fits it, and no block that is written in it begins a
 //!   narrower one.
 //! - What a unit writes are the stripes that were placed on it, in their order. The next program of

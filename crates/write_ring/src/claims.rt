@@ -29,7 +29,8 @@ impl Ring {
         self.table.shared.load::<LookClaimed>(seat, CLAIMED)
     }
 
-    /// Loads `claimed` once: the next position that nobody has claimed. What a pass finds never falls.
+    /// Loads `claimed` once: the next position that nobody has claimed. What a pass finds never
+    /// falls.
     pub fn claimed(&self, pass: &mut Pass) -> u64
         requires ring { IsPassOf self.now pass.old }
         ensures ring { IsPassOf self.now pass.new }

@@ -14,13 +14,13 @@ use crate::table::Ring;
 use sector_pool::Class;
 
 impl Ring {
-    /// Claims positions for the filled frames of the batch, and puts them there as copies, as `try_put` does
-    /// for users. Copies go wherever the ring has room, the reserve too: the limit is the end of that room,
-    /// which lies past `freed` by the ring's size, or 2^62 where that is less. With this limit it's refused
-    /// as `try_put` is.
+    /// Claims positions for the filled frames of the batch, and puts them there as copies, as
+    /// `try_put` does for users. Copies go wherever the ring has room, the reserve too: the limit
+    /// is the end of that room, which lies past `freed` by the ring's size, or 2^62 where that is
+    /// less. With this limit it's refused as `try_put` is.
     ///
-    /// After `Ok` each position from the ring's first one to the place was granted to users, or is one of the
-    /// copies that this intake had claimed before.
+    /// After `Ok` each position from the ring's first one to the place was granted to users, or is
+    /// one of the copies that this intake had claimed before.
     pub fn try_copy(&self, intake: &mut Intake, batch: &mut Batch) -> Result<Place, TryPut>
         requires ring { IsIntakeOf self.now intake.old }
         requires some { 0 < length batch.old.drafts }
@@ -68,8 +68,8 @@ impl Ring {
         self.claim_and_put(&mut intake.seat, Class::Copy, batch)
     }
 
-    /// Loads `claimed` once, and tells how far claims have come: each position from the ring's first one to
-    /// the answer was granted to users, or is one of the intake's own copies.
+    /// Loads `claimed` once, and tells how far claims have come: each position from the ring's
+    /// first one to the answer was granted to users, or is one of the intake's own copies.
     pub fn reached(&self, intake: &mut Intake) -> u64
         requires ring { IsIntakeOf self.now intake.old }
         ensures ring { IsIntakeOf self.now intake.new }

@@ -97,7 +97,8 @@ impl Ring {
         }
     }
 
-    // Claims positions for the filled frames of a batch, and puts them there, as `try_put` and `try_copy` say.
+    // Claims positions for the filled frames of a batch, and puts them there, as `try_put` and
+    // `try_copy` say.
     pub(crate) fn claim_and_put(
         &self,
         seat: &mut Seat<Cell, View>,

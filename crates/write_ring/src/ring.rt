@@ -17,11 +17,13 @@ use sector_pool::Pool;
 use std::alloc::{AllocError, Global};
 
 impl Ring {
-    /// A ring of `n` positions, of which `reserve` are kept for copies, over the first sectors of a target's
-    /// capacity. `n` frames of the pool go into its slots. Its first position is `first`, and so far nothing
-    /// is claimed, freed or granted beyond it. The pass has all shares but the intake's one.
+    /// A ring of `n` positions, of which `reserve` are kept for copies, over the first sectors of a
+    /// target's capacity. `n` frames of the pool go into its slots. Its first position is `first`,
+    /// and so far nothing is claimed, freed or granted beyond it. The pass has all shares but the
+    /// intake's one.
     ///
-    /// Fails only where there isn't as much memory, and the pool is unchanged then. No later call takes any.
+    /// Fails only where there isn't as much memory, and the pool is unchanged then. No later call
+    /// takes any.
     pub fn new(
         alloc: Global,
         n: u32,
@@ -135,9 +137,9 @@ impl Ring {
         self.table.shared.join_seat::<Passes>(&mut pass.seat, seat);
     }
 
-    /// Loads `claimed` once, where the pass has all shares that the intake hasn't. Each position from the
-    /// ring's first one to the answer is in one claim of the pass or of the intake, and no other position is
-    /// in any: so their claims are all that there are.
+    /// Loads `claimed` once, where the pass has all shares that the intake hasn't. Each position
+    /// from the ring's first one to the answer is in one claim of the pass or of the intake, and no
+    /// other position is in any: so their claims are all that there are.
     pub fn all_claimed(&self, intake: &mut Intake, pass: &mut Pass) -> u64
         requires intake_ring { IsIntakeOf self.now intake.old }
         requires ring { IsPassOf self.now pass.old }
@@ -167,10 +169,11 @@ impl Ring {
         claimed
     }
 
-    /// Ends the ring, and gives the frames in its slots back to their pool. The pass has all shares that the
-    /// intake hasn't, so the lists of the two have all claims and all that was put. Each position that was
-    /// claimed is in one claim and in no other, each was put once, and what the intake took is what was put
-    /// there: users' entries by the pass, and copies by the intake itself.
+    /// Ends the ring, and gives the frames in its slots back to their pool. The pass has all shares
+    /// that the intake hasn't, so the lists of the two have all claims and all that was put. Each
+    /// position that was claimed is in one claim and in no other, each was put once, and what the
+    /// intake took is what was put there: users' entries by the pass, and copies by the intake
+    /// itself.
     pub fn close(self, intake: Intake, pass: Pass, pool: &mut Pool)
         requires intake_ring { IsIntakeOf self intake }
         requires ring { IsPassOf self pass }

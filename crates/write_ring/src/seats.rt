@@ -22,8 +22,9 @@ pub struct Pass {
     ghost users: { IsOfClass false seat.me.0.pass },
 }
 
-/// The one right to take entries from a ring, to free their slots, to grant positions to users, and to put
-/// copies in. It has the last of the 128 shares, and the lists of its claims and of the copies that it put.
+/// The one right to take entries from a ring, to free their slots, to grant positions to users, and
+/// to put copies in. It has the last of the 128 shares, and the lists of its claims and of the
+/// copies that it put.
 ///
 /// It can't be dropped: it ends in `Ring::close`.
 pub struct Intake {
@@ -53,7 +54,8 @@ pub struct Place {
     pub count: u32,
 }
 
-/// What one try at putting a batch is refused with. Each number was found by a load or an exchange of this try.
+/// What one try at putting a batch is refused with. Each number was found by a load or an exchange
+/// of this try.
 #[derive(Clone, Copy, Debug, PartialEq, Eq, Drop, Error)]
 pub enum TryPut {
     /// The positions would end above the limit.

@@ -55,11 +55,11 @@ impl Ring {
         entry
     }
 
-    /// Takes the next position's entry, as its maker filled it, where it is there. A copy is the one that
-    /// this intake put there.
+    /// Takes the next position's entry, as its maker filled it, where it is there. A copy is the
+    /// one that this intake put there.
     ///
-    /// `Unfilled` comes exactly where the turn word of its slot didn't name a claimed position when it was
-    /// loaded, and `Empty` exactly where `claimed`, loaded next, was that position.
+    /// `Unfilled` comes exactly where the turn word of its slot didn't name a claimed position when
+    /// it was loaded, and `Empty` exactly where `claimed`, loaded next, was that position.
     pub fn take(&self, intake: &mut Intake) -> Taken
         requires ring { IsIntakeOf self.now intake.old }
         ensures ring { IsIntakeOf self.now intake.new }
@@ -90,7 +90,8 @@ impl Ring {
         }
     }
 
-    /// Frees the slot of the first position that was taken and isn't freed, with a frame of the ring's pool.
+    /// Frees the slot of the first position that was taken and isn't freed, with a frame of the
+    /// ring's pool.
     pub fn free(&self, intake: &mut Intake, frame: Frame)
         requires ring { IsIntakeOf self.now intake.old }
         requires taken { (intake_view intake.old).intake.freed
@@ -124,7 +125,8 @@ impl Ring {
         self.table.shared.load::<LookOwn>(&mut intake.seat, GRANTED)
     }
 
-    /// Grants users all positions below `to`. What is granted never falls, and leaves the reserve free.
+    /// Grants users all positions below `to`. What is granted never falls, and leaves the reserve
+    /// free.
     pub fn grant(&self, intake: &mut Intake, to: u64)
         requires ring { IsIntakeOf self.now intake.old }
         requires rises { (intake_view intake.old).intake.granted ≤ to }

@@ -15,13 +15,13 @@ use sector_pool::Class;
 use std::sync::Wait;
 
 impl Ring {
-    /// Claims positions that no other claim has for the filled frames of the batch, by one exchange, and puts
-    /// them there. It never waits. Afterwards the batch has as many free frames. The place lies past all that
-    /// the pass had found of `claimed` before.
+    /// Claims positions that no other claim has for the filled frames of the batch, by one
+    /// exchange, and puts them there. It never waits. Afterwards the batch has as many free frames.
+    /// The place lies past all that the pass had found of `claimed` before.
     ///
-    /// Refused with `Full` exactly where `claimed`, as it was read, and the number of filled frames are above
-    /// `granted`, which is read next. Refused with `Raced` exactly where the exchange found another number
-    /// than that load. After a refusal the batch is unchanged.
+    /// Refused with `Full` exactly where `claimed`, as it was read, and the number of filled frames
+    /// are above `granted`, which is read next. Refused with `Raced` exactly where the exchange
+    /// found another number than that load. After a refusal the batch is unchanged.
     pub fn try_put(&self, pass: &mut Pass, batch: &mut Batch) -> Result<Place, TryPut>
         requires ring { IsPassOf self.now pass.old }
         requires some { 0 < length batch.old.drafts }
