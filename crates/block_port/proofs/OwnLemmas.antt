@@ -2,7 +2,7 @@
 use Rattle.std.proofs.Common.{List, [], ap, arith, drop, length, refl, suc, take, zero, ℕ, ◌*◌, ◌++◌, ◌+◌, ◌∙◌, ◌∷◌, ◌≡◌, ◌≤◌}
 use Rattle.std.proofs.lemmas.List.{drop-append-le, length-drop, take-append-le}
 use Rattle.block_port.specs.Own.{placed_from, sectors_of}
-use Rattle.lemmas.proofs.Numbers.{suc-times}
+use Rattle.pblk_model.proofs.Numbers.{suc-times}
 
 -- two runs of sectors, one after the other
 pub sectors_append : (size k n : ℕ) (front rest : List ℕ) → length front ≡ k * size → sectors_of size (k + n) (front ++ rest) ≡ sectors_of size k front ++ sectors_of size n rest

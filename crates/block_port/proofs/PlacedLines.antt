@@ -6,8 +6,8 @@ use Rattle.std.proofs.lemmas.Bool.{cases_lt, cases_order}
 use Rattle.std.proofs.lemmas.List.{map-append}
 use Rattle.std.proofs.lemmas.Option.{none-some, same_Some}
 use Rattle.pblk_model.specs.RingState.{between, times}
-use Rattle.lemmas.proofs.Lists.{IsAmong, all_append, among_contained}
-use Rattle.lemmas.proofs.Parts.{all_by_get, is_in}
+use Rattle.pblk_model.proofs.Lists.{IsAmong, all_append, among_contained}
+use Rattle.pblk_model.proofs.Parts.{all_by_get, is_in}
 use Rattle.block_port.specs.ByPlace.{HasItsSectors, KeysRise, ThreadWrite, all_lines, by_place, covered, first_of, own_writes}
 use Rattle.block_port.specs.Own.{PlacedSector, lines_of, placed_from}
 use Rattle.block_port.specs.Port.{Rise, positions}

@@ -3,7 +3,7 @@ use Rattle.std.proofs.Common.{◌≡◌, ◌⊎◌, inl, inr, ℕ, ◌+◌, ◌<
 use Rattle.std.specs.List.{range_with_len}
 use Rattle.std.proofs.lemmas.Bool.{cases_lt, cases_order}
 use Rattle.pblk_model.specs.RingState.{between, times}
-use Rattle.lemmas.proofs.Tests.{lt_true, not_before}
+use Rattle.pblk_model.proofs.Tests.{lt_true, not_before}
 
 -- ---- between
 

@@ -31,7 +31,7 @@ use Rattle.block_target.proofs.DeedsLemmas.{world_more}
 use Rattle.block_target.proofs.FreedMounts.{world_freed}
 use Rattle.block_target.proofs.LostCommands.{no_loss}
 use Rattle.block_target.proofs.NamedAnswers.{answer_of}
-use Rattle.lemmas.proofs.Parts.{get_last, get_right, got_within}
+use Rattle.pblk_model.proofs.Parts.{get_last, get_right, got_within}
 
 -- ---- units as a world leaves them
 

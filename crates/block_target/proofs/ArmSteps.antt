@@ -30,9 +30,9 @@ use Rattle.step_laws.proofs.GivenUp.{reset_next, reset_taken}
 use Rattle.step_laws.proofs.Programs.{program_chunk, program_fits, program_next}
 use Rattle.step_laws.proofs.UnitSteps.{events_now, found_there, media_now, stops_now}
 use Rattle.block_target.specs.Arm.{IsArm, IsBlockThere, IsGivenUpThere, IsStripeThere, WasGiven, last_of}
-use Rattle.lemmas.proofs.Lists.{all_of}
-use Rattle.lemmas.proofs.Parts.{get_last}
-use Rattle.lemmas.proofs.Tests.{either, not_both, or_no, or_right, second_of}
+use Rattle.pblk_model.proofs.Lists.{all_of}
+use Rattle.pblk_model.proofs.Parts.{get_last}
+use Rattle.pblk_model.proofs.Tests.{either, not_both, or_no, or_right, second_of}
 use Rattle.step_laws.proofs.Readied.{stop_is}
 
 -- ---- one event more

@@ -103,7 +103,8 @@ module _ (s : SerialView) (v : MountView) (is : Closes s v) where
       (λ sealed again. end_at_rest v wanted is.sound again cause.at_rest sealed)
 
   -- by what settling answered
-  pub closed_by : (r : Result Unit SettleErr) → (IsOk r → NoDriveFaults s.mount.units v.units) → (IsOk r → taken_in v ≤ synced_in v) → (IsOk r → IsCollectionOver v)
+  pub closed_by : (r : Result Unit SettleErr) → (IsOk r → NoDriveFaults s.mount.units v.units) → (IsOk r → taken_in v ≤ synced_in v)
+      → (IsOk r → IsCollectionOver v)
       → IfErr r (Waits s.mount v (taken_in v) (synced_in v)) → AsksUpTo s.mount v (taken_in v) r → IsClosed s r v
   closed_by (Ok x) done enough over refused asks = closed_settled (done refl) (enough refl) (over refl) asks
   closed_by (Err (settle.Drive unit event)) done enough over lost asks = closed_lost unit event lost asks

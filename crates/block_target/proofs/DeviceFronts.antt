@@ -23,7 +23,7 @@ use Rattle.block_target.proofs.GrantedTakes.{granted_same}
 use Rattle.block_target.proofs.NamedAnswers.{all_named_later, answer_of, named_with}
 use Rattle.block_target.proofs.Refusals.{refusals_grown}
 use Rattle.block_target.proofs.MountLemmas.{taken_small}
-use Rattle.lemmas.proofs.Tests.{lt_true}
+use Rattle.pblk_model.proofs.Tests.{lt_true}
 use Rattle.block_target.proofs.Written.{lines_kept, learns_none}
 
 -- ---- the lines

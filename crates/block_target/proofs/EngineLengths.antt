@@ -31,8 +31,8 @@ use Rattle.pblk_core.specs.Copies.{is_copy_due}
 use Rattle.pblk_core.specs.Named.{work_of}
 use Rattle.block_target.specs.Deeds.{Deed, Readies, Decides, Does, Lands, Loses, NotesReset, Offers, after_deed, world_of, last_event}
 use Rattle.pblk_core.proofs.StandsTold.{copies_told, work_told}
-use Rattle.lemmas.proofs.Numbers.{fun_same}
-use Rattle.lemmas.proofs.Parts.{get_last}
+use Rattle.pblk_model.proofs.Numbers.{fun_same}
+use Rattle.pblk_model.proofs.Parts.{get_last}
 use Rattle.pblk_world.proofs.WorldLemmas.{log_elsewhere, log_here}
 use Rattle.pblk_world.specs.Legal.{IsLegal}
 

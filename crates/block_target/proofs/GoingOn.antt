@@ -44,7 +44,7 @@ use Rattle.block_target.specs.Mount.{HaveGrown, IsMount, IsSameMount, IsSound, M
 use Rattle.pblk_world.specs.Orders.{AreInOrder, IsInOrder, NoneToFree}
 use Rattle.block_target.proofs.InOrder.{in_order_decided}
 use Rattle.block_target.proofs.Reasoned.{HasReason, begun_decided, urgent_decided}
-use Rattle.lemmas.proofs.Parts.{get_set_other, get_set_same, got_within}
+use Rattle.pblk_model.proofs.Parts.{get_set_other, get_set_same, got_within}
 
 -- ---- a unit, as the world goes on
 

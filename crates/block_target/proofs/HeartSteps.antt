@@ -43,9 +43,9 @@ use Rattle.world_laws.proofs.ToldPads.{pads_told}
 use Rattle.block_target.proofs.HeartGrants.{all_granted, grant_kept}
 use Rattle.block_target.proofs.OnceRoom.{greater, room_later, room_less}
 use Rattle.block_target.proofs.PadsAsked.{asked_greater, asked_later, asked_less, asks_at_most}
-use Rattle.lemmas.proofs.Lists.{IsAmong, among_contained}
-use Rattle.lemmas.proofs.Numbers.{fun_same}
-use Rattle.lemmas.proofs.Parts.{get_first, get_last, is_in}
+use Rattle.pblk_model.proofs.Lists.{IsAmong, among_contained}
+use Rattle.pblk_model.proofs.Numbers.{fun_same}
+use Rattle.pblk_model.proofs.Parts.{get_first, get_last, is_in}
 
 out_renewed : (a b x y z : ℕ) → a + x ≡ b + y → a ≡ z → y ≡ z → b ≡ x
 out_renewed a b x y z sum was same = omega arith

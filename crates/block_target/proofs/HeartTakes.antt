@@ -46,8 +46,8 @@ use Rattle.block_target.specs.Heart.{BeatsAfter, HasLent, IsBeating, IsHeart, Is
 use Rattle.block_target.specs.declared.heart.Heart.{Heart}
 use Rattle.block_target.proofs.HeartSteps.{beats_kept}
 use Rattle.block_target.proofs.KeptRoom.{freed_same, room_taken}
-use Rattle.lemmas.proofs.Lists.{with_last}
-use Rattle.lemmas.proofs.Tests.{below_of, both, same_number}
+use Rattle.pblk_model.proofs.Lists.{with_last}
+use Rattle.pblk_model.proofs.Tests.{below_of, both, same_number}
 
 -- ---- room
 

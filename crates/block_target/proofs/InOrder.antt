@@ -13,7 +13,7 @@ use Rattle.pblk_world.specs.World.{World, Logs, known, log_of}
 use Rattle.core_laws.specs.StripePrograms.{HasHappened}
 use Rattle.core_laws.proofs.Happened.{happened}
 use Rattle.step_laws.specs.Whole.{engine_step}
-use Rattle.lemmas.proofs.Parts.{get_taken, got_within}
+use Rattle.pblk_model.proofs.Parts.{get_taken, got_within}
 use Rattle.pblk_world.specs.Orders.{AreAfterResets, AreInOrder, AreOpenedFull, IsInOrder, NoneToFree, NoneWasLeft}
 use Rattle.block_target.proofs.OnceRoom.{same_lengths}
 use Rattle.block_target.proofs.Reasoned.{added, at_before}

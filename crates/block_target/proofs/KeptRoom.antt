@@ -34,8 +34,8 @@ use Rattle.core_laws.proofs.QuietEvents.{IsQuiet, quiet_alike, stop_is_quiet, qu
 use Rattle.core_laws.proofs.RangeSums.{sum_same}
 use Rattle.pblk_core.proofs.StandsTaken.{freed_taken, given_same}
 use Rattle.core_laws.proofs.SteppingLemmas.{found_kept}
-use Rattle.lemmas.proofs.Numbers.{fun_same}
-use Rattle.lemmas.proofs.Tests.{no_both}
+use Rattle.pblk_model.proofs.Numbers.{fun_same}
+use Rattle.pblk_model.proofs.Tests.{no_both}
 use Rattle.pblk_model.specs.Contents.{least_missing}
 
 -- ---- the front freed stays

@@ -10,8 +10,8 @@ use Rattle.pblk_model.specs.UnitLog.{UnitEvent}
 use Rattle.unit_port.specs.Unit.{ModelUnit}
 use Rattle.scan_recovery.specs.DriveFaults.{IsDriveFault, IsDriveFaultAt, NoDriveFaults, grown_by, is_drive_fault}
 use Rattle.block_target.specs.Mount.{HaveGrown}
-use Rattle.lemmas.proofs.Lists.{all_append}
-use Rattle.lemmas.proofs.Parts.{all_at, get_dropped, get_first, get_set_other, get_set_same}
+use Rattle.pblk_model.proofs.Lists.{all_append}
+use Rattle.pblk_model.proofs.Parts.{all_at, get_dropped, get_first, get_set_other, get_set_same}
 
 -- ---- one unit did one thing more
 
@@ -99,7 +99,8 @@ none_lost_then a b c first second x y number u w before now =
     (sym (ap (drop (length u.log)) all ∙ drop-append_seam u.log (old.2 ++ mid.2)))
     (all_append (λ (e : UnitEvent). is_drive_fault e ≡ false) old.2 mid.2 early late)
 
-pub lost_later : (a b c : List ModelUnit) (unit n : ℕ) → HaveGrown a b → HaveGrown b c → NoDriveFaults a b → IsDriveFaultAt b c unit n → IsDriveFaultAt a c unit n
+pub lost_later : (a b c : List ModelUnit) (unit n : ℕ) → HaveGrown a b → HaveGrown b c → NoDriveFaults a b → IsDriveFaultAt b c unit n
+    → IsDriveFaultAt a c unit n
 lost_later a b c unit n first second none lost =
     let old = first unit lost.earlier lost.there in
     let long : length lost.earlier.log ≡ length old.0.log + length old.2 = ap (λ (xs : List UnitEvent). length xs) old.3 ∙ length-append old.0.log old.2 in

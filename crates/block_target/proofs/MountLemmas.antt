@@ -17,7 +17,7 @@ use Rattle.pblk_world.specs.Events.{Step}
 use Rattle.pblk_world.specs.World.{World}
 use Rattle.scan_recovery.specs.DriveFaults.{GrewBy, IsGivenBy}
 use Rattle.unit_port.specs.Unit.{ModelUnit}
-use Rattle.lemmas.proofs.Lists.{all_append}
+use Rattle.pblk_model.proofs.Lists.{all_append}
 use Rattle.world_laws.proofs.Begun.{first_is as first_of}
 
 -- ---- mounts of which nothing more was taken

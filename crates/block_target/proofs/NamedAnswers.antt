@@ -13,7 +13,7 @@ use Rattle.scan_recovery.specs.DriveFaults.{IsDriveFaultAt}
 use Rattle.block_port.specs.declared.rows.DriveAnswer.{DriveAnswer}
 use Rattle.block_target.specs.Mount.{MountView, IsSameMount, IsSound, logs_in}
 use Rattle.block_target.specs.Serial.{AreNamed, IsNamed}
-use Rattle.lemmas.proofs.Parts.{get_first, get_last, get_more, got_within}
+use Rattle.pblk_model.proofs.Parts.{get_first, get_last, get_more, got_within}
 
 -- ---- as the units' logs grow
 

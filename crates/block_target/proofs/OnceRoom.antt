@@ -19,8 +19,8 @@ use Rattle.world_laws.proofs.GrownLogs.{at_named}
 use Rattle.step_laws.proofs.UnitStays.{named_stays}
 use Rattle.step_laws.proofs.UnitSteps.{engine_log}
 use Rattle.pblk_world.specs.Reasons.{WasRoom}
-use Rattle.lemmas.proofs.Numbers.{fun_same}
-use Rattle.lemmas.proofs.Parts.{get_first}
+use Rattle.pblk_model.proofs.Numbers.{fun_same}
+use Rattle.pblk_model.proofs.Parts.{get_first}
 
 -- what the last event of a prefix knew is there
 pub last_within : (i : Image) (w : World) (n author : ℕ) → IsLegal i w → knows_last (slice_get (log_of w 0) n) author ≤ length (log_of w author)

@@ -25,7 +25,7 @@ use Rattle.pblk_core.specs.declared.target_core.Core.{Core}
 use Rattle.pblk_core.proofs.CopiesDue.{victim_has_row}
 use Rattle.pblk_core.proofs.SmallGrant.{due_is}
 use Rattle.block_target.proofs.OnceRoom.{same_lengths}
-use Rattle.lemmas.proofs.Tests.{le_of_lt_false}
+use Rattle.pblk_model.proofs.Tests.{le_of_lt_false}
 
 -- ---- at an earlier length
 

@@ -34,11 +34,11 @@ use Rattle.core_laws.proofs.TakenNumbers.{first_stays}
 use Rattle.step_laws.specs.Whole.{engine_step, knows_all}
 use Rattle.step_laws.proofs.EngineSteps.{engine_logs}
 use Rattle.core_laws.proofs.ToldSpent.{none_by_spent}
-use Rattle.lemmas.proofs.Lists.{all_contains, all_imply, among_contained, among_more}
-use Rattle.lemmas.proofs.Maps.{any_agree, filter_same}
-use Rattle.lemmas.proofs.Numbers.{fun_same}
-use Rattle.lemmas.proofs.Parts.{contained_among}
-use Rattle.lemmas.proofs.Tests.{not_both, or_no, same, same_number}
+use Rattle.pblk_model.proofs.Lists.{all_contains, all_imply, among_contained, among_more}
+use Rattle.pblk_model.proofs.Maps.{any_agree, filter_same}
+use Rattle.pblk_model.proofs.Numbers.{fun_same}
+use Rattle.pblk_model.proofs.Parts.{contained_among}
+use Rattle.pblk_model.proofs.Tests.{not_both, or_no, same, same_number}
 
 module _ (i : Image) (w : World) (b : Begun) (stripe : Stripe) (mount : IsLegalMount i w)
     (next : IsLegalMount i (engine_step i.shape (Place stripe) w ∷ w)) (begins : begun (log_of w 0) ≡ Some b)

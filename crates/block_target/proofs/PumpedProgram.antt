@@ -60,7 +60,7 @@ use Rattle.block_target.proofs.Reasoned.{PlacesFor}
 use Rattle.block_target.proofs.UrgentStripes.{placed_for}
 use Rattle.pblk_model.proofs.MarksLemmas.{accepted_small}
 use Rattle.pblk_world.specs.AtRest.{IsDue}
-use Rattle.lemmas.proofs.Tests.{same_number}
+use Rattle.pblk_model.proofs.Tests.{same_number}
 
 -- ---- no program is under way, but maybe on one unit
 
@@ -72,7 +72,8 @@ rests_by old mid new unit rests first second own other of is = go (ℕ_discrete 
     go (yes same) = own of (ap (slice_get new.placer.units) (sym same) ∙ is)
     go (no apart) = rests other of (sym (first other apart) ∙ sym (second other apart) ∙ is)
 
-pub rests_idle : (old mid new : Core) (unit : ℕ) → NoneUnderWay old → AreKeptBeside unit old mid → AreKeptBeside unit mid new → IsIdleOn new unit → NoneUnderWay new
+pub rests_idle : (old mid new : Core) (unit : ℕ) → NoneUnderWay old → AreKeptBeside unit old mid → AreKeptBeside unit mid new → IsIdleOn new unit
+    → NoneUnderWay new
 rests_idle old mid new unit rests first second idle = rests_by old mid new unit rests first second (λ of is. absurd cc)
 
 pub rests_offered : (old mid new : Core) (unit : ℕ) → NoneUnderWay old → AreKeptBeside unit old mid → AreKeptBeside unit mid new → IsOfferedOn new unit

@@ -44,8 +44,8 @@ use Rattle.block_target.proofs.GoingOn.{GoesOn, Leaves, goes_given, goes_none, l
 use Rattle.block_target.proofs.MountLemmas.{asked_within}
 use Rattle.block_target.proofs.HeartBeside.{heart_beside}
 use Rattle.block_target.proofs.LostCommands.{is_lost_one, none_lost_one}
-use Rattle.lemmas.proofs.Parts.{all_get, got_within}
-use Rattle.lemmas.proofs.Tests.{lt_true}
+use Rattle.pblk_model.proofs.Parts.{all_get, got_within}
+use Rattle.pblk_model.proofs.Tests.{lt_true}
 
 -- ---- what a fetch told
 
@@ -217,7 +217,8 @@ module _ {v : MountView} {h : Heart} {f : Filling} (m : IsMount v h f) (unit chu
     pub media_fetched : media v.image (log_of (world_of v.image.shape last)) ≡ media v.image (logs_in v)
     media_fetched = ap (λ (x : World). media v.image (log_of x)) its_world ∙ media_stays v.image w unit number e (next_maker w) given.command_is
 
-    fetched_lost : (n : ℕ) → (is_stop e.outcome || (true && is_fail e.outcome)) ≡ true → n ≡ min (length new.log) (2 ^ 64 - 1) → IsDriveFaultAt v.units us unit n
+    fetched_lost : (n : ℕ) → (is_stop e.outcome || (true && is_fail e.outcome)) ≡ true → n ≡ min (length new.log) (2 ^ 64 - 1)
+        → IsDriveFaultAt v.units us unit n
     fetched_lost n lost number_is = subst (λ (xs : List ModelUnit). IsDriveFaultAt v.units xs unit n) (sym fetched.units)
         (is_lost_one v.units unit was new e fetched.there log_more n (ap (λ b. is_stop e.outcome || (b && is_fail e.outcome)) a_fetch ∙ lost) number_is)
 

@@ -29,8 +29,8 @@ use Rattle.step_laws.proofs.LatestSectors.{cached_latest, window_latest}
 use Rattle.pblk_core.specs.Stands.{Stands}
 use Rattle.pblk_core.specs.declared.target_core.Core.{Core}
 use Rattle.block_target.specs.Mount.{MountView, IsFetchable, IsSound, engine_log, logs_in, world_in, latest}
-use Rattle.lemmas.proofs.Maps.{range_get}
-use Rattle.lemmas.proofs.Tests.{lt_true}
+use Rattle.pblk_model.proofs.Maps.{range_get}
+use Rattle.pblk_model.proofs.Tests.{lt_true}
 
 -- ---- the window
 

@@ -20,8 +20,8 @@ use Rattle.block_target.specs.Serial.{SerialView, device}
 use Rattle.block_port.proofs.OwnLemmas.{cut_none, sectors_append}
 use Rattle.block_target.proofs.LostCommands.{none_lost_then}
 use Rattle.block_target.proofs.MountLemmas.{same_mount, same_then}
-use Rattle.lemmas.proofs.Numbers.{next_at}
-use Rattle.lemmas.proofs.Parts.{get_dropped, part_length, put_part}
+use Rattle.pblk_model.proofs.Numbers.{next_at}
+use Rattle.pblk_model.proofs.Parts.{get_dropped, part_length, put_part}
 use Rattle.scan_recovery.proofs.HandedBack.{none_lost_there}
 
 -- ---- runs of sectors

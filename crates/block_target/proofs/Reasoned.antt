@@ -9,7 +9,7 @@ use Rattle.std.proofs.lemmas.Option.{same_Some, slice_get_within}
 use Rattle.pblk_model.specs.declared.chunk.Mark.{Mark}
 use Rattle.pblk_model.specs.declared.shape.Shape.{Shape}
 use Rattle.pblk_model.specs.Image.{Image}
-use Rattle.lemmas.proofs.Parts.{get_first, get_last}
+use Rattle.pblk_model.proofs.Parts.{get_first, get_last}
 use Rattle.pblk_world.specs.AtRest.{IsUrgent, logs_at}
 use Rattle.pblk_world.specs.Events.{EngineEvent, Begin, Take, Open, Place, Landed, Lost, Again, ResetDone, Free, Entry, Event, Decides, Does, Logged, Source, Step, Stripe}
 use Rattle.pblk_world.specs.EngineLog.{bears_position}

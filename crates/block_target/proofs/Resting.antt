@@ -45,11 +45,11 @@ use Rattle.pblk_core.specs.declared.work.Work.TheVariants as works
 use Rattle.pblk_core.specs.declared.work.Why.{Why}
 use Rattle.pblk_world.specs.Orders.{AreReset, LacksAddress, NoneToFree}
 use Rattle.block_target.proofs.RestingCores.{is_way_on, way_of}
-use Rattle.lemmas.proofs.Lists.{IsAmong}
-use Rattle.lemmas.proofs.Maps.{given_at}
-use Rattle.lemmas.proofs.Options.{none_there}
-use Rattle.lemmas.proofs.Parts.{all_at, get_more, got_within}
-use Rattle.lemmas.proofs.Tests.{both, lt_true, not_both, positive}
+use Rattle.pblk_model.proofs.Lists.{IsAmong}
+use Rattle.pblk_model.proofs.Maps.{given_at}
+use Rattle.pblk_model.proofs.Options.{none_there}
+use Rattle.pblk_model.proofs.Parts.{all_at, get_more, got_within}
+use Rattle.pblk_model.proofs.Tests.{both, lt_true, not_both, positive}
 use Rattle.pblk_world.specs.LegalMounts.{IsLegalMount}
 
 -- ---- what is chosen

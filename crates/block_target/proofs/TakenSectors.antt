@@ -12,7 +12,7 @@ use Rattle.block_port.specs.Own.{sectors_of}
 use Rattle.block_target.specs.Mount.{MountView, IsSound, world_in, engine_log, taken_in, next_entry, with_entry, with_entries, with_pad}
 use Rattle.block_port.proofs.OwnLemmas.{cut_none}
 use Rattle.block_target.proofs.DeedsLemmas.{logs_decided}
-use Rattle.lemmas.proofs.Numbers.{next_at}
+use Rattle.pblk_model.proofs.Numbers.{next_at}
 use Rattle.pblk_world.proofs.EngineLogLemmas.{takes_more}
 
 -- ---- the log after one

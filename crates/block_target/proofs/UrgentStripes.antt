@@ -18,9 +18,9 @@ use Rattle.pblk_world.specs.World.{Logs}
 use Rattle.core_laws.proofs.BorneOnce.{BearsNone, pads_none, records_none}
 use Rattle.pblk_world.specs.Reasons.{WasAsked, WasUrgent}
 use Rattle.block_target.proofs.Reasoned.{PlacesFor}
-use Rattle.lemmas.proofs.Lists.{all_replicated}
-use Rattle.lemmas.proofs.Parts.{all_dropped, all_taken}
-use Rattle.lemmas.proofs.Tests.{no_both}
+use Rattle.pblk_model.proofs.Lists.{all_replicated}
+use Rattle.pblk_model.proofs.Parts.{all_dropped, all_taken}
+use Rattle.pblk_model.proofs.Tests.{no_both}
 
 none_borne : (s : Shape) (position : ℕ) (bs : List Block) → AllByRecursion (BearsNone s) bs → list_any (bears_position s position) bs ≡ false
 none_borne s position [] all = refl

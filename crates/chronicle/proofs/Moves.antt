@@ -10,7 +10,7 @@ use mathlib.Core.List.{IsPrefix}
 use lib.ListN.{get_elem?}
 use Rattle.atomic_table.specs.Table.{State, Allows, Splits, Joins, keeps, opening}
 use Rattle.atomic_table.proofs.Lists.{at_set}
-use Rattle.lemmas.proofs.Tests.{same_number, other_number}
+use Rattle.pblk_model.proofs.Tests.{same_number, other_number}
 use Rattle.pblk_world.specs.Events.{Event, Logged}
 use Rattle.pblk_world.specs.World.{World, Logs, log_of}
 use Rattle.pblk_world.specs.Legal.{IsAllowed, IsLegal}

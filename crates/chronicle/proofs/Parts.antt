@@ -6,7 +6,7 @@ use Rattle.std.proofs.lemmas.Bool.{cases_eq}
 use Rattle.std.proofs.lemmas.List.Elements.{Contains-append_cases}
 use mathlib.Core.List.{IsPrefix}
 use base.Growing.{prefix_refl, prefix_trans}
-use Rattle.lemmas.proofs.Parts.{get_below, get_first}
+use Rattle.pblk_model.proofs.Parts.{get_below, get_first}
 use Rattle.pblk_world.specs.Events.{Event, Logged, Step}
 use Rattle.pblk_world.specs.World.{World, log_of, known}
 use Rattle.pblk_world.proofs.Growing.{grows, at_end}

@@ -3,8 +3,8 @@ use Rattle.std.proofs.Common.{◌≡◌, ◌≢◌, ℕ, zero, suc, ◌<◌, ◌
 use Rattle.std.proofs.Math.Seq.{take-append_seam}
 use mathlib.Core.List.{IsPrefix}
 use base.Growing.{prefix_refl}
-use Rattle.lemmas.proofs.Parts.{take_and_drop}
-use Rattle.lemmas.proofs.Tests.{below_of, le_of_lt_false}
+use Rattle.pblk_model.proofs.Parts.{take_and_drop}
+use Rattle.pblk_model.proofs.Tests.{below_of, le_of_lt_false}
 use Rattle.pblk_world.specs.Events.{Event, Logged}
 use Rattle.pblk_world.specs.World.{known}
 use Rattle.chronicle.specs.Prefixes.{Prefixes, logs_of, longer, longer_of, naming, with_event}

@@ -5,9 +5,9 @@ use Rattle.std.proofs.lemmas.List.FromFn.{get_or-map-range_with_len, length-map-
 use Rattle.std.specs.List.{Contains, range_with_len}
 use mathlib.Core.List.{IsPrefix}
 use base.Growing.{prefix_refl}
-use Rattle.lemmas.proofs.Lists.{among_contained}
-use Rattle.lemmas.proofs.Numbers.{fun_same}
-use Rattle.lemmas.proofs.Parts.{get_below, is_in}
+use Rattle.pblk_model.proofs.Lists.{among_contained}
+use Rattle.pblk_model.proofs.Numbers.{fun_same}
+use Rattle.pblk_model.proofs.Parts.{get_below, is_in}
 use Rattle.pblk_model.specs.Image.{Image}
 use Rattle.pblk_model.specs.Shape.{units}
 use Rattle.pblk_world.specs.Events.{Event, Logged}

@@ -5,9 +5,9 @@ use Rattle.std.specs.List.{Contains, range_with_len}
 use Rattle.std.proofs.lemmas.Bool.{cases_eq}
 use Rattle.std.proofs.lemmas.List.Elements.{Contains-append_left, Contains-append_right}
 use Rattle.atomic_table.specs.Seated.{TableId}
-use Rattle.lemmas.proofs.Maps.{row_at}
-use Rattle.lemmas.proofs.Numbers.{fun_same}
-use Rattle.lemmas.proofs.Parts.{get_whole}
+use Rattle.pblk_model.proofs.Maps.{row_at}
+use Rattle.pblk_model.proofs.Numbers.{fun_same}
+use Rattle.pblk_model.proofs.Parts.{get_whole}
 use Rattle.pblk_world.specs.Legal.{IsLegal}
 use Rattle.pblk_world.specs.World.{log_of}
 use Rattle.chronicle.specs.Handles.{AuthorView, first_author}

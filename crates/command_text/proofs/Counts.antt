@@ -4,8 +4,8 @@ use Rattle.std.specs.List.{slice_get, flat_map, zip}
 use Rattle.std.proofs.lemmas.List.{append-nil}
 use Rattle.pblk_model.specs.Chunk.{Chunk}
 use Rattle.pblk_model.specs.ImageFile.{StoredChunk}
-use Rattle.lemmas.proofs.Maps.{filter_both}
-use Rattle.lemmas.proofs.Parts.{take_next}
+use Rattle.pblk_model.proofs.Maps.{filter_both}
+use Rattle.pblk_model.proofs.Parts.{take_next}
 
 pub take-all : {X : Type 0} (xs : List X) (n : ℕ) → n ≡ length xs → take n xs ≡ xs
 take-all xs n e = ap (λ k. take k xs) e ∙ whole xs

@@ -8,7 +8,7 @@ use Rattle.pblk_model.specs.CommandText.{shown_name, name_byte}
 use Rattle.command_text.specs.Names.{is_control}
 use Rattle.command_text.specs.Says.{HasTaken, HasFailed}
 use Rattle.command_text.proofs.Saying.{nothing_taken, taken_then, failed_then, failed_first}
-use Rattle.lemmas.proofs.Parts.{take_whole}
+use Rattle.pblk_model.proofs.Parts.{take_whole}
 
 pub plain_byte : (b : ℕ) → is_control b ≡ false → name_byte b ≡ b ∷ []
 plain_byte b h = rw h refl

@@ -12,7 +12,7 @@ use Rattle.command_words.proofs.Items.{all_at, names_in-append, options_in-appen
 use Rattle.command_words.proofs.OptionValues.{names, with_name, with_value, value_at, number_at, one_create, distinct_names, plain_names, one_at, none_of, some_of}
 use Rattle.command_words.proofs.Reading.{IsReading, all_read, plain_all, spelled_whole}
 use Rattle.std.proofs.lemmas.List.{append-nil}
-use Rattle.lemmas.proofs.Lists.{all_append}
+use Rattle.pblk_model.proofs.Lists.{all_append}
 
 -- The next item.
 

@@ -5,7 +5,7 @@ use Rattle.std.specs.List.{AllByRecursion}
 use Rattle.command_words.specs.Grammar.{Item, Name, Named, IsPlainWord}
 use Rattle.command_words.specs.Words.{IsItemBefore, HasPlainName}
 use Rattle.command_words.proofs.Items.{all_at}
-use Rattle.lemmas.proofs.Parts.{take-all}
+use Rattle.pblk_model.proofs.Parts.{take-all}
 
 pub some_and : {X : Type 0} (r : Option X) (P Q : X → Type 0) → IfSome r P → IsSome r → ((x : X) → P x → Q x) → IsSomeAnd r Q
 some_and None P Q h some k = absurd (cc some)

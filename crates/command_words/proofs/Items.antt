@@ -6,8 +6,8 @@ use Rattle.std.proofs.lemmas.List.{append-nil}
 use Rattle.std.proofs.lemmas.Slice.Eq.{bytes_eq-Decides}
 use Rattle.command_words.specs.Grammar.{Item, Name, Named, IsPlainWord, AreItems, names_in, options_in, value_in, values_in, AreDistinct}
 use Rattle.command_words.specs.Words.{IsItemBefore}
-use Rattle.lemmas.proofs.Bytes.{same_bytes, true_same}
-use Rattle.lemmas.proofs.Lists.{all_append}
+use Rattle.pblk_model.proofs.Bytes.{same_bytes, true_same}
+use Rattle.pblk_model.proofs.Lists.{all_append}
 
 -- Tests of names.
 

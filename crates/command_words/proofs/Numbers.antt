@@ -8,7 +8,7 @@ use Rattle.std.proofs.lemmas.Bool.{eqb-true, eqb-false, eq-eqb, false_from_ne_tr
 use Rattle.std.proofs.lemmas.Fmt.{decimal-digits_value, digits_decimal, parse-decimal}
 use Rattle.std.proofs.lemmas.Str.Parse.{IsNumeralModel, numerals_by_value, tells_digits, parse_plain, digit_from_value}
 use Rattle.command_words.specs.Words.{is_padded}
-use Rattle.lemmas.proofs.Bytes.{short_zero}
+use Rattle.pblk_model.proofs.Bytes.{short_zero}
 
 pub digits : IsNumeralModel (AllDigits 10) (digits_value 10)
 digits = numerals_by_value (AllDigits 10) tells_digits

@@ -7,8 +7,8 @@ use Rattle.command_words.specs.Grammar.{Item, Name, Named, NumberOption, IsNumbe
 use Rattle.command_words.specs.Words.{IsValue, AreValues}
 use Rattle.command_words.proofs.Items.{same_value, new_value, is_other, other_name}
 use Rattle.std.proofs.lemmas.Bool.{cases_Bool, eqb-false}
-use Rattle.lemmas.proofs.Parts.{all_get}
-use Rattle.lemmas.proofs.Tests.{first_of, second_of}
+use Rattle.pblk_model.proofs.Parts.{all_get}
+use Rattle.pblk_model.proofs.Tests.{first_of, second_of}
 
 abbrev pub names : List NumberOption → List (List ℕ)
 names os = map (λ o. o.name) os

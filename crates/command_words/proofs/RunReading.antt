@@ -15,7 +15,7 @@ use Rattle.command_words.proofs.OptionValues.{plain_by_test}
 use Rattle.command_words.proofs.PlanWords.{one_more, plan_said, same_plans, too_many}
 use Rattle.command_words.proofs.Reading.{IsReading, all_read, plain_all, spelled_whole}
 use Rattle.command_words.proofs.StopWords.{no_two, no_word, one_stop, said}
-use Rattle.lemmas.proofs.Lists.{all_append}
+use Rattle.pblk_model.proofs.Lists.{all_append}
 
 -- what has been read, by its parts
 abbrev pub read_as : RunNames → RunOptions → RunWords

@@ -26,11 +26,11 @@ use Rattle.core_laws.proofs.StripesByPlace.{one_stripe}
 use Rattle.world_laws.proofs.UnitTurns.{unit_is as its_unit, turn_is as its_turn}
 use Rattle.core_laws.proofs.UnitTurns.{filtered_is, stands_at_turn}
 use Rattle.core_laws.proofs.PlacedLines.{IsStanding, all_standing}
-use Rattle.lemmas.proofs.Lists.{IsAmong, length_replicate}
-use Rattle.lemmas.proofs.Maps.{found_passes, from_filter, from_map, map_same, row_at, rows_set}
-use Rattle.lemmas.proofs.Numbers.{some_units}
-use Rattle.lemmas.proofs.Parts.{all_at, get_last, none_past}
-use Rattle.lemmas.proofs.Tests.{first_of}
+use Rattle.pblk_model.proofs.Lists.{IsAmong, length_replicate}
+use Rattle.pblk_model.proofs.Maps.{found_passes, from_filter, from_map, map_same, row_at, rows_set}
+use Rattle.pblk_model.proofs.Numbers.{some_units}
+use Rattle.pblk_model.proofs.Parts.{all_at, get_last, none_past}
+use Rattle.pblk_model.proofs.Tests.{first_of}
 
 -- an event answers the unit's stripe, and places nothing
 pub record IsAnswer (log new : List Logged) (unit : ℕ) (a : Answer) : Type 0 where

@@ -16,10 +16,10 @@ use Rattle.pblk_world.specs.Events.{Decides, Logged}
 use Rattle.pblk_world.specs.Legal.{IsLegal}
 use Rattle.pblk_world.specs.Lines.{known_image}
 use Rattle.pblk_world.specs.World.{World, log_of, known, knows_engine, prefixes, unit_event_of}
-use Rattle.lemmas.proofs.Lists.{IsAmong, among_contained}
-use Rattle.lemmas.proofs.Maps.{given_at, in_filter}
-use Rattle.lemmas.proofs.Parts.{contained_among, get_below, get_whole_within}
-use Rattle.lemmas.proofs.Tests.{same_number}
+use Rattle.pblk_model.proofs.Lists.{IsAmong, among_contained}
+use Rattle.pblk_model.proofs.Maps.{given_at, in_filter}
+use Rattle.pblk_model.proofs.Parts.{contained_among, get_below, get_whole_within}
+use Rattle.pblk_model.proofs.Tests.{same_number}
 use Rattle.world_laws.specs.KnownChunks.{IsChange}
 use Rattle.pblk_world.specs.LegalMounts.{IsLegalMount}
 use Rattle.world_laws.specs.UnitChunks.{chunk_after}

@@ -22,11 +22,11 @@ use Rattle.pblk_world.specs.Lines.{are_empty, chunks_of, found_image, has_number
 use Rattle.pblk_world.specs.Opening.{MayOpen}
 use Rattle.pblk_world.specs.Victims.{position_in, positions_in}
 use Rattle.pblk_world.specs.World.{World, Logs, knows_engine, log_of, unit_event_at, unit_event_of}
-use Rattle.lemmas.proofs.Lists.{IsAmong}
-use Rattle.lemmas.proofs.Maps.{from_filter, given_at}
-use Rattle.lemmas.proofs.Options.{map_some, split_then}
-use Rattle.lemmas.proofs.Parts.{all_at, all_by_get, contained_among}
-use Rattle.lemmas.proofs.Tests.{both, not_both, other_number, same_number}
+use Rattle.pblk_model.proofs.Lists.{IsAmong}
+use Rattle.pblk_model.proofs.Maps.{from_filter, given_at}
+use Rattle.pblk_model.proofs.Options.{map_some, split_then}
+use Rattle.pblk_model.proofs.Parts.{all_at, all_by_get, contained_among}
+use Rattle.pblk_model.proofs.Tests.{both, not_both, other_number, same_number}
 use Rattle.pblk_world.specs.LegalMounts.{IsLegalMount}
 use Rattle.world_laws.specs.UnitPrograms.{IsProgramOfStripe}
 use Rattle.world_laws.proofs.FoundEmpty.{all_pass}

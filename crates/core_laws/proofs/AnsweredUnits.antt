@@ -11,8 +11,8 @@ use Rattle.pblk_world.specs.EngineLog.{Placed, placed_on, Answer, answers, answe
 use Rattle.pblk_world.specs.Placing.{MayPlace}
 use Rattle.core_laws.specs.PlacerOf.{unanswered_on}
 use Rattle.core_laws.proofs.Answered.{IsFirst, first_unanswered}
-use Rattle.lemmas.proofs.Parts.{got_within}
-use Rattle.lemmas.proofs.Tests.{not_both}
+use Rattle.pblk_model.proofs.Parts.{got_within}
+use Rattle.pblk_model.proofs.Tests.{not_both}
 
 pub first_answer : (log : List Logged) (unit : ℕ) (p : Placed) → unanswered_on log unit ≡ Some p → answer_of log p ≡ None
 first_answer log unit p e =

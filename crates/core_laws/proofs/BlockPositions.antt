@@ -20,9 +20,9 @@ use Rattle.core_laws.specs.PlacerOf.{positions_of}
 use Rattle.core_laws.proofs.PlacedPositions.{unnamed}
 use Rattle.core_laws.proofs.UsersEntries.{AreInOrder, in_order}
 use Rattle.core_laws.proofs.PlacerOfLemmas.{positions_taken}
-use Rattle.lemmas.proofs.Lists.{all_append, zipped}
-use Rattle.lemmas.proofs.Maps.{all_filter}
-use Rattle.lemmas.proofs.Parts.{all_dropped, all_taken}
+use Rattle.pblk_model.proofs.Lists.{all_append, zipped}
+use Rattle.pblk_model.proofs.Maps.{all_filter}
+use Rattle.pblk_model.proofs.Parts.{all_dropped, all_taken}
 
 -- ---- blocks that bear none
 

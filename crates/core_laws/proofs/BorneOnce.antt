@@ -29,10 +29,10 @@ use Rattle.core_laws.specs.Positions.{AreNumbered, AreMarked}
 use Rattle.core_laws.proofs.PlacedPositions.{unnamed}
 use Rattle.core_laws.proofs.SyncedWindow.{numbered_above}
 use Rattle.core_laws.proofs.UsersEntries.{AreInOrder, in_order}
-use Rattle.lemmas.proofs.Lists.{IsAmong, all_imply, all_replicated, among_all}
-use Rattle.lemmas.proofs.Maps.{fewer_taken, filter_none}
-use Rattle.lemmas.proofs.Parts.{all_dropped, all_taken, contained_among}
-use Rattle.lemmas.proofs.Tests.{other_number}
+use Rattle.pblk_model.proofs.Lists.{IsAmong, all_imply, all_replicated, among_all}
+use Rattle.pblk_model.proofs.Maps.{fewer_taken, filter_none}
+use Rattle.pblk_model.proofs.Parts.{all_dropped, all_taken, contained_among}
+use Rattle.pblk_model.proofs.Tests.{other_number}
 use Rattle.pblk_model.proofs.MarksLemmas.{accepted_small}
 
 unfoldable pub times : Shape → ℕ → List Block → ℕ

@@ -21,8 +21,8 @@ use Rattle.core_laws.specs.SlotOf.{media_of, slot_of_winner, slot_by, slot_of}
 use Rattle.core_laws.specs.WindowOf.{is_given_back}
 use Rattle.core_laws.proofs.UnitTurns.{filtered_is}
 use Rattle.core_laws.proofs.LeastPositions.{least_below}
-use Rattle.lemmas.proofs.Lists.{IsAmong, later}
-use Rattle.lemmas.proofs.Maps.{found_none, from_filter}
+use Rattle.pblk_model.proofs.Lists.{IsAmong, later}
+use Rattle.pblk_model.proofs.Maps.{found_none, from_filter}
 
 same_cached : (p q : ℕ) → Cached p ≡ Cached q → p ≡ q
 same_cached p q e = cc

@@ -20,7 +20,7 @@ use Rattle.core_laws.specs.RowsOf.{row_of_line, state_found, state_given_up, sta
 use Rattle.core_laws.proofs.LatestStarts.{numbers_of}
 use Rattle.core_laws.proofs.TopPositions.{top_more}
 use Rattle.stripe_placer.proofs.Rising.{le_false}
-use Rattle.lemmas.proofs.Tests.{and_both, both, within_is, and_false, le_true, lt_true, not_before, not_first}
+use Rattle.pblk_model.proofs.Tests.{and_both, both, within_is, and_false, le_true, lt_true, not_before, not_first}
 
 -- ---- positions below a bound
 

@@ -13,8 +13,8 @@ use Rattle.line_table.specs.Rows.{Table, Changes}
 use Rattle.core_laws.specs.RowsOf.{row_of_line, rows_of}
 use Rattle.core_laws.proofs.PlacedLines.{get_row as row_there}
 use Rattle.core_laws.specs.ChangedTables.{with_row}
-use Rattle.lemmas.proofs.Lists.{all_imply}
-use Rattle.lemmas.proofs.Maps.{map_agree, map_same, rows_set}
+use Rattle.pblk_model.proofs.Lists.{all_imply}
+use Rattle.pblk_model.proofs.Maps.{map_agree, map_same, rows_set}
 
 pub same_table : (s t : Shape) (rows more : List Row) → s ≡ t → rows ≡ more
     → ◌≡◌ {A = Table} (record { shape = s; rows = rows }) (record { shape = t; rows = more })

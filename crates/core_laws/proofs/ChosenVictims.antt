@@ -10,8 +10,8 @@ use Rattle.pblk_world.specs.Victims.{Candidate, better, candidate, is_before, is
 use Rattle.pblk_world.specs.World.{Logs}
 use Rattle.core_laws.specs.CandidateLines.{IsCandidate, IsNextVictim}
 use Rattle.core_laws.proofs.CandidateLines.{candidate_when}
-use Rattle.lemmas.proofs.Maps.{more, range_more}
-use Rattle.lemmas.proofs.Tests.{and_both, both, either, lt_true, not_both, or_left, or_right, same_number}
+use Rattle.pblk_model.proofs.Maps.{more, range_more}
+use Rattle.pblk_model.proofs.Tests.{and_both, both, either, lt_true, not_both, or_left, or_right, same_number}
 
 -- ---- the order of candidates
 

@@ -20,9 +20,9 @@ use Rattle.core_laws.proofs.LandedNow.{opened_now}
 use Rattle.core_laws.proofs.LineNumbers.{row_within}
 use Rattle.core_laws.proofs.StripeBlocks.{have_blocks}
 use Rattle.core_laws.proofs.UnitTurns.{filtered_is}
-use Rattle.lemmas.proofs.Lists.{IsAmong, among_contained}
-use Rattle.lemmas.proofs.Maps.{from_filter}
-use Rattle.lemmas.proofs.Parts.{all_at, contained_among}
+use Rattle.pblk_model.proofs.Lists.{IsAmong, among_contained}
+use Rattle.pblk_model.proofs.Maps.{from_filter}
+use Rattle.pblk_model.proofs.Parts.{all_at, contained_among}
 
 -- a stripe of a line that is opened so ends within its chunk
 ends_within : (i : Image) (w : World) (o : Opening) (p : Placed) → IsLegalMount i w → life_of (log_of w 0) o.line ≡ Opened o

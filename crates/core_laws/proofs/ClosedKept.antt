@@ -23,7 +23,7 @@ use Rattle.pblk_world.specs.Starts.{seq_in, seq_of}
 use Rattle.pblk_world.specs.Victims.{position_in, positions_in}
 use Rattle.pblk_world.specs.World.{World, Logs, log_of, unit_event_at, unit_event_of}
 use Rattle.pblk_world.proofs.Appending.{life_more}
-use Rattle.lemmas.proofs.Tests.{both, first_of, not_both, second_of}
+use Rattle.pblk_model.proofs.Tests.{both, first_of, not_both, second_of}
 use Rattle.pblk_world.specs.LegalMounts.{IsLegalMount}
 use Rattle.core_laws.specs.ClosedLines.{ClosedLine, closed_line, top_of}
 use Rattle.core_laws.specs.Stepping.{after}

@@ -15,11 +15,11 @@ use Rattle.pblk_world.specs.Starts.{seq_in, seq_of}
 use Rattle.pblk_world.specs.Victims.{positions_in}
 use Rattle.pblk_world.specs.World.{World, Logs, log_of}
 use Rattle.pblk_world.proofs.Appending.{life_more}
-use Rattle.lemmas.proofs.Lists.{IsAmong}
-use Rattle.lemmas.proofs.Maps.{in_filter, map_same}
-use Rattle.lemmas.proofs.Numbers.{fun_same}
-use Rattle.lemmas.proofs.Parts.{contained_among}
-use Rattle.lemmas.proofs.Tests.{not_both, same_number}
+use Rattle.pblk_model.proofs.Lists.{IsAmong}
+use Rattle.pblk_model.proofs.Maps.{in_filter, map_same}
+use Rattle.pblk_model.proofs.Numbers.{fun_same}
+use Rattle.pblk_model.proofs.Parts.{contained_among}
+use Rattle.pblk_model.proofs.Tests.{not_both, same_number}
 use Rattle.pblk_world.specs.LegalMounts.{IsLegalMount}
 use Rattle.world_laws.proofs.LifePlaces.{began}
 use Rattle.stripe_placer.specs.OpenLines.{OpenLine, has_left, numbers}

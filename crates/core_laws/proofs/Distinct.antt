@@ -6,8 +6,8 @@ use Rattle.std.proofs.lemmas.Bool.{eqb-true}
 use Rattle.std.proofs.lemmas.Option.{same_Some, none-some}
 use Rattle.std.proofs.lemmas.List.Folds.{list_any-append}
 use Rattle.core_laws.proofs.Placed.{is_in_list}
-use Rattle.lemmas.proofs.Lists.{IsAmong, later}
-use Rattle.lemmas.proofs.Tests.{either, no_both, or_left, or_right, same_number}
+use Rattle.pblk_model.proofs.Lists.{IsAmong, later}
+use Rattle.pblk_model.proofs.Tests.{either, no_both, or_left, or_right, same_number}
 
 abbrev pub IsIn : List ℕ → ℕ → Type 0
 IsIn xs q = is_in_list xs q ≡ true

@@ -35,11 +35,11 @@ use Rattle.stripe_placer.specs.OpenLines.{OpenLine, has_left, in_one_chunk, is_c
 use Rattle.line_table.specs.declared.row.LineState.TheVariants as states_of_line
 use Rattle.stripe_placer.specs.OpenLines as lines
 use Rattle.stripe_placer.specs.OpenLines.Stripe.{Unplaced}
-use Rattle.lemmas.proofs.Lists.{IsAmong, all_of, length_replicate}
-use Rattle.lemmas.proofs.Maps.{all_mapped, all_passed, any_fail, any_found, any_member, fewer_taken, filters_swap, found_passes, from_filter, in_filter, range_get}
-use Rattle.lemmas.proofs.Options.{some_value, split_then}
-use Rattle.lemmas.proofs.Parts.{all_at, contained_among, get_below, get_whole_within, got_within}
-use Rattle.lemmas.proofs.Tests.{and_false, both, le_true, lt_true, not_both, same_number}
+use Rattle.pblk_model.proofs.Lists.{IsAmong, all_of, length_replicate}
+use Rattle.pblk_model.proofs.Maps.{all_mapped, all_passed, any_fail, any_found, any_member, fewer_taken, filters_swap, found_passes, from_filter, in_filter, range_get}
+use Rattle.pblk_model.proofs.Options.{some_value, split_then}
+use Rattle.pblk_model.proofs.Parts.{all_at, contained_among, get_below, get_whole_within, got_within}
+use Rattle.pblk_model.proofs.Tests.{and_false, both, le_true, lt_true, not_both, same_number}
 use Rattle.pblk_world.specs.LegalMounts.{IsLegalMount}
 use Rattle.world_laws.proofs.LifePlaces.{began, units_now}
 use Rattle.world_laws.proofs.LifeUnits.{chunk_known}

@@ -29,10 +29,10 @@ use Rattle.core_laws.proofs.OpenWhileLeft.{over_where_none_left}
 use Rattle.core_laws.proofs.PaddedLines.{fails_with, unit, unit_is}
 use Rattle.core_laws.proofs.PlacedLines.{found_any}
 use Rattle.core_laws.proofs.PlainOpenings.{life_stands}
-use Rattle.lemmas.proofs.Lists.{IsAmong}
-use Rattle.lemmas.proofs.Maps.{any_found, given_at, in_filter, in_map}
-use Rattle.lemmas.proofs.Options.{mapped_some}
-use Rattle.lemmas.proofs.Tests.{either_false, not_both, or_left, same_number}
+use Rattle.pblk_model.proofs.Lists.{IsAmong}
+use Rattle.pblk_model.proofs.Maps.{any_found, given_at, in_filter, in_map}
+use Rattle.pblk_model.proofs.Options.{mapped_some}
+use Rattle.pblk_model.proofs.Tests.{either_false, not_both, or_left, same_number}
 
 module _ (i : Image) (w : World) (mount : IsLegalMount i w) (o : Opening) (is_open : life_of (log_of w 0) o.line ≡ Opened o) (stripe : Stripe)
     (line : stripe.line ≡ o.line) (pads : IsPad i (log_of w) o stripe)

@@ -7,8 +7,8 @@ use Rattle.pblk_model.specs.Chunk.{Chunk}
 use Rattle.pblk_model.specs.Image.{Image}
 use Rattle.pblk_laws.specs.LineBlocks.{chunk_in}
 use Rattle.pblk_world.specs.Lines.{chunks_of}
-use Rattle.lemmas.proofs.Maps.{from_given}
-use Rattle.lemmas.proofs.Parts.{all_by_get}
+use Rattle.pblk_model.proofs.Maps.{from_given}
+use Rattle.pblk_model.proofs.Parts.{all_by_get}
 
 pub all_hold : {X : Type 0} (f : X → Bool) (xs : List X) → AllByRecursion (λ x. f x ≡ true) xs → list_all f xs ≡ true
 all_hold f [] each = refl

@@ -11,8 +11,8 @@ use Rattle.pblk_world.specs.Victims.{engine_prefix}
 use Rattle.world_laws.proofs.Later.{its_number}
 use Rattle.core_laws.specs.Stepping.{after}
 use Rattle.core_laws.specs.PlacerOf.{stopped_by, was_stopped_on}
-use Rattle.lemmas.proofs.Maps.{numbers_below}
-use Rattle.lemmas.proofs.Numbers.{fun_same}
+use Rattle.pblk_model.proofs.Maps.{numbers_below}
+use Rattle.pblk_model.proofs.Numbers.{fun_same}
 
 -- ---- prefixes
 

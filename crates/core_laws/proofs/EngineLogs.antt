@@ -4,7 +4,7 @@ use Rattle.pblk_world.specs.Events.{Decides, EngineEvent, Logged, Step}
 use Rattle.pblk_world.specs.World.{World, log_of}
 use Rattle.pblk_world.proofs.WorldLemmas.{log_elsewhere, log_here}
 use Rattle.core_laws.specs.Stepping.{after}
-use Rattle.lemmas.proofs.Numbers.{fun_same}
+use Rattle.pblk_model.proofs.Numbers.{fun_same}
 
 pub logs_after : (s : Step) (w : World) (e : EngineEvent) → s.author ≡ 0 → s.logged.event ≡ Decides e
     → log_of (s ∷ w) ≡ after (log_of w) e s.logged.knows

@@ -18,10 +18,10 @@ use Rattle.stripe_placer.proofs.Rows.{find_first as found_stays}
 use Rattle.core_laws.specs.EntryHolds.{later_take, placed_line}
 use Rattle.core_laws.proofs.HeldOnce.{HeldOnce}
 use Rattle.core_laws.proofs.PlacedAnew.{holders_lost}
-use Rattle.lemmas.proofs.Lists.{IsAmong, all_imply}
-use Rattle.lemmas.proofs.Maps.{any_member, find_agree, find_none, found_passes}
-use Rattle.lemmas.proofs.Options.{none_of_map}
-use Rattle.lemmas.proofs.Tests.{and_false, first_of, lt_true, not_both, not_first, not_true, same_number, second_of}
+use Rattle.pblk_model.proofs.Lists.{IsAmong, all_imply}
+use Rattle.pblk_model.proofs.Maps.{any_member, find_agree, find_none, found_passes}
+use Rattle.pblk_model.proofs.Options.{none_of_map}
+use Rattle.pblk_model.proofs.Tests.{and_false, first_of, lt_true, not_both, not_first, not_true, same_number, second_of}
 use Rattle.pblk_world.proofs.EngineLogLemmas.{takes_more}
 
 -- ---- the later entry of a sector

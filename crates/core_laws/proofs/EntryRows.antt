@@ -11,9 +11,9 @@ use Rattle.line_table.specs.Rows.{latest}
 use Rattle.core_laws.proofs.Placing.{not_below}
 use Rattle.core_laws.proofs.NextTakes.{IsRising, rising_before, rising_after, is_at, fails_at, passes_later, passes_last, is_same, none_found, IsFound, one_more}
 use Rattle.core_laws.proofs.TakenRows.{count_less}
-use Rattle.lemmas.proofs.Lists.{all_append, all_imply}
-use Rattle.lemmas.proofs.Maps.{all_filter, all_in_range, filter_agree, filter_none, filter_same}
-use Rattle.lemmas.proofs.Tests.{and_false, lt_true, not_first, other_number, same_number}
+use Rattle.pblk_model.proofs.Lists.{all_append, all_imply}
+use Rattle.pblk_model.proofs.Maps.{all_filter, all_in_range, filter_agree, filter_none, filter_same}
+use Rattle.pblk_model.proofs.Tests.{and_false, lt_true, not_first, other_number, same_number}
 
 -- the line of each sector, by its latest entry or another one
 abbrev pub Places : Type 0

@@ -10,9 +10,9 @@ use Rattle.pblk_world.specs.Events.{Logged}
 use Rattle.pblk_world.specs.Lines.{known_image}
 use Rattle.pblk_world.specs.Victims.{engine_prefix}
 use Rattle.pblk_world.specs.World.{World, Logs, log_of}
-use Rattle.lemmas.proofs.Lists.{IsAmong}
-use Rattle.lemmas.proofs.Maps.{any_found, any_member, found_passes, map_at, range_get}
-use Rattle.lemmas.proofs.Options.{some_value}
+use Rattle.pblk_model.proofs.Lists.{IsAmong}
+use Rattle.pblk_model.proofs.Maps.{any_found, any_member, found_passes, map_at, range_get}
+use Rattle.pblk_model.proofs.Options.{some_value}
 use Rattle.stripe_placer.specs.OpenLines as lines
 use Rattle.stripe_placer.specs.OpenLines.{OpenLine, is_lost, numbers}
 use Rattle.pblk_world.specs.LegalMounts.{IsLegalMount}

@@ -6,7 +6,7 @@ use Rattle.std.proofs.lemmas.Option.{same_Some, none-some}
 use Rattle.pblk_model.specs.Chunk.{Block}
 use Rattle.pblk_world.specs.EngineLog.{Placed}
 use Rattle.core_laws.proofs.GivenBack.{IsAt}
-use Rattle.lemmas.proofs.Maps.{enumerate_append}
+use Rattle.pblk_model.proofs.Maps.{enumerate_append}
 
 pub any_none : {X : Type 0} (f : X → Bool) (xs : List X) → list_any f xs ≡ false → find f xs ≡ None
 any_none f [] e = refl

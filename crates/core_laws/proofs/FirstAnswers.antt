@@ -8,10 +8,10 @@ use Rattle.pblk_world.specs.EngineLog.{is_life, Opening, Placed, placements, str
 use Rattle.pblk_world.specs.Starts.{have_landed}
 use Rattle.core_laws.proofs.Answered.{IsAnswer, IsFirst, others_answer}
 use Rattle.core_laws.proofs.KeptStripes.{with_event, placements_kept}
-use Rattle.lemmas.proofs.Lists.{IsAmong, among_all}
-use Rattle.lemmas.proofs.Maps.{all_agree}
-use Rattle.lemmas.proofs.Parts.{all_taken}
-use Rattle.lemmas.proofs.Tests.{other_number, same_number}
+use Rattle.pblk_model.proofs.Lists.{IsAmong, among_all}
+use Rattle.pblk_model.proofs.Maps.{all_agree}
+use Rattle.pblk_model.proofs.Parts.{all_taken}
+use Rattle.pblk_model.proofs.Tests.{other_number, same_number}
 use Rattle.pblk_world.proofs.EngineLogLemmas.{answers_more, land_more}
 
 -- ---- the first one

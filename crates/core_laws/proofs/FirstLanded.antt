@@ -10,10 +10,10 @@ use Rattle.pblk_model.specs.Chunk.{Block}
 use Rattle.pblk_world.specs.EngineLog.{Placed, bears_position, holds_position}
 use Rattle.core_laws.specs.ChunkBlocks.{first_bearing}
 use Rattle.core_laws.proofs.GivenBack.{IsAt, any_append}
-use Rattle.lemmas.proofs.Lists.{all_imply}
-use Rattle.lemmas.proofs.Maps.{any_fail, filter_none, find_none}
-use Rattle.lemmas.proofs.Parts.{all_at, all_by_get}
-use Rattle.lemmas.proofs.Tests.{not_both}
+use Rattle.pblk_model.proofs.Lists.{all_imply}
+use Rattle.pblk_model.proofs.Maps.{any_fail, filter_none, find_none}
+use Rattle.pblk_model.proofs.Parts.{all_at, all_by_get}
+use Rattle.pblk_model.proofs.Tests.{not_both}
 
 -- ---- stripes of which the first ones pass
 

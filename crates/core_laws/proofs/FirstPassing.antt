@@ -6,10 +6,10 @@ use Rattle.std.proofs.lemmas.Option.{none-some, same_Some}
 use Rattle.pblk_world.specs.EngineLog.{Placed}
 use Rattle.world_laws.proofs.UnitTurns.{Rises}
 use Rattle.core_laws.proofs.LandedCounts.{all_count, count_all}
-use Rattle.lemmas.proofs.Lists.{all_imply}
-use Rattle.lemmas.proofs.Maps.{filter_agree, filter_none, filter_short}
-use Rattle.lemmas.proofs.Parts.{all_at, all_taken}
-use Rattle.lemmas.proofs.Tests.{no_both, other_number}
+use Rattle.pblk_model.proofs.Lists.{all_imply}
+use Rattle.pblk_model.proofs.Maps.{filter_agree, filter_none, filter_short}
+use Rattle.pblk_model.proofs.Parts.{all_at, all_taken}
+use Rattle.pblk_model.proofs.Tests.{no_both, other_number}
 
 -- ---- all of them
 

@@ -24,10 +24,10 @@ use Rattle.core_laws.proofs.KeptPositions.{marked_after}
 use Rattle.core_laws.proofs.KeptByEvents.{IsKept, kept}
 use Rattle.core_laws.proofs.BorneOnce.{BearsNone, records_none, pads_none}
 use Rattle.core_laws.proofs.SyncedWindow.{numbered_above}
-use Rattle.lemmas.proofs.Lists.{all_append, all_imply, all_replicated, all_true, zipped}
-use Rattle.lemmas.proofs.Maps.{all_filter}
-use Rattle.lemmas.proofs.Parts.{all_dropped, all_taken}
-use Rattle.lemmas.proofs.Tests.{no_both, second_of}
+use Rattle.pblk_model.proofs.Lists.{all_append, all_imply, all_replicated, all_true, zipped}
+use Rattle.pblk_model.proofs.Maps.{all_filter}
+use Rattle.pblk_model.proofs.Parts.{all_dropped, all_taken}
+use Rattle.pblk_model.proofs.Tests.{no_both, second_of}
 
 abbrev BearsFrom : Shape → ℕ → Block → Type 0
 BearsFrom s n b = (q : ℕ) → bears_position s q b ≡ true → n ≤ q

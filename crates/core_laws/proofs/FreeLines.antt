@@ -17,10 +17,10 @@ use Rattle.pblk_world.specs.Fronts.{first_position, last_take, synced}
 use Rattle.pblk_world.specs.Lines.{are_over, found_image}
 use Rattle.pblk_world.specs.Starts.{seq_in}
 use Rattle.pblk_world.specs.Victims.{is_live_in, landed_line_of, line_of, line_of_position, positions_in, take_before, took_from}
-use Rattle.lemmas.proofs.Lists.{IsAmong, among_contained}
-use Rattle.lemmas.proofs.Maps.{in_filter, map_at}
-use Rattle.lemmas.proofs.Parts.{all_at, contained_among}
-use Rattle.lemmas.proofs.Tests.{and_both, below_of, first_of, lt_true, not_both, same, same_number, second_of}
+use Rattle.pblk_model.proofs.Lists.{IsAmong, among_contained}
+use Rattle.pblk_model.proofs.Maps.{in_filter, map_at}
+use Rattle.pblk_model.proofs.Parts.{all_at, contained_among}
+use Rattle.pblk_model.proofs.Tests.{and_both, below_of, first_of, lt_true, not_both, same, same_number, second_of}
 use Rattle.pblk_world.specs.LegalMounts.{IsLegalMount}
 use Rattle.world_laws.proofs.Begun.{IsBegunWith, begun_with}
 use Rattle.world_laws.proofs.FoundCounts.{counted_below}

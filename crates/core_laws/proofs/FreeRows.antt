@@ -18,7 +18,7 @@ use Rattle.line_table.specs.declared.row.LineState.TheVariants as states
 use Rattle.line_table.specs.Rows.{is_free_state, is_free, free_len, free_addresses}
 use Rattle.core_laws.specs.RowsOf.{state_found, state_in, logs_then, width_given_up, width_in, row_of_line, rows_of}
 use Rattle.core_laws.proofs.RangeSums.{sum_same}
-use Rattle.lemmas.proofs.Tests.{both, lt_true}
+use Rattle.pblk_model.proofs.Tests.{both, lt_true}
 use Rattle.line_table.proofs.RowsLemmas.{free_state as only_free}
 
 -- ---- one line

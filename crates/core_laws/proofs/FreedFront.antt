@@ -29,10 +29,10 @@ use Rattle.core_laws.proofs.QuietEvents.{alike_kept, quiet_alike, open_is_quiet,
 use Rattle.core_laws.proofs.FreedLives.{free_is_quiet}
 use Rattle.core_laws.proofs.KeptSlots.{first_kept}
 use Rattle.core_laws.proofs.Untouched.{AreKept, given_kept}
-use Rattle.lemmas.proofs.Lists.{IsAmong, all_append, all_true}
-use Rattle.lemmas.proofs.Maps.{from_filter}
-use Rattle.lemmas.proofs.Parts.{all_at, got_within}
-use Rattle.lemmas.proofs.Tests.{no_both, or_left}
+use Rattle.pblk_model.proofs.Lists.{IsAmong, all_append, all_true}
+use Rattle.pblk_model.proofs.Maps.{from_filter}
+use Rattle.pblk_model.proofs.Parts.{all_at, got_within}
+use Rattle.pblk_model.proofs.Tests.{no_both, or_left}
 use Rattle.pblk_world.proofs.EngineLogLemmas.{takes_grow}
 use Rattle.pblk_world.proofs.SyncedFront.{IsLeast, least}
 

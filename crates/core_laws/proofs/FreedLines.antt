@@ -39,9 +39,9 @@ use Rattle.core_laws.proofs.Steady.{AreAlike, open_line_same, row_same, unanswer
 use Rattle.core_laws.proofs.SteppingLemmas.{found_kept}
 use Rattle.core_laws.proofs.Stopping.{entries_same}
 use Rattle.core_laws.proofs.Taking.{same_placing}
-use Rattle.lemmas.proofs.Lists.{zipped}
-use Rattle.lemmas.proofs.Maps.{filter_agree, map_agree, map_same}
-use Rattle.lemmas.proofs.Parts.{all_by_get}
+use Rattle.pblk_model.proofs.Lists.{zipped}
+use Rattle.pblk_model.proofs.Maps.{filter_agree, map_agree, map_same}
+use Rattle.pblk_model.proofs.Parts.{all_by_get}
 
 -- one test after another is one test
 filter_twice : {X : Type 0} (f g : X → Bool) (xs : List X) → filter f (filter g xs) ≡ filter (λ x. g x && f x) xs

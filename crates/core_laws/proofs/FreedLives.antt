@@ -19,7 +19,7 @@ use Rattle.core_laws.specs.WindowOf.{window_from}
 use Rattle.core_laws.proofs.KeptRows.{known_kept}
 use Rattle.core_laws.proofs.KeptStripes.{with_event}
 use Rattle.core_laws.proofs.QuietEvents.{IsQuiet, quiet_slot, quiet_window}
-use Rattle.lemmas.proofs.Tests.{other_number, same_number}
+use Rattle.pblk_model.proofs.Tests.{other_number, same_number}
 
 -- ---- lives
 
@@ -99,6 +99,7 @@ window_freed s logs line knows from = quiet_window s logs (Free line) knows from
 pub known_freed : (i : Image) (logs : Logs) (line : ℕ) (knows : List ℕ) → known_image i (after logs (Free line) knows) ≡ known_image i logs
 known_freed i logs line knows = known_kept i logs (Free line) knows refl (λ unit. refl)
 
-pub units_freed : (i : Image) (logs : Logs) (line : ℕ) (knows : List ℕ) (other : ℕ) → online_now i (after logs (Free line) knows) other ≡ online_now i logs other
+pub units_freed : (i : Image) (logs : Logs) (line : ℕ) (knows : List ℕ) (other : ℕ)
+    → online_now i (after logs (Free line) knows) other ≡ online_now i logs other
 units_freed i logs line knows other =
     ap (λ (j : Image). bits_of (line_units j other)) (known_freed i logs line knows)

@@ -23,11 +23,11 @@ use Rattle.core_laws.proofs.QuietEvents.{quiet_alike}
 use Rattle.core_laws.proofs.Steady.{AreAlike, lost_same}
 use Rattle.core_laws.proofs.SteppingLemmas.{found_kept}
 use Rattle.core_laws.proofs.TakenSlots.{landed_same}
-use Rattle.lemmas.proofs.Lists.{IsAmong, later}
-use Rattle.lemmas.proofs.Maps.{filter_none, filter_same, found_passes}
-use Rattle.lemmas.proofs.Lists.{all_of}
-use Rattle.lemmas.proofs.Parts.{contained_among}
-use Rattle.lemmas.proofs.Tests.{and_false, both, not_both, not_true, other_number, same_number}
+use Rattle.pblk_model.proofs.Lists.{IsAmong, later}
+use Rattle.pblk_model.proofs.Maps.{filter_none, filter_same, found_passes}
+use Rattle.pblk_model.proofs.Lists.{all_of}
+use Rattle.pblk_model.proofs.Parts.{contained_among}
+use Rattle.pblk_model.proofs.Tests.{and_false, both, not_both, not_true, other_number, same_number}
 use Rattle.pblk_world.proofs.EngineLogLemmas.{takes_more}
 use Rattle.std.proofs.Common.{append-nil}
 

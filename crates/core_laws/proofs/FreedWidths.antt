@@ -24,11 +24,11 @@ use Rattle.pblk_world.specs.Victims.{engine_prefix}
 use Rattle.pblk_world.proofs.EngineLogLemmas.{begun_knows}
 use Rattle.pblk_world.proofs.LinesLemmas.{length_found, length_known}
 use Rattle.pblk_world.proofs.VictimsLemmas.{whole_prefix}
-use Rattle.lemmas.proofs.Lists.{all_imply}
-use Rattle.lemmas.proofs.Maps.{all_passed, any_fail}
-use Rattle.lemmas.proofs.Options.{map_some, split_then}
-use Rattle.lemmas.proofs.Parts.{none_past}
-use Rattle.lemmas.proofs.Tests.{first_of, no_both, not_true, same, second_of}
+use Rattle.pblk_model.proofs.Lists.{all_imply}
+use Rattle.pblk_model.proofs.Maps.{all_passed, any_fail}
+use Rattle.pblk_model.proofs.Options.{map_some, split_then}
+use Rattle.pblk_model.proofs.Parts.{none_past}
+use Rattle.pblk_model.proofs.Tests.{first_of, no_both, not_true, same, second_of}
 use Rattle.pblk_world.specs.LegalMounts.{IsLegalMount}
 use Rattle.world_laws.specs.SameImages.{IsSameLine}
 use Rattle.world_laws.specs.UnitChunks.{chunk_after}
@@ -47,7 +47,7 @@ use Rattle.world_laws.proofs.UnitLogs.{chunk_fits}
 use Rattle.core_laws.specs.RowsOf.{width_in}
 use Rattle.core_laws.proofs.LandedNow.{opened_now}
 use Rattle.core_laws.proofs.OpenedRows.{has_width}
-use Rattle.lemmas.proofs.Tests.{lt_true}
+use Rattle.pblk_model.proofs.Tests.{lt_true}
 
 -- ---- chunks
 

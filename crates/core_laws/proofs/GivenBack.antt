@@ -13,10 +13,10 @@ use Rattle.core_laws.specs.ChunkBlocks.{AreInRows, NoneLostIn}
 use Rattle.core_laws.proofs.LandedBlocks.{lost_same}
 use Rattle.core_laws.proofs.LandedStripe.{IsOneMore}
 use Rattle.core_laws.proofs.PlainStripes.{answered_lands, unit_answered}
-use Rattle.lemmas.proofs.Lists.{IsAmong}
-use Rattle.lemmas.proofs.Maps.{any_member, enumerate_append, in_filter}
-use Rattle.lemmas.proofs.Parts.{all_at}
-use Rattle.lemmas.proofs.Tests.{not_both, same_number}
+use Rattle.pblk_model.proofs.Lists.{IsAmong}
+use Rattle.pblk_model.proofs.Maps.{any_member, enumerate_append, in_filter}
+use Rattle.pblk_model.proofs.Parts.{all_at}
+use Rattle.pblk_model.proofs.Tests.{not_both, same_number}
 
 -- ---- the blocks of a chunk
 

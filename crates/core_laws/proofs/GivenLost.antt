@@ -23,9 +23,9 @@ use Rattle.core_laws.proofs.LandedWindow.{progress_now}
 use Rattle.core_laws.proofs.LostStripe.{IsOneLost, one_lost, landed_same, landed_at_same}
 use Rattle.core_laws.proofs.TakenSlots.{any_same}
 use Rattle.core_laws.proofs.WindowOfLemmas.{same_window}
-use Rattle.lemmas.proofs.Lists.{IsAmong, all_imply, among_all}
-use Rattle.lemmas.proofs.Maps.{any_agree, any_member, filter_agree}
-use Rattle.lemmas.proofs.Tests.{or_no}
+use Rattle.pblk_model.proofs.Lists.{IsAmong, all_imply, among_all}
+use Rattle.pblk_model.proofs.Maps.{any_agree, any_member, filter_agree}
+use Rattle.pblk_model.proofs.Tests.{or_no}
 use Rattle.pblk_world.proofs.EngineLogLemmas.{takes_more}
 use Rattle.write_window.specs.declared.held.Progress.{Progress}
 

@@ -13,9 +13,9 @@ use Rattle.core_laws.specs.ChunkBlocks.{NoneLostIn, can_be_read}
 use Rattle.core_laws.proofs.LandedBlocks.{on_new, blocks_more, readable_unit, readable_opening, its_opening}
 use Rattle.core_laws.proofs.Growing.{any_weaker}
 use Rattle.core_laws.proofs.GivenBack.{flat_any, any_split, readable_life, gives_of_chunk, IsLandedNow, of_unit_landed, unlost_new, times_le, rows_within}
-use Rattle.lemmas.proofs.Lists.{IsAmong, all_imply, all_of, among_all, zipped}
-use Rattle.lemmas.proofs.Maps.{all_filter, all_passed, any_agree, filter_short}
-use Rattle.lemmas.proofs.Tests.{and_both, first_of, lt_true, no_both, same_number, second_of}
+use Rattle.pblk_model.proofs.Lists.{IsAmong, all_imply, all_of, among_all, zipped}
+use Rattle.pblk_model.proofs.Maps.{all_filter, all_passed, any_agree, filter_short}
+use Rattle.pblk_model.proofs.Tests.{and_both, first_of, lt_true, no_both, same_number, second_of}
 
 -- ---- what could be read can be read
 

@@ -16,10 +16,10 @@ use Rattle.core_laws.specs.WindowOf.{is_given_back}
 use Rattle.core_laws.proofs.Engine.{placements_before}
 use Rattle.core_laws.proofs.Placing.{not_below}
 use Rattle.core_laws.proofs.LeastPositions.{least_rises}
-use Rattle.lemmas.proofs.Lists.{all_imply, all_of}
-use Rattle.lemmas.proofs.Maps.{all_filter, filter_none}
-use Rattle.lemmas.proofs.Parts.{get_more}
-use Rattle.lemmas.proofs.Tests.{and_both, first_of, second_of}
+use Rattle.pblk_model.proofs.Lists.{all_imply, all_of}
+use Rattle.pblk_model.proofs.Maps.{all_filter, filter_none}
+use Rattle.pblk_model.proofs.Parts.{get_more}
+use Rattle.pblk_model.proofs.Tests.{and_both, first_of, second_of}
 use Rattle.pblk_world.proofs.EngineLogLemmas.{answers_more, takes_more}
 use Rattle.world_laws.proofs.Later.{its_number}
 

@@ -17,7 +17,7 @@ use Rattle.pblk_world.specs.Legal.{IsAllowed, IsLegal}
 use Rattle.world_laws.proofs.NamedPrefixes.{IsByPrefixes, was_made}
 use Rattle.world_laws.proofs.Placements.{still_placed}
 use Rattle.core_laws.specs.StripePrograms.{HasHappened, IsProgramDone}
-use Rattle.lemmas.proofs.Parts.{get_whole}
+use Rattle.pblk_model.proofs.Parts.{get_whole}
 
 pub happened : (i : Image) (w : World) (author : ℕ) → IsLegal i w → (k : ℕ) (l : Logged) → slice_get (log_of w author) k ≡ Some l
     → HasHappened i (log_of w) author k l

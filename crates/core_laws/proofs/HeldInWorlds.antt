@@ -21,8 +21,8 @@ use Rattle.core_laws.proofs.BorneOnce.{borne_once}
 use Rattle.core_laws.proofs.FirstPositions.{placed_from}
 use Rattle.core_laws.proofs.NewWindow.{newest_in}
 use Rattle.core_laws.proofs.NewlyHeld.{any_stripe, member_of, any_part, own_kept, newly_kept, newly_landed}
-use Rattle.lemmas.proofs.Lists.{IsAmong}
-use Rattle.lemmas.proofs.Parts.{all_at}
+use Rattle.pblk_model.proofs.Lists.{IsAmong}
+use Rattle.pblk_model.proofs.Parts.{all_at}
 use Rattle.pblk_model.proofs.MarksLemmas.{accepted_small}
 
 -- a position that a stripe holds was taken in this mount

@@ -7,8 +7,8 @@ use Rattle.pblk_world.specs.World.{World, log_of}
 use Rattle.pblk_world.specs.EngineLog.{Placed, placements, was_lost, holds_position}
 use Rattle.pblk_world.specs.LegalMounts.{IsLegalMount}
 use Rattle.core_laws.proofs.PlacedAnew.{one_kept}
-use Rattle.lemmas.proofs.Lists.{IsAmong}
-use Rattle.lemmas.proofs.Parts.{contained_among}
+use Rattle.pblk_model.proofs.Lists.{IsAmong}
+use Rattle.pblk_model.proofs.Parts.{contained_among}
 
 -- two stripes that hold a position and weren't lost are one
 abbrev pub HeldOnce : Shape → List Logged → Type 0

@@ -30,10 +30,10 @@ use Rattle.core_laws.proofs.PlacedPositions.{numbered_below}
 use Rattle.core_laws.proofs.SyncedWindow.{numbered_above}
 use Rattle.core_laws.proofs.WaitingEntries.{waiting_alike}
 use Rattle.core_laws.proofs.Distinct.{IsIn, Distinct, in_joined, at_in, passing, made_of, distinct_joined, distinct_rows, distinct_at, distinct_few}
-use Rattle.lemmas.proofs.Lists.{IsAmong}
-use Rattle.lemmas.proofs.Maps.{all_in_range, from_filter}
-use Rattle.lemmas.proofs.Parts.{all_at}
-use Rattle.lemmas.proofs.Tests.{no_both, not_both, other_number}
+use Rattle.pblk_model.proofs.Lists.{IsAmong}
+use Rattle.pblk_model.proofs.Maps.{all_in_range, from_filter}
+use Rattle.pblk_model.proofs.Parts.{all_at}
+use Rattle.pblk_model.proofs.Tests.{no_both, not_both, other_number}
 
 -- ---- the rows of the units
 
@@ -230,7 +230,8 @@ row_held i logs again is unit q e =
 pub held_at : (i : Image) (logs : Logs) (pad : ℕ) (again : List ℕ) → IsOrdered i.shape (logs 0) → (q : ℕ) → IsIn (held (placing_of i logs pad again)) q
     → IsHeld i.shape (logs 0) q
 held_at i logs pad again is q e =
-    go (in_joined (positions_of (waiting i.shape (logs 0))) (flat_map (λ unit. positions_in (unit_row_in i logs again unit)) (range_with_len 0 (units i.shape))) q
+    go (in_joined (positions_of (waiting i.shape (logs 0)))
+    (flat_map (λ unit. positions_in (unit_row_in i logs again unit)) (range_with_len 0 (units i.shape))) q
     (subst (λ xs. IsIn xs q) (held_is i logs pad again) e))
   where
     go : IsIn (positions_of (waiting i.shape (logs 0))) q

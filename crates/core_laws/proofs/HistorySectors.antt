@@ -19,10 +19,10 @@ use Rattle.world_laws.proofs.HeldSectors.{all_pass, fold_holds, held_by}
 use Rattle.world_laws.proofs.SectorValues.{found_capacity}
 use Rattle.core_laws.proofs.PlacedPositions.{numbered_below}
 use Rattle.core_laws.proofs.UsersEntries.{AreInOrder, IsUsers, in_order, users_entries}
-use Rattle.lemmas.proofs.Lists.{all_imply}
-use Rattle.lemmas.proofs.Parts.{get_set_same, got_else}
-use Rattle.lemmas.proofs.Tests.{lt_true}
-use Rattle.lemmas.proofs.Maps.{all_filter}
+use Rattle.pblk_model.proofs.Lists.{all_imply}
+use Rattle.pblk_model.proofs.Parts.{get_set_same, got_else}
+use Rattle.pblk_model.proofs.Tests.{lt_true}
+use Rattle.pblk_model.proofs.Maps.{all_filter}
 use Rattle.pblk_model.proofs.ContentsLemmas.{contents_count}
 use Rattle.pblk_model.proofs.MarksLemmas.{accepted_small}
 

@@ -19,9 +19,9 @@ use Rattle.world_laws.proofs.Stripes.{life_of_stripe}
 use Rattle.world_laws.proofs.UnitTurns.{unit_is as its_unit}
 use Rattle.core_laws.proofs.UnitTurns.{stands_at_turn}
 use Rattle.core_laws.proofs.Followed.{IsFollowed}
-use Rattle.lemmas.proofs.Lists.{IsAmong}
-use Rattle.lemmas.proofs.Maps.{from_filter}
-use Rattle.lemmas.proofs.Parts.{contained_among, within_some}
+use Rattle.pblk_model.proofs.Lists.{IsAmong}
+use Rattle.pblk_model.proofs.Maps.{from_filter}
+use Rattle.pblk_model.proofs.Parts.{contained_among, within_some}
 
 -- ---- rows
 
@@ -34,7 +34,8 @@ row_busy i logs b (Freed past knows) p opened none = absurd cc
 
 -- a row that is neither under way nor stopped is of no stripe that isn't answered, and the other
 -- way round
-pub is_idle : (i : Image) (us : ℕ → List ℕ) (w : World) (again : List ℕ) (unit : ℕ) → IsFollowed i us w → is_under_way (unit_row_in i (log_of w) again unit) ≡ false
+pub is_idle : (i : Image) (us : ℕ → List ℕ) (w : World) (again : List ℕ) (unit : ℕ) → IsFollowed i us w
+    → is_under_way (unit_row_in i (log_of w) again unit) ≡ false
     → stopped_in (unit_row_in i (log_of w) again unit) ≡ None
     → length (answers (log_of w 0) unit) ≡ length (placed_on (log_of w 0) unit)
 is_idle i us w again unit is idle none = go (unanswered_on (log_of w 0) unit) refl idle none
@@ -89,7 +90,8 @@ its_row i logs again unit of e = stopped_unit i logs (waits_again (logs 0) again
 pub not_again : (i : Image) (logs : Logs) (again : List ℕ) (a n k : ℕ) (of : Program) → stopped_in (unit_row_in i logs again of.unit) ≡ None
     → slice_get (filter_map stopped_in (map (unit_row_in i logs again) (range_with_len a n))) k ≡ Some of → ⊥
 not_again i logs again a zero k of none there = absurd (none-some of there)
-not_again i logs again a (suc n) k of none there = go (stopped_in (unit_row_in i logs again a)) refl k there (λ m h. not_again i logs again (a + 1) n m of none h)
+not_again i logs again a (suc n) k of none there =
+    go (stopped_in (unit_row_in i logs again a)) refl k there (λ m h. not_again i logs again (a + 1) n m of none h)
   where
     go : (o : Option Program) → stopped_in (unit_row_in i logs again a) ≡ o → (k : ℕ)
         → slice_get (cons_option o (filter_map stopped_in (map (unit_row_in i logs again) (range_with_len (a + 1) n)))) k ≡ Some of

@@ -6,7 +6,7 @@ use Rattle.std.specs.Option.{is_some}
 use Rattle.pblk_world.specs.Events.{Logged}
 use Rattle.pblk_world.specs.EngineLog.{Placed, placed_on, answers, is_answered}
 use Rattle.world_laws.proofs.UnitTurns.{unit_is as its_unit, turn_is as its_turn}
-use Rattle.lemmas.proofs.Parts.{got_within, is_in, some_within}
+use Rattle.pblk_model.proofs.Parts.{got_within, is_in, some_within}
 
 -- where all stripes of a unit are answered there are as many answers
 pub idle_fits : (log : List Logged) (unit : ℕ) → ((p : Placed) → Contains (placed_on log unit) p → is_answered log p ≡ true)

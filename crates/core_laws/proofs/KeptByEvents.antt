@@ -10,7 +10,7 @@ use Rattle.pblk_world.specs.World.{World, Logs, log_of, known, prefixes}
 use Rattle.pblk_world.specs.EngineLog.{Begun, begun}
 use Rattle.pblk_world.specs.Opening.{MayBegin}
 use Rattle.pblk_world.specs.Legal.{IsLegal, IsLegalStep, IsAllowed, IsDecision}
-use Rattle.lemmas.proofs.Lists.{all_front}
+use Rattle.pblk_model.proofs.Lists.{all_front}
 
 -- It holds of the empty log and of one that begins, and each allowed event that passes the test
 -- keeps it.

@@ -27,8 +27,8 @@ use Rattle.core_laws.proofs.PlacedLines.{life_is_before}
 use Rattle.core_laws.proofs.UnitTurns.{filtered_is}
 use Rattle.core_laws.proofs.UnitBits.{units_are}
 use Rattle.core_laws.proofs.UnansweredLines.{still_open}
-use Rattle.lemmas.proofs.Lists.{IsAmong}
-use Rattle.lemmas.proofs.Options.{mapped_some}
+use Rattle.pblk_model.proofs.Lists.{IsAmong}
+use Rattle.pblk_model.proofs.Options.{mapped_some}
 use Rattle.pblk_world.proofs.LinesLemmas.{length_known}
 use Rattle.pblk_world.proofs.VictimsLemmas.{whole_prefix}
 

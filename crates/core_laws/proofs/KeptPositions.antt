@@ -21,8 +21,8 @@ use Rattle.core_laws.specs.PlacedEntries.{AreSectorsOrVoid}
 use Rattle.core_laws.specs.Positions.{AreNumbered, AreMarked, AreTaken}
 use Rattle.core_laws.proofs.TakenNumbers.{first_stays}
 use Rattle.core_laws.proofs.PlacedPositions.{placed_taken}
-use Rattle.lemmas.proofs.Lists.{all_append, all_imply}
-use Rattle.lemmas.proofs.Tests.{same_number}
+use Rattle.pblk_model.proofs.Lists.{all_append, all_imply}
+use Rattle.pblk_model.proofs.Tests.{same_number}
 use Rattle.pblk_world.proofs.EngineLogLemmas.{takes_more}
 
 pub marked_after : (i : Image) (known : Logs) (log : List Logged) (beginning : Begun) (e : EngineEvent) (knows : List ℕ) → IsDecision i known beginning e

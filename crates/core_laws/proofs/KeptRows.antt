@@ -26,7 +26,7 @@ use Rattle.core_laws.specs.RowsOf.{logs_then, state_found, state_in, width_in, t
 use Rattle.core_laws.proofs.Engine.{prefix_same}
 use Rattle.core_laws.proofs.KeptStripes.{with_event}
 use Rattle.core_laws.proofs.SteppingLemmas.{found_kept}
-use Rattle.lemmas.proofs.Maps.{filter_same, map_same}
+use Rattle.pblk_model.proofs.Maps.{filter_same, map_same}
 
 -- ---- images
 

@@ -10,7 +10,7 @@ use Rattle.pblk_world.proofs.Appending.{life_more, placements_more}
 use Rattle.core_laws.proofs.Steady.{AreAlike}
 use Rattle.core_laws.proofs.TakenSlots.{landed_same}
 use Rattle.core_laws.specs.OpenAddresses.{keeps_stripes, keeps_addresses}
-use Rattle.lemmas.proofs.Numbers.{fun_same}
+use Rattle.pblk_model.proofs.Numbers.{fun_same}
 use Rattle.pblk_world.proofs.EngineLogLemmas.{answers_more}
 
 abbrev pub with_event : List Logged → EngineEvent → List ℕ → List Logged

@@ -16,7 +16,7 @@ use Rattle.pblk_world.specs.EngineLog.{Begun, begun}
 use Rattle.pblk_world.specs.Lines.{found_by, found_image, told_by, told_events, known_image}
 use Rattle.pblk_world.specs.Victims.{engine_prefix}
 use Rattle.core_laws.proofs.TakenNumbers.{begun_stays}
-use Rattle.lemmas.proofs.Parts.{got_here, take_next}
+use Rattle.pblk_model.proofs.Parts.{got_here, take_next}
 use Rattle.pblk_model.proofs.UnitLogLemmas.{event_beside}
 
 -- ---- the units of an image

@@ -24,11 +24,11 @@ use Rattle.pblk_world.specs.EngineLog.{Answer, DidLand, WasLost, answer_by, answ
 use Rattle.pblk_world.specs.Commanding.{ended_stripes}
 use Rattle.pblk_world.specs.Lines.{is_empty_state, told_by}
 use Rattle.pblk_world.proofs.EngineLogLemmas.{answers_more}
-use Rattle.lemmas.proofs.Lists.{IsAmong, among_contained}
-use Rattle.lemmas.proofs.Maps.{any_found, any_member, filter_both, found_passes, from_filter, in_filter}
-use Rattle.lemmas.proofs.Options.{some_value}
-use Rattle.lemmas.proofs.Parts.{contained_among, get_below, get_last, get_more, get_past, get_whole_within, got_within, take_and_drop, take_next}
-use Rattle.lemmas.proofs.Tests.{lt_true, not_both, same_number}
+use Rattle.pblk_model.proofs.Lists.{IsAmong, among_contained}
+use Rattle.pblk_model.proofs.Maps.{any_found, any_member, filter_both, found_passes, from_filter, in_filter}
+use Rattle.pblk_model.proofs.Options.{some_value}
+use Rattle.pblk_model.proofs.Parts.{contained_among, get_below, get_last, get_more, get_past, get_whole_within, got_within, take_and_drop, take_next}
+use Rattle.pblk_model.proofs.Tests.{lt_true, not_both, same_number}
 use Rattle.pblk_world.specs.LegalMounts.{IsLegalMount}
 use Rattle.world_laws.specs.UnitChunks.{first_events}
 use Rattle.world_laws.specs.UnitPrograms.{IsProgramOfStripe}

@@ -8,10 +8,10 @@ use Rattle.pblk_world.specs.EngineLog.{LineLife, AsFound, Opened, Freed, is_life
 use Rattle.pblk_world.specs.Space.{landed_blocks, is_readable_in}
 use Rattle.world_laws.proofs.UnitTurns.{Rises, rise_all, some_rise}
 use Rattle.core_laws.proofs.LandedStripe.{IsOneMore}
-use Rattle.lemmas.proofs.Lists.{IsAmong, all_imply, zipped}
-use Rattle.lemmas.proofs.Maps.{all_filter, all_passed, any_agree, filter_agree, in_filter}
-use Rattle.lemmas.proofs.Parts.{all_at}
-use Rattle.lemmas.proofs.Tests.{no_both, other_number, same_number}
+use Rattle.pblk_model.proofs.Lists.{IsAmong, all_imply, zipped}
+use Rattle.pblk_model.proofs.Maps.{all_filter, all_passed, any_agree, filter_agree, in_filter}
+use Rattle.pblk_model.proofs.Parts.{all_at}
+use Rattle.pblk_model.proofs.Tests.{no_both, other_number, same_number}
 
 -- ---- a list in which one more element passes
 

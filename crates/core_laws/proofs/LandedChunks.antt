@@ -12,7 +12,7 @@ use Rattle.pblk_world.specs.World.{World, log_of}
 use Rattle.pblk_world.specs.EngineLog.{DidLand, answer_of, has_landed, life_of, Opened, Opening, Placed, stripes_of}
 use Rattle.pblk_world.specs.Lines.{known_image}
 use Rattle.core_laws.proofs.AnsweredChunks.{IsAnsweredIn, IsToldFar, told_far}
-use Rattle.lemmas.proofs.Parts.{got_within}
+use Rattle.pblk_model.proofs.Parts.{got_within}
 use Rattle.pblk_world.specs.LegalMounts.{IsLegalMount}
 use Rattle.world_laws.proofs.LifeBlocks.{done_stands}
 use Rattle.world_laws.proofs.LifePlaces.{began}

@@ -21,9 +21,9 @@ use Rattle.core_laws.proofs.FirstAnswers.{its_landing}
 use Rattle.core_laws.proofs.AnsweredUnits.{first_answer}
 use Rattle.core_laws.proofs.KeptStripes.{with_event}
 use Rattle.core_laws.proofs.LineRoom.{few_stripes}
-use Rattle.lemmas.proofs.Lists.{IsAmong, among_all, zipped}
-use Rattle.lemmas.proofs.Maps.{all_filter, filter_agree, filter_short, in_filter}
-use Rattle.lemmas.proofs.Tests.{other_number, same_number}
+use Rattle.pblk_model.proofs.Lists.{IsAmong, among_all, zipped}
+use Rattle.pblk_model.proofs.Maps.{all_filter, filter_agree, filter_short, in_filter}
+use Rattle.pblk_model.proofs.Tests.{other_number, same_number}
 
 -- ---- lists all of which pass
 

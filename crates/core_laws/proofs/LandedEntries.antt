@@ -39,10 +39,10 @@ use Rattle.core_laws.proofs.PlacedEntryRows.{row_with, IsEntry, with_entries, en
 use Rattle.core_laws.proofs.PlacedPlaces.{BearsThese, any_nowhere, none_at}
 use Rattle.core_laws.proofs.PlacedRows.{table_was}
 use Rattle.core_laws.proofs.ChangedTables.{table_changes}
-use Rattle.lemmas.proofs.Lists.{IsAmong, all_imply, among_all}
-use Rattle.lemmas.proofs.Maps.{find_agree}
-use Rattle.lemmas.proofs.Options.{none_of_map}
-use Rattle.lemmas.proofs.Tests.{not_first, other_number, same_number}
+use Rattle.pblk_model.proofs.Lists.{IsAmong, all_imply, among_all}
+use Rattle.pblk_model.proofs.Maps.{find_agree}
+use Rattle.pblk_model.proofs.Options.{none_of_map}
+use Rattle.pblk_model.proofs.Tests.{not_first, other_number, same_number}
 
 -- ---- where the entries have landed
 

@@ -18,11 +18,11 @@ use Rattle.pblk_world.specs.Fronts.{first_position, synced}
 use Rattle.pblk_world.specs.Lines.{found_image, known_image, next_seq, place_of}
 use Rattle.pblk_world.specs.Starts.{has_landed_start, newest_start}
 use Rattle.pblk_world.proofs.VictimsLemmas.{whole_prefix}
-use Rattle.lemmas.proofs.Lists.{IsAmong, among_contained, last_in}
-use Rattle.lemmas.proofs.Maps.{all_filter, all_mapped, any_member, in_filter}
-use Rattle.lemmas.proofs.Options.{map_some}
-use Rattle.lemmas.proofs.Parts.{all_by_get, contained_among}
-use Rattle.lemmas.proofs.Tests.{and_both, same_number}
+use Rattle.pblk_model.proofs.Lists.{IsAmong, among_contained, last_in}
+use Rattle.pblk_model.proofs.Maps.{all_filter, all_mapped, any_member, in_filter}
+use Rattle.pblk_model.proofs.Options.{map_some}
+use Rattle.pblk_model.proofs.Parts.{all_by_get, contained_among}
+use Rattle.pblk_model.proofs.Tests.{and_both, same_number}
 use Rattle.pblk_world.specs.LegalMounts.{IsLegalMount}
 use Rattle.world_laws.proofs.Begun.{IsBegunWith, begun_with}
 use Rattle.world_laws.proofs.FoundCounts.{counted_below}

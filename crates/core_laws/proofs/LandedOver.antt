@@ -21,11 +21,11 @@ use Rattle.pblk_world.specs.Starts.{have_landed}
 use Rattle.pblk_world.specs.Victims.{engine_prefix}
 use Rattle.pblk_world.specs.World.{World, log_of, media}
 use Rattle.line_table.specs.declared.row.LineState.TheVariants.{Full, Failed, Open}
-use Rattle.lemmas.proofs.Lists.{IsAmong, among_contained}
-use Rattle.lemmas.proofs.Maps.{in_filter}
-use Rattle.lemmas.proofs.Options.{mapped_some, split_then}
-use Rattle.lemmas.proofs.Parts.{all_by_get, contained_among, get_below}
-use Rattle.lemmas.proofs.Tests.{not_both}
+use Rattle.pblk_model.proofs.Lists.{IsAmong, among_contained}
+use Rattle.pblk_model.proofs.Maps.{in_filter}
+use Rattle.pblk_model.proofs.Options.{mapped_some, split_then}
+use Rattle.pblk_model.proofs.Parts.{all_by_get, contained_among, get_below}
+use Rattle.pblk_model.proofs.Tests.{not_both}
 use Rattle.pblk_world.specs.LegalMounts.{IsLegalMount}
 use Rattle.world_laws.proofs.LifePlaces.{units_now}
 use Rattle.world_laws.proofs.LineBlocks.{IsLineOf, opened_line}

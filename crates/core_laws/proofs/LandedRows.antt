@@ -23,8 +23,8 @@ use Rattle.core_laws.specs.OpenAddresses.{keeps_addresses}
 use Rattle.core_laws.proofs.KeptStripes.{with_event, KeepsStripes, stripes_kept, also_stripes, lives_kept, alike_kept}
 use Rattle.core_laws.proofs.KeptRows.{KeepsChunks, KeepsLines}
 use Rattle.core_laws.proofs.SteppingLemmas.{found_kept}
-use Rattle.lemmas.proofs.Maps.{one_more}
-use Rattle.lemmas.proofs.Parts.{get_set_other}
+use Rattle.pblk_model.proofs.Maps.{one_more}
+use Rattle.pblk_model.proofs.Parts.{get_set_other}
 use Rattle.pblk_world.proofs.EngineLogLemmas.{takes_more}
 
 -- ---- entries stay where they are

@@ -41,10 +41,10 @@ use Rattle.core_laws.proofs.StripeLines.{placed_lines, own_opening, IsOpenedFor}
 use Rattle.core_laws.proofs.FindingInLists.{any_none, find_unique, first_stays, found_within, found_in_stripe}
 use Rattle.core_laws.proofs.PlacedLines.{found_any}
 use Rattle.core_laws.proofs.SteppingLemmas.{found_kept}
-use Rattle.lemmas.proofs.Lists.{IsAmong, all_imply, among_all}
-use Rattle.lemmas.proofs.Maps.{found_none, found_passes}
-use Rattle.lemmas.proofs.Parts.{all_at}
-use Rattle.lemmas.proofs.Tests.{first_of, lt_true, second_of}
+use Rattle.pblk_model.proofs.Lists.{IsAmong, all_imply, among_all}
+use Rattle.pblk_model.proofs.Maps.{found_none, found_passes}
+use Rattle.pblk_model.proofs.Parts.{all_at}
+use Rattle.pblk_model.proofs.Tests.{first_of, lt_true, second_of}
 
 -- all that is used
 pub record IsLanding (i : Image) (logs : Logs) (e : EngineEvent) (knows : List ℕ) (p : Placed) (o : Opening) : Type 0 where

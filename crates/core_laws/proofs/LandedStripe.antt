@@ -10,8 +10,8 @@ use Rattle.pblk_world.specs.Fronts.{has_landed_at}
 use Rattle.core_laws.specs.PlacerOf.{unanswered_on}
 use Rattle.core_laws.proofs.Answered.{IsAnswer}
 use Rattle.core_laws.proofs.NotedAnswers.{answer_is, one_answered}
-use Rattle.lemmas.proofs.Lists.{IsAmong, all_imply}
-use Rattle.lemmas.proofs.Tests.{or_no, or_true}
+use Rattle.pblk_model.proofs.Lists.{IsAmong, all_imply}
+use Rattle.pblk_model.proofs.Tests.{or_no, or_true}
 
 abbrev pub with_landing : List Logged → ℕ → ℕ → List ℕ → List Logged
 with_landing log unit event knows = log ++ record { event = Decides (Landed unit event); knows = knows } ∷ []

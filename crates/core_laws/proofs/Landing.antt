@@ -24,8 +24,8 @@ use Rattle.core_laws.proofs.Steady.{standing_same, row_same}
 use Rattle.core_laws.proofs.Taking.{same_placing, same_entries}
 use Rattle.core_laws.proofs.PlacedLines.{IsStanding, all_standing}
 use Rattle.core_laws.proofs.Answered.{IsAnswer, IsFirst, IsAnsweredAt, answered_at, its_answer, others_answer, line_answered, none_left}
-use Rattle.lemmas.proofs.Lists.{IsAmong, among_all, all_imply}
-use Rattle.lemmas.proofs.Maps.{filter_agree, filter_same, map_agree, row_at, rows_set}
+use Rattle.pblk_model.proofs.Lists.{IsAmong, among_all, all_imply}
+use Rattle.pblk_model.proofs.Maps.{filter_agree, filter_same, map_agree, row_at, rows_set}
 
 commute : {O X : Type 0} (test : X → Bool) (g : X → X) (f : O → X) (xs : List O) → AllByRecursion (λ x. test (f x) ≡ false → test (g (f x)) ≡ false) xs
     → filter test (map (λ x. g (f x)) xs) ≡ filter test (map g (filter test (map f xs)))
@@ -80,7 +80,8 @@ placing_answered i logs e knows pad again of a some awaited is =
     let row = row_at (unit_row_in i logs again) (units i.shape) 0 of.unit (UnderWay of) awaited.under_way in
     let from : 0 + of.unit ≡ of.unit = omega arith in
     same_placing i.shape (entries_of i.shape (new 0) pad) (entries_of i.shape (new 0) pad)
-    (map (unit_row_in i new again) (range_with_len 0 (units i.shape))) (slice_set (map (unit_row_in i logs again) (range_with_len 0 (units i.shape))) of.unit Idle)
+    (map (unit_row_in i new again) (range_with_len 0 (units i.shape)))
+    (slice_set (map (unit_row_in i logs again) (range_with_len 0 (units i.shape))) of.unit Idle)
     (open_lines i new) (filter has_left (map (in_line of.line (of.at / i.shape.ws_opt) (by_answer (Some a))) (open_lines i logs)))
     refl
     (rows_set (unit_row_in i logs again) (unit_row_in i new again) (units i.shape) 0 of.unit Idle row.0

@@ -12,9 +12,9 @@ use Rattle.pblk_world.specs.EngineLog.{Taken, takes}
 use Rattle.pblk_world.specs.Fronts.{first_position, last_take}
 use Rattle.pblk_world.specs.Legal.{IsLegal}
 use Rattle.pblk_world.specs.Victims.{take_before, taken_up_to, took_from}
-use Rattle.lemmas.proofs.Lists.{IsAmong}
-use Rattle.lemmas.proofs.Parts.{all_at}
-use Rattle.lemmas.proofs.Tests.{and_both, below_of, first_of, lt_true, not_both, same, same_number, second_of}
+use Rattle.pblk_model.proofs.Lists.{IsAmong}
+use Rattle.pblk_model.proofs.Parts.{all_at}
+use Rattle.pblk_model.proofs.Tests.{and_both, below_of, first_of, lt_true, not_both, same, same_number, second_of}
 use Rattle.world_laws.proofs.HeldSectors.{never_none}
 use Rattle.world_laws.proofs.Latest.{one_entry}
 use Rattle.world_laws.proofs.Positions.{position_of}

@@ -17,9 +17,9 @@ use Rattle.pblk_world.specs.Placing.{IsData, end_address, next_address}
 use Rattle.pblk_world.specs.Space.{unplaced_in}
 use Rattle.pblk_world.specs.Victims.{engine_prefix}
 use Rattle.pblk_world.proofs.EngineLogLemmas.{opened_same}
-use Rattle.lemmas.proofs.Lists.{IsAmong, among_contained}
-use Rattle.lemmas.proofs.Maps.{range_get}
-use Rattle.lemmas.proofs.Tests.{not_both, same, same_number}
+use Rattle.pblk_model.proofs.Lists.{IsAmong, among_contained}
+use Rattle.pblk_model.proofs.Maps.{range_get}
+use Rattle.pblk_model.proofs.Tests.{not_both, same, same_number}
 use Rattle.pblk_world.specs.LegalMounts.{IsLegalMount}
 use Rattle.world_laws.proofs.FoundEmpty.{all_pass}
 use Rattle.world_laws.proofs.Later.{placed_within}

@@ -10,10 +10,10 @@ use Rattle.pblk_world.specs.World.{World, log_of}
 use Rattle.pblk_world.specs.EngineLog.{AsFound, Opened, Opening, answer_of, has_landed, holds_position, is_answered, is_life, life_of, openings, Placed, placements, stripes_of, Taken, takes, was_lost}
 use Rattle.pblk_world.specs.Fronts.{last_take, synced}
 use Rattle.pblk_world.specs.Lines.{found_image}
-use Rattle.lemmas.proofs.Lists.{among_contained}
-use Rattle.lemmas.proofs.Maps.{in_filter}
-use Rattle.lemmas.proofs.Parts.{contained_among}
-use Rattle.lemmas.proofs.Tests.{same_number}
+use Rattle.pblk_model.proofs.Lists.{among_contained}
+use Rattle.pblk_model.proofs.Maps.{in_filter}
+use Rattle.pblk_model.proofs.Parts.{contained_among}
+use Rattle.pblk_model.proofs.Tests.{same_number}
 use Rattle.pblk_world.specs.LegalMounts.{IsLegalMount}
 use Rattle.world_laws.proofs.KeptEntries.{latest_kept, winner_kept}
 use Rattle.world_laws.proofs.LandedRecords.{freed_below_front}

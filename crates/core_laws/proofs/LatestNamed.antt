@@ -39,11 +39,11 @@ use Rattle.core_laws.proofs.PlacedAnew.{landed_not_lost, one_kept}
 use Rattle.core_laws.proofs.ReadBlocks.{IsEntryOnDrive, IsReadIn, entry_on_drive, winner_on_drive}
 use Rattle.core_laws.proofs.StripeEnds.{below_end}
 use Rattle.core_laws.proofs.UsersEntries.{AreInOrder, in_order}
-use Rattle.lemmas.proofs.Lists.{IsAmong}
-use Rattle.lemmas.proofs.Maps.{any_member, in_filter}
-use Rattle.lemmas.proofs.Options.{mapped_some}
-use Rattle.lemmas.proofs.Parts.{all_at, contained_among}
-use Rattle.lemmas.proofs.Tests.{and_both, same_number}
+use Rattle.pblk_model.proofs.Lists.{IsAmong}
+use Rattle.pblk_model.proofs.Maps.{any_member, in_filter}
+use Rattle.pblk_model.proofs.Options.{mapped_some}
+use Rattle.pblk_model.proofs.Parts.{all_at, contained_among}
+use Rattle.pblk_model.proofs.Tests.{and_both, same_number}
 use Rattle.pblk_model.proofs.MarksLemmas.{accepted_small}
 
 -- ---- one block of a stripe bears a position

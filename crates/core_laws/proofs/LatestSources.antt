@@ -23,10 +23,10 @@ use Rattle.pblk_world.specs.Space.{gives_back}
 use Rattle.pblk_world.specs.Taking.{BearsIt, IsLatest, IsPlaceOf, IsPlaceOfLatest, IsPlaceOfWinner}
 use Rattle.pblk_world.specs.World.{World, Logs, log_of, media}
 use Rattle.l2p_map.specs.declared.slot.Slot.TheVariants.{Cached, Media}
-use Rattle.lemmas.proofs.Lists.{IsAmong, among_contained}
-use Rattle.lemmas.proofs.Maps.{in_filter}
-use Rattle.lemmas.proofs.Parts.{all_at, contained_among, get_below}
-use Rattle.lemmas.proofs.Tests.{both, not_both, same_number}
+use Rattle.pblk_model.proofs.Lists.{IsAmong, among_contained}
+use Rattle.pblk_model.proofs.Maps.{in_filter}
+use Rattle.pblk_model.proofs.Parts.{all_at, contained_among, get_below}
+use Rattle.pblk_model.proofs.Tests.{both, not_both, same_number}
 use Rattle.pblk_world.specs.LegalMounts.{IsLegalMount}
 use Rattle.world_laws.proofs.Entries.{IsEntryOrNone, entries_of_stripe, marks_bear}
 use Rattle.world_laws.proofs.KeptEntries.{winner_kept}

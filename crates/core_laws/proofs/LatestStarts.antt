@@ -10,10 +10,10 @@ use Rattle.pblk_world.specs.EngineLog.{Opening}
 use Rattle.world_laws.proofs.HeldSectors.{never_none}
 use Rattle.core_laws.specs.ClosedLines.{StartNumbers, newer_start}
 use Rattle.core_laws.proofs.Placing.{not_below}
-use Rattle.lemmas.proofs.Lists.{last_in}
-use Rattle.lemmas.proofs.Maps.{all_filter, all_mapped, filter_agree}
-use Rattle.lemmas.proofs.Parts.{all_by_get}
-use Rattle.lemmas.proofs.Tests.{lt_true}
+use Rattle.pblk_model.proofs.Lists.{last_in}
+use Rattle.pblk_model.proofs.Maps.{all_filter, all_mapped, filter_agree}
+use Rattle.pblk_model.proofs.Parts.{all_by_get}
+use Rattle.pblk_model.proofs.Tests.{lt_true}
 
 abbrev pub numbers_of : StartRecord → StartNumbers
 numbers_of start = record { seq = start.seq; front = start.front }

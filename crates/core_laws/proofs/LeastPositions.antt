@@ -3,7 +3,7 @@ use Rattle.std.proofs.Common.{◌≡◌, ℕ, ◌+◌, ◌<◌, ◌≤◌, ◌�
 use Rattle.std.proofs.lemmas.Bool.{cases_order}
 use Rattle.pblk_model.specs.Contents.{least_missing}
 use Rattle.pblk_world.proofs.SyncedFront.{IsLeast, least}
-use Rattle.lemmas.proofs.Tests.{no_both}
+use Rattle.pblk_model.proofs.Tests.{no_both}
 
 -- where more is borne, in as many turns or more, the least missing one is no lesser
 pub least_rises : (f g : ℕ → Bool) (m n p : ℕ) → ((q : ℕ) → f q ≡ true → g q ≡ true) → m ≤ n → least_missing f m p ≤ least_missing g n p

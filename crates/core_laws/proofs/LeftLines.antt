@@ -26,10 +26,10 @@ use Rattle.core_laws.proofs.Opening.{placing_opened}
 use Rattle.core_laws.proofs.Landing.{placing_landed, placing_lost}
 use Rattle.core_laws.specs.LeftOpenings.{left_openings, opened_as}
 use Rattle.core_laws.proofs.StandingOpenings.{standing_opened, standing_rise, rise_filtered, one_place}
-use Rattle.lemmas.proofs.Lists.{all_imply}
-use Rattle.lemmas.proofs.Maps.{all_filter, all_mapped}
-use Rattle.lemmas.proofs.Parts.{all_at}
-use Rattle.lemmas.proofs.Tests.{same_number}
+use Rattle.pblk_model.proofs.Lists.{all_imply}
+use Rattle.pblk_model.proofs.Maps.{all_filter, all_mapped}
+use Rattle.pblk_model.proofs.Parts.{all_at}
+use Rattle.pblk_model.proofs.Tests.{same_number}
 
 filter_mapped : {X Y : Type 0} (f : Y → Bool) (g : X → Y) (xs : List X) → filter f (map g xs) ≡ map g (filter (λ x. f (g x)) xs)
 filter_mapped f g [] = refl

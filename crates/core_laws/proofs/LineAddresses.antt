@@ -17,7 +17,7 @@ use Rattle.core_laws.specs.OpenedLines.{as_opened, is_stripe_at}
 use Rattle.core_laws.specs.PlacerOf.{number_of}
 use Rattle.core_laws.proofs.StripesByPlace.{at_its_place, not_at, find_only}
 use Rattle.core_laws.specs.StripeTurns.{IsAtTurn}
-use Rattle.lemmas.proofs.Lists.{length_replicate}
+use Rattle.pblk_model.proofs.Lists.{length_replicate}
 
 module _ (i : Image) (logs : Logs) (o : Opening) (us : List ℕ) (line j : ℕ) (p : Placed) (some : 0 < i.shape.ws_opt) (whole : i.shape.clba % i.shape.ws_opt ≡ 0)
     (live : units_in (as_opened i logs o).online ≡ us) (is : IsAtTurn i.shape us line j p) where

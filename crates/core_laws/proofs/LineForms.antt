@@ -20,7 +20,7 @@ use Rattle.core_laws.proofs.KeptLines.{few_units, keeps_units}
 use Rattle.core_laws.proofs.PartLengths.{IsStriped}
 use Rattle.core_laws.proofs.PlainOpenings.{IsOpenedLine, opened_lines}
 use Rattle.core_laws.proofs.StripesInOrder.{wide, stripe_count, IsAtPlace, IsInOrder, in_order, its_stripes}
-use Rattle.lemmas.proofs.Lists.{length_replicate}
+use Rattle.pblk_model.proofs.Lists.{length_replicate}
 
 -- ---- lists
 

@@ -16,11 +16,11 @@ use Rattle.pblk_world.specs.Events.{Logged}
 use Rattle.pblk_world.specs.World.{World, log_of, media}
 use Rattle.pblk_world.specs.EngineLog.{Opened, Opening, Placed, is_life, life_of, placements, stripes_of, stripes_on}
 use Rattle.pblk_world.specs.Lines.{known_image}
-use Rattle.lemmas.proofs.Lists.{IsAmong, later}
-use Rattle.lemmas.proofs.Maps.{any_found, any_member, found_passes, range_get}
-use Rattle.lemmas.proofs.Options.{mapped_some, some_value}
-use Rattle.lemmas.proofs.Parts.{all_at, contained_among, get_below}
-use Rattle.lemmas.proofs.Tests.{both}
+use Rattle.pblk_model.proofs.Lists.{IsAmong, later}
+use Rattle.pblk_model.proofs.Maps.{any_found, any_member, found_passes, range_get}
+use Rattle.pblk_model.proofs.Options.{mapped_some, some_value}
+use Rattle.pblk_model.proofs.Parts.{all_at, contained_among, get_below}
+use Rattle.pblk_model.proofs.Tests.{both}
 use Rattle.stripe_placer.specs.OpenLines.{OpenLine, numbers, unit_of}
 use Rattle.stripe_placer.specs.OpenLines as lines
 use Rattle.pblk_world.specs.LegalMounts.{IsLegalMount}

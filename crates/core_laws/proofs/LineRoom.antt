@@ -19,9 +19,9 @@ use Rattle.pblk_world.specs.LegalMounts.{IsLegalMount}
 use Rattle.core_laws.specs.InOrder.{FitsItsLine}
 use Rattle.pblk_model.specs.declared.shape.Shape.{Shape}
 use Rattle.pblk_world.specs.Events.{Logged}
-use Rattle.lemmas.proofs.Options.{some_value}
-use Rattle.lemmas.proofs.Maps.{any_found, found_passes, in_filter}
-use Rattle.lemmas.proofs.Tests.{and_false, same_number}
+use Rattle.pblk_model.proofs.Options.{some_value}
+use Rattle.pblk_model.proofs.Maps.{any_found, found_passes, in_filter}
+use Rattle.pblk_model.proofs.Tests.{and_false, same_number}
 use Rattle.core_laws.proofs.Answered.{IsFirst, first_unanswered}
 use Rattle.core_laws.proofs.AnsweredUnits.{first_answer}
 use Rattle.core_laws.proofs.Followed.{IsFollowed, follow}
@@ -29,7 +29,7 @@ use Rattle.core_laws.proofs.PartLengths.{IsStriped}
 use Rattle.core_laws.proofs.PlainOpenings.{IsOpenedLine, opened_lines}
 use Rattle.core_laws.proofs.StripesInOrder.{its_stripes}
 use Rattle.core_laws.proofs.LineNumbers as numbers
-use Rattle.lemmas.proofs.Lists.{IsAmong}
+use Rattle.pblk_model.proofs.Lists.{IsAmong}
 
 pub has_room : (i : Image) (w : World) (line : ℕ) (o : Opening) → IsLegalMount i w → life_of (log_of w 0) line ≡ Opened o → FitsItsLine i.shape (log_of w 0) o
 has_room i w line o mount opened =

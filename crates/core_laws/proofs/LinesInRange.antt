@@ -16,8 +16,8 @@ use Rattle.core_laws.proofs.Opening.{all_made}
 use Rattle.core_laws.specs.InOrder.{IsInPlace}
 use Rattle.core_laws.proofs.ChangedTables.{range_below}
 use Rattle.core_laws.proofs.WinnerStarts.{block_line, winner_is}
-use Rattle.lemmas.proofs.Lists.{all_append, all_imply}
-use Rattle.lemmas.proofs.Maps.{all_filter}
+use Rattle.pblk_model.proofs.Lists.{all_append, all_imply}
+use Rattle.pblk_model.proofs.Maps.{all_filter}
 
 -- ---- records that count
 

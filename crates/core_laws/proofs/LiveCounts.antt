@@ -6,8 +6,8 @@ use Rattle.pblk_model.specs.Image.{Image}
 use Rattle.pblk_world.specs.World.{Logs}
 use Rattle.pblk_world.specs.Fronts.{last_take}
 use Rattle.pblk_world.specs.Victims.{line_of, is_live_in, live}
-use Rattle.lemmas.proofs.Maps.{few_pass}
-use Rattle.lemmas.proofs.Tests.{same_number}
+use Rattle.pblk_model.proofs.Maps.{few_pass}
+use Rattle.pblk_model.proofs.Tests.{same_number}
 
 some_passes : (test : ℕ → Bool) (a n k : ℕ) → k < n → test (a + k) ≡ true → 0 < length (filter test (range_with_len a n))
 some_passes test a zero k within e = absurd (omega arith)

@@ -21,11 +21,11 @@ use Rattle.pblk_world.specs.Starts.{has_landed_start, newest_start}
 use Rattle.pblk_world.specs.Victims.{is_live_in, line_of, line_of_position, line_of_winner}
 use Rattle.pblk_world.specs.World.{World, Logs, log_of, media}
 use Rattle.l2p_map.specs.declared.slot.Slot.TheVariants.{Cached, Media}
-use Rattle.lemmas.proofs.Lists.{IsAmong, among_contained, last_in}
-use Rattle.lemmas.proofs.Maps.{all_filter, all_mapped, any_found, any_member, enumerate_get, found_passes, in_filter}
-use Rattle.lemmas.proofs.Options.{mapped_some, some_value}
-use Rattle.lemmas.proofs.Parts.{all_by_get, contained_among, get_below, got_within}
-use Rattle.lemmas.proofs.Tests.{and_both, both, not_both, or_left, or_right, same, same_number}
+use Rattle.pblk_model.proofs.Lists.{IsAmong, among_contained, last_in}
+use Rattle.pblk_model.proofs.Maps.{all_filter, all_mapped, any_found, any_member, enumerate_get, found_passes, in_filter}
+use Rattle.pblk_model.proofs.Options.{mapped_some, some_value}
+use Rattle.pblk_model.proofs.Parts.{all_by_get, contained_among, get_below, got_within}
+use Rattle.pblk_model.proofs.Tests.{and_both, both, not_both, or_left, or_right, same, same_number}
 use Rattle.pblk_world.specs.LegalMounts.{IsLegalMount}
 use Rattle.world_laws.proofs.Begun.{IsBegunWith, begun_with}
 use Rattle.world_laws.proofs.FoundCounts.{front_low}

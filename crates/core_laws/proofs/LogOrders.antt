@@ -17,8 +17,8 @@ use Rattle.core_laws.specs.InOrder.{IsInPlace, AreSoundLogs}
 use Rattle.core_laws.proofs.FreedMoments.{freed_before}
 use Rattle.core_laws.proofs.UnansweredLines.{still_open}
 use Rattle.core_laws.proofs.UsersEntries.{AreInOrder, in_order as entries_in_order}
-use Rattle.lemmas.proofs.Lists.{IsAmong, all_imply, among_all}
-use Rattle.lemmas.proofs.Parts.{contained_among}
+use Rattle.pblk_model.proofs.Lists.{IsAmong, all_imply, among_all}
+use Rattle.pblk_model.proofs.Parts.{contained_among}
 
 in_place : (i : Image) (w : World) (p : Placed) → IsLegal i w → Contains (placements (log_of w 0)) p → IsInPlace i (log_of w 0) p
 in_place i w p legal there =

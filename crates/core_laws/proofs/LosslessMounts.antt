@@ -5,7 +5,7 @@ use Rattle.pblk_world.specs.Events.{Logged}
 use Rattle.pblk_world.specs.World.{World, log_of}
 use Rattle.pblk_world.specs.LegalMounts.{IsLegalMount, NoStripeLost, decides, is_losing}
 use Rattle.world_laws.proofs.Made.{IsMade, own_then}
-use Rattle.lemmas.proofs.Parts.{all_taken}
+use Rattle.pblk_model.proofs.Parts.{all_taken}
 
 pub record IsLosslessMount (i : Image) (w : World) : Type 0 where
   pub mount : IsLegalMount i w

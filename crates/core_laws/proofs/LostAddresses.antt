@@ -18,7 +18,7 @@ use Rattle.core_laws.proofs.LostRows.{fails_now, fails_beside}
 use Rattle.core_laws.proofs.LostStripe.{IsOneLost, one_lost}
 use Rattle.core_laws.proofs.OpeningNumbers.{opens_at, life_at}
 use Rattle.core_laws.proofs.RangeSums.{sum_more}
-use Rattle.lemmas.proofs.Tests.{other_number}
+use Rattle.pblk_model.proofs.Tests.{other_number}
 
 abbrev unplaced_by : Shape → Opening → Bool → ℕ → ℕ
 unplaced_by s o failed n = if failed then 0 else end_address s o - max (start_len s) (n * s.ws_opt)

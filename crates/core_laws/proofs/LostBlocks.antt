@@ -44,8 +44,8 @@ use Rattle.core_laws.proofs.NewWindow.{newest_in, none_earlier}
 use Rattle.core_laws.proofs.NewlyHeld.{part_kept}
 use Rattle.core_laws.proofs.NewlyRead.{find_behind}
 use Rattle.core_laws.proofs.WaitingChunks.{landed_bears, landed_block, would_land}
-use Rattle.lemmas.proofs.Parts.{take_and_drop}
-use Rattle.lemmas.proofs.Tests.{or_right}
+use Rattle.pblk_model.proofs.Parts.{take_and_drop}
+use Rattle.pblk_model.proofs.Tests.{or_right}
 
 -- ---- the blocks that couldn't be read before
 

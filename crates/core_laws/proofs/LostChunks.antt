@@ -17,7 +17,7 @@ use Rattle.pblk_world.specs.EngineLog.{Answer, answer_of, DidLand, WasLost, is_l
 use Rattle.pblk_world.specs.Lines.{known_image, is_empty_state, is_over_state}
 use Rattle.pblk_laws.specs.LineBlocks.{chunk_in}
 use Rattle.core_laws.proofs.AnsweredChunks.{IsAnsweredIn, IsAnsweredSince, IsToldFar, answered_since, told_far}
-use Rattle.lemmas.proofs.Parts.{got_within}
+use Rattle.pblk_model.proofs.Parts.{got_within}
 use Rattle.pblk_world.specs.LegalMounts.{IsLegalMount}
 use Rattle.world_laws.proofs.Deeds.{IsDeed, deed}
 use Rattle.world_laws.specs.UnitChunks.{chunk_after}

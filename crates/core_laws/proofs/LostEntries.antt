@@ -15,10 +15,10 @@ use Rattle.core_laws.proofs.NextTakes.{IsRising}
 use Rattle.core_laws.proofs.Placed.{any_counts, is_in_list, stripe_holds}
 use Rattle.core_laws.proofs.PlacedAnew.{holders_lost}
 use Rattle.core_laws.proofs.PlacedInOrder.{HasEntries}
-use Rattle.lemmas.proofs.Lists.{IsAmong, all_imply, among_all}
-use Rattle.lemmas.proofs.Maps.{any_member, filter_agree, filter_same}
-use Rattle.lemmas.proofs.Parts.{all_at}
-use Rattle.lemmas.proofs.Tests.{not_both, or_no, or_true, other_number, same_number}
+use Rattle.pblk_model.proofs.Lists.{IsAmong, all_imply, among_all}
+use Rattle.pblk_model.proofs.Maps.{any_member, filter_agree, filter_same}
+use Rattle.pblk_model.proofs.Parts.{all_at}
+use Rattle.pblk_model.proofs.Tests.{not_both, or_no, or_true, other_number, same_number}
 
 -- ---- one element more passes a test
 

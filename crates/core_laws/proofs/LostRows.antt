@@ -44,9 +44,9 @@ use Rattle.core_laws.proofs.PlacedInOrder.{HasEntries}
 use Rattle.core_laws.proofs.PlacedPlaces.{none_at, turned_round}
 use Rattle.core_laws.proofs.PlacedRows.{table_was}
 use Rattle.core_laws.proofs.SteppingLemmas.{found_kept}
-use Rattle.lemmas.proofs.Lists.{IsAmong, all_imply}
-use Rattle.lemmas.proofs.Maps.{any_agree, any_found, any_member, found_passes, in_filter}
-use Rattle.lemmas.proofs.Tests.{first_of, not_both, not_true, or_true, other_number, same_number, second_of}
+use Rattle.pblk_model.proofs.Lists.{IsAmong, all_imply}
+use Rattle.pblk_model.proofs.Maps.{any_agree, any_found, any_member, found_passes, in_filter}
+use Rattle.pblk_model.proofs.Tests.{first_of, not_both, not_true, or_true, other_number, same_number, second_of}
 
 -- ---- where its entries were
 

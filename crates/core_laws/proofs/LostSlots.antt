@@ -36,10 +36,10 @@ use Rattle.core_laws.proofs.FirstLanded.{block_of_first}
 use Rattle.core_laws.proofs.FindingInLists.{any_none, find_unique, first_stays, found_within}
 use Rattle.core_laws.proofs.SteppingLemmas.{found_kept}
 use Rattle.core_laws.proofs.TakenSlots.{find_same}
-use Rattle.lemmas.proofs.Lists.{IsAmong, all_imply, among_all}
-use Rattle.lemmas.proofs.Maps.{found_none, found_passes}
-use Rattle.lemmas.proofs.Parts.{all_at}
-use Rattle.lemmas.proofs.Tests.{first_of, not_both, second_of}
+use Rattle.pblk_model.proofs.Lists.{IsAmong, all_imply, among_all}
+use Rattle.pblk_model.proofs.Maps.{found_none, found_passes}
+use Rattle.pblk_model.proofs.Parts.{all_at}
+use Rattle.pblk_model.proofs.Tests.{first_of, not_both, second_of}
 use Rattle.pblk_world.proofs.EngineLogLemmas.{takes_more}
 
 module _ (i : Image) (logs : Logs) (unit event : ℕ) (knows : List ℕ) (p : Placed) (o : Opening) (once : HeldOnce i.shape (logs 0))

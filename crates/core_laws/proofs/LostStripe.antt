@@ -13,9 +13,9 @@ use Rattle.core_laws.specs.EntryHolds.{placed_line}
 use Rattle.core_laws.proofs.HeldOnce.{HeldOnce}
 use Rattle.core_laws.proofs.KeptStripes.{with_event}
 use Rattle.core_laws.proofs.NotedAnswers.{one_answered}
-use Rattle.lemmas.proofs.Lists.{IsAmong, all_imply, among_all}
-use Rattle.lemmas.proofs.Maps.{any_agree, find_agree, find_none}
-use Rattle.lemmas.proofs.Parts.{all_at}
+use Rattle.pblk_model.proofs.Lists.{IsAmong, all_imply, among_all}
+use Rattle.pblk_model.proofs.Maps.{any_agree, find_agree, find_none}
+use Rattle.pblk_model.proofs.Parts.{all_at}
 
 -- a stripe was lost, and what became of the others is as it was
 pub record IsOneLost (log new : List Logged) (p : Placed) : Type 0 where

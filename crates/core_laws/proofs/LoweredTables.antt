@@ -11,7 +11,7 @@ use Rattle.line_table.proofs.Places.{set_twice}
 use Rattle.core_laws.specs.ChangedTables.{with_row}
 use Rattle.core_laws.specs.PlacedEntries.{taker_of, place_by, place_entry, place_entries, lower_by, lower_entry, lower_entries}
 use Rattle.core_laws.proofs.ChangedTables.{same_table}
-use Rattle.lemmas.proofs.Parts.{get_set_same, set_same}
+use Rattle.pblk_model.proofs.Parts.{get_set_same, set_same}
 
 -- ---- a row changed twice
 

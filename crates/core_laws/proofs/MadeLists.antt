@@ -5,7 +5,7 @@ use Rattle.std.specs.Option.{option_map_or}
 use Rattle.std.proofs.lemmas.Bool.{cases_eq, eq-eqb, ne_eqb}
 use Rattle.std.proofs.lemmas.Option.{none-some, same_Some}
 use Rattle.core_laws.proofs.RangeSums.{sum_same}
-use Rattle.lemmas.proofs.Lists.{contains_first, contains_more}
+use Rattle.pblk_model.proofs.Lists.{contains_first, contains_more}
 
 -- ---- numbered elements
 

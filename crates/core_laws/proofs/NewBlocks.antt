@@ -20,11 +20,11 @@ use Rattle.core_laws.proofs.GivenNow.{readable_plain, blocks_below, chunk_life, 
 use Rattle.core_laws.proofs.FindingInLists.{found_within, found_in_stripe}
 use Rattle.core_laws.proofs.PlacedLines.{found_any as list_found}
 use Rattle.core_laws.proofs.NewlyRead.{find_below, found_any}
-use Rattle.lemmas.proofs.Lists.{IsAmong}
-use Rattle.lemmas.proofs.Maps.{any_member, filter_short, found_passes, in_filter}
-use Rattle.lemmas.proofs.Options.{some_value}
-use Rattle.lemmas.proofs.Parts.{all_at, got_within}
-use Rattle.lemmas.proofs.Tests.{lt_true, other_number, same_number, second_of}
+use Rattle.pblk_model.proofs.Lists.{IsAmong}
+use Rattle.pblk_model.proofs.Maps.{any_member, filter_short, found_passes, in_filter}
+use Rattle.pblk_model.proofs.Options.{some_value}
+use Rattle.pblk_model.proofs.Parts.{all_at, got_within}
+use Rattle.pblk_model.proofs.Tests.{lt_true, other_number, same_number, second_of}
 
 -- it is the last stripe of its unit
 pub record IsNewest (log : List Logged) (p : Placed) : Type 0 where

@@ -40,7 +40,7 @@ use Rattle.core_laws.proofs.SlotsInWorlds.{slot_landed, read_is_some}
 use Rattle.core_laws.proofs.WindowOfLemmas.{same_window}
 use Rattle.core_laws.proofs.NewlyRead.{find_behind, found_any}
 use Rattle.core_laws.proofs.NewBlocks.{IsNewest, read_found, given_before, chunk_within}
-use Rattle.lemmas.proofs.Options.{some_mapped}
+use Rattle.pblk_model.proofs.Options.{some_mapped}
 use Rattle.pblk_world.proofs.EngineLogLemmas.{takes_more}
 
 -- ---- what is given back now

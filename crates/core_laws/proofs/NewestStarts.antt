@@ -32,7 +32,7 @@ use Rattle.world_laws.proofs.Later.{lost_later}
 use Rattle.world_laws.proofs.UnitTurns.{rise_all, rise_between, some_rise}
 use Rattle.world_laws.proofs.FoundCounts.{IsHeadAt, head_at}
 use Rattle.world_laws.proofs.FoundRows.{row_at}
-use Rattle.world_laws.proofs.LineStripes.{start_whole}
+use Rattle.world_laws.proofs.LineStripes.{start_whole, stripes_before}
 use Rattle.world_laws.proofs.StartRecords.{seq_of_nth}
 use Rattle.world_laws.proofs.Stripes.{life_of_stripe, one_opening, opening_then}
 use Rattle.core_laws.specs.ClosedLines.{StartNumbers, head_numbers, is_landed_whole, newer_start, newest_numbers, starts_left}
@@ -46,16 +46,15 @@ use Rattle.core_laws.proofs.FirstPassing.{all_by_left, first_kept}
 use Rattle.core_laws.proofs.LatestStarts.{IsBelow, newer_by, numbers_of, starts}
 use Rattle.core_laws.proofs.LostStripe.{one_lost, landed_same as landed_same_lost}
 use Rattle.core_laws.proofs.PlacedAnew.{landed_not_lost}
-use Rattle.core_laws.proofs.Placing.{stripes_before}
 use Rattle.core_laws.proofs.Steady.{AreAlike}
 use Rattle.core_laws.proofs.StripesAfter.{alike_still, landed_beside, landed_placed, landed_still, new_number, none_of_first, none_of_pad, none_yet, one_of_first, placed_in, placed_waits, stripe_stays, stripes_placed, stripes_still}
 use Rattle.core_laws.proofs.TakenSlots.{landed_same}
 use Rattle.core_laws.proofs.Taking.{filter_last}
-use Rattle.lemmas.proofs.Lists.{IsAmong, all_everywhere, all_imply, among_all, among_contained}
-use Rattle.lemmas.proofs.Options.{some_value}
-use Rattle.lemmas.proofs.Maps.{all_agree, all_filter, any_found, found_passes, filter_agree, filter_same, filter_short}
-use Rattle.lemmas.proofs.Parts.{all_at, all_by_get, all_taken, contained_among, get_taken, get_whole_within, take_and_drop, take_nothing}
-use Rattle.lemmas.proofs.Tests.{and_both, and_true, both, first_of, below_of, not_both, other_number}
+use Rattle.pblk_model.proofs.Lists.{IsAmong, all_everywhere, all_imply, among_all, among_contained}
+use Rattle.pblk_model.proofs.Options.{some_value}
+use Rattle.pblk_model.proofs.Maps.{all_agree, all_filter, any_found, found_passes, filter_agree, filter_same, filter_short}
+use Rattle.pblk_model.proofs.Parts.{all_at, all_by_get, all_taken, contained_among, get_taken, get_whole_within, take_and_drop, take_nothing}
+use Rattle.pblk_model.proofs.Tests.{and_both, and_true, both, first_of, below_of, not_both, other_number}
 
 -- ---- stripes of a start record that haven't landed
 

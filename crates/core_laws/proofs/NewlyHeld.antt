@@ -22,11 +22,11 @@ use Rattle.core_laws.proofs.GivenNow.{blocks_below, chunk_life, chunk_unit, IsOf
 use Rattle.core_laws.proofs.NewlyRead.{found_any}
 use Rattle.core_laws.proofs.NewBlocks.{IsNewest, read_found, chunk_within}
 use Rattle.core_laws.proofs.NewWindow.{low_high, given_newly}
-use Rattle.lemmas.proofs.Lists.{IsAmong, later}
-use Rattle.lemmas.proofs.Maps.{all_filter, any_found, any_member, fewer_taken, filter_none, found_passes, from_filter}
-use Rattle.lemmas.proofs.Options.{some_value}
-use Rattle.lemmas.proofs.Parts.{all_at, all_by_get}
-use Rattle.lemmas.proofs.Tests.{first_of, or_right, second_of}
+use Rattle.pblk_model.proofs.Lists.{IsAmong, later}
+use Rattle.pblk_model.proofs.Maps.{all_filter, any_found, any_member, fewer_taken, filter_none, found_passes, from_filter}
+use Rattle.pblk_model.proofs.Options.{some_value}
+use Rattle.pblk_model.proofs.Parts.{all_at, all_by_get}
+use Rattle.pblk_model.proofs.Tests.{first_of, or_right, second_of}
 
 -- ---- counting
 

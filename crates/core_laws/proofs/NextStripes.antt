@@ -11,8 +11,8 @@ use Rattle.stripe_placer.specs.OpenLines.Stripe.{Unplaced}
 use Rattle.stripe_placer.proofs.Numbered.{found_in_range, none_in_range}
 use Rattle.core_laws.specs.OpenedLines.{by_answer}
 use Rattle.core_laws.proofs.LineForms.{answered_as}
-use Rattle.lemmas.proofs.Maps.{any_fail}
-use Rattle.lemmas.proofs.Tests.{either_false}
+use Rattle.pblk_model.proofs.Maps.{any_fail}
+use Rattle.pblk_model.proofs.Tests.{either_false}
 use Rattle.stripe_placer.proofs.OpenLinesLemmas.{length_new, no_chunk_closed}
 
 -- ---- what became of one stripe

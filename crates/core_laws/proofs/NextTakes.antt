@@ -11,10 +11,10 @@ use Rattle.line_table.specs.Rows.{latest}
 use Rattle.core_laws.specs.PlacerOf.{positions_of}
 use Rattle.core_laws.proofs.Placing.{not_below}
 use Rattle.core_laws.proofs.Removing.{all_second as all_right}
-use Rattle.lemmas.proofs.Lists.{all_append, all_imply, last_in}
-use Rattle.lemmas.proofs.Maps.{all_filter, find_agree, find_none}
-use Rattle.lemmas.proofs.Parts.{all_taken}
-use Rattle.lemmas.proofs.Tests.{and_false, and_true, lt_true, other_number}
+use Rattle.pblk_model.proofs.Lists.{all_append, all_imply, last_in}
+use Rattle.pblk_model.proofs.Maps.{all_filter, find_agree, find_none}
+use Rattle.pblk_model.proofs.Parts.{all_taken}
+use Rattle.pblk_model.proofs.Tests.{and_false, and_true, lt_true, other_number}
 
 -- ---- rising positions
 

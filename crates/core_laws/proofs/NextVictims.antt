@@ -23,8 +23,8 @@ use Rattle.core_laws.proofs.Engine.{prefix_same, whole_at}
 use Rattle.core_laws.proofs.KeptRows.{live_kept}
 use Rattle.core_laws.proofs.KnownLines.{lines_known}
 use Rattle.core_laws.proofs.LatestStarts.{numbers_of}
-use Rattle.lemmas.proofs.Maps.{made_same}
-use Rattle.lemmas.proofs.Numbers.{fun_same}
+use Rattle.pblk_model.proofs.Maps.{made_same}
+use Rattle.pblk_model.proofs.Numbers.{fun_same}
 
 -- ---- one more event
 

@@ -12,7 +12,7 @@ use Rattle.pblk_world.specs.Events.{Decides, EngineEvent, Logged, Step}
 use Rattle.pblk_world.specs.Legal.{IsAllowed, IsKnowledge, IsLegal}
 use Rattle.pblk_world.specs.World.{World, Logs, cut_logs, known, log_of}
 use Rattle.pblk_world.proofs.WorldLemmas.{log_elsewhere}
-use Rattle.lemmas.proofs.Numbers.{fun_same}
+use Rattle.pblk_model.proofs.Numbers.{fun_same}
 use Rattle.world_laws.proofs.Made.{known_within}
 use Rattle.core_laws.specs.Stepping.{after}
 

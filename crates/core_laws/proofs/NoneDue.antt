@@ -41,10 +41,10 @@ use Rattle.stripe_placer.proofs.Rows.{find_first, find_second}
 use Rattle.core_laws.proofs.KeptLines.{on_drive}
 use Rattle.core_laws.proofs.OfferedStripes.{unit_within}
 use Rattle.core_laws.proofs.Placeable.{kind_in, kind_by, IsPart, HasParts, parts_of}
-use Rattle.lemmas.proofs.Lists.{IsAmong, among_contained}
-use Rattle.lemmas.proofs.Maps.{from_filter, given_at, in_filter, in_map}
-use Rattle.lemmas.proofs.Parts.{contained_among, none_past, some_within}
-use Rattle.lemmas.proofs.Tests.{and_both, both, le_true, lt_true, not_both, or_left, or_right, same_number, within_is as is_within}
+use Rattle.pblk_model.proofs.Lists.{IsAmong, among_contained}
+use Rattle.pblk_model.proofs.Maps.{from_filter, given_at, in_filter, in_map}
+use Rattle.pblk_model.proofs.Parts.{contained_among, none_past, some_within}
+use Rattle.pblk_model.proofs.Tests.{and_both, both, le_true, lt_true, not_both, or_left, or_right, same_number, within_is as is_within}
 
 -- ---- units of which each stripe is answered
 

@@ -20,8 +20,8 @@ use Rattle.pblk_world.proofs.EngineLogLemmas.{answers_more, takes_more}
 use Rattle.core_laws.specs.PlacerOf.{unanswered_on}
 use Rattle.core_laws.specs.Stepping.{after}
 use Rattle.core_laws.proofs.Answered.{IsAnswer, IsFirst, first_unanswered, its_answer, others_answer}
-use Rattle.lemmas.proofs.Lists.{IsAmong, all_imply, among_all}
-use Rattle.lemmas.proofs.Tests.{other_number, same, same_number}
+use Rattle.pblk_model.proofs.Lists.{IsAmong, all_imply, among_all}
+use Rattle.pblk_model.proofs.Tests.{other_number, same, same_number}
 
 abbrev pub noting : ℕ → Answer → EngineEvent
 noting unit (DidLand event) = Landed unit event

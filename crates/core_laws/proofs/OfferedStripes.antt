@@ -28,10 +28,10 @@ use Rattle.core_laws.proofs.LineForms.{IsLineOf, line_of, formed}
 use Rattle.core_laws.proofs.NextStripes.{next_is, none_next}
 use Rattle.core_laws.proofs.IdleRows.{not_again, is_idle, row_there}
 use Rattle.stripe_placer.proofs.Rows.{find_first, find_second}
-use Rattle.lemmas.proofs.Lists.{IsAmong}
-use Rattle.lemmas.proofs.Maps.{found_passes, from_filter, from_given, from_map}
-use Rattle.lemmas.proofs.Parts.{all_at}
-use Rattle.lemmas.proofs.Tests.{le_of_lt_false}
+use Rattle.pblk_model.proofs.Lists.{IsAmong}
+use Rattle.pblk_model.proofs.Maps.{found_passes, from_filter, from_given, from_map}
+use Rattle.pblk_model.proofs.Parts.{all_at}
+use Rattle.pblk_model.proofs.Tests.{le_of_lt_false}
 use Rattle.pblk_world.proofs.LinesLemmas.{length_known}
 
 -- ---- the opened line of an offered program
@@ -116,7 +116,8 @@ not_true false false e = refl
 
 -- its unit is idle
 pub unit_idle : (i : Image) (us : ℕ → List ℕ) (w : World) (again : List ℕ) (busy : ℕ) (of : Program) → IsFollowed i us w → of.unit < units i.shape
-    → is_ready (map (unit_row_in i (log_of w) again) (range_with_len 0 (units i.shape))) busy of.unit ≡ true → stopped_in (unit_row_in i (log_of w) again of.unit) ≡ None
+    → is_ready (map (unit_row_in i (log_of w) again) (range_with_len 0 (units i.shape))) busy of.unit ≡ true
+    → stopped_in (unit_row_in i (log_of w) again of.unit) ≡ None
     → length (answers (log_of w 0) of.unit) ≡ length (placed_on (log_of w 0) of.unit)
 unit_idle i us w again busy of is within ready none =
     is_idle i us w again of.unit is
@@ -127,7 +128,8 @@ unit_idle i us w again busy of is within ready none =
 
 pub offered : (i : Image) (us : ℕ → List ℕ) (w : World) (pad : ℕ) (again : List ℕ) (busy : ℕ) (of : Program) (o : Opening) → IsFollowed i us w
     → has_failed (log_of w 0) o ≡ false → IsOfferedBy i us w pad of o
-    → is_ready (map (unit_row_in i (log_of w) again) (range_with_len 0 (units i.shape))) busy of.unit ≡ true → stopped_in (unit_row_in i (log_of w) again of.unit) ≡ None
+    → is_ready (map (unit_row_in i (log_of w) again) (range_with_len 0 (units i.shape))) busy of.unit ≡ true
+    → stopped_in (unit_row_in i (log_of w) again of.unit) ≡ None
     → IsOffered i us w pad of o
 offered i us w pad again busy of o is whole by ready none =
     let s : Shape = i.shape in

@@ -18,8 +18,8 @@ use Rattle.core_laws.proofs.TakenSlots.{any_same}
 use Rattle.core_laws.specs.OpenAddresses.{keeps_addresses}
 use Rattle.core_laws.proofs.RangeSums.{sum_same, sum_more}
 use Rattle.core_laws.proofs.KeptStripes.{KeepsStripes, stripes_kept, also_stripes, lives_kept}
-use Rattle.lemmas.proofs.Maps.{filter_none}
-use Rattle.lemmas.proofs.Tests.{other_number, same_number}
+use Rattle.pblk_model.proofs.Maps.{filter_none}
+use Rattle.pblk_model.proofs.Tests.{other_number, same_number}
 
 -- ---- events that place nothing
 

@@ -33,11 +33,11 @@ use Rattle.core_laws.proofs.PlainOpenings.{life_stands}
 use Rattle.core_laws.proofs.PlainStripes.{answered_lands}
 use Rattle.core_laws.proofs.StripeEnds.{of_unit}
 use Rattle.core_laws.proofs.UnitBits.{units_are as units_by_bits}
-use Rattle.lemmas.proofs.Lists.{IsAmong}
-use Rattle.lemmas.proofs.Maps.{any_found, found_passes, in_filter, in_map, range_get}
-use Rattle.lemmas.proofs.Options.{some_value}
-use Rattle.lemmas.proofs.Parts.{contained_among, get_below}
-use Rattle.lemmas.proofs.Tests.{both, either_false, not_both, same_number}
+use Rattle.pblk_model.proofs.Lists.{IsAmong}
+use Rattle.pblk_model.proofs.Maps.{any_found, found_passes, in_filter, in_map, range_get}
+use Rattle.pblk_model.proofs.Options.{some_value}
+use Rattle.pblk_model.proofs.Parts.{contained_among, get_below}
+use Rattle.pblk_model.proofs.Tests.{both, either_false, not_both, same_number}
 
 offline_over : (b : Bool) (state : ChunkState) → is_online_in state ≡ false → is_over_state b state ≡ true
 offline_over b states.Free e = absurd cc

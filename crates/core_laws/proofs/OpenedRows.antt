@@ -35,9 +35,9 @@ use Rattle.core_laws.proofs.OpenAddresses.{failed_kept}
 use Rattle.core_laws.proofs.ChangedTables.{row_changes_any}
 use Rattle.core_laws.proofs.WinnerStarts.{winner_starts}
 use Rattle.core_laws.proofs.SteppingLemmas.{found_kept}
-use Rattle.lemmas.proofs.Lists.{all_of}
-use Rattle.lemmas.proofs.Maps.{filter_none, find_agree, found_passes}
-use Rattle.lemmas.proofs.Tests.{and_false, both, other_number, same_number}
+use Rattle.pblk_model.proofs.Lists.{all_of}
+use Rattle.pblk_model.proofs.Maps.{filter_none, find_agree, found_passes}
+use Rattle.pblk_model.proofs.Tests.{and_false, both, other_number, same_number}
 use Rattle.pblk_world.proofs.EngineLogLemmas.{takes_more}
 use Rattle.pblk_world.proofs.LinesLemmas.{free_unopened}
 

@@ -1,6 +1,6 @@
 -- The stripes of an opened line are at their turns on its units, and it has chunks left while it
 -- has a stripe left.
-use Rattle.lemmas.proofs.Lists.{IsAmong}
+use Rattle.pblk_model.proofs.Lists.{IsAmong}
 use Rattle.std.proofs.Common.{◌≡◌, ℕ, ◌*◌, ◌/◌, ◌≤◌, ◌&&◌, zero, suc, not, Bool, true, false, List, length, refl, subst, ap₂, ◌∙◌, arith, ◌<◌, ap}
 use Rattle.std.proofs.lemmas.List.{take-take as cut_cut}
 use Rattle.pblk_model.specs.Image.{Image, line_units}
@@ -19,9 +19,9 @@ use Rattle.core_laws.proofs.KeptLines.{few_units, keeps_units}
 use Rattle.core_laws.proofs.LandedNow.{opened_now}
 use Rattle.core_laws.proofs.LineNumbers as numbers
 use Rattle.core_laws.proofs.UnitBits.{bits_back}
-use Rattle.lemmas.proofs.Numbers.{fun_same}
-use Rattle.lemmas.proofs.Parts.{contained_among}
-use Rattle.lemmas.proofs.Tests.{not_both}
+use Rattle.pblk_model.proofs.Numbers.{fun_same}
+use Rattle.pblk_model.proofs.Parts.{contained_among}
+use Rattle.pblk_model.proofs.Tests.{not_both}
 
 -- ---- prefixes
 

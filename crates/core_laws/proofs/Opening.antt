@@ -24,10 +24,10 @@ use Rattle.core_laws.proofs.Engine.{prefix_whole, openings_before, stopped_more}
 use Rattle.core_laws.proofs.Steady.{AreAlike, open_line_same, standing_before, row_same, unanswered_in}
 use Rattle.core_laws.proofs.Taking.{same_placing, filter_last}
 use Rattle.core_laws.proofs.Stopping.{entries_same}
-use Rattle.lemmas.proofs.Lists.{length_replicate}
-use Rattle.lemmas.proofs.Maps.{filter_agree, filter_none, map_agree, map_last, map_same, none_any}
-use Rattle.lemmas.proofs.Numbers.{fun_same}
-use Rattle.lemmas.proofs.Tests.{or_left, other_number, same_number}
+use Rattle.pblk_model.proofs.Lists.{length_replicate}
+use Rattle.pblk_model.proofs.Maps.{filter_agree, filter_none, map_agree, map_last, map_same, none_any}
+use Rattle.pblk_model.proofs.Numbers.{fun_same}
+use Rattle.pblk_model.proofs.Tests.{or_left, other_number, same_number}
 use Rattle.pblk_world.proofs.EngineLogLemmas.{answers_more, takes_more}
 
 -- ---- the numbers of lives

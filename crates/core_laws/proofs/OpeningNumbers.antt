@@ -8,7 +8,7 @@ use Rattle.std.proofs.lemmas.Option.{same_Some, none-some}
 use Rattle.pblk_world.specs.Events.{Open, Free, Event, Decides, Logged}
 use Rattle.pblk_world.specs.EngineLog.{LineLife, AsFound, Opened, Freed, is_life, life_of, turned, turned_by, last_opening, Opening, opened_by, openings}
 use Rattle.core_laws.specs.OpenedLines.{standing}
-use Rattle.lemmas.proofs.Maps.{all_filter}
+use Rattle.pblk_model.proofs.Maps.{all_filter}
 
 -- the line that an event opens
 abbrev pub opens : Event → Option ℕ

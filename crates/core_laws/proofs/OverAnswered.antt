@@ -23,11 +23,11 @@ use Rattle.pblk_world.specs.Victims.{engine_prefix}
 use Rattle.pblk_world.proofs.EngineLogLemmas.{begun_knows}
 use Rattle.pblk_world.proofs.LinesLemmas.{length_known}
 use Rattle.pblk_world.proofs.VictimsLemmas.{whole_prefix}
-use Rattle.lemmas.proofs.Lists.{IsAmong, among_contained}
-use Rattle.lemmas.proofs.Maps.{all_filter, all_passed, any_found, any_member, filter_both, filters_swap, found_passes, from_filter, in_filter}
-use Rattle.lemmas.proofs.Options.{mapped_some, some_value, split_then}
-use Rattle.lemmas.proofs.Parts.{all_at, all_by_get, contained_among, get_below, get_whole_within, got_within, none_past, take_and_drop}
-use Rattle.lemmas.proofs.Tests.{either_false, lt_true, not_both, same_number}
+use Rattle.pblk_model.proofs.Lists.{IsAmong, among_contained}
+use Rattle.pblk_model.proofs.Maps.{all_filter, all_passed, any_found, any_member, filter_both, filters_swap, found_passes, from_filter, in_filter}
+use Rattle.pblk_model.proofs.Options.{mapped_some, some_value, split_then}
+use Rattle.pblk_model.proofs.Parts.{all_at, all_by_get, contained_among, get_below, get_whole_within, got_within, none_past, take_and_drop}
+use Rattle.pblk_model.proofs.Tests.{either_false, lt_true, not_both, same_number}
 use Rattle.pblk_world.specs.LegalMounts.{IsLegalMount}
 use Rattle.world_laws.proofs.Later.{answer_later, placed_within}
 use Rattle.world_laws.proofs.LifePlaces.{HasPlace, began, has_place, units_now}

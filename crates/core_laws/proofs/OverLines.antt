@@ -16,11 +16,11 @@ use Rattle.pblk_world.specs.EngineLog.{bears_position, holds_position, is_as_fou
 use Rattle.pblk_world.specs.Freeing.{IsLandedRecord, IsWrittenRecord}
 use Rattle.pblk_world.specs.Lines.{are_over, chunks_of, is_over_state, known_image, place_of}
 use Rattle.pblk_world.specs.Victims.{position_in, positions_in}
-use Rattle.lemmas.proofs.Lists.{IsAmong}
-use Rattle.lemmas.proofs.Maps.{all_filter_map, any_member, given_at}
-use Rattle.lemmas.proofs.Options.{map_some, some_value, split_then}
-use Rattle.lemmas.proofs.Parts.{all_at, all_by_get, get_more, get_right}
-use Rattle.lemmas.proofs.Tests.{and_both, same_number}
+use Rattle.pblk_model.proofs.Lists.{IsAmong}
+use Rattle.pblk_model.proofs.Maps.{all_filter_map, any_member, given_at}
+use Rattle.pblk_model.proofs.Options.{map_some, some_value, split_then}
+use Rattle.pblk_model.proofs.Parts.{all_at, all_by_get, get_more, get_right}
+use Rattle.pblk_model.proofs.Tests.{and_both, same_number}
 use Rattle.pblk_world.specs.LegalMounts.{IsLegalMount}
 use Rattle.world_laws.proofs.FoundEmpty.{all_pass}
 use Rattle.world_laws.proofs.Latest.{entry_of_block}

@@ -28,11 +28,11 @@ use Rattle.core_laws.proofs.LandedNow.{opened_now}
 use Rattle.core_laws.proofs.LineNumbers.{unit_there}
 use Rattle.core_laws.proofs.OpenWhileLeft.{IsOfNumber, of_number, unit_in, not_closed}
 use Rattle.core_laws.proofs.Placeable.{place_at}
-use Rattle.lemmas.proofs.Lists.{IsAmong}
-use Rattle.lemmas.proofs.Maps.{any_found, any_member, found_passes}
-use Rattle.lemmas.proofs.Options.{some_value, mapped_some}
-use Rattle.lemmas.proofs.Parts.{all_at, contained_among, get_below, got_within}
-use Rattle.lemmas.proofs.Tests.{and_both, first_of, not_both, not_true, or_left, other_number, second_of}
+use Rattle.pblk_model.proofs.Lists.{IsAmong}
+use Rattle.pblk_model.proofs.Maps.{any_found, any_member, found_passes}
+use Rattle.pblk_model.proofs.Options.{some_value, mapped_some}
+use Rattle.pblk_model.proofs.Parts.{all_at, contained_among, get_below, got_within}
+use Rattle.pblk_model.proofs.Tests.{and_both, first_of, not_both, not_true, or_left, other_number, second_of}
 
 -- no number before the first that passes does
 find_earlier : (test : ℕ → Bool) (n a j x : ℕ) → find test (range_with_len a n) ≡ Some j → a ≤ x → x < j → test x ≡ false

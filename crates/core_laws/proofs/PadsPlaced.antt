@@ -27,7 +27,7 @@ use Rattle.core_laws.proofs.PaddedLines.{fails_with, unit, unit_is, pad_is}
 use Rattle.core_laws.proofs.Placeable.{kind_positions, whole_may_be_placed, whole_is_its}
 use Rattle.core_laws.proofs.PlainOpenings.{opened_lines}
 use Rattle.core_laws.proofs.UnitTurns.{filtered_is}
-use Rattle.lemmas.proofs.Lists.{IsAmong, among_contained}
+use Rattle.pblk_model.proofs.Lists.{IsAmong, among_contained}
 use Rattle.pblk_world.proofs.EngineLogLemmas.{opened_same}
 use Rattle.pblk_world.specs.LegalMounts.{IsLegalMount}
 

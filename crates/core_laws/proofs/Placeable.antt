@@ -43,8 +43,8 @@ use Rattle.core_laws.proofs.NextStripes.{unfailed, start_landed, data_landed, al
 use Rattle.core_laws.proofs.BlockPositions.{record_positions, data_positions, no_pad_positions}
 use Rattle.core_laws.proofs.IdleRows.{all_answered}
 use Rattle.core_laws.proofs.OfferedStripes.{IsOffered, IsOfferedBy, offered, offered_line}
-use Rattle.lemmas.proofs.Lists.{IsAmong, among_contained}
-use Rattle.lemmas.proofs.Tests.{and_both, both, le_of_lt_false, le_true}
+use Rattle.pblk_model.proofs.Lists.{IsAmong, among_contained}
+use Rattle.pblk_model.proofs.Tests.{and_both, both, le_of_lt_false, le_true}
 use Rattle.pblk_world.proofs.EngineLogLemmas.{opened_same}
 
 -- ---- the place of a stripe

@@ -10,8 +10,8 @@ use Rattle.pblk_world.specs.EngineLog.{Taken, Placed, bears_position, holds_posi
 use Rattle.pblk_world.specs.Victims.{position_in}
 use Rattle.core_laws.specs.PlacerOf.{positions_of, positions_in_stripe}
 use Rattle.core_laws.proofs.Removing.{above as above_all}
-use Rattle.lemmas.proofs.Maps.{filter_agree}
-use Rattle.lemmas.proofs.Tests.{other_number, same_number}
+use Rattle.pblk_model.proofs.Maps.{filter_agree}
+use Rattle.pblk_model.proofs.Tests.{other_number, same_number}
 
 abbrev pub is_in_list : List ℕ → ℕ → Bool
 is_in_list xs q = list_any (λ x. x == q) xs

@@ -12,18 +12,17 @@ use Rattle.pblk_model.specs.LineOrder.{start_len, end_len, data_len}
 use Rattle.pblk_model.specs.Image.{Image}
 use Rattle.pblk_world.specs.Events.{Place, Stripe, Decides, Logged}
 use Rattle.pblk_world.specs.World.{Logs}
-use Rattle.pblk_world.specs.EngineLog.{LineLife, AsFound, Opened, Freed, is_life, life_of, Opening, Placed, placements, stripes_of, was_lost, is_loss, has_failed, has_landed}
+use Rattle.pblk_world.specs.EngineLog.{LineLife, AsFound, Opened, Freed, is_life, life_of, Opening, Placed, stripes_of, was_lost, is_loss, has_failed, has_landed}
 use Rattle.pblk_world.specs.Starts.{start_stripes, has_landed_start}
 use Rattle.pblk_world.specs.Placing.{next_address, end_address, IsStart, IsData, IsEnd, IsPad}
 use Rattle.pblk_world.specs.Space.{unplaced_in, open_addresses}
 use Rattle.pblk_world.proofs.Appending.{life_more}
+use Rattle.world_laws.proofs.LineStripes.{stripes_before}
 use Rattle.core_laws.specs.Stepping.{after}
-use Rattle.core_laws.proofs.Engine.{placements_before}
 use Rattle.core_laws.proofs.OpeningNumbers.{opens_at, life_at}
 use Rattle.core_laws.proofs.Placing.{with_place, new_placed, IsPlacing, answer_now, new_unanswered, stripes_now}
 use Rattle.core_laws.proofs.RangeSums.{sum_more}
-use Rattle.lemmas.proofs.Maps.{all_filter}
-use Rattle.lemmas.proofs.Tests.{both, or_no, other_number, same_number}
+use Rattle.pblk_model.proofs.Tests.{both, or_no, other_number, same_number}
 
 -- ---- multiples of a stripe
 
@@ -95,7 +94,7 @@ pub losses_now : (log : List Logged) (stripe : Stripe) (knows : List ℕ) (o oth
 losses_now log stripe knows o other opened =
     any_agree (λ (p : Placed). p.number < length log) (was_lost (with_place log stripe knows)) (was_lost log)
     (λ p before. ap is_loss (answer_now log stripe knows o p opened (le_of_lt before))) (stripes_of log other)
-    (all_filter (λ (p : Placed). p.number < length log) (λ (p : Placed). is_life other.number p.life) (placements log) (placements_before log))
+    (stripes_before log other)
 
 -- in another opening nothing changes
 elsewhere : (s : Shape) (log : List Logged) (stripe : Stripe) (knows : List ℕ) (o other : Opening) → life_of log stripe.line ≡ Opened o

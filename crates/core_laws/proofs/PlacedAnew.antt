@@ -18,10 +18,10 @@ use Rattle.pblk_world.specs.EngineLog.{Answer, DidLand, WasLost, answer_of, is_l
 use Rattle.pblk_world.specs.Fronts.{times_lost, times_placed, waiting, waits, was_placed}
 use Rattle.pblk_world.specs.Placing.{IsData, MayPlace, data_blocks}
 use Rattle.pblk_world.specs.Victims.{engine_prefix}
-use Rattle.lemmas.proofs.Lists.{IsAmong, all_append, all_imply, all_replicated, among_all, among_contained, among_more}
-use Rattle.lemmas.proofs.Maps.{all_filter, all_mapped, all_passed, from_filter, in_filter}
-use Rattle.lemmas.proofs.Parts.{all_at, all_taken, contained_among, take_and_drop}
-use Rattle.lemmas.proofs.Tests.{first_of, lt_true, not_both, same, same_number}
+use Rattle.pblk_model.proofs.Lists.{IsAmong, all_append, all_imply, all_replicated, among_all, among_contained, among_more}
+use Rattle.pblk_model.proofs.Maps.{all_filter, all_mapped, all_passed, from_filter, in_filter}
+use Rattle.pblk_model.proofs.Parts.{all_at, all_taken, contained_among, take_and_drop}
+use Rattle.pblk_model.proofs.Tests.{first_of, lt_true, not_both, same, same_number}
 use Rattle.pblk_world.specs.LegalMounts.{IsLegalMount}
 use Rattle.world_laws.proofs.Entries.{marks_bear}
 use Rattle.world_laws.proofs.LandedRecords.{IsBlockAt, block_at_position}

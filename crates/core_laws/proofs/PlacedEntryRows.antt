@@ -19,7 +19,7 @@ use Rattle.core_laws.proofs.KeptRows.{row_parts}
 use Rattle.core_laws.proofs.NextTakes.{IsRising, is_at, is_same, next_by, found_at}
 use Rattle.core_laws.proofs.EntryRows.{Places, with_entry, live_with, taker_with, IsNowhere, live_elsewhere, taker_elsewhere, live_outside, taker_outside, live_last, taker_last, live_later, taker_later}
 use Rattle.core_laws.proofs.ChangedTables.{table_of, table_changes, tables_agree}
-use Rattle.lemmas.proofs.Tests.{other_number}
+use Rattle.pblk_model.proofs.Tests.{other_number}
 
 -- what took sectors from a line of this life, where their entries have landed in these lines: of a
 -- line that was freed what had taken them then

@@ -28,7 +28,7 @@ use Rattle.core_laws.proofs.Taking as taking
 use Rattle.core_laws.specs.OpenAddresses.{keeps_placed}
 use Rattle.core_laws.proofs.KeptStripes.{with_event}
 use Rattle.core_laws.proofs.KeptRows.{begun_kept}
-use Rattle.lemmas.proofs.Maps.{filter_none, filter_same}
+use Rattle.pblk_model.proofs.Maps.{filter_none, filter_same}
 use Rattle.pblk_world.proofs.EngineLogLemmas.{takes_more}
 
 begun_by_none : (e : EngineEvent) (knows : List ℕ) → keeps_placed e ≡ true → begun_by knows (Decides e) ≡ None

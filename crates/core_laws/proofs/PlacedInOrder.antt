@@ -40,10 +40,10 @@ use Rattle.core_laws.proofs.PlacerOfLemmas.{positions_taken}
 use Rattle.core_laws.proofs.SyncedWindow.{numbered_above}
 use Rattle.core_laws.proofs.WaitingEntries.{positions_both}
 use Rattle.core_laws.proofs.TakenNumbers.{first_stays, numbered_after}
-use Rattle.lemmas.proofs.Lists.{IsAmong, all_append, all_imply, all_true, among_all, among_more, zipped}
-use Rattle.lemmas.proofs.Maps.{all_filter, all_mapped, all_passed, filter_none, filter_same}
-use Rattle.lemmas.proofs.Parts.{all_taken}
-use Rattle.lemmas.proofs.Tests.{not_true, or_no, second_of}
+use Rattle.pblk_model.proofs.Lists.{IsAmong, all_append, all_imply, all_true, among_all, among_more, zipped}
+use Rattle.pblk_model.proofs.Maps.{all_filter, all_mapped, all_passed, filter_none, filter_same}
+use Rattle.pblk_model.proofs.Parts.{all_taken}
+use Rattle.pblk_model.proofs.Tests.{not_true, or_no, second_of}
 use Rattle.pblk_model.proofs.MarksLemmas.{accepted_small}
 use Rattle.pblk_world.proofs.EngineLogLemmas.{takes_more, takes_grow}
 

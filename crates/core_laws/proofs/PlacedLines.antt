@@ -34,11 +34,11 @@ use Rattle.core_laws.proofs.Opening.{life_before}
 use Rattle.core_laws.proofs.OpeningNumbers.{opens_at, life_at, standing_at, of_its_line}
 use Rattle.core_laws.proofs.StripesByPlace.{at_its_place, not_at, find_only}
 use Rattle.core_laws.proofs.Placing.{IsPlacing, new_placed, with_place, placed_on_now, answers_now, outcome_there, outcome_elsewhere, outcome_beside}
-use Rattle.lemmas.proofs.Lists.{all_imply, length_replicate}
-use Rattle.lemmas.proofs.Maps.{all_passed, length_mapped, map_agree, map_same, row_at, rows_set}
-use Rattle.lemmas.proofs.Numbers.{some_units}
-use Rattle.lemmas.proofs.Parts.{got_here}
-use Rattle.lemmas.proofs.Tests.{or_left, other_number, same_number}
+use Rattle.pblk_model.proofs.Lists.{all_imply, length_replicate}
+use Rattle.pblk_model.proofs.Maps.{all_passed, length_mapped, map_agree, map_same, row_at, rows_set}
+use Rattle.pblk_model.proofs.Numbers.{some_units}
+use Rattle.pblk_model.proofs.Parts.{got_here}
+use Rattle.pblk_model.proofs.Tests.{or_left, other_number, same_number}
 
 -- ---- which stripe of its line it is
 

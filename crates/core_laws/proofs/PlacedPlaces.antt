@@ -30,11 +30,11 @@ use Rattle.core_laws.proofs.LandedRows.{winner_kept}
 use Rattle.core_laws.proofs.NextTakes.{is_at}
 use Rattle.core_laws.proofs.PlacedEntryRows.{with_entries, entries_are}
 use Rattle.core_laws.proofs.SteppingLemmas.{found_kept}
-use Rattle.lemmas.proofs.Lists.{all_replicated}
-use Rattle.lemmas.proofs.Maps.{find_agree}
-use Rattle.lemmas.proofs.Options.{none_of_map}
-use Rattle.lemmas.proofs.Parts.{all_dropped, all_taken}
-use Rattle.lemmas.proofs.Tests.{and_false, not_first, or_no, other_number, same_number}
+use Rattle.pblk_model.proofs.Lists.{all_replicated}
+use Rattle.pblk_model.proofs.Maps.{find_agree}
+use Rattle.pblk_model.proofs.Options.{none_of_map}
+use Rattle.pblk_model.proofs.Parts.{all_dropped, all_taken}
+use Rattle.pblk_model.proofs.Tests.{and_false, not_first, or_no, other_number, same_number}
 
 -- ---- which positions the blocks of a stripe bear
 

@@ -21,10 +21,10 @@ use Rattle.pblk_world.specs.Placing.{next_address, end_address, end_record, IsSt
 use Rattle.core_laws.specs.PlacerOf.{positions_of}
 use Rattle.core_laws.specs.Positions.{AreNumbered, AreMarked, AreTaken, IsUnplaced}
 use Rattle.core_laws.proofs.Placing.{not_below}
-use Rattle.lemmas.proofs.Lists.{all_append, all_imply, all_replicated}
-use Rattle.lemmas.proofs.Maps.{all_filter, all_mapped}
-use Rattle.lemmas.proofs.Parts.{all_dropped, all_taken}
-use Rattle.lemmas.proofs.Tests.{first_of, other_number, second_of}
+use Rattle.pblk_model.proofs.Lists.{all_append, all_imply, all_replicated}
+use Rattle.pblk_model.proofs.Maps.{all_filter, all_mapped}
+use Rattle.pblk_model.proofs.Parts.{all_dropped, all_taken}
+use Rattle.pblk_model.proofs.Tests.{first_of, other_number, second_of}
 
 abbrev pub BearsBelow : Shape → ℕ → Block → Type 0
 BearsBelow s n b = (q : ℕ) → bears_position s q b ≡ true → q < n

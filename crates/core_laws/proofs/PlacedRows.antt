@@ -39,10 +39,10 @@ use Rattle.core_laws.proofs.PlacedEntryRows.{row_with, IsEntry, with_entries, en
 use Rattle.core_laws.proofs.PlacedPlaces.{BearsThese, IsNamed, data_bears, others_bear, places_now, landed_placed}
 use Rattle.core_laws.proofs.ChangedTables.{table_of, tables_agree}
 use Rattle.core_laws.proofs.SteppingLemmas.{found_kept}
-use Rattle.lemmas.proofs.Lists.{all_imply, zipped}
-use Rattle.lemmas.proofs.Maps.{all_agree, all_filter, few_pass, find_none, row_at}
-use Rattle.lemmas.proofs.Parts.{all_at, all_taken}
-use Rattle.lemmas.proofs.Tests.{le_true, or_no}
+use Rattle.pblk_model.proofs.Lists.{all_imply, zipped}
+use Rattle.pblk_model.proofs.Maps.{all_agree, all_filter, few_pass, find_none, row_at}
+use Rattle.pblk_model.proofs.Parts.{all_at, all_taken}
+use Rattle.pblk_model.proofs.Tests.{le_true, or_no}
 use Rattle.pblk_world.proofs.EngineLogLemmas.{takes_more}
 
 -- ---- states stay

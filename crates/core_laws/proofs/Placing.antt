@@ -1,22 +1,23 @@
 -- What a placed stripe changes of a placer.
 use Rattle.std.proofs.Common.{◌≡◌, ℕ, ◌<◌, ◌≤◌, ◌==◌, nat_lt, Bool, true, false, cond, Some, None, Option, List, [], ◌∷◌, ◌++◌, length, refl, ap, ap₂, ◌∙◌, arith, append-nil, le_refl, le_of_lt, take_all}
 use Rattle.std.specs.Prelude.{slice_get}
-use Rattle.std.specs.List.{AllByRecursion, filter, find}
+use Rattle.std.specs.List.{filter, find}
 use Rattle.std.proofs.lemmas.Option.{slice_get_past}
 use Rattle.pblk_model.specs.declared.shape.Shape.{Shape}
 use Rattle.pblk_world.specs.Events.{Stripe, Place, Decides, Logged}
 use Rattle.pblk_world.specs.EngineLog.{LineLife, Opened, is_life, life_of, Opening, Placed, placements, placed_on, Answer, DidLand, WasLost, answers, answer_of, stripes_of, turn}
 use Rattle.pblk_world.proofs.Appending.{placements_more}
 use Rattle.world_laws.proofs.HeldSectors.{all_pass}
+use Rattle.world_laws.proofs.LineStripes.{stripes_before}
 use Rattle.stripe_placer.specs.OpenLines.{OpenLine}
 use Rattle.stripe_placer.specs.OpenLines.Stripe.{Unplaced, Unanswered}
 use Rattle.core_laws.specs.OpenedLines.{by_answer, became, placed_as, is_stripe_at, outcome}
 use Rattle.core_laws.proofs.Engine.{placements_before}
 use Rattle.core_laws.proofs.Taking.{filter_last}
 use Rattle.core_laws.proofs.StripesByPlace.{find_all, find_last, find_fails_last}
-use Rattle.lemmas.proofs.Lists.{all_imply}
-use Rattle.lemmas.proofs.Maps.{all_filter}
-use Rattle.lemmas.proofs.Tests.{lt_true}
+use Rattle.pblk_model.proofs.Lists.{all_imply}
+use Rattle.pblk_model.proofs.Maps.{all_filter}
+use Rattle.pblk_model.proofs.Tests.{lt_true}
 use Rattle.pblk_world.proofs.EngineLogLemmas.{answers_more}
 
 abbrev pub with_place : List Logged → Stripe → List ℕ → List Logged
@@ -97,9 +98,6 @@ became_now : (log : List Logged) (stripe : Stripe) (knows : List ℕ) (o : Openi
     → became (with_place log stripe knows) x ≡ became log x
 became_now log stripe knows o None opened before = refl
 became_now log stripe knows o (Some q) opened before = ap by_answer (answer_now log stripe knows o q opened (le_of_lt (before q refl)))
-
-pub stripes_before : (log : List Logged) (o : Opening) → AllByRecursion (λ p. p.number < length log) (stripes_of log o)
-stripes_before log o = all_filter (λ (p : Placed). p.number < length log) (λ (p : Placed). is_life o.number p.life) (placements log) (placements_before log)
 
 pub stripes_now : (log : List Logged) (stripe : Stripe) (knows : List ℕ) (o other : Opening) (b : Bool) → life_of log stripe.line ≡ Opened o
     → is_life other.number (Opened o) ≡ b

@@ -5,8 +5,8 @@ use Rattle.std.specs.Option.{IfSome}
 use Rattle.pblk_world.specs.Events.{Landed, Lost, Event, Decides, Does, Logged}
 use Rattle.pblk_world.specs.EngineLog.{Answer, DidLand, Opening, Placed, answer_by, answer_of, answers, has_failed, turn, is_loss, was_lost, stripes_of}
 use Rattle.pblk_world.specs.LegalMounts.{NoStripeLost, decides, is_losing}
-use Rattle.lemmas.proofs.Maps.{all_filter_map, none_any}
-use Rattle.lemmas.proofs.Parts.{all_at}
+use Rattle.pblk_model.proofs.Maps.{all_filter_map, none_any}
+use Rattle.pblk_model.proofs.Parts.{all_at}
 
 -- no stripe was lost
 abbrev pub NoPlacementLost : List Logged → Type 0

@@ -11,9 +11,9 @@ use Rattle.core_laws.specs.OpenedLines.{standing}
 use Rattle.core_laws.proofs.Followed.{IsFollowed, units_width}
 use Rattle.core_laws.proofs.FreedWidths.{opened_width}
 use Rattle.core_laws.proofs.LandedNow.{opened_now}
-use Rattle.lemmas.proofs.Lists.{IsAmong, among_contained}
-use Rattle.lemmas.proofs.Maps.{in_filter}
-use Rattle.lemmas.proofs.Tests.{same_number}
+use Rattle.pblk_model.proofs.Lists.{IsAmong, among_contained}
+use Rattle.pblk_model.proofs.Maps.{in_filter}
+use Rattle.pblk_model.proofs.Tests.{same_number}
 
 pub record IsOpenedLine (i : Image) (us : ℕ → List ℕ) (line : ℕ) (o : Opening) : Type 0 where
   pub in_range : line < i.shape.chunks

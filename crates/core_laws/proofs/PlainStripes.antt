@@ -15,8 +15,8 @@ use Rattle.pblk_world.proofs.Appending.{placements_more}
 use Rattle.core_laws.proofs.KeptByEvents.{IsKept, kept}
 use Rattle.core_laws.proofs.UnitTurns.{turn_at}
 use Rattle.core_laws.proofs.IdleUnits.{idle_fits}
-use Rattle.lemmas.proofs.Lists.{all_true}
-use Rattle.lemmas.proofs.Parts.{all_by_get, within_some}
+use Rattle.pblk_model.proofs.Lists.{all_true}
+use Rattle.pblk_model.proofs.Parts.{all_by_get, within_some}
 use Rattle.pblk_world.proofs.EngineLogLemmas.{answer_count}
 
 -- ---- one stripe of a unit

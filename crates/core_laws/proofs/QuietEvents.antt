@@ -25,10 +25,10 @@ use Rattle.core_laws.proofs.Placing.{with_place, new_placed, placements_now, pla
 use Rattle.core_laws.proofs.UnitTurns.{turn_at}
 use Rattle.core_laws.proofs.Untouched.{AreKept, given_kept, window_kept}
 use Rattle.core_laws.proofs.KeptSlots.{first_kept, slot_kept}
-use Rattle.lemmas.proofs.Lists.{all_imply, all_of}
-use Rattle.lemmas.proofs.Numbers.{fun_same}
-use Rattle.lemmas.proofs.Parts.{get_last}
-use Rattle.lemmas.proofs.Tests.{same_number}
+use Rattle.pblk_model.proofs.Lists.{all_imply, all_of}
+use Rattle.pblk_model.proofs.Numbers.{fun_same}
+use Rattle.pblk_model.proofs.Parts.{get_last}
+use Rattle.pblk_model.proofs.Tests.{same_number}
 use Rattle.pblk_world.proofs.EngineLogLemmas.{answers_more, takes_more}
 
 -- the event neither begins, takes, places nor answers

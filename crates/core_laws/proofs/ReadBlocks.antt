@@ -12,9 +12,9 @@ use Rattle.pblk_world.specs.Space.{is_readable_in, gives_back}
 use Rattle.world_laws.proofs.Placements.{number_of}
 use Rattle.l2p_map.specs.declared.slot.Slot.TheVariants.{Cached, Media}
 use Rattle.core_laws.specs.SlotOf.{address_in, readable_block, media_of, slot_of_entry, slot_of_winner}
-use Rattle.lemmas.proofs.Lists.{IsAmong}
-use Rattle.lemmas.proofs.Maps.{found_passes}
-use Rattle.lemmas.proofs.Tests.{both}
+use Rattle.pblk_model.proofs.Lists.{IsAmong}
+use Rattle.pblk_model.proofs.Maps.{found_passes}
+use Rattle.pblk_model.proofs.Tests.{both}
 
 -- ---- lists
 

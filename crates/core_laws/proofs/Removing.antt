@@ -4,8 +4,8 @@ use Rattle.std.specs.Prelude.{⊤}
 use Rattle.std.specs.List.{AllByRecursion, filter, list_any, range_with_len}
 use Rattle.pblk_world.specs.EngineLog.{Taken}
 use Rattle.core_laws.specs.PlacerOf.{positions_of}
-use Rattle.lemmas.proofs.Maps.{filter_agree}
-use Rattle.lemmas.proofs.Tests.{other_number, same_number}
+use Rattle.pblk_model.proofs.Maps.{filter_agree}
+use Rattle.pblk_model.proofs.Tests.{other_number, same_number}
 
 abbrev pub Apart : List Taken → Type 0
 Apart [] = ⊤

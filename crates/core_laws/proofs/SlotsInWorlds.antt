@@ -23,8 +23,8 @@ use Rattle.core_laws.specs.ReadSlots.{block_read, address_of_block, read_slot}
 use Rattle.core_laws.proofs.HeldOnce.{held_once}
 use Rattle.core_laws.proofs.LandedWindow.{landed_now}
 use Rattle.core_laws.proofs.LandedSlots.{slot_now}
-use Rattle.lemmas.proofs.Maps.{any_found}
-use Rattle.lemmas.proofs.Options.{some_mapped}
+use Rattle.pblk_model.proofs.Maps.{any_found}
+use Rattle.pblk_model.proofs.Options.{some_mapped}
 use Rattle.pblk_world.proofs.EngineLogLemmas.{takes_more}
 
 pub slot_landed : (i : Image) (w : World) (unit event : ℕ) (knows : List ℕ) (p : Placed) (o : Opening) (lba : ℕ) → IsLegalMount i w

@@ -48,10 +48,10 @@ use Rattle.core_laws.proofs.TakenSlots.{any_same, landed_same}
 use Rattle.core_laws.proofs.Taking.{alike, filter_last}
 use Rattle.core_laws.proofs.TopPositions.{all_below_top, top_within}
 use Rattle.core_laws.proofs.UsersEntries.{AreInOrder, in_order}
-use Rattle.lemmas.proofs.Lists.{IsAmong, all_imply, among_contained}
-use Rattle.lemmas.proofs.Maps.{any_fail, filter_agree, in_filter}
-use Rattle.lemmas.proofs.Parts.{all_at, before_last, contained_among, get_last}
-use Rattle.lemmas.proofs.Tests.{and_both, and_false, and_true, lt_true, not_both, same, same_number}
+use Rattle.pblk_model.proofs.Lists.{IsAmong, all_imply, among_contained}
+use Rattle.pblk_model.proofs.Maps.{any_fail, filter_agree, in_filter}
+use Rattle.pblk_model.proofs.Parts.{all_at, before_last, contained_among, get_last}
+use Rattle.pblk_model.proofs.Tests.{and_both, and_false, and_true, lt_true, not_both, same, same_number}
 
 -- ---- by what a target keeps
 

@@ -34,10 +34,10 @@ use Rattle.pblk_world.specs.Freeing.{HasLandedIn, IsAnswered, IsCountedIn, IsCou
 use Rattle.pblk_world.specs.Fronts.{last_take, synced}
 use Rattle.pblk_world.specs.Lines.{found_image}
 use Rattle.pblk_world.specs.Victims.{is_live_in, landed_line, landed_line_of, line_of, line_of_position, positions_in, take_before, took_from}
-use Rattle.lemmas.proofs.Lists.{IsAmong, all_contains, all_everywhere, among_contained}
-use Rattle.lemmas.proofs.Maps.{all_filter, all_filter_map, all_flat_map, all_mapped, all_passed, from_filter, in_filter}
-use Rattle.lemmas.proofs.Parts.{all_at, all_by_get, contained_among}
-use Rattle.lemmas.proofs.Tests.{below_of, first_of, same, same_number, second_of}
+use Rattle.pblk_model.proofs.Lists.{IsAmong, all_contains, all_everywhere, among_contained}
+use Rattle.pblk_model.proofs.Maps.{all_filter, all_filter_map, all_flat_map, all_mapped, all_passed, from_filter, in_filter}
+use Rattle.pblk_model.proofs.Parts.{all_at, all_by_get, contained_among}
+use Rattle.pblk_model.proofs.Tests.{below_of, first_of, same, same_number, second_of}
 use Rattle.pblk_world.specs.LegalMounts.{IsLegalMount}
 use Rattle.world_laws.proofs.Latest.{one_entry}
 use Rattle.world_laws.proofs.LifePlaces.{began}

@@ -10,11 +10,11 @@ use Rattle.pblk_world.specs.Events.{Logged}
 use Rattle.pblk_world.specs.World.{World, log_of}
 use Rattle.pblk_world.specs.EngineLog.{AsFound, Freed, LineLife, Opened, Opening, has_landed, holds_position, is_life, life_of, Placed, placements, was_lost}
 use Rattle.pblk_world.specs.Victims.{is_in_force, is_live_in, landed_line, line_of_position, live}
-use Rattle.lemmas.proofs.Lists.{among_contained}
-use Rattle.lemmas.proofs.Maps.{any_found, any_member, found_passes, in_filter, none_kept, range_get}
-use Rattle.lemmas.proofs.Options.{map_some, some_value}
-use Rattle.lemmas.proofs.Parts.{contained_among}
-use Rattle.lemmas.proofs.Tests.{both, not_true, same, same_number}
+use Rattle.pblk_model.proofs.Lists.{among_contained}
+use Rattle.pblk_model.proofs.Maps.{any_found, any_member, found_passes, in_filter, none_kept, range_get}
+use Rattle.pblk_model.proofs.Options.{map_some, some_value}
+use Rattle.pblk_model.proofs.Parts.{contained_among}
+use Rattle.pblk_model.proofs.Tests.{both, not_true, same, same_number}
 use Rattle.pblk_world.specs.LegalMounts.{IsLegalMount}
 use Rattle.world_laws.proofs.Stripes.{life_of_stripe, one_opening, opening_then}
 use Rattle.core_laws.proofs.PlacedAnew.{landed_not_lost, one_kept}

@@ -11,9 +11,9 @@ use Rattle.core_laws.specs.OpenedLines.{standing}
 use Rattle.core_laws.proofs.PlacedLines.{IsStanding, all_standing}
 use Rattle.core_laws.proofs.Engine.{opened_number}
 use Rattle.core_laws.proofs.OpeningNumbers.{get_middle, made_at}
-use Rattle.lemmas.proofs.Lists.{zipped}
-use Rattle.lemmas.proofs.Maps.{all_filter}
-use Rattle.lemmas.proofs.Parts.{all_at}
+use Rattle.pblk_model.proofs.Lists.{zipped}
+use Rattle.pblk_model.proofs.Maps.{all_filter}
+use Rattle.pblk_model.proofs.Parts.{all_at}
 
 -- the opening that is the event of this number
 abbrev pub opening_at : List Logged → ℕ → Option Opening

@@ -16,8 +16,8 @@ use Rattle.core_laws.specs.Stepping.{after}
 use Rattle.core_laws.specs.OpenedLines.{as_opened, bits_of, by_answer, became, placed_as, is_stripe_at, outcome, with_outcomes, open_line, standing, open_lines}
 use Rattle.core_laws.specs.PlacerOf.{row_of_program, program_of_stripe, row_in, unit_row_in, unanswered_on, waits_again}
 use Rattle.core_laws.proofs.Engine.{prefix_same, openings_before, placements_before}
-use Rattle.lemmas.proofs.Maps.{all_filter, filter_same, map_agree, map_same}
-use Rattle.lemmas.proofs.Parts.{all_at}
+use Rattle.pblk_model.proofs.Maps.{all_filter, filter_same, map_agree, map_same}
+use Rattle.pblk_model.proofs.Parts.{all_at}
 
 -- the same stripes are placed and answered
 pub record AreAlike (old new : List Logged) : Type 0 where
@@ -117,7 +117,8 @@ unanswered_before log unit p e = all_at (λ (p : Placed). p.number < length log)
 -- a unit whose stripe is neither placed nor answered by the event
 pub row_same : (i : Image) (logs : Logs) (e : EngineEvent) (knows again later : List ℕ) (unit : ℕ)
     → unanswered_on (after logs e knows 0) unit ≡ unanswered_on (logs 0) unit
-    → waits_again (after logs e knows 0) later unit ≡ waits_again (logs 0) again unit → unit_row_in i (after logs e knows) later unit ≡ unit_row_in i logs again unit
+    → waits_again (after logs e knows 0) later unit ≡ waits_again (logs 0) again unit
+    → unit_row_in i (after logs e knows) later unit ≡ unit_row_in i logs again unit
 row_same i logs e knows again later unit same stopped =
     ap₂ (λ b p. option_map_or (λ (p : Placed). row_in i (after logs e knows) b p.life p) p Idle) stopped same
     ∙ go (unanswered_on (logs 0) unit) refl

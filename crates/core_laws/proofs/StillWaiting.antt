@@ -24,8 +24,8 @@ use Rattle.core_laws.proofs.Engine.{placements_before}
 use Rattle.core_laws.proofs.Taking.{filter_last, same_entries}
 use Rattle.core_laws.proofs.Placing.{IsPlacing, new_placed, with_place, placements_now, answer_now, new_unanswered}
 use Rattle.core_laws.proofs.Removing.{is_within, and_yes, removed_both, apart_numbered, apart_split, filter_twice, take_taken}
-use Rattle.lemmas.proofs.Maps.{filter_agree, filter_same}
-use Rattle.lemmas.proofs.Tests.{and_refused, lt_true, not_true, other_number, second_of}
+use Rattle.pblk_model.proofs.Maps.{filter_agree, filter_same}
+use Rattle.pblk_model.proofs.Tests.{and_refused, lt_true, not_true, other_number, second_of}
 use Rattle.pblk_world.proofs.EngineLogLemmas.{takes_more}
 
 -- ---- a stripe holds the positions in it

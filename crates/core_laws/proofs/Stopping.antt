@@ -20,9 +20,9 @@ use Rattle.core_laws.proofs.Engine.{stopped_more}
 use Rattle.core_laws.proofs.Steady.{AreAlike, is_lost_same, is_fresh_same, standing_same, lines_same, row_same, row_in_same, unanswered_before, unanswered_in}
 use Rattle.core_laws.proofs.Taking.{same_placing, same_entries}
 use Rattle.core_laws.proofs.UnitRows.{not_without, others_within, under_way_is, stopped_is}
-use Rattle.lemmas.proofs.Maps.{filter_same, row_at, rows_set}
-use Rattle.lemmas.proofs.Numbers.{fun_same}
-use Rattle.lemmas.proofs.Tests.{other_number, same_number}
+use Rattle.pblk_model.proofs.Maps.{filter_same, row_at, rows_set}
+use Rattle.pblk_model.proofs.Numbers.{fun_same}
+use Rattle.pblk_model.proofs.Tests.{other_number, same_number}
 use Rattle.pblk_world.proofs.EngineLogLemmas.{answers_more, takes_more}
 
 -- ---- entries

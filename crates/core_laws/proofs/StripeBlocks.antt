@@ -24,9 +24,9 @@ use Rattle.pblk_world.specs.Legal.{MayDecide, IsLegal}
 use Rattle.pblk_world.proofs.Appending.{life_more, placements_more}
 use Rattle.stripe_placer.proofs.Rows.{length_map as length_mapped}
 use Rattle.core_laws.proofs.EventByEvent.{of_legal_log}
-use Rattle.lemmas.proofs.Lists.{all_append, length_replicate}
-use Rattle.lemmas.proofs.Maps.{all_filter}
-use Rattle.lemmas.proofs.Parts.{part_is_whole}
+use Rattle.pblk_model.proofs.Lists.{all_append, length_replicate}
+use Rattle.pblk_model.proofs.Maps.{all_filter}
+use Rattle.pblk_model.proofs.Parts.{part_is_whole}
 use Rattle.pblk_model.proofs.LineOrderLemmas.{whole_line}
 use Rattle.pblk_world.proofs.EngineLogLemmas.{opened_same}
 use Rattle.pblk_world.proofs.PlacingLemmas.{length_record}

@@ -14,12 +14,12 @@ use Rattle.pblk_world.specs.EngineLog.{life_of, Opened, Opening, Placed, stripes
 use Rattle.pblk_world.specs.Lines.{known_image, place_of}
 use Rattle.pblk_world.specs.Placing.{IsNext, end_address, next_address, next_block}
 use Rattle.pblk_world.specs.Victims.{engine_prefix}
-use Rattle.lemmas.proofs.Lists.{IsAmong}
-use Rattle.lemmas.proofs.Maps.{all_passed, from_filter}
-use Rattle.lemmas.proofs.Numbers.{some_units}
-use Rattle.lemmas.proofs.Options.{mapped_some}
-use Rattle.lemmas.proofs.Parts.{all_at, contained_among, get_below, got_within}
-use Rattle.lemmas.proofs.Tests.{either_false, not_both, same_number}
+use Rattle.pblk_model.proofs.Lists.{IsAmong}
+use Rattle.pblk_model.proofs.Maps.{all_passed, from_filter}
+use Rattle.pblk_model.proofs.Numbers.{some_units}
+use Rattle.pblk_model.proofs.Options.{mapped_some}
+use Rattle.pblk_model.proofs.Parts.{all_at, contained_among, get_below, got_within}
+use Rattle.pblk_model.proofs.Tests.{either_false, not_both, same_number}
 use Rattle.pblk_world.specs.LegalMounts.{IsLegalMount}
 use Rattle.world_laws.proofs.LineBlocks.{IsLineOf, opened_line}
 use Rattle.world_laws.proofs.LineStripes.{IsKind, next_fits, some_data, stripe_kind}

@@ -8,7 +8,7 @@ use Rattle.pblk_world.specs.Events.{Place, Event, Decides, Logged}
 use Rattle.pblk_world.specs.EngineLog.{LineLife, AsFound, Opened, Freed, life_of, Opening, Placed, placed_by, placements}
 use Rattle.core_laws.proofs.OpeningNumbers.{opens, opens_at, life_at}
 use Rattle.core_laws.proofs.Opening.{all_made}
-use Rattle.lemmas.proofs.Parts.{get_whole}
+use Rattle.pblk_model.proofs.Parts.{get_whole}
 
 -- a life by an opening is of the opening that its event made
 pub IsOpenedFor : List Logged → ℕ → LineLife → Type 0

@@ -20,15 +20,16 @@ use Rattle.core_laws.proofs.KeptStripes.{alike_kept, with_event}
 use Rattle.core_laws.proofs.LandedStripe.{IsOneMore, one_more}
 use Rattle.core_laws.proofs.OpenedRows.{life_now, new_opening}
 use Rattle.core_laws.proofs.Opening.{placed_before}
-use Rattle.core_laws.proofs.Placing.{answers_now, placements_now, stripes_before, with_place}
+use Rattle.world_laws.proofs.LineStripes.{stripes_before}
+use Rattle.core_laws.proofs.Placing.{answers_now, placements_now, with_place}
 use Rattle.core_laws.proofs.QuietEvents.{place_kept}
 use Rattle.core_laws.proofs.Steady.{AreAlike}
 use Rattle.core_laws.proofs.Taking.{filter_last}
 use Rattle.core_laws.proofs.Untouched.{AreKept}
-use Rattle.lemmas.proofs.Lists.{all_imply, zipped}
-use Rattle.lemmas.proofs.Maps.{all_filter, all_passed, filter_both, filter_none}
-use Rattle.lemmas.proofs.Parts.{all_at, get_more, take_and_drop}
-use Rattle.lemmas.proofs.Tests.{and_refused, not_both}
+use Rattle.pblk_model.proofs.Lists.{all_imply, zipped}
+use Rattle.pblk_model.proofs.Maps.{all_filter, all_passed, filter_both, filter_none}
+use Rattle.pblk_model.proofs.Parts.{all_at, get_more, take_and_drop}
+use Rattle.pblk_model.proofs.Tests.{and_refused, not_both}
 
 -- ---- an event that neither places nor answers a stripe
 

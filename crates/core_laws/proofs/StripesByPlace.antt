@@ -8,7 +8,7 @@ use Rattle.pblk_layout.specs.Online.{units_in}
 use Rattle.pblk_layout.proofs.Sets.{member}
 use Rattle.stripe_placer.specs.OpenLines.{OpenLine, width, unit_of}
 use Rattle.core_laws.specs.OpenedLines.{is_stripe_at}
-use Rattle.lemmas.proofs.Tests.{both, same_number}
+use Rattle.pblk_model.proofs.Tests.{both, same_number}
 
 one_rank : (live i j : ℕ) → i < length (units_in live) → j < length (units_in live) → slice_index_or (units_in live) i 0 ≡ slice_index_or (units_in live) j 0
     → i ≡ j

@@ -23,9 +23,9 @@ use Rattle.core_laws.proofs.KeptLines.{units_since}
 use Rattle.core_laws.proofs.LandedNow.{opened_now}
 use Rattle.core_laws.proofs.PartLengths.{IsStriped, striped, is_before}
 use Rattle.core_laws.proofs.PlainOpenings.{IsOpenedLine, opened_lines}
-use Rattle.lemmas.proofs.Options.{mapped_some}
-use Rattle.lemmas.proofs.Parts.{contained_among, got_within, take_and_drop}
-use Rattle.lemmas.proofs.Tests.{and_both, le_true, not_both, second_of}
+use Rattle.pblk_model.proofs.Options.{mapped_some}
+use Rattle.pblk_model.proofs.Parts.{contained_among, got_within, take_and_drop}
+use Rattle.pblk_model.proofs.Tests.{and_both, le_true, not_both, second_of}
 
 -- ---- places
 

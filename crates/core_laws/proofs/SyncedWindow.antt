@@ -21,9 +21,9 @@ use Rattle.core_laws.specs.PlacerOf.{positions_of}
 use Rattle.core_laws.specs.Positions.{AreNumbered}
 use Rattle.core_laws.specs.WindowOf.{HeldSector, HeldSectors, without_frame, sectors_in, class_of, progress_by, is_given_back, held_of, users_below, window_from}
 use Rattle.core_laws.proofs.Placing.{not_below}
-use Rattle.lemmas.proofs.Lists.{all_imply}
-use Rattle.lemmas.proofs.Maps.{all_filter, filter_none}
-use Rattle.lemmas.proofs.Tests.{below_by, lt_true, no_both}
+use Rattle.pblk_model.proofs.Lists.{all_imply}
+use Rattle.pblk_model.proofs.Maps.{all_filter, filter_none}
+use Rattle.pblk_model.proofs.Tests.{below_by, lt_true, no_both}
 
 pub one_least : (f : ℕ → Bool) (turns p m : ℕ) → IsLeast f turns p m → m ≡ least_missing f turns p
 one_least f turns p m is = go (cases_order m (least_missing f turns p)) (least f turns p)

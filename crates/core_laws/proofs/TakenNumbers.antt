@@ -12,7 +12,7 @@ use Rattle.pblk_world.specs.Legal.{IsDecision}
 use Rattle.core_laws.specs.PlacerOf.{positions_of}
 use Rattle.core_laws.specs.Positions.{AreNumbered}
 use Rattle.core_laws.proofs.Taking.{positions_last}
-use Rattle.lemmas.proofs.Maps.{range_last}
+use Rattle.pblk_model.proofs.Maps.{range_last}
 use Rattle.pblk_world.proofs.EngineLogLemmas.{takes_more}
 
 pub begun_stays : (log : List Logged) (l : Logged) (b : Begun) → begun log ≡ Some b → begun (log ++ l ∷ []) ≡ begun log

@@ -36,9 +36,9 @@ use Rattle.core_laws.proofs.OpenAddresses.{failed_kept}
 use Rattle.core_laws.proofs.ChangedTables.{row_changes_any, rows_stay}
 use Rattle.core_laws.proofs.NextTakes.{latest_is}
 use Rattle.core_laws.proofs.SteppingLemmas.{found_kept}
-use Rattle.lemmas.proofs.Lists.{all_imply, last_in}
-use Rattle.lemmas.proofs.Maps.{all_filter, all_in_range, filter_agree, find_none, found_passes}
-use Rattle.lemmas.proofs.Tests.{and_false, and_true, lt_true, not_first, other_number, same_number}
+use Rattle.pblk_model.proofs.Lists.{all_imply, last_in}
+use Rattle.pblk_model.proofs.Maps.{all_filter, all_in_range, filter_agree, find_none, found_passes}
+use Rattle.pblk_model.proofs.Tests.{and_false, and_true, lt_true, not_first, other_number, same_number}
 use Rattle.pblk_world.proofs.EngineLogLemmas.{takes_more}
 use Rattle.core_laws.proofs.PlainOpenings.{third}
 

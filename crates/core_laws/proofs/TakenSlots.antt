@@ -24,8 +24,8 @@ use Rattle.core_laws.proofs.Steady.{AreAlike, answer_same, lost_same, as_opened_
 use Rattle.core_laws.proofs.Opening.{placed_before}
 use Rattle.core_laws.proofs.StripesByPlace.{find_all}
 use Rattle.core_laws.proofs.Taking.{with_take, alike, filter_last}
-use Rattle.lemmas.proofs.Maps.{filter_same, find_none}
-use Rattle.lemmas.proofs.Tests.{and_false, same_number}
+use Rattle.pblk_model.proofs.Maps.{filter_same, find_none}
+use Rattle.pblk_model.proofs.Tests.{and_false, same_number}
 use Rattle.pblk_world.proofs.EngineLogLemmas.{takes_more}
 
 -- ---- what can be read

@@ -15,8 +15,8 @@ use Rattle.core_laws.proofs.Placing.{not_below}
 use Rattle.core_laws.proofs.Taking.{with_take, alike, filter_last}
 use Rattle.core_laws.proofs.TakenSlots.{any_same, landed_same, gives_back_same, begun_same}
 use Rattle.core_laws.proofs.WindowOfLemmas.{same_window}
-use Rattle.lemmas.proofs.Maps.{map_last, map_same}
-use Rattle.lemmas.proofs.Tests.{and_false}
+use Rattle.pblk_model.proofs.Maps.{map_last, map_same}
+use Rattle.pblk_model.proofs.Tests.{and_false}
 use Rattle.pblk_world.proofs.EngineLogLemmas.{takes_more}
 
 -- ---- how far an entry has come

@@ -21,9 +21,9 @@ use Rattle.core_laws.specs.OpenedLines.{open_lines}
 use Rattle.core_laws.specs.PlacerOf.{positions_of, lost_entries, fresh_entries, entries_of, contains_unit, unit_row_in, placing_of}
 use Rattle.core_laws.proofs.Engine.{stopped_more}
 use Rattle.core_laws.proofs.Steady.{AreAlike, is_lost_same, is_fresh_same, standing_same, lines_same, row_same, unanswered_in}
-use Rattle.lemmas.proofs.Maps.{filter_none, filter_same, map_same}
-use Rattle.lemmas.proofs.Numbers.{fun_same}
-use Rattle.lemmas.proofs.Tests.{and_false}
+use Rattle.pblk_model.proofs.Maps.{filter_none, filter_same, map_same}
+use Rattle.pblk_model.proofs.Numbers.{fun_same}
+use Rattle.pblk_model.proofs.Tests.{and_false}
 use Rattle.pblk_world.proofs.EngineLogLemmas.{answers_more, takes_more}
 
 pub same_placing : (s : Shape) (a b : Entries) (us vs : List UnitRow) (ls ms : List OpenLine) → a ≡ b → us ≡ vs → ls ≡ ms
@@ -89,7 +89,8 @@ placing_taken i logs entry mark knows pad again none =
     (map (unit_row_in i logs again) (range_with_len 0 (units i.shape)))
     (open_lines i (after logs (Take entry mark) knows)) (open_lines i logs)
     (entries_taken i.shape (logs 0) entry mark knows pad none)
-    (map_same (unit_row_in i (after logs (Take entry mark) knows) again) (unit_row_in i logs again) (λ unit. row_same i logs (Take entry mark) knows again again unit
+    (map_same (unit_row_in i (after logs (Take entry mark) knows) again) (unit_row_in i logs again)
+    (λ unit. row_same i logs (Take entry mark) knows again again unit
     (ap₂ (λ ps ns. unanswered_in ps ns unit) same.placements same.answers)
     (ap (λ b. b && not (contains_unit again unit)) (stopped_more (logs 0) l unit))) (range_with_len 0 (units i.shape)))
     (lines_same i logs (Take entry mark) knows same

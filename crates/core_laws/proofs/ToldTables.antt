@@ -26,7 +26,7 @@ use Rattle.core_laws.specs.SlotOf.{address_in, readable_block, media_of, slot_of
 use Rattle.core_laws.specs.LeftOpenings.{left_openings}
 use Rattle.core_laws.proofs.KeptRows.{KeepsThen, taker_kept}
 use Rattle.core_laws.proofs.KnownLines.{lines_known, rows_known}
-use Rattle.lemmas.proofs.Maps.{filter_same, map_same}
+use Rattle.pblk_model.proofs.Maps.{filter_same, map_same}
 
 pub known_told : (i : Image) (a b : Logs) → AreSameTold i a b → AreKnown i a b
 known_told i a b h = record { own = h.own; found = h.found; image = image_same i a b h }

@@ -8,10 +8,10 @@ use Rattle.pblk_world.specs.Events.{Logged}
 use Rattle.pblk_world.specs.World.{World, log_of}
 use Rattle.pblk_world.specs.EngineLog.{Opened, Opening, is_answered, is_life, life_of, Placed, placements, stripes_of}
 use Rattle.pblk_world.specs.Legal.{IsLegal}
-use Rattle.lemmas.proofs.Lists.{among_contained}
-use Rattle.lemmas.proofs.Maps.{in_filter}
-use Rattle.lemmas.proofs.Parts.{contained_among, take_and_drop}
-use Rattle.lemmas.proofs.Tests.{not_both, same_number}
+use Rattle.pblk_model.proofs.Lists.{among_contained}
+use Rattle.pblk_model.proofs.Maps.{in_filter}
+use Rattle.pblk_model.proofs.Parts.{contained_among, take_and_drop}
+use Rattle.pblk_model.proofs.Tests.{not_both, same_number}
 use Rattle.world_laws.proofs.Freeing.{answered_when_freed}
 use Rattle.world_laws.proofs.Later.{answered_later, placed_within}
 use Rattle.world_laws.proofs.Lives.{IsFreedLife, standing_or_freed}

@@ -4,7 +4,7 @@ use Rattle.std.proofs.lemmas.Bool.{eqb-true}
 use Rattle.stripe_placer.specs.Placing.{Program}
 use Rattle.stripe_placer.specs.Placing.UnitRow.{UnderWay, Stopped}
 use Rattle.core_laws.specs.PlacerOf.{contains_unit, without_unit, row_of_program}
-use Rattle.lemmas.proofs.Tests.{other_number}
+use Rattle.pblk_model.proofs.Tests.{other_number}
 
 -- ---- sets of units
 

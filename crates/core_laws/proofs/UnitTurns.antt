@@ -6,9 +6,9 @@ use Rattle.std.proofs.lemmas.Option.{same_Some, none-some}
 use Rattle.pblk_world.specs.Events.{Logged}
 use Rattle.pblk_world.specs.EngineLog.{Placed, placements, placed_on, turn}
 use Rattle.world_laws.proofs.UnitTurns.{lesser, rise_on, unit_is, turn_is}
-use Rattle.lemmas.proofs.Lists.{IsAmong}
-use Rattle.lemmas.proofs.Maps.{in_filter}
-use Rattle.lemmas.proofs.Tests.{same_number}
+use Rattle.pblk_model.proofs.Lists.{IsAmong}
+use Rattle.pblk_model.proofs.Maps.{in_filter}
+use Rattle.pblk_model.proofs.Tests.{same_number}
 
 pub filtered_is : {X : Type 0} (test : X → Bool) (xs : List X) (m : ℕ) (x : X) → slice_get (filter test xs) m ≡ Some x → test x ≡ true
 filtered_is test [] m x e = absurd (none-some x e)

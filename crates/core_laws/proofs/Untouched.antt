@@ -12,8 +12,8 @@ use Rattle.pblk_world.specs.Space.{landed_blocks, is_readable_in, gives_back}
 use Rattle.core_laws.specs.WindowOf.{class_of, source_of, is_given_back, progress_by, held_of, users_below, window_from}
 use Rattle.core_laws.proofs.TakenSlots.{any_same}
 use Rattle.core_laws.proofs.WindowOfLemmas.{same_window}
-use Rattle.lemmas.proofs.Lists.{all_imply}
-use Rattle.lemmas.proofs.Maps.{all_filter, any_fail, filter_agree, filter_none, find_none, map_same}
+use Rattle.pblk_model.proofs.Lists.{all_imply}
+use Rattle.pblk_model.proofs.Maps.{all_filter, any_fail, filter_agree, filter_none, find_none, map_same}
 
 -- ---- lists with more elements that fail
 

@@ -16,7 +16,7 @@ use Rattle.pblk_world.specs.LegalMounts.{NoneCopied, decides, is_copying}
 use Rattle.core_laws.proofs.TakenNumbers.{numbered_after}
 use Rattle.core_laws.proofs.KeptPositions.{marked_after, named_after, taken_after}
 use Rattle.core_laws.proofs.KeptByEvents.{IsKept, kept}
-use Rattle.lemmas.proofs.Lists.{all_append, all_imply, all_true}
+use Rattle.pblk_model.proofs.Lists.{all_append, all_imply, all_true}
 use Rattle.pblk_world.proofs.EngineLogLemmas.{takes_more}
 use Rattle.pblk_world.proofs.TakingLemmas.{users_mark}
 

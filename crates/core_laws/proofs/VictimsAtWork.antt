@@ -20,11 +20,11 @@ use Rattle.pblk_world.specs.Victims.{Candidate, comes_to_work, engine_prefix, is
 use Rattle.pblk_world.specs.World.{World, Logs, log_of}
 use Rattle.pblk_world.proofs.LinesLemmas.{length_known}
 use Rattle.pblk_world.proofs.VictimsLemmas.{whole_prefix}
-use Rattle.lemmas.proofs.Lists.{all_contains}
-use Rattle.lemmas.proofs.Maps.{given_at}
-use Rattle.lemmas.proofs.Options.{split_then}
-use Rattle.lemmas.proofs.Parts.{got_within}
-use Rattle.lemmas.proofs.Tests.{both, not_both, same_number}
+use Rattle.pblk_model.proofs.Lists.{all_contains}
+use Rattle.pblk_model.proofs.Maps.{given_at}
+use Rattle.pblk_model.proofs.Options.{split_then}
+use Rattle.pblk_model.proofs.Parts.{got_within}
+use Rattle.pblk_model.proofs.Tests.{both, not_both, same_number}
 use Rattle.pblk_world.specs.LegalMounts.{IsLegalMount}
 use Rattle.world_laws.proofs.FoundEmpty.{all_pass}
 use Rattle.world_laws.proofs.Lives.{IsFree, IsNeither, IsOpen, Turns, life_is_known, turns}

@@ -25,8 +25,8 @@ use Rattle.core_laws.proofs.LandedWindow.{landed_now}
 use Rattle.core_laws.proofs.NewBlocks.{IsNewest, before_lands, last_in_chunk}
 use Rattle.core_laws.proofs.NewWindow.{newest_in}
 use Rattle.core_laws.proofs.StripeBlocks.{length_joined}
-use Rattle.lemmas.proofs.Lists.{IsAmong}
-use Rattle.lemmas.proofs.Parts.{all_at, all_by_get}
+use Rattle.pblk_model.proofs.Lists.{IsAmong}
+use Rattle.pblk_model.proofs.Parts.{all_at, all_by_get}
 
 -- how many stripes came before it
 record IsFirstPart (s : Shape) (log : List Logged) (p : Placed) (o : Opening) : Type 0 where

@@ -21,9 +21,9 @@ use Rattle.core_laws.proofs.Followed.{follow}
 use Rattle.core_laws.proofs.LineNumbers.{IsNumbered, numbered, one_numbered}
 use Rattle.core_laws.proofs.StripesByPlace.{by_parts}
 use Rattle.core_laws.proofs.StripesInOrder.{IsAtPlace, placed_in_order}
-use Rattle.lemmas.proofs.Lists.{IsAmong}
-use Rattle.lemmas.proofs.Parts.{get_taken, one_column}
-use Rattle.lemmas.proofs.Tests.{not_both}
+use Rattle.pblk_model.proofs.Lists.{IsAmong}
+use Rattle.pblk_model.proofs.Parts.{get_taken, one_column}
+use Rattle.pblk_model.proofs.Tests.{not_both}
 
 -- no stripe of the line was lost when it was placed
 abbrev pub was_whole : List Logged → Opening → Placed → Bool

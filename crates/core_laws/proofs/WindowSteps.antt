@@ -11,7 +11,7 @@ use Rattle.write_window.specs.Window.{WindowView, has_landed_at, turned}
 use Rattle.core_laws.specs.WindowOf.{HeldSector, HeldSectors, without_frame, sectors_in}
 use Rattle.core_laws.proofs.Placing.{not_below}
 use Rattle.core_laws.specs.AdvancedEntries.{advanced, advanced_sector, advanced_window}
-use Rattle.lemmas.proofs.Tests.{other_number, same_number}
+use Rattle.pblk_model.proofs.Tests.{other_number, same_number}
 
 -- ---- one entry
 

@@ -11,7 +11,7 @@ use Rattle.pblk_model.specs.EndRecord.{end_of}
 use Rattle.pblk_model.specs.Records.{Record, named, mark_at, bears}
 use Rattle.pblk_model.specs.Contents.{counted, newer, is_newer, is_of, winner}
 use Rattle.world_laws.proofs.WinnerLines.{HasStart, counted_have_start}
-use Rattle.lemmas.proofs.Maps.{all_filter}
+use Rattle.pblk_model.proofs.Maps.{all_filter}
 
 mapped_line : (i : Image) (line seq a : ℕ) (block : Block) (m : Mark) (o : Option (Option ℕ)) (r : Record)
     → option_map (λ lba. record { line = line; seq = seq; at = a; position = m.position; lba = lba; sector = block.sector }) o ≡ Some r → r.line ≡ line

@@ -16,9 +16,9 @@ use Rattle.pblk_world.specs.Placing.{MayPlace, data_blocks, end_address, end_rec
 use Rattle.pblk_world.specs.Victims.{engine_prefix, position_in}
 use Rattle.pblk_world.specs.World.{World, Logs, log_of}
 use Rattle.pblk_model.proofs.MarksLemmas.{accepted_small}
-use Rattle.lemmas.proofs.Lists.{all_append, all_front}
-use Rattle.lemmas.proofs.Maps.{all_filter}
-use Rattle.lemmas.proofs.Parts.{all_taken, take_and_drop, take_nothing}
+use Rattle.pblk_model.proofs.Lists.{all_append, all_front}
+use Rattle.pblk_model.proofs.Maps.{all_filter}
+use Rattle.pblk_model.proofs.Parts.{all_taken, take_and_drop, take_nothing}
 use Rattle.pblk_world.specs.LegalMounts.{IsLegalMount}
 use Rattle.world_laws.proofs.Later.{takes_joined}
 use Rattle.world_laws.proofs.LineStripes.{IsKind}

@@ -5,8 +5,8 @@ use Rattle.std.specs.List.{enumerate_from, flat_map, sum_by}
 use Rattle.std.proofs.lemmas.List.Sums.{sum_by-cons}
 use Rattle.std.proofs.lemmas.Option.{none-some, same_Some}
 use Rattle.drive_image.specs.Storing.{HasCapacity, WasAdded}
-use Rattle.lemmas.proofs.Maps.{enumerate_get}
-use Rattle.lemmas.proofs.Parts.{take-all}
+use Rattle.pblk_model.proofs.Maps.{enumerate_get}
+use Rattle.pblk_model.proofs.Parts.{take-all}
 
 pub room_here : {Z : Type 0} (old : Vec ℕ Z) (xs ys : List ℕ) → HasCapacity old (xs ++ ys) → HasCapacity old xs
 room_here old xs ys room = omega (arith, length-append xs ys)

@@ -14,9 +14,9 @@ use Rattle.ocssd_drive.specs.Drive.{changed_at}
 use Rattle.drive_image.specs.Filling.{IsNth, bytes_of}
 use Rattle.drive_image.proofs.Flat.{flat_changed, all_changed, AreEmptyFrom, spelled_more, empty_all, get_same, get_other}
 use Rattle.drive_image.proofs.ListFacts.{length_changed}
-use Rattle.lemmas.proofs.Lists.{all_replicated}
-use Rattle.lemmas.proofs.Maps.{sum_more}
-use Rattle.lemmas.proofs.Parts.{all_get, joined}
+use Rattle.pblk_model.proofs.Lists.{all_replicated}
+use Rattle.pblk_model.proofs.Maps.{sum_more}
+use Rattle.pblk_model.proofs.Parts.{all_get, joined}
 
 abbrev pub chunk_bytes : StoredChunk → List ℕ
 chunk_bytes k = flat_map block_bytes k.chunk.blocks

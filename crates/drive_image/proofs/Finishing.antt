@@ -21,8 +21,8 @@ use Rattle.drive_image.proofs.Sums.{sum_within}
 use Rattle.drive_image.proofs.FillingSteps.{AreFilled, blank_filled, chunk_bytes, one_filled}
 use Rattle.drive_image.proofs.Flat.{all_changed}
 use Rattle.drive_image.proofs.Wholes.{all_sectors}
-use Rattle.lemmas.proofs.Maps.{sum_more}
-use Rattle.lemmas.proofs.Parts.{all_get}
+use Rattle.pblk_model.proofs.Maps.{sum_more}
+use Rattle.pblk_model.proofs.Parts.{all_get}
 
 -- The drive has the first n chunks of the image, and their blocks end at this byte.
 pub record IsFilling (b : List ℕ) (n at : ℕ) (d : DriveView) : Type 0 where

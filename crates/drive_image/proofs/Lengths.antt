@@ -8,8 +8,8 @@ use Rattle.pblk_model.specs.Geometry.{Geometry, geometry_bytes}
 use Rattle.pblk_model.specs.ImageFile.{StoredChunk, Drive, block_bytes, blocks_bytes, descriptor_bytes, descriptor_of, descriptors_bytes, header_bytes, image_bytes, unit_descriptors}
 use Rattle.ocssd_geometry.proofs.Spelling.{length-geometry_bytes}
 use Rattle.drive_image.specs.Storing.{chunk_bytes, written_in}
-use Rattle.lemmas.proofs.Lists.{all_everywhere, all_weaker}
-use Rattle.lemmas.proofs.Maps.{all_enumerate, flat_length, length_of_sum}
+use Rattle.pblk_model.proofs.Lists.{all_everywhere, all_weaker}
+use Rattle.pblk_model.proofs.Maps.{all_enumerate, flat_length, length_of_sum}
 use Rattle.pblk_model.proofs.BytesLemmas.{with_zeros}
 use Rattle.pblk_model.proofs.DescriptorLemmas.{descriptor_length}
 use Rattle.pblk_model.proofs.ImageFileLemmas.{block_length, header_length}

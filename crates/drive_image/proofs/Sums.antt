@@ -5,7 +5,7 @@ use Rattle.std.proofs.lemmas.List.FromFn.{map-range_with_len_more}
 use Rattle.pblk_model.specs.declared.image.ImageErr.{ImageErr}
 use Rattle.pblk_model.specs.Checks.{first_refusal}
 use Rattle.drive_image.proofs.Refusals.{append_some, append_none}
-use Rattle.lemmas.proofs.Maps.{sum_more}
+use Rattle.pblk_model.proofs.Maps.{sum_more}
 
 pub none_more : (f : ℕ → Option ImageErr) (n : ℕ) → first_refusal (map f (range_with_len 0 n)) ≡ None → f n ≡ None
     → first_refusal (map f (range_with_len 0 (n + 1))) ≡ None

@@ -10,8 +10,8 @@ use Rattle.ocssd_drive.specs.Drive.{DriveView, IsWhole, shape_of, stored}
 use Rattle.ocssd_drive.specs.Units.{WornUnit, IsUnitOf, stored_chunks}
 use Rattle.pblk_model.specs.Shape.{units}
 use Rattle.drive_image.proofs.Lengths.{IsEven}
-use Rattle.lemmas.proofs.Lists.{all_weaker}
-use Rattle.lemmas.proofs.Maps.{all_mapped}
+use Rattle.pblk_model.proofs.Lists.{all_weaker}
+use Rattle.pblk_model.proofs.Maps.{all_mapped}
 
 abbrev kept : Chunk × ℕ → StoredChunk
 kept p = record { chunk = p.0; wear = p.1 }

@@ -8,7 +8,7 @@ use Rattle.std.specs.Cmp.{nat_cmp_total, unsigned_tied}
 use Rattle.std.specs.FinMap.{find, get, len, insert, from_entries, get-from_entries, get-insert, len-empty, len-insert, same_map, nat_cmp-IsAntisymmetric}
 use Rattle.l2p_map.specs.declared.slot.Slot.{Slot}
 use Rattle.l2p_map.specs.Sectors.{sectors}
-use Rattle.lemmas.proofs.Tests.{other_key, same_key}
+use Rattle.pblk_model.proofs.Tests.{other_key, same_key}
 
 find_before : (slots : List Slot) (a q : ℕ) → q < a → find nat_cmp q (enumerate_from a slots) ≡ None
 find_before [] a q h = refl

@@ -54,7 +54,8 @@ is_free_one s f line g n row seq stray g-is n-is some =
     sym (chosen _ false row.full row.full _ false _ false seq refl stray dead)
 
 -- the width of a line by its online units
-pub width_is : (s : Shape) (f : Found) (line live width : ℕ) → width ≡ length (units_in live) → units_in live ≡ online_units s f line → width ≡ width_of s f line
+pub width_is : (s : Shape) (f : Found) (line live width : ℕ) → width ≡ length (units_in live) → units_in live ≡ online_units s f line
+    → width ≡ width_of s f line
 unfolding width_of
 width_is s f line live width is units-are = is ∙ ap length units-are
 

@@ -6,8 +6,8 @@ use Rattle.pblk_model.specs.declared.shape.Shape.{Shape}
 use Rattle.pblk_model.specs.declared.chunk.Mark.{Mark}
 use Rattle.pblk_model.specs.Chunk.{IsBlock}
 use Rattle.pblk_model.specs.Blocks.{blocks_of, IsMark}
-use Rattle.lemmas.proofs.Numbers.{suc-times}
-use Rattle.lemmas.proofs.Parts.{all_dropped, all_taken}
+use Rattle.pblk_model.proofs.Numbers.{suc-times}
+use Rattle.pblk_model.proofs.Parts.{all_dropped, all_taken}
 
 -- the k-th block
 pub slice_get-blocks_of : (size : ℕ) (bytes : List ℕ) (marks : List Mark) (k : ℕ) (d : Mark) → k < length marks → slice_get (blocks_of size bytes marks) k ≡ Some (record { sector = take size (drop (k * size) bytes); mark = get_or marks k d })

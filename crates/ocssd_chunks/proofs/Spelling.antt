@@ -11,7 +11,7 @@ use Rattle.pblk_model.specs.Bytes.{le64}
 use Rattle.pblk_model.specs.Blocks.{blocks_of}
 use Rattle.pblk_model.specs.ImageFile.{block_bytes}
 use Rattle.ocssd_chunks.specs.Spelled.{AddsSpelled}
-use Rattle.lemmas.proofs.Numbers.{next_at}
+use Rattle.pblk_model.proofs.Numbers.{next_at}
 use Rattle.pblk_model.proofs.BlocksLemmas.{blocks_of-append, length-blocks_of}
 
 -- the first n blocks of what is spelled were added, and the rest is left

@@ -12,7 +12,7 @@ use Rattle.pblk_model.specs.declared.chunk.ChunkErr.{ChunkErr}
 use Rattle.pblk_model.specs.Chunk.{Chunk, Block, PointerFits, IsChunk, IsBlock, pointer}
 use Rattle.pblk_model.specs.ChunkStep.{Write, refusal, write_refusal_in, place_refusal}
 use Rattle.pblk_model.specs.Blocks.{blocks_of}
-use Rattle.lemmas.proofs.Lists.{all_append}
+use Rattle.pblk_model.proofs.Lists.{all_append}
 use Rattle.pblk_model.proofs.BlocksLemmas.{length-blocks_of}
 use Rattle.pblk_model.proofs.ChunkLemmas.{pointer_within}
 

@@ -14,7 +14,7 @@ use Rattle.ocssd_drive.specs.declared.journal.Arming.{Arming}
 use Rattle.ocssd_drive.specs.Journal.{word_of}
 use Rattle.ocssd_drive.specs.Drive.{AreArmings, armed_unit, armed_units, seat_for}
 use Rattle.ocssd_drive.proofs.Changing.{IsChanging, changed_if, as_it_was, one_changed, all_changed, later}
-use Rattle.lemmas.proofs.Parts.{same_lists}
+use Rattle.pblk_model.proofs.Parts.{same_lists}
 
 abbrev pub arm_at : List FaultPlan → Option Fuse → Option TableId → ℕ → WornUnit → WornUnit
 arm_at plans fuse word i u = armed_unit plans fuse word (i, u)

@@ -16,7 +16,7 @@ use Rattle.ocssd_drive.specs.Outcomes.{AreEventsBy, IsByArms, IsEventBy}
 use Rattle.ocssd_drive.proofs.Events.{events_since-add, no_events}
 use Rattle.ocssd_drive.proofs.Lists.{some_same}
 use Rattle.ocssd_drive.proofs.UnitSteps.{Finds}
-use Rattle.lemmas.proofs.Parts.{get_first, get_last, take_front}
+use Rattle.pblk_model.proofs.Parts.{get_first, get_last, take_front}
 
 module _ (s : Shape) (a : Armed) where
   none_by : AreEventsBy s a []

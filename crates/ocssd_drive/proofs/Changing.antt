@@ -6,7 +6,7 @@ use Rattle.std.proofs.lemmas.Option.{slice_get-get_or, slice_get_past}
 use Rattle.std.proofs.lemmas.Bool.{lt-ltb, le-ltb}
 use native.Mathlib.Decide.{ℕ_discrete, dec_le}
 use Rattle.ocssd_drive.specs.Units.{WornUnit}
-use Rattle.lemmas.proofs.Parts.{get_set_other, get_set_same}
+use Rattle.pblk_model.proofs.Parts.{get_set_other, get_set_same}
 
 -- the unit, changed or not
 abbrev pub changed_if : (WornUnit → WornUnit) → Bool → WornUnit → WornUnit

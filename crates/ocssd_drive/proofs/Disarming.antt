@@ -6,7 +6,7 @@ use Rattle.ocssd_drive.specs.Outcomes.{GoesByArms}
 use Rattle.ocssd_drive.specs.Units.{WornUnit, disarmed}
 use Rattle.ocssd_drive.proofs.Lists.{some_same}
 use Rattle.ocssd_drive.proofs.Changing.{IsChanging, none_changed, one_changed, same_changed, all_changed, still_old}
-use Rattle.lemmas.proofs.Parts.{same_lists}
+use Rattle.pblk_model.proofs.Parts.{same_lists}
 
 abbrev pub disarm_at : ℕ → WornUnit → WornUnit
 disarm_at i u = disarmed u

@@ -12,7 +12,7 @@ use Rattle.std.proofs.lemmas.List.Elements.{All-from_recursion, recursion_from_A
 use Rattle.ocssd_drive.specs.declared.tally.Fall.{Fall}
 use Rattle.ocssd_drive.specs.Tally.{cut_of, IsFalling, IsPlace}
 use Rattle.ocssd_drive.proofs.FallingOrder.{cut_of-absent, cut_of-at}
-use Rattle.lemmas.proofs.Lists.{all_imply}
+use Rattle.pblk_model.proofs.Lists.{all_imply}
 
 pub all-insert : {X : Type 0} (P : X → Type 0) (xs : List X) (at : ℕ) (x : X) → AllByRecursion P xs → P x → AllByRecursion P (insert xs at x)
 all-insert P xs zero x all this = (this, all)

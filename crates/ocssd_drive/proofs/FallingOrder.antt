@@ -5,7 +5,7 @@ use Rattle.std.proofs.lemmas.Bool.Decides.{nat_tests}
 use Rattle.std.proofs.lemmas.Option.{slice_get_within}
 use Rattle.ocssd_drive.specs.declared.tally.Fall.{Fall}
 use Rattle.ocssd_drive.specs.Tally.{cut_of, IsFalling}
-use Rattle.lemmas.proofs.Parts.{all_get, all_taken}
+use Rattle.pblk_model.proofs.Parts.{all_get, all_taken}
 
 -- no fault falls on a command that isn't among their numbers
 pub cut_of-absent : (falls : List Fall) (n : ℕ) → AllByRecursion (λ (f : Fall). f.nth ≢ n) falls → cut_of falls n ≡ None

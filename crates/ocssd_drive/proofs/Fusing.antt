@@ -17,7 +17,7 @@ use Rattle.ocssd_drive.specs.Drive.{AreArmedTogether, FuseFell, KnowsMore, fitti
 use Rattle.ocssd_drive.proofs.Lists.{some_same}
 use Rattle.ocssd_drive.proofs.Changing.{later, read_at, still_old}
 use Rattle.ocssd_drive.proofs.Disarming.{IsDisarming, disarm_at, none_done, one_more, same_done, all_done, all_by_arms}
-use Rattle.lemmas.proofs.Tests.{or_true}
+use Rattle.pblk_model.proofs.Tests.{or_true}
 
 -- units that were armed together, with a fuse that falls at commands of the unit `at`, whose seat is `first`
 pub record IsFused (old : List WornUnit) (at : ℕ) (first : SeatView) : Type 0 where

@@ -11,7 +11,7 @@ use Rattle.ocssd_drive.specs.Journal.{FitsArming, word_of}
 use Rattle.ocssd_drive.specs.Drive.{AreArmings, HasTallies, HasWord, IsArmingOf, IsKeeper, fitting_fuse, other_seat_of, seat_for}
 use Rattle.ocssd_drive.specs.declared.journal.Arming.{Arming}
 use Rattle.ocssd_drive.proofs.Lists.{some_same}
-use Rattle.lemmas.proofs.Parts.{get_set_other, get_set_same}
+use Rattle.pblk_model.proofs.Parts.{get_set_other, get_set_same}
 
 -- so many were made, with seats of units without the fuse
 pub record AreOthers (plans : List FaultPlan) (seat : Option SeatView) (n : ℕ) (armings : List Arming) : Type 0 where

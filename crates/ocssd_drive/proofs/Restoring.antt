@@ -16,8 +16,8 @@ use Rattle.ocssd_geometry.specs.Numbers.{numbers_of}
 use Rattle.pblk_model.specs.Shape.{units}
 use Rattle.ocssd_drive.specs.Units.{WornUnit, IsUnitOf, new_unit, stored_chunks, with_stored, worn_chunk}
 use Rattle.ocssd_drive.specs.Drive.{DriveView, IsWhole, new_drive, shape_of, stored, with_chunk_at, with_restored, with_units}
-use Rattle.lemmas.proofs.Maps.{map-replicate}
-use Rattle.lemmas.proofs.Parts.{all_get, all_set}
+use Rattle.pblk_model.proofs.Maps.{map-replicate}
+use Rattle.pblk_model.proofs.Parts.{all_get, all_set}
 
 -- this stands at a place of the drive's units
 pub record IsUnitAt (d : DriveView) (i : ℕ) (u : WornUnit) : Type 0 where

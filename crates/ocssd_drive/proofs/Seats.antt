@@ -13,7 +13,7 @@ use Rattle.ocssd_drive.specs.Arming.{IsLoaded, finds, seat_after, view_after}
 use Rattle.ocssd_drive.proofs.Befalls.{was_stopped, falls_now, never_fails, never_stops}
 use Rattle.ocssd_drive.proofs.Counted.{changes_of-more, changes_of-grows}
 use Rattle.ocssd_drive.proofs.Events.{events_since-add, has_failed-add, has_stopped-add}
-use Rattle.lemmas.proofs.Tests.{or_true}
+use Rattle.pblk_model.proofs.Tests.{or_true}
 
 or_left : (x y : Bool) → (x || y) ≡ true → y ≡ false → x ≡ true
 or_left true y either none = refl

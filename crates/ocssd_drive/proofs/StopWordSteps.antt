@@ -6,7 +6,7 @@ use Rattle.atomic_table.specs.Table.{State, Me, step, opening, Allows, Splits, J
 use Rattle.atomic_table.proofs.Lists.{at_set, at_snoc, at_longer, set_else}
 use Rattle.ocssd_drive.specs.declared.stop_word.StopView.{StopView}
 use Rattle.ocssd_drive.specs.StopWord.{FitsWord, IsStopWord, Looks, Blows, keeper, other_unit, looked, blown, joined}
-use Rattle.lemmas.proofs.Parts.{store_sets}
+use Rattle.pblk_model.proofs.Parts.{store_sets}
 
 -- what every seat knows fits the word
 abbrev AllFit : ℕ → Bool → List StopView → Type 0

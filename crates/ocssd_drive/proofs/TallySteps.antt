@@ -10,7 +10,7 @@ use Rattle.unit_port.specs.declared.armed.FaultPlan.{FaultPlan}
 use Rattle.ocssd_drive.specs.declared.tally.Fall.{Fall}
 use Rattle.ocssd_drive.specs.Faults.{planned}
 use Rattle.ocssd_drive.specs.Tally.{cut_of, IsFalling, IsTally}
-use Rattle.lemmas.proofs.Lists.{all_imply}
+use Rattle.pblk_model.proofs.Lists.{all_imply}
 
 planned-append : (plans : List FaultPlan) (plan : FaultPlan) (unit : ℕ) (kind : CommandKind) (m : ℕ) → planned (plans ++ plan ∷ []) unit kind m ≡ option_or (planned plans unit kind m) (planned (plan ∷ []) unit kind m)
 planned-append [] plan unit kind m = grind arith

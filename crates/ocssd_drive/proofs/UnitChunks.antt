@@ -11,8 +11,8 @@ use Rattle.unit_port.specs.Unit.{IsChunkOf, IsFitUnit}
 use Rattle.ocssd_drive.specs.Units.{WornUnit, IsChunkIn, IsUnitOf}
 use Rattle.ocssd_drive.specs.UnitFields.{IsSound, worn_unit}
 use Rattle.ocssd_drive.specs.declared.memory_unit.MemoryUnit.TheInside.{Inside}
-use Rattle.lemmas.proofs.Lists.{with_last}
-use Rattle.lemmas.proofs.Parts.{all_get}
+use Rattle.pblk_model.proofs.Lists.{with_last}
+use Rattle.pblk_model.proofs.Parts.{all_get}
 
 abbrev pub chunks_of : List DriveChunk → List Chunk
 chunks_of chunks = map (λ (c : DriveChunk). c.chunk) chunks

@@ -24,7 +24,7 @@ use Rattle.ocssd_drive.specs.Outcomes.{IsByArms}
 use Rattle.ocssd_drive.specs.Units.{WornUnit, IsChunkIn, TakesUnder, MeetsFault}
 use Rattle.ocssd_drive.specs.UnitFields.{IsSound, worn_unit}
 use Rattle.ocssd_drive.proofs.UnitChunks.{IsFound, chunks_of, chunk_within, chunk_there, fit}
-use Rattle.lemmas.proofs.Parts.{all_set, set_same}
+use Rattle.pblk_model.proofs.Parts.{all_set, set_same}
 
 -- what a journal finds befalls the next command of a kind
 pub record Finds (old : JournalView) (kind : CommandKind) (fault : Fault) (new : JournalView) : Type 0 where

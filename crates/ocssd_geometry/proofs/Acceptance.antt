@@ -6,7 +6,7 @@ use Rattle.pblk_model.specs.declared.shape.GeometryErr.{GeometryErr}
 use Rattle.pblk_model.specs.declared.shape.GeometryErr.TheVariants.{Length}
 use Rattle.pblk_model.specs.Checks.{first_failing}
 use Rattle.pblk_model.specs.Geometry.{Geometry, geometry_in, field_checks, profile_checks, geometry_refusal, read_geometry}
-use Rattle.lemmas.proofs.Tests.{some_of}
+use Rattle.pblk_model.proofs.Tests.{some_of}
 use Rattle.pblk_model.proofs.ChecksLemmas.{none_fails}
 use Rattle.pblk_model.proofs.GeometryLemmas.{holds, none_refused}
 

@@ -5,7 +5,7 @@ use Rattle.std.proofs.lemmas.Nat.{div-mul-add, mod-mul-add, div-add-mod'}
 use Rattle.pblk_model.specs.declared.shape.Address.{Address}
 use Rattle.pblk_model.specs.Geometry.{Geometry, packed, IsAddress, Packs, geometry_refusal}
 use Rattle.ocssd_geometry.proofs.Acceptance.{accepted_lengths}
-use Rattle.lemmas.proofs.Numbers.{joined_below}
+use Rattle.pblk_model.proofs.Numbers.{joined_below}
 
 -- an address's number, and those of its front
 pub record FitsWords (g : Geometry) (a : Address) : Type 0 where

@@ -24,8 +24,8 @@ use Rattle.scan_recovery.specs.Units.{log_length}
 use Rattle.step_laws.specs.Opened.{AreArmed}
 use Rattle.pblk_cli.specs.Serving.{AreNewDriveFaults, DidByArms, FellBetween, IsLeftBy, IsNewDriveFault, units_of, wear_of}
 use Rattle.pblk_cli.specs.Stops.{AreNames, AreOutcomesBy, HasFallen, IsDriveFaultIn, arms_of}
-use Rattle.lemmas.proofs.Lists.{all_weaker}
-use Rattle.lemmas.proofs.Parts.{got_within}
+use Rattle.pblk_model.proofs.Lists.{all_weaker}
+use Rattle.pblk_model.proofs.Parts.{got_within}
 
 -- The units are stored as before, and have the wear indices that they had.
 
@@ -190,7 +190,8 @@ module _ (i : Image) (plans : List FaultPlan) (fuse : Option Fuse) (word : Optio
   are_names names h = record {
     places = h.places;
     names_are = h.names_are;
-    each = all_weaker (IsNewDriveFault (units_of (armed_units plans fuse word us)) (units_of left)) (IsDriveFaultIn i logs) h.places (λ place. loss_in place) h.each;
+    each = all_weaker (IsNewDriveFault (units_of (armed_units plans fuse word us)) (units_of left)) (IsDriveFaultIn i logs) h.places
+        (λ place. loss_in place) h.each;
     distinct = h.distinct;
   }
 

@@ -11,8 +11,8 @@ use Rattle.ocssd_drive.specs.Units.{IsUnitOf, WornUnit}
 use Rattle.pblk_world.specs.World.{Logs}
 use Rattle.block_target.specs.Arm.{IsArm}
 use Rattle.pblk_cli.specs.Serving.{AreBack, IsLeftBy, units_of, wear_of}
-use Rattle.lemmas.proofs.Maps.{get_mapped}
-use Rattle.lemmas.proofs.Parts.{got_within}
+use Rattle.pblk_model.proofs.Maps.{get_mapped}
+use Rattle.pblk_model.proofs.Parts.{got_within}
 use Rattle.std.proofs.lemmas.Option.{slice_get_within}
 
 pub back_of : (s : Shape) (i : Image) (logs : Logs) (old new : List WornUnit) (handed : List ModelUnit) → i.shape ≡ s → handed ≡ units_of old

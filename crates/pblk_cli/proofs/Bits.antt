@@ -8,7 +8,7 @@ use Rattle.std.proofs.lemmas.Bool.{lt-ltb, le-ltb}
 use Rattle.std.proofs.lemmas.List.FromFn.{length-range_with_len}
 use Rattle.std.proofs.lemmas.List.Sums.{length-filter, count_by-le-length}
 use Rattle.std.proofs.lemmas.List.{length-append}
-use Rattle.lemmas.proofs.Maps.{range_more}
+use Rattle.pblk_model.proofs.Maps.{range_more}
 
 -- those among the first n
 abbrev pub below : ℕ → ℕ → ℕ

@@ -16,10 +16,10 @@ use Rattle.pblk_model.specs.Transcript.{Allowed, answered, closing_event, events
 use Rattle.pblk_cli.specs.Complete.{command_writes, script_writes}
 use Rattle.pblk_cli.specs.Status.{closed_worn, is_worn, names_any, status_of_run}
 use Rattle.pblk_cli.specs.Worn.{asked_by, closing_worn, thread_worns, threads_worns, worn_of, worns_of, written_of}
-use Rattle.lemmas.proofs.Lists.{all_append}
-use Rattle.lemmas.proofs.Maps.{in_filter}
-use Rattle.lemmas.proofs.Parts.{all_at, all_by_get}
-use Rattle.lemmas.proofs.Tests.{same_number}
+use Rattle.pblk_model.proofs.Lists.{all_append}
+use Rattle.pblk_model.proofs.Maps.{in_filter}
+use Rattle.pblk_model.proofs.Parts.{all_at, all_by_get}
+use Rattle.pblk_model.proofs.Tests.{same_number}
 use Rattle.world_laws.proofs.HeldSectors.{all_pass}
 
 -- ---- lists

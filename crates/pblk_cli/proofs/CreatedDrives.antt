@@ -9,7 +9,7 @@ use Rattle.pblk_model.specs.ImageFile as image_file
 use Rattle.pblk_model.specs.ImageFile.{StoredChunk, blank_drive, image_of}
 use Rattle.ocssd_drive.specs.Drive.{DriveView, IsWhole, stored}
 use Rattle.rest_laws.specs.Tidy.{IsTidy}
-use Rattle.lemmas.proofs.Maps.{map-replicate}
+use Rattle.pblk_model.proofs.Maps.{map-replicate}
 
 pub blank_image : (g : Geometry) (sector capacity ring : ℕ) → image_of (blank_drive g sector capacity ring) ≡ blank (shape_with g sector capacity ring)
 blank_image g sector capacity ring =

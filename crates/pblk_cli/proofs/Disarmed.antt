@@ -16,9 +16,9 @@ use Rattle.ocssd_drive.specs.Units.{WornUnit, disarmed}
 use Rattle.scan_recovery.specs.Units.{AreFit}
 use Rattle.run_threads.specs.declared.records.Records.{Records}
 use Rattle.pblk_cli.specs.Serving.{AreBack, DidByArms, FellBetween, IsLeftBy, IsNewDriveFault, IsServing, units_of}
-use Rattle.lemmas.proofs.Lists.{all_weaker}
-use Rattle.lemmas.proofs.Maps.{get_mapped}
-use Rattle.lemmas.proofs.Parts.{got_within}
+use Rattle.pblk_model.proofs.Lists.{all_weaker}
+use Rattle.pblk_model.proofs.Maps.{get_mapped}
+use Rattle.pblk_model.proofs.Parts.{got_within}
 
 -- Places.
 

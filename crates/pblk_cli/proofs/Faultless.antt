@@ -22,11 +22,11 @@ use Rattle.ocssd_drive.specs.Faults.{kind_of}
 use Rattle.scan_recovery.specs.DriveFaults.{is_fetch}
 use Rattle.core_laws.proofs.NextWorlds.{none_beyond}
 use Rattle.rest_laws.proofs.LostEvents.{IsFailedProgram, none_lost}
-use Rattle.lemmas.proofs.Lists.{IsAmong, contains_cases, contains_first, contains_none}
-use Rattle.lemmas.proofs.Maps.{any_member, given_at}
-use Rattle.lemmas.proofs.Options.{split_then}
-use Rattle.lemmas.proofs.Parts.{all_by_get}
-use Rattle.lemmas.proofs.Tests.{either, first_of, second_of}
+use Rattle.pblk_model.proofs.Lists.{IsAmong, contains_cases, contains_first, contains_none}
+use Rattle.pblk_model.proofs.Maps.{any_member, given_at}
+use Rattle.pblk_model.proofs.Options.{split_then}
+use Rattle.pblk_model.proofs.Parts.{all_by_get}
+use Rattle.pblk_model.proofs.Tests.{either, first_of, second_of}
 use Rattle.pblk_cli.specs.Stops.{AreNames, AreOutcomesBy, HasFallen, HasPlan, IsDriveFaultIn, name_at}
 use Rattle.pblk_cli.proofs.PlannedFaults.{failed_by}
 

@@ -4,8 +4,8 @@ use Rattle.std.specs.List.{AllByRecursion}
 use Rattle.pblk_model.specs.History.{SectorWrite}
 use Rattle.pblk_world.specs.EngineLog.{Taken, takes}
 use Rattle.pblk_world.specs.Fronts.{history, is_users, user_takes}
-use Rattle.lemmas.proofs.Maps.{all_filter, all_mapped}
-use Rattle.lemmas.proofs.Parts.{all_by_get}
+use Rattle.pblk_model.proofs.Maps.{all_filter, all_mapped}
+use Rattle.pblk_model.proofs.Parts.{all_by_get}
 use Rattle.world_laws.proofs.Positions.{position_below}
 use Rattle.block_port.specs.Own.{PlacedSector}
 use Rattle.block_target.specs.Mount.{IsSound, MountView, engine_log, taken_in, world_in}

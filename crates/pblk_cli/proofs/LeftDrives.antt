@@ -43,8 +43,8 @@ use Rattle.pblk_cli.proofs.HandedDrives.{media_mapped}
 use Rattle.pblk_cli.proofs.StoredUnits.{image_units, same_numbers}
 use Rattle.pblk_cli.proofs.TidyRuns.{complete}
 use Rattle.pblk_cli.proofs.ToldLosses.{told_of_all}
-use Rattle.lemmas.proofs.Maps.{get_mapped}
-use Rattle.lemmas.proofs.Parts.{got_within, same_lists}
+use Rattle.pblk_model.proofs.Maps.{get_mapped}
+use Rattle.pblk_model.proofs.Parts.{got_within, same_lists}
 use Rattle.pblk_world.proofs.WorldLemmas.{length_media}
 
 -- The units that a world leaves are those of its media.

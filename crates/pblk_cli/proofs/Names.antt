@@ -14,7 +14,7 @@ use Rattle.block_target.specs.Serial.{AreNamed, IsNamed}
 use Rattle.run_report.specs.OnePort.{event_of}
 use Rattle.pblk_cli.specs.Serving.{AreNewDriveFaults, IsNewDriveFault}
 use Rattle.pblk_cli.specs.Stops.{name_at}
-use Rattle.lemmas.proofs.Parts.{get_last}
+use Rattle.pblk_model.proofs.Parts.{get_last}
 
 -- Names that are distinct.
 

@@ -1,8 +1,6 @@
 -- A run that leaves the head that it found keeps no line.
-use Rattle.std.proofs.Common.{◌≡◌, ℕ, ◌+◌, ◌≤◌, Some, List, [], ◌∷◌, cond, length, refl, sym, ap, ◌∙◌, arith}
-use Rattle.std.specs.Prelude.{nat_lt}
+use Rattle.std.proofs.Common.{◌≡◌, ◌+◌, ◌≤◌, Some, List, [], ◌∷◌, refl, sym, ap, ◌∙◌, arith}
 use Rattle.std.specs.List.{AllByRecursion, filter}
-use borrow.Author.Tests.{le-ltb}
 use Rattle.pblk_model.specs.Image.{Image}
 use Rattle.pblk_model.specs.Contents.{end, head}
 use Rattle.pblk_model.specs.History.{users}
@@ -21,14 +19,10 @@ use Rattle.prefix_law.proofs.LineFacts.{HasFacts, facts}
 use Rattle.prefix_law.proofs.MountHead.{AsBefore, OfMount, WhichHead, reduced, which}
 use Rattle.prefix_law.proofs.OpeningStarts.{first_found}
 use Rattle.prefix_law.proofs.Reduced.{end_same}
-use Rattle.lemmas.proofs.Maps.{all_filter, all_mapped}
-use Rattle.lemmas.proofs.Parts.{all_by_get}
+use Rattle.pblk_laws.proofs.Users.{users_none}
+use Rattle.pblk_model.proofs.Maps.{all_filter, all_mapped}
+use Rattle.pblk_model.proofs.Parts.{all_by_get}
 use Rattle.prefix_law.proofs.Prefix.{whole}
-
-none_below : (p : ℕ) (xs : List ℕ) → AllByRecursion (λ y. p ≤ y) xs → users xs p ≡ 0
-none_below p [] h = refl
-none_below p (x ∷ xs) h =
-    ap (λ b. length (cond b (x ∷ filter (λ q. nat_lt q p) xs) (filter (λ q. nat_lt q p) xs))) (le-ltb x p h.0) ∙ none_below p xs h.1
 
 -- each line's position is the mount's first one or above it
 from_first : (i : Image) (w : World) → IsLegalMount i w → AllByRecursion (λ p. first_position (log_of w 0) ≤ p) (user_positions (log_of w 0))
@@ -58,7 +52,7 @@ module _ (i : Image) (w : World) (mount : IsLegalMount i w) (sealed : IsSealed i
     by_head (AsBefore all) =
         let still : end (media i (log_of w)) ≡ first_position (log_of w 0) =
         end_same found (media i (log_of w)) (reduced i w b mount has begins all) ∙ sym (first_found i w b mount.legal begins) in
-        ap (users (user_positions (log_of w 0))) still ∙ none_below (first_position (log_of w 0)) (user_positions (log_of w 0)) (from_first i w mount)
+        ap (users (user_positions (log_of w 0))) still ∙ users_none (first_position (log_of w 0)) (user_positions (log_of w 0)) (from_first i w mount)
 
     with_beginning : users (user_positions (log_of w 0)) (end (media i (log_of w))) ≡ 0
     with_beginning = by_head (which i w b mount has begins)

@@ -11,8 +11,8 @@ use Rattle.unit_port.specs.declared.armed.Fuse.{Fuse}
 use Rattle.unit_port.specs.Armed.{is_fail}
 use Rattle.ocssd_drive.specs.Faults.{IsOutcomeBy, changes_of, count_of, falls_on, fault_of, first_fault, fuse_cut, kind_of, plan_fault, planned, same_kind}
 use Rattle.ocssd_drive.specs.Outcomes.{IsEventBy}
-use Rattle.lemmas.proofs.Lists.{contains_first, contains_more}
-use Rattle.lemmas.proofs.Tests.{not_both, same}
+use Rattle.pblk_model.proofs.Lists.{contains_first, contains_more}
+use Rattle.pblk_model.proofs.Tests.{not_both, same}
 use Rattle.pblk_cli.specs.Stops.{HasPlan, arms_of}
 
 all_three : (a b c : Bool) → (a && b && c) ≡ true → (a ≡ true) × (b ≡ true)

@@ -7,7 +7,7 @@ use Rattle.pblk_model.specs.Text.{Outcome, Transcript}
 use Rattle.pblk_world.specs.World.{Logs}
 use Rattle.block_port.specs.declared.rows.WornAnswer.{WornAnswer}
 use Rattle.block_target.specs.Refusals.{AreRefusals, IsRefusal, IsRefusedAt}
-use Rattle.lemmas.proofs.Lists.{all_append}
+use Rattle.pblk_model.proofs.Lists.{all_append}
 use Rattle.pblk_cli.specs.Worn.{AreRefusedBetween, AreRefusedIn, IsRefusedFor, IsRefusedThen, closing_worn, thread_worns, threads_worns, worns_in, worns_of}
 
 module _ (i : Image) (logs : Logs) where

@@ -67,7 +67,7 @@ use Rattle.pblk_cli.proofs.Sessions.{answered}
 use Rattle.pblk_cli.proofs.ToldLosses.{all_told, opening_told}
 use Rattle.pblk_cli.proofs.RefusedLines.{refused_in}
 use Rattle.pblk_cli.proofs.WornCauses.{no_worns, one_worns}
-use Rattle.lemmas.proofs.Parts.{take_nothing}
+use Rattle.pblk_model.proofs.Parts.{take_nothing}
 use Rattle.block_target.proofs.AllAnswered.{none_of_others, opening_answered}
 use Rattle.block_target.proofs.DeviceFronts.{positions_in}
 use Rattle.block_target.proofs.NamedAnswers.{answer_of}

@@ -14,10 +14,10 @@ use Rattle.stripe_placer.specs.Placing.{Placing, held, positions_in, waits}
 use Rattle.core_laws.proofs.Distinct.{IsIn, at_in, in_first, in_joined, in_second, passing}
 use Rattle.core_laws.proofs.Placed.{is_in_list}
 use Rattle.pblk_core.specs.Losing.{HasRoomFor, all_wait, position_of_mark, positions_of_marks}
-use Rattle.lemmas.proofs.Lists.{IsAmong, among_contained}
-use Rattle.lemmas.proofs.Maps.{more}
-use Rattle.lemmas.proofs.Parts.{contained_among, get_last, get_more, take_and_drop, take_more}
-use Rattle.lemmas.proofs.Tests.{either, le_of_lt_false, or_left, or_right, same_number}
+use Rattle.pblk_model.proofs.Lists.{IsAmong, among_contained}
+use Rattle.pblk_model.proofs.Maps.{more}
+use Rattle.pblk_model.proofs.Parts.{contained_among, get_last, get_more, take_and_drop, take_more}
+use Rattle.pblk_model.proofs.Tests.{either, le_of_lt_false, or_left, or_right, same_number}
 
 -- ---- one more
 

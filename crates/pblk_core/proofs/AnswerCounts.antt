@@ -17,7 +17,7 @@ use Rattle.pblk_core.specs.Stands.{Stands, answer_count, answer_counts}
 use Rattle.pblk_core.specs.declared.target_core.Core.{Core}
 use Rattle.std.proofs.lemmas.Option.{none-some, same_Some}
 use Rattle.core_laws.proofs.PlacedLines.{get_row}
-use Rattle.lemmas.proofs.Maps.{length_mapped, map_constant, map_same, rows_set}
+use Rattle.pblk_model.proofs.Maps.{length_mapped, map_constant, map_same, rows_set}
 
 -- by the answers of a log
 abbrev counted : (ℕ → List Answer) → Shape → List ℕ

@@ -32,9 +32,9 @@ use Rattle.core_laws.proofs.NewWindow.{newest_in}
 use Rattle.core_laws.proofs.OpenWhileLeft.{IsOfNumber, not_closed, of_number, unit_in}
 use Rattle.core_laws.proofs.OverAnswered.{none_lost_there}
 use Rattle.core_laws.proofs.PlacedLines.{IsStanding, all_standing, get_row}
-use Rattle.lemmas.proofs.Lists.{IsAmong}
-use Rattle.lemmas.proofs.Maps.{from_filter}
-use Rattle.lemmas.proofs.Parts.{all_at, get_below, got_within}
+use Rattle.pblk_model.proofs.Lists.{IsAmong}
+use Rattle.pblk_model.proofs.Maps.{from_filter}
+use Rattle.pblk_model.proofs.Parts.{all_at, get_below, got_within}
 use Rattle.pblk_core.specs.LineRecords.{AreRecordsOf, RecordsView}
 use Rattle.pblk_core.specs.Stands.{is_left, stripes_left}
 use Rattle.pblk_core.proofs.AnsweredOpen.{IsAnswered, has_more}

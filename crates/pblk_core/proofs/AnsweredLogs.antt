@@ -31,9 +31,9 @@ use Rattle.core_laws.proofs.KnownChunks.{chunk_in, is_on, live_chunk}
 use Rattle.core_laws.proofs.NotedAnswers.{IsEndedBy, MayNote, answer_is, noting}
 use Rattle.core_laws.proofs.OneStripe.{one_stripe}
 use Rattle.core_laws.proofs.UnitTurns.{filtered_is}
-use Rattle.lemmas.proofs.Lists.{IsAmong}
-use Rattle.lemmas.proofs.Maps.{from_filter}
-use Rattle.lemmas.proofs.Parts.{contained_among}
+use Rattle.pblk_model.proofs.Lists.{IsAmong}
+use Rattle.pblk_model.proofs.Maps.{from_filter}
+use Rattle.pblk_model.proofs.Parts.{contained_among}
 use Rattle.pblk_core.specs.Stands.{under_way}
 use Rattle.pblk_core.proofs.AnsweredProgram.{IsItsProgram, its, told_own, untold}
 use Rattle.pblk_core.proofs.CountedRanges.{fewer_pass}

@@ -21,7 +21,7 @@ use Rattle.pblk_core.proofs.LandedCore.{positions_are}
 use Rattle.pblk_core.proofs.LandedNotes.{note_answered, notes_landed as landed_in, notes_lost as lost_in}
 use Rattle.pblk_core.proofs.LandedWay.{IsOnWay, line_of_way}
 use Rattle.pblk_core.proofs.StartKinds.{is_start}
-use Rattle.lemmas.proofs.Parts.{take_nothing}
+use Rattle.pblk_model.proofs.Parts.{take_nothing}
 
 -- the first ones of a list are those up to a number, where it has so many
 pub take_fewer : {X : Type 0} (n : ℕ) (xs : List X) → take (min (length xs) n) xs ≡ take n xs

@@ -26,9 +26,9 @@ use Rattle.pblk_core.specs.declared.open_lines.OpenLines.{OpenLines}
 use Rattle.pblk_core.proofs.LandedWay.{IsOnWay, line_of_way, stripe_number}
 use Rattle.pblk_core.proofs.LandedLines.{HasSlot}
 use Rattle.pblk_core.proofs.LineCounts.{none_left, some_left}
-use Rattle.lemmas.proofs.Numbers.{le_before}
-use Rattle.lemmas.proofs.Parts.{all_by_get, got_else, got_here, got_within}
-use Rattle.lemmas.proofs.Tests.{other_number, same_number}
+use Rattle.pblk_model.proofs.Numbers.{le_before}
+use Rattle.pblk_model.proofs.Parts.{all_by_get, got_else, got_here, got_within}
+use Rattle.pblk_model.proofs.Tests.{other_number, same_number}
 
 -- ---- the logs with an answer
 

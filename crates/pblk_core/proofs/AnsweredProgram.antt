@@ -21,9 +21,9 @@ use Rattle.core_laws.specs.PlacerOf.{unanswered_on}
 use Rattle.core_laws.specs.Stepping.{after}
 use Rattle.core_laws.proofs.LogOrders.{in_order}
 use Rattle.core_laws.proofs.NotedAnswers.{IsEndedBy, IsNoted, MayNote, noted, noting, number_in, tells_it}
-use Rattle.lemmas.proofs.Lists.{IsAmong}
-use Rattle.lemmas.proofs.Maps.{from_filter}
-use Rattle.lemmas.proofs.Parts.{all_at}
+use Rattle.pblk_model.proofs.Lists.{IsAmong}
+use Rattle.pblk_model.proofs.Maps.{from_filter}
+use Rattle.pblk_model.proofs.Parts.{all_at}
 use Rattle.pblk_core.proofs.KnownAfter.{beside_after, untold_after}
 
 -- it is the one of the stripe, and it ended

@@ -22,9 +22,9 @@ use Rattle.core_laws.specs.PlacedEntries.{gained, place_by}
 use Rattle.core_laws.specs.RowsOf.{row_of_line}
 use Rattle.core_laws.proofs.FreedRows.{state_was}
 use Rattle.core_laws.proofs.VictimsAtWork.{over_where_closed}
-use Rattle.lemmas.proofs.Options.{none_there}
-use Rattle.lemmas.proofs.Parts.{get_below, got_within, get_set_other, get_set_same}
-use Rattle.lemmas.proofs.Tests.{first_of, not_true, second_of}
+use Rattle.pblk_model.proofs.Options.{none_there}
+use Rattle.pblk_model.proofs.Parts.{get_below, got_within, get_set_other, get_set_same}
+use Rattle.pblk_model.proofs.Tests.{first_of, not_true, second_of}
 use Rattle.pblk_core.specs.declared.hold.Hold.{Hold}
 use Rattle.pblk_core.specs.declared.line_notes.LineNote.{LineNote}
 use Rattle.pblk_core.specs.declared.line_notes.LineNotes.{LineNotes}

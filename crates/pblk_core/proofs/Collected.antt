@@ -28,9 +28,9 @@ use Rattle.core_laws.proofs.ChosenVictims.{next_victim_is}
 use Rattle.core_laws.proofs.LastTakes.{last_passing}
 use Rattle.core_laws.proofs.NextVictims.{victim_next}
 use Rattle.core_laws.proofs.VictimsAtWork.{IsVictim, over_where_closed, victim_is_closed}
-use Rattle.lemmas.proofs.Lists.{IsAmong}
-use Rattle.lemmas.proofs.Parts.{from_last, get_below, got_within}
-use Rattle.lemmas.proofs.Tests.{positive, same}
+use Rattle.pblk_model.proofs.Lists.{IsAmong}
+use Rattle.pblk_model.proofs.Parts.{from_last, get_below, got_within}
+use Rattle.pblk_model.proofs.Tests.{positive, same}
 use Rattle.pblk_world.proofs.EngineLogLemmas.{takes_more}
 use Rattle.pblk_core.specs.declared.collecting.Collection.{Collection}
 use Rattle.pblk_core.specs.declared.line_notes.LineNote.{LineNote}

@@ -27,7 +27,7 @@ use Rattle.core_laws.specs.SlotOf.{slot_of}
 use Rattle.core_laws.proofs.LiveSlots.{live_is_named}
 use Rattle.core_laws.proofs.StandingLines.{live_none}
 use Rattle.core_laws.proofs.VictimsAtWork.{IsVictim, victim_is_closed}
-use Rattle.lemmas.proofs.Tests.{and_both, below_of, both, lt_true}
+use Rattle.pblk_model.proofs.Tests.{and_both, below_of, both, lt_true}
 use Rattle.pblk_core.specs.declared.target_core.Core.{Core}
 use Rattle.pblk_core.specs.Collecting.{Collects, HasPassed}
 use Rattle.pblk_core.specs.Copies.{copy_due, is_copy_due, is_due_in, victim_row}

@@ -10,9 +10,9 @@ use Rattle.pblk_world.specs.Events.{Logged}
 use Rattle.pblk_world.specs.EngineLog.{Taken, takes, block_of_taken}
 use Rattle.pblk_world.specs.Fronts.{waits, was_placed, waiting}
 use Rattle.pblk_world.specs.Placing.{data_blocks}
-use Rattle.lemmas.proofs.Lists.{IsAmong, all_append, all_replicated}
-use Rattle.lemmas.proofs.Maps.{all_mapped, from_filter}
-use Rattle.lemmas.proofs.Parts.{all_by_get, get_whole_within}
+use Rattle.pblk_model.proofs.Lists.{IsAmong, all_append, all_replicated}
+use Rattle.pblk_model.proofs.Maps.{all_mapped, from_filter}
+use Rattle.pblk_model.proofs.Parts.{all_by_get, get_whole_within}
 use Rattle.prefix_law.proofs.Among.{of_both}
 
 -- ---- blocks of entries

@@ -5,7 +5,7 @@ use Rattle.std.proofs.Math.Nat.{mul-le-mul_right}
 use Rattle.pblk_model.specs.declared.chunk.Mark.{Mark}
 use Rattle.pblk_model.specs.Bytes.{zeros}
 use Rattle.pblk_model.specs.Blocks.{blocks_of}
-use Rattle.lemmas.proofs.Numbers.{suc-times}
+use Rattle.pblk_model.proofs.Numbers.{suc-times}
 use Rattle.pblk_model.proofs.BlocksLemmas.{blocks_of-append, length-blocks_of}
 
 -- the first of a value's repetitions and the others

@@ -16,7 +16,7 @@ use Rattle.pblk_core.specs.declared.hold.Hold.{Hold}
 use Rattle.pblk_core.specs.Entries.{note_hold, place_hold}
 use Rattle.pblk_core.specs.Holds.{row_at}
 use Rattle.pblk_core.specs.Losing.{is_live, live_among, lower_hold}
-use Rattle.lemmas.proofs.Parts.{got_within}
+use Rattle.pblk_model.proofs.Parts.{got_within}
 
 pub noted_once : (old new : Table) (line by : ℕ) → line < length old.rows → Changes old new line (noted by) → new ≡ with_row line (noted by) old
 noted_once old new line by inside changes =

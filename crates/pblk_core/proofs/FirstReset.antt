@@ -8,7 +8,7 @@ use Rattle.core_laws.specs.OpenedLines.{bits_of}
 use Rattle.pblk_core.specs.declared.resets.LineChunk.{LineChunk}
 use Rattle.pblk_core.specs.Resets.{in_line, is_of_line}
 use Rattle.core_laws.proofs.UnitBits.{bits_kept}
-use Rattle.lemmas.proofs.Tests.{same_number}
+use Rattle.pblk_model.proofs.Tests.{same_number}
 
 abbrev pub chunk_of : ℕ → ℕ → LineChunk
 chunk_of line unit = record { line = line; unit = unit }

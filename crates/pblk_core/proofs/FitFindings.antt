@@ -12,8 +12,8 @@ use Rattle.pblk_model.specs.Found.{HasUsed, IsFitFound, IsUsed, RowFits, HeadFit
 use Rattle.pblk_model.specs.Shape.{units}
 use Rattle.line_table.specs.Rows.{Table}
 use Rattle.core_laws.specs.OpeningTables.{IsOpeningTable}
-use Rattle.lemmas.proofs.Lists.{contains_none}
-use Rattle.lemmas.proofs.Parts.{is_in}
+use Rattle.pblk_model.proofs.Lists.{contains_none}
+use Rattle.pblk_model.proofs.Parts.{is_in}
 use Rattle.pblk_core.specs.Resets.{is_used_at, is_used_state, used_below}
 use Rattle.world_laws.proofs.NumberedLists.{passes}
 

@@ -14,11 +14,11 @@ use Rattle.pblk_world.specs.Fronts.{first_position}
 use Rattle.pblk_world.specs.Starts.{bound_by, found_row, older_row, older_rows}
 use Rattle.core_laws.specs.Stepping.{after}
 use Rattle.core_laws.proofs.TakenNumbers.{first_stays}
-use Rattle.lemmas.proofs.Options.{none_there}
-use Rattle.lemmas.proofs.Tests.{not_true}
+use Rattle.pblk_model.proofs.Options.{none_there}
+use Rattle.pblk_model.proofs.Tests.{not_true}
 use Rattle.core_laws.proofs.SteppingLemmas.{found_kept}
-use Rattle.lemmas.proofs.Maps.{made_same}
-use Rattle.lemmas.proofs.Tests.{first_of}
+use Rattle.pblk_model.proofs.Maps.{made_same}
+use Rattle.pblk_model.proofs.Tests.{first_of}
 
 -- ---- a line that may be opened has no row of an older mount
 

@@ -13,7 +13,7 @@ use Rattle.pblk_model.specs.declared.found.Winner.{Winner}
 use Rattle.l2p_map.specs.declared.slot.Slot.{Slot}
 use Rattle.l2p_map.specs.declared.slot.Slot.TheVariants.{Unwritten}
 use Rattle.core_laws.specs.OpeningTables.{place_of_winner, slot_found}
-use Rattle.lemmas.proofs.Tests.{other_key, same_key}
+use Rattle.pblk_model.proofs.Tests.{other_key, same_key}
 
 -- Each sector is where the winner among the first ones is.
 pub record AreSet (sectors : ℕ) (winners : List Winner) (k : ℕ) (m : FinMap nat_cmp Slot) : Type 0 where

@@ -21,9 +21,9 @@ use Rattle.core_laws.proofs.FreedLives.{known_freed, life_beside, life_freed}
 use Rattle.core_laws.proofs.FreedWidths.{not_given_up}
 use Rattle.core_laws.proofs.KeptLines.{few_units}
 use Rattle.core_laws.proofs.UnitBits.{units_below}
-use Rattle.lemmas.proofs.Lists.{IsAmong, all_append}
-use Rattle.lemmas.proofs.Maps.{filter_same, given_at}
-use Rattle.lemmas.proofs.Options.{split_then}
+use Rattle.pblk_model.proofs.Lists.{IsAmong, all_append}
+use Rattle.pblk_model.proofs.Maps.{filter_same, given_at}
+use Rattle.pblk_model.proofs.Options.{split_then}
 use Rattle.pblk_core.specs.declared.resets.LineChunk.{LineChunk}
 use Rattle.pblk_core.specs.Resets.{GetsChunks, in_line, is_used_in, is_used_state, resets_of, units_to_reset, used_units}
 use Rattle.pblk_core.proofs.FirstReset.{all_chunks, same_above, same_first}

@@ -14,8 +14,8 @@ use Rattle.pblk_world.proofs.Appending.{openings_more}
 use Rattle.core_laws.specs.Spent.{OpensWhenFull}
 use Rattle.core_laws.specs.Stepping.{after}
 use Rattle.core_laws.proofs.Engine.{openings_before, prefix_same, prefix_whole}
-use Rattle.lemmas.proofs.Lists.{among_contained}
-use Rattle.lemmas.proofs.Parts.{all_at}
+use Rattle.pblk_model.proofs.Lists.{among_contained}
+use Rattle.pblk_model.proofs.Parts.{all_at}
 
 -- a line that was opened before
 opened_before : (i : Image) (logs : Logs) (e : EngineEvent) (knows : List ℕ) (o : Opening) → OpensWhenFull i logs → Contains (openings (logs 0)) o

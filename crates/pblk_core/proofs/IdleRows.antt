@@ -9,7 +9,7 @@ use Rattle.stripe_placer.specs.Placing.{Placing, stopped_in}
 use Rattle.stripe_placer.specs.Placing.UnitRow.{Idle}
 use Rattle.pblk_core.specs.Stands.{Stands}
 use Rattle.pblk_core.specs.declared.target_core.Core.{Core}
-use Rattle.lemmas.proofs.Maps.{row_at}
+use Rattle.pblk_model.proofs.Maps.{row_at}
 
 -- a unit without a stripe has none that was stopped
 pub its_row : {i : Image} {logs : Logs} {c : Core} (st : Stands i logs c) (unit : ℕ) → slice_get c.placer.units unit ≡ Some Idle

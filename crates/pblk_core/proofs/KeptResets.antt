@@ -24,9 +24,9 @@ use Rattle.pblk_core.specs.Stands.{IsOlder, HasFitNumbers}
 use Rattle.pblk_core.specs.declared.target_core.Core.{Core}
 use Rattle.pblk_core.proofs.AnsweredProgram.{chunk_same}
 use Rattle.pblk_meta.specs.Records.{start_numbers}
-use Rattle.lemmas.proofs.Lists.{all_of}
-use Rattle.lemmas.proofs.Maps.{filter_none, filter_same}
-use Rattle.lemmas.proofs.Tests.{both as and_true}
+use Rattle.pblk_model.proofs.Lists.{all_of}
+use Rattle.pblk_model.proofs.Maps.{filter_none, filter_same}
+use Rattle.pblk_model.proofs.Tests.{both as and_true}
 
 -- ---- lists
 

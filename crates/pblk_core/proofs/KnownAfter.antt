@@ -14,7 +14,7 @@ use Rattle.pblk_world.specs.Victims.{engine_prefix}
 use Rattle.core_laws.specs.Stepping.{after}
 use Rattle.core_laws.proofs.Engine.{prefix_whole}
 use Rattle.core_laws.proofs.KnownChunks.{chunk_in, chunk_untold, chunk_told, chunk_beside}
-use Rattle.lemmas.proofs.Numbers.{fun_same}
+use Rattle.pblk_model.proofs.Numbers.{fun_same}
 
 last_event : (logs : Logs) (e : EngineEvent) (knows : List ℕ)
     → slice_get (after logs e knows 0) (length (logs 0)) ≡ Some (record { event = Decides e; knows = knows })

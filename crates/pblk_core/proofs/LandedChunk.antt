@@ -48,10 +48,10 @@ use Rattle.pblk_core.proofs.LandedReads.{IsChunkRead}
 use Rattle.pblk_core.proofs.LandedWay.{IsOnWay}
 use Rattle.pblk_core.proofs.ReadBlocks.{place_is, none_told, pads_there, reads_there}
 use Rattle.pblk_core.proofs.LineUnits.{now_units}
-use Rattle.lemmas.proofs.Lists.{IsAmong}
-use Rattle.lemmas.proofs.Maps.{all_filter, from_filter}
-use Rattle.lemmas.proofs.Parts.{get_past, got_within, one_column}
-use Rattle.lemmas.proofs.Tests.{le_of_lt_false, within_is}
+use Rattle.pblk_model.proofs.Lists.{IsAmong}
+use Rattle.pblk_model.proofs.Maps.{all_filter, from_filter}
+use Rattle.pblk_model.proofs.Parts.{get_past, got_within, one_column}
+use Rattle.pblk_model.proofs.Tests.{le_of_lt_false, within_is}
 
 -- ---- where a block stands in the order of its line
 

@@ -10,7 +10,7 @@ use Rattle.stripe_placer.specs.Placing.{Program}
 use Rattle.core_laws.specs.OpenedLines.{online_now}
 use Rattle.pblk_world.specs.LegalMounts.{IsLegalMount}
 use Rattle.core_laws.proofs.HeldInWorlds.{own_in_window}
-use Rattle.lemmas.proofs.Parts.{get_whole}
+use Rattle.pblk_model.proofs.Parts.{get_whole}
 use Rattle.pblk_world.specs.Fronts.{taken}
 use Rattle.pblk_core.specs.declared.line_notes.LineNote.{LineNote}
 use Rattle.pblk_core.specs.declared.target_core.Core.{Core}

@@ -41,10 +41,10 @@ use Rattle.core_laws.proofs.ChunksInRows.{rows_of_chunks}
 use Rattle.pblk_core.proofs.LandedWay.{IsOnWay, of_row, on_way, awaited, line_of_way, waits_there}
 use Rattle.pblk_core.proofs.StandsFacts.{in_window}
 use Rattle.pblk_core.proofs.LineBits.{known_bits}
-use Rattle.lemmas.proofs.Lists.{IsAmong}
-use Rattle.lemmas.proofs.Maps.{any_member, in_filter, row_at}
-use Rattle.lemmas.proofs.Parts.{got_within, set_same}
-use Rattle.lemmas.proofs.Tests.{same_number}
+use Rattle.pblk_model.proofs.Lists.{IsAmong}
+use Rattle.pblk_model.proofs.Maps.{any_member, in_filter, row_at}
+use Rattle.pblk_model.proofs.Parts.{got_within, set_same}
+use Rattle.pblk_model.proofs.Tests.{same_number}
 
 -- ---- the row that the placer tells
 

@@ -20,7 +20,7 @@ use Rattle.core_laws.proofs.PlacedPlaces.{turned_round as turned_around}
 use Rattle.pblk_core.specs.Landing.{all_landed, one_landed}
 use Rattle.pblk_core.specs.Readable.{ReadBlock, all_readable}
 use Rattle.pblk_core.proofs.ReadRuns.{held_stays, landed_stays}
-use Rattle.lemmas.proofs.Numbers.{fun_same}
+use Rattle.pblk_model.proofs.Numbers.{fun_same}
 use Rattle.write_window.proofs.EntriesLemmas.{turned_length}
 
 -- ---- positions

@@ -41,9 +41,9 @@ use Rattle.pblk_core.specs.Stands.{IsOpenLine}
 use Rattle.pblk_core.specs.declared.open_lines.OpenLine.{OpenLine}
 use Rattle.pblk_core.proofs.LandedReads.{IsChunkRead}
 use Rattle.pblk_core.proofs.LandedChunk.{HasKind, AreKinds, chunk_read}
-use Rattle.lemmas.proofs.Lists.{IsAmong, all_front, all_replicated}
-use Rattle.lemmas.proofs.Parts.{all_at, all_dropped, all_taken, contained_among, get_more, get_whole, take_and_drop}
-use Rattle.lemmas.proofs.Tests.{not_both, not_true, first_of, within_is}
+use Rattle.pblk_model.proofs.Lists.{IsAmong, all_front, all_replicated}
+use Rattle.pblk_model.proofs.Parts.{all_at, all_dropped, all_taken, contained_among, get_more, get_whole, take_and_drop}
+use Rattle.pblk_model.proofs.Tests.{not_both, not_true, first_of, within_is}
 
 -- a block of a record has its mark
 of_record : (s : Shape) (seq count : ℕ) (bytes : List ℕ) (from to : ℕ) (b : Block) → IsAccepted s

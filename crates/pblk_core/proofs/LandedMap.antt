@@ -16,7 +16,7 @@ use Rattle.l2p_map.specs.declared.slot.Slot.{Slot}
 use Rattle.l2p_map.specs.declared.slot.Slot.TheVariants.{Cached, Media}
 use Rattle.pblk_core.specs.Readable.{ReadBlock, is_cached, moved, all_moved}
 use Rattle.pblk_core.proofs.LandedEntries.{read_of}
-use Rattle.lemmas.proofs.Tests.{lt_true, other_key, other_number, same_key, same_number}
+use Rattle.pblk_model.proofs.Tests.{lt_true, other_key, other_number, same_key, same_number}
 
 -- a block of another sector, or of one that isn't in the buffer with its entry, moves nothing
 stays : (capacity line lba : ℕ) (m : FinMap nat_cmp Slot) (b : ReadBlock) (x : Slot) → fin.get m lba ≡ Some x

@@ -11,8 +11,8 @@ use Rattle.pblk_world.specs.Starts.{has_landed_start, start_stripes}
 use Rattle.pblk_world.specs.World.{World, Logs, log_of}
 use Rattle.pblk_world.proofs.Appending.{life_more}
 use Rattle.pblk_world.proofs.EngineLogLemmas.{opened_same}
-use Rattle.lemmas.proofs.Parts.{contained_among, get_set_same, got_within}
-use Rattle.lemmas.proofs.Tests.{not_both, other_number}
+use Rattle.pblk_model.proofs.Parts.{contained_among, get_set_same, got_within}
+use Rattle.pblk_model.proofs.Tests.{not_both, other_number}
 use Rattle.line_table.proofs.Places.{set_twice}
 use Rattle.stripe_placer.specs.OpenLines.{has_left}
 use Rattle.pblk_world.specs.LegalMounts.{IsLegalMount}

@@ -20,8 +20,8 @@ use Rattle.pblk_core.specs.Readable.{block_reads, reads_of}
 use Rattle.pblk_core.specs.declared.open_lines.OpenLine.{OpenLine}
 use Rattle.pblk_core.proofs.LandedEntries.{read_of, reads_list, part_get}
 use Rattle.pblk_core.proofs.LandedWay.{IsOnWay}
-use Rattle.lemmas.proofs.Lists.{IsAmong}
-use Rattle.lemmas.proofs.Tests.{other_number}
+use Rattle.pblk_model.proofs.Lists.{IsAmong}
+use Rattle.pblk_model.proofs.Tests.{other_number}
 
 -- ---- the stripe is the last of its chunk, and all before it have landed
 

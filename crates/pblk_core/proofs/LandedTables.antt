@@ -34,8 +34,8 @@ use Rattle.pblk_core.proofs.ReadTables.{numbered_block, read_landed, window_in, 
 use Rattle.pblk_core.proofs.StandsFacts.{in_window}
 use Rattle.pblk_core.proofs.LandedReads.{IsPart, new_part, IsChunkRead, IsRange}
 use Rattle.pblk_core.proofs.LandedWay.{IsOnWay}
-use Rattle.lemmas.proofs.Maps.{any_member}
-use Rattle.lemmas.proofs.Tests.{same_number}
+use Rattle.pblk_model.proofs.Maps.{any_member}
+use Rattle.pblk_model.proofs.Tests.{same_number}
 
 -- ---- its entries have landed
 

@@ -41,9 +41,9 @@ use Rattle.core_laws.proofs.StripesInOrder.{its_stripes, stripe_count, wide}
 use Rattle.core_laws.proofs.PlainOpenings.{IsOpenedLine, life_stands, opened_lines}
 use Rattle.core_laws.proofs.Followed.{IsFollowed, follow}
 use Rattle.pblk_core.proofs.LineUnits.{now_units, opened_earlier, same_live}
-use Rattle.lemmas.proofs.Lists.{IsAmong, length_replicate}
-use Rattle.lemmas.proofs.Maps.{any_member, from_map, in_filter, in_map, row_at}
-use Rattle.lemmas.proofs.Tests.{first_of, or_right, same_number}
+use Rattle.pblk_model.proofs.Lists.{IsAmong, length_replicate}
+use Rattle.pblk_model.proofs.Maps.{any_member, from_map, in_filter, in_map, row_at}
+use Rattle.pblk_model.proofs.Tests.{first_of, or_right, same_number}
 
 -- ---- the stripe of a row
 

@@ -36,7 +36,7 @@ use Rattle.pblk_core.specs.Stands.{stripes_left}
 use Rattle.pblk_core.proofs.LandedWay.{IsOnWay, waits_there}
 use Rattle.pblk_core.proofs.LineCounts.{left_landed, none_left, some_left}
 use Rattle.pblk_core.proofs.LineUnits.{now_units}
-use Rattle.lemmas.proofs.Tests.{either_false, other_number, same_number}
+use Rattle.pblk_model.proofs.Tests.{either_false, other_number, same_number}
 
 -- ---- counting stripes
 

@@ -17,8 +17,8 @@ use Rattle.core_laws.proofs.Engine.{placements_before}
 use Rattle.core_laws.proofs.Growing.{turn_grown}
 use Rattle.core_laws.proofs.OneStripe.{one_stripe}
 use Rattle.core_laws.proofs.UnitTurns.{stands_at_turn}
-use Rattle.lemmas.proofs.Lists.{IsAmong}
-use Rattle.lemmas.proofs.Parts.{all_at, get_more}
+use Rattle.pblk_model.proofs.Lists.{IsAmong}
+use Rattle.pblk_model.proofs.Parts.{all_at, get_more}
 use Rattle.line_table.proofs.Places.{eqb-same}
 use Rattle.pblk_world.specs.LegalMounts.{IsLegalMount}
 use Rattle.pblk_core.specs.Losing.{HasItsEntries}

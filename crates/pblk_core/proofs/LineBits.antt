@@ -11,7 +11,7 @@ use Rattle.core_laws.specs.OpenedLines.{bits_of}
 use Rattle.pblk_world.specs.LegalMounts.{IsLegalMount}
 use Rattle.core_laws.proofs.KeptLines.{few_units}
 use Rattle.core_laws.proofs.UnitBits.{bits_back, bits_few, units_below}
-use Rattle.lemmas.proofs.Maps.{filter_short}
+use Rattle.pblk_model.proofs.Maps.{filter_short}
 use Rattle.pblk_world.proofs.LinesLemmas.{length_known}
 
 -- ---- as the engine knows a line

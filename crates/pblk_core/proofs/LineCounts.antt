@@ -16,10 +16,10 @@ use Rattle.core_laws.proofs.Opening.{replicated_gets}
 use Rattle.world_laws.proofs.HeldSectors.{all_pass as keeps_all}
 use Rattle.std.proofs.lemmas.List.FromFn.{length-range_with_len}
 use Rattle.core_laws.proofs.TakenSlots.{any_same}
-use Rattle.lemmas.proofs.Lists.{IsAmong, all_imply, length_replicate}
-use Rattle.lemmas.proofs.Maps.{filter_agree, none_any, range_get}
-use Rattle.lemmas.proofs.Parts.{got_else, got_here}
-use Rattle.lemmas.proofs.Tests.{and_both, either_false, lt_true, not_before, or_left, or_right, or_true, other_number, same_number}
+use Rattle.pblk_model.proofs.Lists.{IsAmong, all_imply, length_replicate}
+use Rattle.pblk_model.proofs.Maps.{filter_agree, none_any, range_get}
+use Rattle.pblk_model.proofs.Parts.{got_else, got_here}
+use Rattle.pblk_model.proofs.Tests.{and_both, either_false, lt_true, not_before, or_left, or_right, or_true, other_number, same_number}
 use Rattle.core_laws.proofs.LandedLines.{any_numbered}
 use Rattle.core_laws.proofs.NewlyHeld.{none_counted}
 use Rattle.pblk_core.specs.Stands.{is_left, stripes_left}

@@ -14,7 +14,7 @@ use Rattle.core_laws.specs.OpenedLines.{as_opened, bits_of}
 use Rattle.core_laws.proofs.Opening.{all_made}
 use Rattle.core_laws.proofs.PlacedLines.{life_is_before as opened_before}
 use Rattle.core_laws.proofs.OpenedTurns.{prefix_prefix as prefix_twice}
-use Rattle.lemmas.proofs.Parts.{all_at}
+use Rattle.pblk_model.proofs.Parts.{all_at}
 
 -- the units of each line, as they are known
 abbrev pub now_units : Image → World → ℕ → List ℕ

@@ -40,10 +40,10 @@ use Rattle.pblk_core.specs.declared.hold.Holds.{Holds}
 use Rattle.pblk_core.specs.Holds.{line_of_slot, has_landed_in}
 use Rattle.pblk_core.specs.Stands.{Stands, AreHolds}
 use Rattle.pblk_core.specs.declared.target_core.Core.{Core}
-use Rattle.lemmas.proofs.Lists.{IsAmong, among_all}
-use Rattle.lemmas.proofs.Maps.{any_member, find_agree, found_none, found_passes}
-use Rattle.lemmas.proofs.Parts.{contained_among, get_dropped, is_in}
-use Rattle.lemmas.proofs.Tests.{first_of, second_of}
+use Rattle.pblk_model.proofs.Lists.{IsAmong, among_all}
+use Rattle.pblk_model.proofs.Maps.{any_member, find_agree, found_none, found_passes}
+use Rattle.pblk_model.proofs.Parts.{contained_among, get_dropped, is_in}
+use Rattle.pblk_model.proofs.Tests.{first_of, second_of}
 use Rattle.pblk_model.proofs.MarksLemmas.{accepted_small}
 
 -- ---- the line of a position

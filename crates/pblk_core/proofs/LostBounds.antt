@@ -22,7 +22,7 @@ use Rattle.core_laws.specs.Stepping.{after}
 use Rattle.core_laws.proofs.LostAddresses.{addresses_lost}
 use Rattle.core_laws.proofs.LostRows.{live_lost}
 use Rattle.core_laws.proofs.LoweredTables.{counted}
-use Rattle.lemmas.proofs.Parts.{get_past}
+use Rattle.pblk_model.proofs.Parts.{get_past}
 use Rattle.pblk_core.specs.LineRecords.{data_left}
 use Rattle.pblk_core.specs.Losing.{addresses_in, live_among}
 use Rattle.pblk_core.specs.Stands.{Stands}

@@ -39,10 +39,10 @@ use Rattle.pblk_core.proofs.LandedWay.{IsOnWay}
 use Rattle.pblk_core.proofs.NotedEntries.{AreEntriesOf}
 use Rattle.pblk_core.proofs.PlacedEntries.{AreApart, by_name, later_is_next, one_row, taker_by}
 use Rattle.pblk_core.proofs.WaitingEntries.{row_of_entry}
-use Rattle.lemmas.proofs.Lists.{IsAmong}
-use Rattle.lemmas.proofs.Parts.{all_at, all_by_get}
-use Rattle.lemmas.proofs.Tests.{either_false, same_number}
-use Rattle.lemmas.proofs.Maps.{all_mapped}
+use Rattle.pblk_model.proofs.Lists.{IsAmong}
+use Rattle.pblk_model.proofs.Parts.{all_at, all_by_get}
+use Rattle.pblk_model.proofs.Tests.{either_false, same_number}
+use Rattle.pblk_model.proofs.Maps.{all_mapped}
 
 -- ---- rows
 

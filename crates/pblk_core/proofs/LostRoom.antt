@@ -36,9 +36,9 @@ use Rattle.pblk_core.specs.Holds.{hold_of}
 use Rattle.pblk_core.specs.Losing.{HasRoomFor, positions_of_marks}
 use Rattle.pblk_core.specs.Stands.{Stands}
 use Rattle.pblk_core.proofs.StandsFacts.{ring_some}
-use Rattle.lemmas.proofs.Lists.{IsAmong, among_contained}
-use Rattle.lemmas.proofs.Parts.{all_at, contained_among, got_within}
-use Rattle.lemmas.proofs.Tests.{either, no_both, or_right}
+use Rattle.pblk_model.proofs.Lists.{IsAmong, among_contained}
+use Rattle.pblk_model.proofs.Parts.{all_at, contained_among, got_within}
+use Rattle.pblk_model.proofs.Tests.{either, no_both, or_right}
 
 -- ---- distinct numbers by what is made of them
 

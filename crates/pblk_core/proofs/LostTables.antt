@@ -27,8 +27,8 @@ use Rattle.pblk_core.proofs.LandedReads.{IsChunkRead, IsLostRange, unread_part}
 use Rattle.pblk_core.proofs.LandedWay.{IsOnWay}
 use Rattle.pblk_core.proofs.StandsFacts.{in_window}
 use Rattle.pblk_core.proofs.ReadTables.{numbered_block, read_landed, window_in, window_by, slots_by, reads_by}
-use Rattle.lemmas.proofs.Maps.{any_member}
-use Rattle.lemmas.proofs.Tests.{or_left, same_number}
+use Rattle.pblk_model.proofs.Maps.{any_member}
+use Rattle.pblk_model.proofs.Tests.{or_left, same_number}
 
 module _ (i : Image) (w : World) (c : Core) (unit : ℕ) (of : Program) (slot : OpenLine) (low high : ℕ) (mount : IsLegalMount i w)
     (st : Stands i (log_of w) c) (is : IsOnWay i w unit of) (range : IsLostRange i.shape of.block low high)

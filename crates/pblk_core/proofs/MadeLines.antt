@@ -13,7 +13,7 @@ use Rattle.pblk_model.specs.Shape.{units}
 use Rattle.core_laws.specs.OnlineUnits.{online_bits}
 use Rattle.core_laws.specs.OpenedLines.{bits_of}
 use Rattle.core_laws.proofs.UnitBits.{kept_below}
-use Rattle.lemmas.proofs.Maps.{length_mapped, row_at}
+use Rattle.pblk_model.proofs.Maps.{length_mapped, row_at}
 use Rattle.pblk_core.specs.declared.target_core.Core.{Core}
 use Rattle.pblk_core.specs.Collecting.{IsTabled}
 use Rattle.pblk_core.specs.LineNotes.{note_found}

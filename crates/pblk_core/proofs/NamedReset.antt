@@ -18,8 +18,8 @@ use Rattle.pblk_world.specs.LegalMounts.{IsLegalMount}
 use Rattle.world_laws.proofs.FoundImages.{found_strays}
 use Rattle.core_laws.proofs.MadeLists.{any_passed}
 use Rattle.stripe_placer.specs.Placing.{next_stripe}
-use Rattle.lemmas.proofs.Options.{none_there}
-use Rattle.lemmas.proofs.Tests.{not_true}
+use Rattle.pblk_model.proofs.Options.{none_there}
+use Rattle.pblk_model.proofs.Tests.{not_true}
 use Rattle.pblk_core.specs.Named.{reset_or, choice, asks_line, has_free, may_open, may_copy, is_busy, named}
 use Rattle.pblk_core.specs.Resets.{is_used_state, is_used_in, used_units, units_to_reset, resets_of, resets_left, IsToReset}
 use Rattle.pblk_core.specs.declared.resets.LineChunk.{LineChunk}
@@ -27,7 +27,7 @@ use Rattle.pblk_core.specs.declared.target_core.Core.{Core}
 use Rattle.pblk_core.specs.declared.work.Work.{Work}
 use Rattle.pblk_core.specs.declared.work.Work.TheVariants.{Reset}
 use Rattle.pblk_core.proofs.FirstReset.{chunk_of, IsFirstOf, first_is, IsFirstPassed, first_passed}
-use Rattle.lemmas.proofs.Tests.{first_of}
+use Rattle.pblk_model.proofs.Tests.{first_of}
 
 -- ---- the core's work
 

@@ -42,9 +42,9 @@ use Rattle.pblk_core.proofs.LandedCore.{holds_it, positions_are}
 use Rattle.pblk_core.proofs.LandedWay.{IsOnWay}
 use Rattle.pblk_world.proofs.Takers.{not_landed_line}
 use Rattle.pblk_core.proofs.WaitingEntries.{row_of_entry}
-use Rattle.lemmas.proofs.Lists.{IsAmong, all_imply}
-use Rattle.lemmas.proofs.Parts.{all_at, all_by_get, get_set_other}
-use Rattle.lemmas.proofs.Tests.{first_of, second_of}
+use Rattle.pblk_model.proofs.Lists.{IsAmong, all_imply}
+use Rattle.pblk_model.proofs.Parts.{all_at, all_by_get, get_set_other}
+use Rattle.pblk_model.proofs.Tests.{first_of, second_of}
 
 -- ---- the entries
 

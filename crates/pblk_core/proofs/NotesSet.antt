@@ -15,9 +15,9 @@ use Rattle.pblk_world.specs.Starts.{seq_in, start_stripes}
 use Rattle.pblk_world.specs.World.{World, Logs, log_of}
 use Rattle.pblk_world.proofs.Appending.{life_more}
 use Rattle.pblk_world.proofs.EngineLogLemmas.{opened_same}
-use Rattle.lemmas.proofs.Options.{none_there}
-use Rattle.lemmas.proofs.Parts.{get_set_other, get_set_same}
-use Rattle.lemmas.proofs.Tests.{first_of, not_true}
+use Rattle.pblk_model.proofs.Options.{none_there}
+use Rattle.pblk_model.proofs.Parts.{get_set_other, get_set_same}
+use Rattle.pblk_model.proofs.Tests.{first_of, not_true}
 use Rattle.pblk_world.specs.LegalMounts.{IsLegalMount}
 use Rattle.core_laws.specs.ClosedLines.{ClosedLine, answered_top, closed_line, newest_numbers, starts_left}
 use Rattle.core_laws.specs.Stepping.{after}

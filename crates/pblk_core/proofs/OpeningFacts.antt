@@ -40,10 +40,10 @@ use Rattle.pblk_core.proofs.LineBits.{known_bits, known_width, bits_width}
 use Rattle.pblk_core.specs.Stands.{Stands, left_openings}
 use Rattle.pblk_core.specs.Named.{choice, reset_or, named_beside, named, next_line, next_units, next_start}
 use Rattle.pblk_core.proofs.WorkOf.{open_count, synced_at}
-use Rattle.lemmas.proofs.Lists.{all_imply, length_replicate}
-use Rattle.lemmas.proofs.Maps.{all_mapped}
-use Rattle.lemmas.proofs.Parts.{all_at}
-use Rattle.lemmas.proofs.Tests.{both}
+use Rattle.pblk_model.proofs.Lists.{all_imply, length_replicate}
+use Rattle.pblk_model.proofs.Maps.{all_mapped}
+use Rattle.pblk_model.proofs.Parts.{all_at}
+use Rattle.pblk_model.proofs.Tests.{both}
 use Rattle.pblk_model.proofs.AcceptedLemmas.{line_is_short}
 use Rattle.pblk_world.proofs.LinesLemmas.{free_unopened}
 

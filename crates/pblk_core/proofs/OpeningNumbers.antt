@@ -28,7 +28,7 @@ use Rattle.pblk_core.specs.Stands.{Stands, IsOlder}
 use Rattle.pblk_core.proofs.FoundLines.{free_has_no_row}
 use Rattle.pblk_core.proofs.OpeningFacts.{MayOpenNext, IsNextLine, next_line_is}
 use Rattle.pblk_core.proofs.WorkOf.{synced_at}
-use Rattle.lemmas.proofs.Tests.{and_both, le_true, lt_true, other_number}
+use Rattle.pblk_model.proofs.Tests.{and_both, le_true, lt_true, other_number}
 
 -- ---- the mount's first number
 

@@ -34,9 +34,9 @@ use Rattle.core_laws.specs.EntryHolds.{later_take, placed_line}
 use Rattle.pblk_core.specs.Entries.{with_line, row_placed, placed_rows, place_hold, placed_lines, note_hold, noted_lines}
 use Rattle.pblk_core.specs.Holds.{hold_of, row_at, taker_in}
 use Rattle.pblk_core.specs.declared.hold.Hold.{Hold}
-use Rattle.lemmas.proofs.Parts.{all_at, all_by_get, get_whole}
-use Rattle.lemmas.proofs.Tests.{same_number}
-use Rattle.lemmas.proofs.Maps.{all_mapped}
+use Rattle.pblk_model.proofs.Parts.{all_at, all_by_get, get_whole}
+use Rattle.pblk_model.proofs.Tests.{same_number}
+use Rattle.pblk_model.proofs.Maps.{all_mapped}
 
 -- ---- rows
 

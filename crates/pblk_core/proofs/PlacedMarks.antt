@@ -22,7 +22,7 @@ use Rattle.core_laws.proofs.PlacedLines.{get_last as got_end}
 use Rattle.core_laws.proofs.Placing.{stripes_now}
 use Rattle.world_laws.proofs.EndRecords.{part_of_front as beyond_end}
 use Rattle.pblk_core.specs.Stands.{under_way}
-use Rattle.lemmas.proofs.Tests.{other_number, same_number}
+use Rattle.pblk_model.proofs.Tests.{other_number, same_number}
 
 -- ---- marks
 

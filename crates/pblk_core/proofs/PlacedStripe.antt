@@ -45,10 +45,10 @@ use Rattle.pblk_core.specs.declared.open_lines.OpenLine.{OpenLine as KeptLine}
 use Rattle.pblk_core.specs.declared.open_lines.OpenLines.{OpenLines}
 use Rattle.core_laws.proofs.StillWaiting.{length_positions}
 use Rattle.core_laws.proofs.WaitingEntries.{waiting_alike}
-use Rattle.lemmas.proofs.Lists.{IsAmong}
-use Rattle.lemmas.proofs.Maps.{in_filter}
-use Rattle.lemmas.proofs.Parts.{contained_among, got_within}
-use Rattle.lemmas.proofs.Tests.{below_of, both, either, not_both, within_is}
+use Rattle.pblk_model.proofs.Lists.{IsAmong}
+use Rattle.pblk_model.proofs.Maps.{in_filter}
+use Rattle.pblk_model.proofs.Parts.{contained_among, got_within}
+use Rattle.pblk_model.proofs.Tests.{below_of, both, either, not_both, within_is}
 use Rattle.pblk_core.proofs.LandedWay.{IsLineKept, line_kept}
 use Rattle.pblk_world.proofs.EngineLogLemmas.{opened_same}
 

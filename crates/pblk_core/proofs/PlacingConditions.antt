@@ -52,13 +52,13 @@ use Rattle.pblk_core.proofs.PlacedStripe.{IsOfferedNow, IsInPart, IsOfKind, offe
 use Rattle.pblk_core.proofs.StandsFacts.{window_taken_is}
 use Rattle.pblk_core.proofs.StandsPlaced.{entries_for, positions_are, left_by_kind, slots_for}
 use Rattle.core_laws.proofs.PlacedInOrder.{front_within, ordered}
-use Rattle.lemmas.proofs.Maps.{filter_short}
+use Rattle.pblk_model.proofs.Maps.{filter_short}
 use Rattle.pblk_core.specs.Landing.{new_count}
 use Rattle.pblk_core.proofs.SmallPositions.{taken_bounded}
 use Rattle.pblk_core.proofs.WholeMarks.{marks_all, records_of}
 use Rattle.pblk_core.proofs.WaitingEntries.{IsSized, are_sized, IsWaiting, waiting_at, waiting_blocks}
-use Rattle.lemmas.proofs.Maps.{row_at}
-use Rattle.lemmas.proofs.Parts.{all_at, get_whole}
+use Rattle.pblk_model.proofs.Maps.{row_at}
+use Rattle.pblk_model.proofs.Parts.{all_at, get_whole}
 
 -- ---- the program
 

@@ -19,8 +19,8 @@ use Rattle.l2p_map.specs.declared.slot.Slot.{Slot}
 use Rattle.l2p_map.specs.declared.slot.Slot.TheVariants.{Unwritten, Cached, Media}
 use Rattle.pblk_core.specs.declared.open_lines.OpenLine.{OpenLine}
 use Rattle.pblk_core.specs.Readable.{data_mark, is_place, position_of, ReadBlock, read_at, is_cached, moved, block_reads}
-use Rattle.lemmas.proofs.Parts.{get_below}
-use Rattle.lemmas.proofs.Tests.{lt_true, other_number, same_number}
+use Rattle.pblk_model.proofs.Parts.{get_below}
+use Rattle.pblk_model.proofs.Tests.{lt_true, other_number, same_number}
 
 -- ---- the first place in a line's order
 

@@ -14,7 +14,7 @@ use Rattle.write_window.specs.declared.held.Held.{Held}
 use Rattle.write_window.specs.declared.held.Progress.TheVariants.{Readable}
 use Rattle.pblk_core.specs.declared.open_lines.OpenLine.{OpenLine}
 use Rattle.pblk_core.specs.Readable.{ReadBlock, moved, all_moved, all_readable, block_reads, reads_of}
-use Rattle.lemmas.proofs.Maps.{one_more, range_more}
+use Rattle.pblk_model.proofs.Maps.{one_more, range_more}
 
 -- ---- one block more
 

@@ -39,8 +39,8 @@ use Rattle.pblk_core.proofs.LandedEntries.{IsIn, CanBeRead, numbered_from, read_
 use Rattle.pblk_core.proofs.LandedMap.{moved_to, move_all, settled}
 use Rattle.pblk_core.proofs.LandedReads.{IsPart, IsChunkRead, reads_are}
 use Rattle.pblk_core.proofs.StandsFacts.{held_count}
-use Rattle.lemmas.proofs.Maps.{map_dropped, range_get}
-use Rattle.lemmas.proofs.Parts.{all_at}
+use Rattle.pblk_model.proofs.Maps.{map_dropped, range_get}
+use Rattle.pblk_model.proofs.Parts.{all_at}
 use Rattle.pblk_model.proofs.MarksLemmas.{accepted_small}
 
 -- ---- the positions of the window

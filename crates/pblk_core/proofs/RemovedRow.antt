@@ -7,10 +7,10 @@ use Rattle.pblk_model.specs.StartRecord.{Row as OlderRow}
 use Rattle.pblk_meta.specs.declared.rows.Row.{Row}
 use Rattle.pblk_meta.specs.Records.{row_numbers}
 use Rattle.pblk_core.specs.Freeing.{HaveRisen}
-use Rattle.lemmas.proofs.Lists.{all_imply}
-use Rattle.lemmas.proofs.Maps.{get_mapped}
-use Rattle.lemmas.proofs.Parts.{all_at}
-use Rattle.lemmas.proofs.Tests.{other_number, same_number}
+use Rattle.pblk_model.proofs.Lists.{all_imply}
+use Rattle.pblk_model.proofs.Maps.{get_mapped}
+use Rattle.pblk_model.proofs.Parts.{all_at}
+use Rattle.pblk_model.proofs.Tests.{other_number, same_number}
 
 abbrev is_other : ℕ → OlderRow → Bool
 is_other line row = not (row.line == line)

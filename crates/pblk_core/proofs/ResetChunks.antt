@@ -22,7 +22,7 @@ use Rattle.core_laws.specs.Stepping.{after}
 use Rattle.pblk_core.specs.Resets.{is_used_state, IsResetTo}
 use Rattle.pblk_core.proofs.KnownAfter.{untold_after, told_after, beside_after}
 use Rattle.pblk_core.proofs.NamedReset.{IsNamedReset}
-use Rattle.lemmas.proofs.Tests.{other_number, same_number}
+use Rattle.pblk_model.proofs.Tests.{other_number, same_number}
 
 -- ---- a reset leaves a chunk Free or Offline
 

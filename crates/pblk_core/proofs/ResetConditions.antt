@@ -20,7 +20,7 @@ use Rattle.core_laws.specs.OpenedLines.{online_now}
 use Rattle.core_laws.specs.RowsOf.{row_of_line}
 use Rattle.core_laws.proofs.HistorySectors.{set_length}
 use Rattle.core_laws.proofs.PlacedLines.{get_row as row_there}
-use Rattle.lemmas.proofs.Parts.{get_set_other}
+use Rattle.pblk_model.proofs.Parts.{get_set_other}
 use Rattle.pblk_core.specs.declared.line_notes.LineNotes.{LineNotes}
 use Rattle.pblk_core.specs.declared.target_core.Core.{Core}
 use Rattle.pblk_core.specs.declared.work.Work.TheVariants.{Reset}

@@ -5,10 +5,10 @@ use Rattle.std.specs.List.{AllByRecursion, flat_map, list_any, range_with_len, s
 use Rattle.std.proofs.lemmas.Bool.{cases_eq, cases_lt, eqb-true}
 use Rattle.std.proofs.lemmas.List.{get_or_past, get_or-set_same, get_or-set_other}
 use Rattle.std.proofs.lemmas.Option.{get_or_from_slice_get, same_Some, slice_get_read}
-use Rattle.lemmas.proofs.Lists.{all_append, all_front, all_imply, nil_cons, zipped}
-use Rattle.lemmas.proofs.Maps.{any_fail, flat_map_nil}
-use Rattle.lemmas.proofs.Parts.{all_by_get}
-use Rattle.lemmas.proofs.Tests.{no_both, other_number, same_number}
+use Rattle.pblk_model.proofs.Lists.{all_append, all_front, all_imply, nil_cons, zipped}
+use Rattle.pblk_model.proofs.Maps.{any_fail, flat_map_nil}
+use Rattle.pblk_model.proofs.Parts.{all_by_get}
+use Rattle.pblk_model.proofs.Tests.{no_both, other_number, same_number}
 use Rattle.pblk_model.specs.declared.shape.Shape.{Shape}
 use Rattle.pblk_model.specs.declared.chunk.ChunkState.{ChunkState}
 use Rattle.pblk_model.specs.Found.{Rise}

@@ -27,7 +27,7 @@ use Rattle.pblk_core.proofs.KeptResets.{given_up_kept, empty_none}
 use Rattle.pblk_core.proofs.LineBits.{known_count}
 use Rattle.pblk_core.proofs.NamedReset.{IsNamedReset}
 use Rattle.pblk_core.proofs.ResetChunks.{IsNoted, test_chunk, tested_else, tested_now, tested_before, used_online, live_is}
-use Rattle.lemmas.proofs.Maps.{filter_same, map_same, rows_set}
+use Rattle.pblk_model.proofs.Maps.{filter_same, map_same, rows_set}
 
 -- ---- the chunks that are still to be reset
 
@@ -99,10 +99,12 @@ live_here : (i : Image) (logs : Logs) (unit event line : ℕ) (knows : List ℕ)
 live_here i logs unit event line knows state is = live_is (known_image i (after logs (ResetDone unit event) knows)) line unit
     ∙ tested_now is_online_in i logs unit event line knows state is
 
-bits_same : (i : Image) (w : World) (ls new : Logs) (l : ℕ) → IsLegalMount i w → ((u : ℕ) → is_online (known_image i new) l u ≡ is_online (known_image i ls) l u)
+bits_same : (i : Image) (w : World) (ls new : Logs) (l : ℕ) → IsLegalMount i w
+    → ((u : ℕ) → is_online (known_image i new) l u ≡ is_online (known_image i ls) l u)
     → online_now i new l ≡ online_now i ls l
 bits_same i w ls new l mount same =
-    live_bits i w new l mount ∙ ap bits_of (filter_same (is_online (known_image i new) l) (is_online (known_image i ls) l) same (range_with_len 0 (units i.shape)))
+    live_bits i w new l mount ∙ ap bits_of
+    (filter_same (is_online (known_image i new) l) (is_online (known_image i ls) l) same (range_with_len 0 (units i.shape)))
     ∙ sym (live_bits i w ls l mount)
 
 pub units_kept : (i : Image) (w : World) (unit event line : ℕ) (knows : List ℕ) (state : ChunkState) → IsLegalMount i w → IsNamedReset i (log_of w) line unit

@@ -9,7 +9,7 @@ use Rattle.pblk_model.specs.Shape.{units}
 use Rattle.pblk_model.specs.Blocks.{blocks_of}
 use Rattle.pblk_model.specs.LineOrder.{start_len, end_len, data_len, HoldsEnd, IsLeastMultiple}
 use Rattle.pblk_core.proofs.Filled.{drop-blocks_of}
-use Rattle.lemmas.proofs.Tests.{data_within}
+use Rattle.pblk_model.proofs.Tests.{data_within}
 use Rattle.pblk_model.proofs.BlocksLemmas.{length-blocks_of, take-blocks_of}
 
 -- the marks of any line have room where those of the widest have

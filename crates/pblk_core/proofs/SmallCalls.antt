@@ -30,10 +30,10 @@ use Rattle.core_laws.proofs.SyncedWindow.{numbered_above}
 use Rattle.pblk_core.specs.declared.collecting.Collection.{Collection}
 use Rattle.pblk_core.specs.declared.target_core.Core.{Core}
 use Rattle.pblk_core.specs.Stands.{Stands}
-use Rattle.lemmas.proofs.Lists.{all_imply}
-use Rattle.lemmas.proofs.Maps.{all_filter, filter_none}
-use Rattle.lemmas.proofs.Parts.{get_below}
-use Rattle.lemmas.proofs.Tests.{lt_true}
+use Rattle.pblk_model.proofs.Lists.{all_imply}
+use Rattle.pblk_model.proofs.Maps.{all_filter, filter_none}
+use Rattle.pblk_model.proofs.Parts.{get_below}
+use Rattle.pblk_model.proofs.Tests.{lt_true}
 use Rattle.pblk_model.proofs.MarksLemmas.{accepted_small}
 
 pub numbered_in : (i : Image) (w : World) → IsLegalMount i w → AreNumbered (log_of w 0)

@@ -22,7 +22,7 @@ use Rattle.core_laws.proofs.KeptByEvents.{IsKept, kept}
 use Rattle.core_laws.proofs.Followed.{follow}
 use Rattle.core_laws.proofs.PlainOpenings.{opened_lines}
 use Rattle.pblk_core.proofs.LineBits.{known_units, known_width}
-use Rattle.lemmas.proofs.Lists.{all_true}
+use Rattle.pblk_model.proofs.Lists.{all_true}
 use Rattle.pblk_model.proofs.AcceptedLemmas.{line_is_short}
 use Rattle.pblk_world.proofs.EngineLogLemmas.{takes_more}
 

@@ -33,7 +33,7 @@ use Rattle.pblk_core.specs.Stands.{IsStanding, Stands}
 use Rattle.core_laws.proofs.SpentBy.{is_spent, spent_by}
 use Rattle.core_laws.proofs.VictimsAtWork.{over_where_closed}
 use Rattle.pblk_core.proofs.StandsLemmas.{synced_stands}
-use Rattle.lemmas.proofs.Parts.{got_within}
+use Rattle.pblk_model.proofs.Parts.{got_within}
 
 -- ---- what took a sector from the line last
 

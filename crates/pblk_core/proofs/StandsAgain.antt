@@ -49,7 +49,7 @@ use Rattle.pblk_core.proofs.StandsOpened.{quiet_holds, quiet_freed}
 use Rattle.pblk_core.proofs.AnswerCounts.{counts_same}
 use Rattle.pblk_core.proofs.FullOpenings.{full_kept}
 use Rattle.pblk_core.proofs.SteadyLines.{open_lines_same, under_way_same}
-use Rattle.lemmas.proofs.Maps.{map_same}
+use Rattle.pblk_model.proofs.Maps.{map_same}
 
 -- ---- a program is under way again
 

@@ -42,8 +42,8 @@ use Rattle.pblk_core.proofs.AnswerCounts.{counts_none}
 use Rattle.pblk_core.proofs.FoundNotes.{found_shape, notes_begun, used_begun, used_same}
 use Rattle.pblk_core.specs.declared.target_core.Core.{Core}
 use Rattle.pblk_core.proofs.KeptResets.{flat_same}
-use Rattle.lemmas.proofs.Lists.{all_of}
-use Rattle.lemmas.proofs.Maps.{filter_none}
+use Rattle.pblk_model.proofs.Lists.{all_of}
+use Rattle.pblk_model.proofs.Maps.{filter_none}
 
 -- ---- lists
 

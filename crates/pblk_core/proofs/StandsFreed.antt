@@ -59,7 +59,7 @@ use Rattle.pblk_core.proofs.NotesSet.{notes_set}
 use Rattle.pblk_core.proofs.SpentTables.{closed_where_spent, freed_where_spent, its_row}
 use Rattle.pblk_core.proofs.StandsOpened.{quiet_freed, quiet_holds}
 use Rattle.pblk_core.proofs.SteadyLines.{open_lines_left, under_way_same}
-use Rattle.lemmas.proofs.Maps.{all_filter, map_same}
+use Rattle.pblk_model.proofs.Maps.{all_filter, map_same}
 
 -- what a core's fields are once it freed a line
 pub record IsFreedInto (old new : Core) (line : ℕ) : Type 0 where

@@ -58,8 +58,8 @@ use Rattle.pblk_core.proofs.AnsweredNotes.{notes_landed}
 use Rattle.pblk_core.proofs.LandedNotes.{note_answered}
 use Rattle.pblk_core.specs.declared.line_notes.LineNote.{LineNote}
 use Rattle.pblk_core.specs.LineNotes.{newest_landed}
-use Rattle.lemmas.proofs.Parts.{got_within}
-use Rattle.lemmas.proofs.Tests.{either_false}
+use Rattle.pblk_model.proofs.Parts.{got_within}
+use Rattle.pblk_model.proofs.Tests.{either_false}
 
 -- ---- the window keeps its front and its size
 
@@ -134,7 +134,8 @@ module _ (i : Image) (w : World) (unit event : ℕ) (knows : List ℕ) (old new 
     (mount : IsLegalMount i w) (st : Stands i (log_of w) old) (is : IsOnWay i w unit of)
     (waits : IsAwaited i (log_of w) old.placer.entries.pad st.again of) (may : MayLand (log_of w) unit event)
     (has : HasSlot i (log_of w) old.open is.row.opening)
-    (line : IsLineAnswered old.open mid new.open old.resets new.resets old.online.items of.line has.k has.slot 1 done) (into : IsLandedInto old new of done) where
+    (line : IsLineAnswered old.open mid new.open old.resets new.resets old.online.items of.line has.k has.slot 1 done)
+    (into : IsLandedInto old new of done) where
   abbrev new_logs : Logs
   new_logs = after (log_of w) (Landed unit event) knows
 

@@ -47,7 +47,7 @@ use Rattle.pblk_core.proofs.LandedWay.{IsOnWay, line_of_way, unit_is}
 use Rattle.pblk_core.proofs.LostBounds.{less_is}
 use Rattle.pblk_core.proofs.LostHolds.{holds_lost, lines_lowered_are}
 use Rattle.pblk_core.proofs.NotedEntries.{AreEntriesOf, entries_of_way}
-use Rattle.lemmas.proofs.Parts.{got_within}
+use Rattle.pblk_model.proofs.Parts.{got_within}
 
 -- ---- entries that wait again
 
@@ -79,7 +79,8 @@ module _ (i : Image) (w : World) (unit event : ℕ) (knows : List ℕ) (old new 
     (waits : IsAwaited i (log_of w) old.placer.entries.pad st.again of) (may : MayLose (log_of w) unit event)
     (kept_is : kept ≡ may.landed_before * i.shape.ws_min)
     (has : HasSlot i (log_of w) old.open is.row.opening)
-    (line : IsLineAnswered old.open mid new.open old.resets new.resets old.online.items of.line has.k has.slot ((i.shape.clba - of.block) / i.shape.ws_opt) done)
+    (line : IsLineAnswered old.open mid new.open old.resets new.resets old.online.items of.line has.k has.slot
+    ((i.shape.clba - of.block) / i.shape.ws_opt) done)
     (into : IsLostInto old new of kept has.slot done) where
   abbrev new_logs : Logs
   new_logs = after (log_of w) (Lost unit event) knows

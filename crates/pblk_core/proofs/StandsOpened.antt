@@ -73,7 +73,7 @@ use Rattle.pblk_core.proofs.NotesKept.{quiet_used}
 use Rattle.pblk_core.proofs.NotesSet.{notes_opened, set_at}
 use Rattle.pblk_core.specs.Resets.{resets_left}
 use Rattle.std.proofs.lemmas.Bool.{eqb-true}
-use Rattle.lemmas.proofs.Maps.{filter_none, map_same}
+use Rattle.pblk_model.proofs.Maps.{filter_none, map_same}
 
 -- ---- entries and their rows
 

@@ -85,10 +85,10 @@ use Rattle.pblk_core.proofs.WaitingEntries.{IsWaiting, waiting_at}
 use Rattle.pblk_core.proofs.FoundLines.{older_kept}
 use Rattle.pblk_core.proofs.KeptResets.{resets_quiet, fits_same}
 use Rattle.pblk_core.specs.Resets.{resets_left}
-use Rattle.lemmas.proofs.Lists.{IsAmong}
-use Rattle.lemmas.proofs.Maps.{all_filter, found_passes, from_filter, map_same}
-use Rattle.lemmas.proofs.Parts.{all_at, all_by_get, get_whole}
-use Rattle.lemmas.proofs.Tests.{both, le_true, not_both, not_true, other_number, same_number}
+use Rattle.pblk_model.proofs.Lists.{IsAmong}
+use Rattle.pblk_model.proofs.Maps.{all_filter, found_passes, from_filter, map_same}
+use Rattle.pblk_model.proofs.Parts.{all_at, all_by_get, get_whole}
+use Rattle.pblk_model.proofs.Tests.{both, le_true, not_both, not_true, other_number, same_number}
 use Rattle.pblk_world.proofs.EngineLogLemmas.{takes_more}
 
 -- ---- by the kind of a stripe

@@ -59,8 +59,8 @@ use Rattle.pblk_core.proofs.FullOpenings.{full_kept}
 use Rattle.pblk_core.proofs.NotesKept.{quiet_notes}
 use Rattle.core_laws.proofs.VictimsAtWork.{over_where_closed}
 use Rattle.pblk_core.proofs.SteadyLines.{open_lines_same, under_way_same}
-use Rattle.lemmas.proofs.Maps.{map_same}
-use Rattle.lemmas.proofs.Tests.{not_both, other_number}
+use Rattle.pblk_model.proofs.Maps.{map_same}
+use Rattle.pblk_model.proofs.Tests.{not_both, other_number}
 
 -- what a core's fields are once it noted the reset of a chunk, which has this state
 pub record IsResetInto (old new : Core) (line unit : ℕ) (state : ChunkState) : Type 0 where

@@ -27,7 +27,7 @@ use Rattle.core_laws.proofs.LatestNamed.{latest_is_named}
 use Rattle.core_laws.proofs.LatestSources.{stale_source}
 use Rattle.core_laws.proofs.TakenRows.{rows_void}
 use Rattle.core_laws.proofs.TakenSlots.{slot_taken}
-use Rattle.lemmas.proofs.Tests.{and_both, not_both, other_number}
+use Rattle.pblk_model.proofs.Tests.{and_both, not_both, other_number}
 use Rattle.pblk_core.specs.Stands.{Stands}
 use Rattle.pblk_core.specs.Taking.{CanTake}
 use Rattle.pblk_core.specs.Taken.{IsClassed, entry_of, is_latest_from, is_latest_in, is_source}

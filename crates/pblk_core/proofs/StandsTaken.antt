@@ -85,8 +85,8 @@ use Rattle.pblk_core.proofs.FoundLines.{older_kept}
 use Rattle.pblk_core.proofs.KeptResets.{resets_quiet, fits_same}
 use Rattle.pblk_core.proofs.NotesKept.{quiet_notes, quiet_used}
 use Rattle.pblk_core.specs.Resets.{resets_left}
-use Rattle.lemmas.proofs.Maps.{map_same, row_at}
-use Rattle.lemmas.proofs.Tests.{both, other_key, same_key}
+use Rattle.pblk_model.proofs.Maps.{map_same, row_at}
+use Rattle.pblk_model.proofs.Tests.{both, other_key, same_key}
 use Rattle.pblk_model.proofs.MarksLemmas.{accepted_small}
 use Rattle.pblk_world.proofs.EngineLogLemmas.{takes_more}
 

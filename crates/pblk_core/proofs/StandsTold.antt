@@ -37,7 +37,7 @@ use Rattle.pblk_core.specs.declared.open_lines.OpenLine.{OpenLine}
 use Rattle.pblk_core.specs.declared.open_lines.OpenLines.{OpenLines}
 use Rattle.pblk_core.specs.declared.target_core.Core.{Core}
 use Rattle.pblk_core.proofs.NotesKept.{notes_kept, used_kept}
-use Rattle.lemmas.proofs.Maps.{map_same}
+use Rattle.pblk_model.proofs.Maps.{map_same}
 
 module _ (i : Image) (a b : Logs) (h : AreSameTold i a b) where
   its_known : AreKnown i a b

@@ -17,7 +17,7 @@ use Rattle.pblk_world.specs.LegalMounts.{IsLegalMount}
 use Rattle.core_laws.proofs.Placeable.{kind_in}
 use Rattle.pblk_core.proofs.LandedWay.{IsOnWay}
 use Rattle.pblk_core.proofs.StoppedStripe.{kind_in_line, number_is_place, pad_then}
-use Rattle.lemmas.proofs.Tests.{and_refused, and_true}
+use Rattle.pblk_model.proofs.Tests.{and_refused, and_true}
 
 first_kind : (k c d : ℕ) (kind : StripeKind) (start : Bool) → kind_in k c d ≡ kind → IsTrue start ↔ (kind ≡ kinds.Start) → start ≡ nat_lt k c
 unfolding kind_in

@@ -20,7 +20,7 @@ use Rattle.pblk_core.specs.declared.open_lines.OpenLine.{OpenLine}
 use Rattle.pblk_core.specs.declared.open_lines.OpenLines.{OpenLines}
 use Rattle.pblk_core.specs.LineRecords.{AreRecordsOf, RecordsView}
 use Rattle.pblk_core.specs.Stands.{left_openings, stripes_left, under_way, IsOpenLine, AreOpenLines}
-use Rattle.lemmas.proofs.Maps.{filter_agree}
+use Rattle.pblk_model.proofs.Maps.{filter_agree}
 use Rattle.pblk_core.proofs.WholeMarks.{records_kept}
 
 pub stripes_same : (old new : List Logged) → AreAlike old new → (o : Opening) → stripes_of new o ≡ stripes_of old o

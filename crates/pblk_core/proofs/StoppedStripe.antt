@@ -56,11 +56,11 @@ use Rattle.pblk_core.proofs.PlacingConditions.{end_kept, padded_to_stripe, start
 use Rattle.pblk_core.proofs.WaitingEntries.{blocks_are, numbered_at, row_of_entry, sector_there}
 use Rattle.pblk_core.proofs.LineUnits.{now_units, opened_earlier, same_live}
 use Rattle.pblk_core.proofs.PlacedStripe.{IsInPart, in_part}
-use Rattle.lemmas.proofs.Lists.{IsAmong, all_front}
-use Rattle.lemmas.proofs.Maps.{from_filter, get_mapped}
-use Rattle.lemmas.proofs.Parts.{all_at, all_by_get, contained_among, get_more, get_whole, take_and_drop}
+use Rattle.pblk_model.proofs.Lists.{IsAmong, all_front}
+use Rattle.pblk_model.proofs.Maps.{from_filter, get_mapped}
+use Rattle.pblk_model.proofs.Parts.{all_at, all_by_get, contained_among, get_more, get_whole, take_and_drop}
 use Rattle.pblk_core.proofs.WholeMarks.{marks_counted, marks_were}
-use Rattle.lemmas.proofs.Tests.{no_both}
+use Rattle.pblk_model.proofs.Tests.{no_both}
 
 pad_part : (k c d : ℕ) → IsPart k c d kinds.Pad → ⊥
 unfolding IsPart

@@ -16,7 +16,7 @@ use Rattle.stripe_placer.specs.Placing.UnitRow.{Idle, UnderWay}
 use Rattle.pblk_world.specs.LegalMounts.{IsLegalMount}
 use Rattle.core_laws.specs.ClosedLines.{closed_line}
 use Rattle.core_laws.proofs.ClosedLanded.{waiting_unclosed}
-use Rattle.lemmas.proofs.Parts.{get_set_other, get_set_same}
+use Rattle.pblk_model.proofs.Parts.{get_set_other, get_set_same}
 use Rattle.pblk_core.specs.Answering.{IsLineOf, IsPlaceOn}
 use Rattle.pblk_core.specs.Collecting.{HasEachLine}
 use Rattle.pblk_core.specs.Readable.{ReadBlock, all_moved}

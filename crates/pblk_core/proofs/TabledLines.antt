@@ -10,7 +10,7 @@ use Rattle.line_table.specs.Rows.{Table}
 use Rattle.core_laws.specs.OpenedLines.{online_now}
 use Rattle.core_laws.specs.RowsOf.{row_of_line}
 use Rattle.core_laws.proofs.VictimsAtWork.{victim_is_closed}
-use Rattle.lemmas.proofs.Maps.{length_mapped, row_at}
+use Rattle.pblk_model.proofs.Maps.{length_mapped, row_at}
 use Rattle.pblk_core.specs.declared.collecting.Collection.{Collection}
 use Rattle.pblk_core.specs.declared.target_core.Core.{Core}
 use Rattle.pblk_core.specs.Collecting.{HasEachLine, IsCollecting, IsTabled}

@@ -40,10 +40,10 @@ use Rattle.pblk_core.specs.declared.hold.Holds.{Holds}
 use Rattle.pblk_core.specs.Holds.{hold_of, row_at, taker_in, with_taker, rows_with_taker}
 use Rattle.pblk_core.specs.Stands.{AreHolds}
 use Rattle.pblk_core.proofs.HoldRows.{taker_length}
-use Rattle.lemmas.proofs.Lists.{all_imply}
-use Rattle.lemmas.proofs.Maps.{find_none}
-use Rattle.lemmas.proofs.Parts.{get_set_other, get_set_same, is_in}
-use Rattle.lemmas.proofs.Tests.{both as both_true, lt_true, not_both, not_first, other_number, same_number}
+use Rattle.pblk_model.proofs.Lists.{all_imply}
+use Rattle.pblk_model.proofs.Maps.{find_none}
+use Rattle.pblk_model.proofs.Parts.{get_set_other, get_set_same, is_in}
+use Rattle.pblk_model.proofs.Tests.{both as both_true, lt_true, not_both, not_first, other_number, same_number}
 use Rattle.pblk_world.proofs.EngineLogLemmas.{takes_more}
 
 -- ---- numbers

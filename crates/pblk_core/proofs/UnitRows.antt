@@ -5,7 +5,7 @@ use Rattle.std.specs.Option.{option_map_or}
 use Rattle.pblk_model.specs.Shape.{units}
 use Rattle.stripe_placer.specs.Placing.{Placing, Program, UnitRow, is_stopped, placed, placed_again, placed_first, with_row}
 use Rattle.stripe_placer.specs.Placing.UnitRow.{Idle, UnderWay}
-use Rattle.lemmas.proofs.Parts.{get_set_other}
+use Rattle.pblk_model.proofs.Parts.{get_set_other}
 use Rattle.pblk_core.specs.Landing.{NoneUnderWay}
 use Rattle.pblk_core.specs.Made.{IsMadeOn}
 use Rattle.pblk_core.specs.declared.target_core.Core.{Core}

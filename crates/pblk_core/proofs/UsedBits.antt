@@ -6,8 +6,8 @@ use Rattle.std.proofs.Math.Nat.{pow-suc}
 use Rattle.std.proofs.lemmas.Bool.{cases_lt}
 use Rattle.std.proofs.lemmas.Nat.Bits.{bit_at-suc, bit_at-trailing_zeros, bit_at-zero, bit_at_above, bit_at_lowest}
 use Rattle.std.proofs.lemmas.Option.{none-some, same_Some}
-use Rattle.lemmas.proofs.Lists.{nil_cons}
-use Rattle.lemmas.proofs.Maps.{none_kept}
+use Rattle.pblk_model.proofs.Lists.{nil_cons}
+use Rattle.pblk_model.proofs.Maps.{none_kept}
 use Rattle.pblk_layout.specs.Online.{is_in, units_below, units_in}
 use Rattle.pblk_layout.proofs.Sets.{bit_one, rank_is}
 use Rattle.pblk_core.proofs.FirstReset.{IsFirstPassed, first_passed}

@@ -37,8 +37,8 @@ use Rattle.pblk_core.specs.Stands.{Stands}
 use Rattle.pblk_core.specs.declared.target_core.Core.{Core}
 use Rattle.pblk_core.specs.declared.hold.Hold.{Hold}
 use Rattle.core_laws.proofs.WindowOfLemmas.{bytes_without}
-use Rattle.lemmas.proofs.Lists.{all_append}
-use Rattle.lemmas.proofs.Parts.{all_at, all_by_get, get_dropped, get_more, get_whole, is_in}
+use Rattle.pblk_model.proofs.Lists.{all_append}
+use Rattle.pblk_model.proofs.Parts.{all_at, all_by_get, get_dropped, get_more, get_whole, is_in}
 use Rattle.pblk_world.proofs.EngineLogLemmas.{takes_more}
 
 -- ---- lists

@@ -21,9 +21,9 @@ use Rattle.core_laws.specs.RowsOf.{row_of_line}
 use Rattle.core_laws.proofs.CandidateLines.{candidate_by_row}
 use Rattle.core_laws.proofs.ChosenVictims.{is_less, is_next_victim, less_is, none_is_next}
 use Rattle.core_laws.proofs.PlacedLines.{get_row as row_there}
-use Rattle.lemmas.proofs.Options.{map_some, none_of_map}
-use Rattle.lemmas.proofs.Parts.{get_below, get_past, got_within}
-use Rattle.lemmas.proofs.Tests.{and_refused, not_before, other_number}
+use Rattle.pblk_model.proofs.Options.{map_some, none_of_map}
+use Rattle.pblk_model.proofs.Parts.{get_below, get_past, got_within}
+use Rattle.pblk_model.proofs.Tests.{and_refused, not_before, other_number}
 use Rattle.line_table.specs.declared.row.Row.{Row}
 use Rattle.pblk_core.specs.declared.line_notes.LineNote.{LineNote}
 use Rattle.pblk_core.specs.declared.line_notes.StartNote.{StartNote}

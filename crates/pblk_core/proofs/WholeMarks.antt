@@ -18,18 +18,14 @@ use Rattle.pblk_world.specs.World.{World, log_of}
 use Rattle.pblk_world.specs.LegalMounts.{IsLegalMount}
 use Rattle.world_laws.proofs.EndRecords.{part_of_front}
 use Rattle.world_laws.proofs.HeldSectors.{all_pass}
-use Rattle.world_laws.proofs.LineStripes.{IsSplit, stripes_split}
-use Rattle.core_laws.proofs.Engine.{placements_before}
+use Rattle.world_laws.proofs.LineStripes.{IsSplit, stripes_before, stripes_split}
 use Rattle.core_laws.proofs.Placing.{new_placed, stripes_now, with_place}
 use Rattle.core_laws.proofs.StripeBlocks.{have_blocks, length_joined}
 use Rattle.core_laws.proofs.StripesInOrder.{whole_then}
-use Rattle.lemmas.proofs.Lists.{all_front, all_imply}
-use Rattle.lemmas.proofs.Maps.{all_filter, filter_agree}
-use Rattle.lemmas.proofs.Tests.{same_number}
+use Rattle.pblk_model.proofs.Lists.{all_front, all_imply}
+use Rattle.pblk_model.proofs.Maps.{all_filter, filter_agree}
+use Rattle.pblk_model.proofs.Tests.{same_number}
 use Rattle.pblk_core.specs.LineRecords.{AreRecordsOf, AreOf, RecordsView, placed_whole, whole_marks}
-
-stripes_before : (log : List Logged) (o : Opening) → AllByRecursion (λ (p : Placed). p.number < length log) (stripes_of log o)
-stripes_before log o = all_filter (λ (p : Placed). p.number < length log) (λ (p : Placed). is_life o.number p.life) (placements log) (placements_before log)
 
 -- those of a longer log that were placed before
 pub whole_first : (log : List Logged) (l : Logged) (o : Opening)

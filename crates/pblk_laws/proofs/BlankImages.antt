@@ -15,9 +15,9 @@ use Rattle.pblk_model.specs.Records.{Record, records_after, line_records, record
 use Rattle.pblk_model.specs.Contents.{later_start, head, end_after, end, counted_after, counted, winner, sector_of, contents}
 use Rattle.pblk_model.proofs.LeastLengths.{start_len_positive}
 use Rattle.pblk_laws.proofs.Runs.{start_none}
-use Rattle.lemmas.proofs.Lists.{all_replicated}
-use Rattle.lemmas.proofs.Maps.{all_filter, all_filter_map, filter_map_none, flat_map_nil, map_constant}
-use Rattle.lemmas.proofs.Parts.{all_get_some}
+use Rattle.pblk_model.proofs.Lists.{all_replicated}
+use Rattle.pblk_model.proofs.Maps.{all_filter, all_filter_map, filter_map_none, flat_map_nil, map_constant}
+use Rattle.pblk_model.proofs.Parts.{all_get_some}
 use Rattle.pblk_model.proofs.ChunkLemmas.{free_is_chunk}
 
 unfoldable pub IsEmpty : Chunk → Type 0

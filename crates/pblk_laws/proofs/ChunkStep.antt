@@ -12,8 +12,8 @@ use Rattle.pblk_model.specs.declared.chunk.ChunkErr.{ChunkErr}
 use Rattle.pblk_model.specs.declared.chunk.ChunkErr.TheVariants as errors
 use Rattle.pblk_model.specs.Chunk.{Chunk, Block, IsBlock, IsChunk, PointerFits, pointer, free_chunk, offline_chunk}
 use Rattle.pblk_model.specs.ChunkStep.{ChunkCommand, Write, Read, Reset, WritesBlocks, ChunkAnswer, Done, Gave, Empty, Refused, ChunkStep, ChunkFails, ChunkStops, place_refusal, write_refusal_in, appended, StopsWithin, refusal, closed_after, reset_in, after_reset}
-use Rattle.lemmas.proofs.Lists.{all_append}
-use Rattle.lemmas.proofs.Parts.{all_taken}
+use Rattle.pblk_model.proofs.Lists.{all_append}
+use Rattle.pblk_model.proofs.Parts.{all_taken}
 use Rattle.pblk_model.proofs.ChunkLemmas.{free_is_chunk}
 
 -- Refusals.

@@ -20,9 +20,9 @@ use Rattle.pblk_laws.specs.EndBlocks.{FitsBytes, IsEndRecord, IsEndOf, AreEnd}
 use Rattle.pblk_model.proofs.LeastLengths.{end_len_least, sector_at_least}
 use Rattle.pblk_laws.proofs.Runs.{run_some, run_is}
 use Rattle.pblk_laws.proofs.Starts.{marked, marks_of, padded_length, AreBytes, two, four, eight, some_zeros, ◌then◌}
-use Rattle.lemmas.proofs.Lists.{all_append}
-use Rattle.lemmas.proofs.Numbers.{byte_is}
-use Rattle.lemmas.proofs.Tests.{data_within}
+use Rattle.pblk_model.proofs.Lists.{all_append}
+use Rattle.pblk_model.proofs.Numbers.{byte_is}
+use Rattle.pblk_model.proofs.Tests.{data_within}
 use Rattle.pblk_model.proofs.EndRecordLemmas.{length-pairs_in, pairs_length}
 
 -- What stands at the fields' places.

@@ -6,7 +6,7 @@ use Rattle.pblk_model.specs.Image.{Image}
 use Rattle.pblk_model.specs.StartRecord.{StartRecord}
 use Rattle.pblk_model.specs.Records.{Record, records}
 use Rattle.pblk_model.specs.Contents.{head, Bears, is_borne, least_missing, IsEnd, end_after, end}
-use Rattle.lemmas.proofs.Lists.{contains_cases, contains_first, contains_more, contains_none}
+use Rattle.pblk_model.proofs.Lists.{contains_cases, contains_first, contains_more, contains_none}
 
 -- The least position that isn't borne.
 

@@ -21,7 +21,7 @@ use Rattle.pblk_laws.proofs.MarkNames.{named_sector, named_meta, named_pad}
 use Rattle.pblk_laws.proofs.Runs.{run_none}
 use Rattle.pblk_laws.proofs.Starts.{numbers, found_is}
 use Rattle.pblk_laws.proofs.FilledLists.{range_split, filter_map_range_none, filter_map_first, flat_map_first, record_of, records_of, records_length, records_by_place, missing_after, each_borne, each_counts, winner_is_last, after_length}
-use Rattle.lemmas.proofs.Parts.{all_get}
+use Rattle.pblk_model.proofs.Parts.{all_get}
 
 -- an end record breaks off at a block that isn't written
 pub end_none : (i : Image) (line : ℕ) (start : StartRecord) (a : ℕ) → width i line * i.shape.clba - end_len i.shape (width i line) ≤ a

@@ -19,9 +19,9 @@ use Rattle.pblk_laws.proofs.BlankImages.{IsEmpty, no_block}
 use Rattle.pblk_laws.proofs.Runs.{start_none}
 use Rattle.pblk_laws.proofs.Starts.{fields_fit, read_back, marked, found, start_bytes_length, start_bytes_are}
 use Rattle.pblk_laws.proofs.Filled.{end_none}
-use Rattle.lemmas.proofs.Lists.{all_replicated}
-use Rattle.lemmas.proofs.Maps.{all_filter, all_filter_map}
-use Rattle.lemmas.proofs.Parts.{all_dropped, all_get_some, all_taken}
+use Rattle.pblk_model.proofs.Lists.{all_replicated}
+use Rattle.pblk_model.proofs.Maps.{all_filter, all_filter_map}
+use Rattle.pblk_model.proofs.Parts.{all_dropped, all_get_some, all_taken}
 use Rattle.pblk_model.proofs.ChunkLemmas.{free_is_chunk}
 
 -- The start record and the sectors that spell it.

@@ -10,7 +10,7 @@ use Rattle.pblk_model.specs.Bytes.{le64, number_at}
 use Rattle.pblk_model.specs.Chunk.{Block, IsBlock}
 use Rattle.pblk_model.specs.ImageFile.{block_bytes}
 use Rattle.pblk_laws.proofs.EndSpelling.{eight_below}
-use Rattle.lemmas.proofs.Parts.{all_dropped, all_taken, joined}
+use Rattle.pblk_model.proofs.Parts.{all_dropped, all_taken, joined}
 
 abbrev pub AreBytes : List ℕ → Type 0
 AreBytes b = AllByRecursion (λ x. x < 256) b

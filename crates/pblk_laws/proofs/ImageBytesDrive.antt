@@ -17,9 +17,9 @@ use Rattle.pblk_model.specs.ImageFile.{StoredChunk, Drive, IsImage, IsImageOf, b
 use Rattle.pblk_model.specs.Shape.{units}
 use Rattle.pblk_laws.proofs.ImageBytesBlocks.{AreBytes, Spans, all_of_range, blocks_are, blocks_back, blocks_count, blocks_in, get_of_range, spans_range}
 use Rattle.pblk_laws.proofs.ImageBytesHeld.{IsTaken, row_is, state_of, taken_of}
-use Rattle.lemmas.proofs.Lists.{all_weaker}
-use Rattle.lemmas.proofs.Maps.{all_mapped, sum_more}
-use Rattle.lemmas.proofs.Parts.{all_dropped}
+use Rattle.pblk_model.proofs.Lists.{all_weaker}
+use Rattle.pblk_model.proofs.Maps.{all_mapped, sum_more}
+use Rattle.pblk_model.proofs.Parts.{all_dropped}
 
 -- The drive.
 

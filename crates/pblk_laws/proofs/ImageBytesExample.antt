@@ -10,7 +10,7 @@ use Rattle.pblk_model.specs.Image.{IsFit}
 use Rattle.pblk_model.specs.ImageFile.{StoredChunk, Drive, shape_of, image_of, blocks_bytes}
 use Rattle.pblk_laws.specs.GeometryFields.{FitsFields}
 use Rattle.pblk_laws.proofs.Shapes.{small, small_accepted}
-use Rattle.lemmas.proofs.Lists.{all_replicated}
+use Rattle.pblk_model.proofs.Lists.{all_replicated}
 
 abbrev pub geometry : Geometry
 geometry = record {

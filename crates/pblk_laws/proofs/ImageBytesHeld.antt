@@ -20,9 +20,9 @@ use Rattle.pblk_model.specs.Geometry.{Geometry, geometry_refusal, packed}
 use Rattle.pblk_model.specs.ImageFile.{blocks_end, chunk_checks, chunk_refusal, chunks_at, descriptor_at, descriptors_end, first_address, geometry_at, image_refusal, image_refusals, shape_at}
 use Rattle.pblk_model.specs.LineOrder.{data_len}
 use Rattle.pblk_model.specs.Shape.{units}
-use Rattle.lemmas.proofs.Options.{none_of_map}
-use Rattle.lemmas.proofs.Parts.{slice_length}
-use Rattle.lemmas.proofs.Tests.{below_of}
+use Rattle.pblk_model.proofs.Options.{none_of_map}
+use Rattle.pblk_model.proofs.Parts.{slice_length}
+use Rattle.pblk_model.proofs.Tests.{below_of}
 use Rattle.pblk_model.proofs.AcceptedLemmas.{ring_power_is}
 use Rattle.pblk_model.proofs.ChecksLemmas.{kept_of, none_each, none_fails}
 use Rattle.pblk_model.proofs.DescriptorLemmas.{pointer_fits, reads}

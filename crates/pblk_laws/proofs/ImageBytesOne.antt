@@ -13,7 +13,7 @@ use Rattle.pblk_model.specs.Geometry.{Geometry}
 use Rattle.pblk_model.specs.ImageFile.{StoredChunk, Drive, IsImage, image_of, shape_of, descriptor_of, block_bytes, blocks_bytes}
 use Rattle.pblk_laws.proofs.ImageBytesPieces.{cut, Paired, paired_from, cut_flat}
 use Rattle.pblk_laws.proofs.ImageBytesRead.{HasUnits, units_of, chunk_is}
-use Rattle.lemmas.proofs.Parts.{all_get}
+use Rattle.pblk_model.proofs.Parts.{all_get}
 
 le64_same : (m n : ℕ) → m < 2 ^ 64 → n < 2 ^ 64 → le64 m ≡ le64 n → m ≡ n
 le64_same m n h k e = sym (from_le_bytes-to_le_bytes_8 m h) ∙ (ap (number_at w64 0) e ∙ from_le_bytes-to_le_bytes_8 n k)

@@ -19,10 +19,10 @@ use Rattle.pblk_model.specs.ImageFile.{StoredChunk, Drive, shape_of, image_of, i
 use Rattle.pblk_laws.specs.GeometryFields.{FitsFields}
 use Rattle.pblk_laws.proofs.ImageBytes.{geometry_length, descriptor_back}
 use Rattle.pblk_laws.proofs.ImageBytesPieces.{Piece, all_unmap, piece_in_piece, slice_of, slice_of_piece, piece_of_flat}
-use Rattle.lemmas.proofs.Lists.{all_everywhere, all_weaker}
-use Rattle.lemmas.proofs.Maps.{all_enumerate, enumerate_get, flat_length}
-use Rattle.lemmas.proofs.Numbers.{joined_below}
-use Rattle.lemmas.proofs.Parts.{all_get}
+use Rattle.pblk_model.proofs.Lists.{all_everywhere, all_weaker}
+use Rattle.pblk_model.proofs.Maps.{all_enumerate, enumerate_get, flat_length}
+use Rattle.pblk_model.proofs.Numbers.{joined_below}
+use Rattle.pblk_model.proofs.Parts.{all_get}
 use Rattle.pblk_model.proofs.ChecksLemmas.{none_fails}
 use Rattle.pblk_model.proofs.ChunkLemmas.{pointer_within}
 use Rattle.pblk_model.proofs.DescriptorLemmas.{descriptor_length}

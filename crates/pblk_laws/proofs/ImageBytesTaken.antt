@@ -24,8 +24,8 @@ use Rattle.pblk_laws.proofs.ImageBytes.{geometry_in_back, geometry_length}
 use Rattle.pblk_laws.proofs.ImageBytesFlat.{IsFlatAt, all_flat, flat, flat_at, flat_of_flat, length_of_flat, sum_of_range}
 use Rattle.pblk_laws.proofs.ImageBytesPieces.{Piece, piece_in_piece, slice_of, slice_of_piece}
 use Rattle.pblk_laws.proofs.ImageBytesRead.{HasUnits, chunk_is, descriptor_read, descriptor_stands, descriptors_length, packs_below, pointer_from, second_part, third_part, units_of}
-use Rattle.lemmas.proofs.Lists.{all_weaker}
-use Rattle.lemmas.proofs.Maps.{flat_length, length_of_sum}
+use Rattle.pblk_model.proofs.Lists.{all_weaker}
+use Rattle.pblk_model.proofs.Maps.{flat_length, length_of_sum}
 use Rattle.pblk_model.proofs.AcceptedLemmas.{settings_pass}
 use Rattle.pblk_model.proofs.ChecksLemmas.{passes}
 use Rattle.pblk_model.proofs.ChunkLemmas.{pointer_within}

@@ -3,7 +3,7 @@ use Rattle.std.proofs.Common.{List, None, Option, Some, ap, refl, ℕ, ◌-◌, 
 use Rattle.std.proofs.lemmas.Option.{none-some, same_Some}
 use Rattle.std.specs.List.{AllByRecursion, slice_get}
 use Rattle.std.specs.Option.{option_and_then, option_map}
-use Rattle.lemmas.proofs.Parts.{all_get}
+use Rattle.pblk_model.proofs.Parts.{all_get}
 use Rattle.pblk_laws.specs.LineBlocks.{chunk_in, written_at}
 use Rattle.pblk_model.specs.Chunk.{Chunk, IsChunk}
 use Rattle.pblk_model.specs.Image.{Image, IsFit}

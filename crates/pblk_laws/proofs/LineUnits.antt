@@ -13,8 +13,8 @@ use Rattle.pblk_model.specs.LineOrder.{line_order, column_of, block_of}
 use Rattle.pblk_model.specs.Image.{Image, IsFit, is_online_in, line_chunks, line_units, width, block_at}
 use Rattle.pblk_laws.specs.LineBlocks.{chunk_in, written_at}
 use Rattle.pblk_model.proofs.OrderedBlocks.{order_block, order_length}
-use Rattle.lemmas.proofs.Maps.{all_filter, all_filter_map}
-use Rattle.lemmas.proofs.Parts.{all_get_some, get_past, none_past}
+use Rattle.pblk_model.proofs.Maps.{all_filter, all_filter_map}
+use Rattle.pblk_model.proofs.Parts.{all_get_some, get_past, none_past}
 use Rattle.pblk_laws.proofs.LineBlocksLemmas.{from_chunk}
 use Rattle.pblk_model.proofs.ChunkLemmas.{map_cond, pointer_within}
 

@@ -10,7 +10,7 @@ use Rattle.pblk_laws.proofs.TextCuts.{same_decimal}
 use Rattle.pblk_laws.proofs.TextLines.{RowFits, same_history, same_kept}
 use Rattle.pblk_laws.proofs.Fields.{IsPlainRow, Row, row_text, same_rows, no_number}
 use Rattle.pblk_laws.proofs.OutcomeRows.{WordFits, OutcomeFits, OpeningFits, ClosingFits, AreShort, outcome_rows, thread_rows, threads_rows, opening_rows, closing_rows, kept_rows, last_rows, rows_text, plain_threads, plain_last}
-use Rattle.lemmas.proofs.Lists.{all_append}
+use Rattle.pblk_model.proofs.Lists.{all_append}
 
 -- The line is of a command of a thread.
 

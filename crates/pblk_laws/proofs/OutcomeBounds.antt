@@ -18,8 +18,8 @@ use Rattle.pblk_model.specs.Transcript.{Moment, now, Allowed, Ran, IsClosing, Is
 use Rattle.pblk_laws.proofs.RunBounds.{history_fits, history_short, kept_fits}
 use Rattle.pblk_laws.proofs.OutcomeRows.{WordFits, OutcomeFits, OpeningFits, ClosingFits, AreShort}
 use Rattle.pblk_laws.proofs.OneTranscript.{TextFits}
-use Rattle.lemmas.proofs.Lists.{all_front}
-use Rattle.lemmas.proofs.Parts.{all_by_get, all_get}
+use Rattle.pblk_model.proofs.Lists.{all_front}
+use Rattle.pblk_model.proofs.Parts.{all_by_get, all_get}
 use Rattle.pblk_model.proofs.BytesLemmas.{tag_below}
 
 -- The tag of a sector has 64 bits.

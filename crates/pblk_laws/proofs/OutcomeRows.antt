@@ -7,7 +7,7 @@ use Rattle.std.proofs.lemmas.List.Folds.{flat_map-map}
 use Rattle.std.proofs.lemmas.Grind.{flat_map-append}
 use Rattle.pblk_model.specs.Text.{Word, Tag, Mixed, Outcome, Silent, Words, Flushed, Drive, Worn, Closing, Closed, ClosedByDrive, ClosedWorn, Transcript, word_text, outcome_line, thread_text, opening_line, closing_line, kept_line}
 use Rattle.pblk_laws.proofs.Fields.{IsPlain, spaced_out, Row, row_text, IsPlainRow, plain_decimal}
-use Rattle.lemmas.proofs.Lists.{all_append}
+use Rattle.pblk_model.proofs.Lists.{all_append}
 
 -- How large the numbers of an outcome are.
 

@@ -10,8 +10,8 @@ use Rattle.pblk_model.specs.StartRecord.{StartRecord, start_of}
 use Rattle.pblk_model.specs.EndRecord.{EndRecord, end_of}
 use Rattle.pblk_model.specs.Records.{Record, named, mark_at, bears, record_at, records_after, line_records, records}
 use Rattle.pblk_model.specs.Contents.{head, end_after, counts, counted_after, counted}
-use Rattle.lemmas.proofs.Lists.{all_contains, all_everywhere}
-use Rattle.lemmas.proofs.Maps.{all_filter, all_filter_map, all_flat_map}
+use Rattle.pblk_model.proofs.Lists.{all_contains, all_everywhere}
+use Rattle.pblk_model.proofs.Maps.{all_filter, all_filter_map, all_flat_map}
 
 -- the record's line and address
 IsOfPlace : ℕ → ℕ → Record → Type 0

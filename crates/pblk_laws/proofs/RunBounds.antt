@@ -14,8 +14,8 @@ use Rattle.pblk_model.specs.Script.{CommandFits, ScriptFits}
 use Rattle.pblk_model.specs.Text.{Outcome, Silent, Words, Flushed, Drive, Worn, Transcript}
 use Rattle.pblk_model.specs.Transcript.{PlacedWrite, rows_of, placed_write, placed_by, IsTranscript}
 use Rattle.pblk_laws.proofs.TextLines.{RowFits, row_of}
-use Rattle.lemmas.proofs.Lists.{all_append}
-use Rattle.lemmas.proofs.Maps.{longer_option}
+use Rattle.pblk_model.proofs.Lists.{all_append}
+use Rattle.pblk_model.proofs.Maps.{longer_option}
 
 -- a write of a script
 record WriteFits (w : PlacedWrite) : Type 0 where

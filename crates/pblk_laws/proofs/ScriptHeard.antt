@@ -16,7 +16,7 @@ use Rattle.pblk_model.specs.Script.{CommandFits, ScriptFits, IsName, IsNameByte,
 use Rattle.pblk_model.specs.ScriptText.{Said, Thread, Commands, Heard, Line, saids, said_in, said_line, placed, line_number, heard_after, then_heard, spoken, threads_of, script_of, threads_in, commands_in, posts, awaits_unposted, unposted, stuck_at, posts_refusal, form_holds, limit_holds, range_holds, count_holds, count_of, name_of, is_name_byte, IsScript}
 use Rattle.pblk_laws.proofs.ScriptSpelling.{Spells, said_is_spelled, spelled_is_said}
 use Rattle.pblk_laws.proofs.ScriptSaids.{leading_said, threads_said, script_is, saids_of, script_said, BeginsSaid, said_is, begins_of, lines_said, threads_in-append, commands_in-append, threads_counted, commands_counted, all-push, all-later, threads_all, all_threads, posts_is, post_at, post_threads, Once, once-push, once-before, OnceAt, once_at, once_said, unposted_all, all_unposted, no_leading}
-use Rattle.lemmas.proofs.Tests.{both as both_hold, le_true, not_true, within_is}
+use Rattle.pblk_model.proofs.Tests.{both as both_hold, le_true, not_true, within_is}
 
 -- A line that is heard after others.
 pub record IsHeard (capacity : ℕ) (before : List Said) (line : Line) (x : ℕ × Said) : Type 0 where

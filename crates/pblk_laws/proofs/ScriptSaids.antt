@@ -10,7 +10,7 @@ use Rattle.pblk_model.specs.declared.script.Command.{Command}
 use Rattle.pblk_model.specs.declared.script.Command.TheVariants.{Write, Read, Flush, Post, Await}
 use Rattle.pblk_model.specs.Script.{command_at, command_line, thread_line, thread_lines}
 use Rattle.pblk_model.specs.ScriptText.{Said, Thread, Commands, Heard, saids, said_line, leading, threads_of, script_of, threads_in, commands_in, posts, awaits_unposted, unposted}
-use Rattle.lemmas.proofs.Tests.{either_false}
+use Rattle.pblk_model.proofs.Tests.{either_false}
 
 -- The threads of what was said.
 

@@ -16,9 +16,9 @@ use Rattle.pblk_model.specs.declared.script.Command.TheVariants.{Write, Read, Fl
 use Rattle.pblk_model.specs.Script.{thread_line}
 use Rattle.pblk_model.specs.ScriptText.{Said, Thread, Commands, said_line, said_by, said_in, number_of, name_of, is_name_byte}
 use Rattle.pblk_model.specs.ScriptText as text
-use Rattle.lemmas.proofs.Bytes.{same_bytes}
-use Rattle.lemmas.proofs.Options.{map_some, split_then}
-use Rattle.lemmas.proofs.Tests.{both as both_hold}
+use Rattle.pblk_model.proofs.Bytes.{same_bytes}
+use Rattle.pblk_model.proofs.Options.{map_some, split_then}
+use Rattle.pblk_model.proofs.Tests.{both as both_hold}
 
 -- Numbers and names that are spelled.
 

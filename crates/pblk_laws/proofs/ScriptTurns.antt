@@ -9,8 +9,8 @@ use Rattle.pblk_model.specs.declared.script.Command.{Command}
 use Rattle.pblk_model.specs.declared.script.Command.TheVariants.{Write, Read, Flush, Post, Await}
 use Rattle.pblk_model.specs.Script.{command_at, NeverStuck}
 use Rattle.pblk_model.specs.ScriptText.{Heard, Numbered, threads_of, script_of, run_on, turn, turns, least_standing, stuck_at}
-use Rattle.lemmas.proofs.Lists.{cases_passed}
-use Rattle.lemmas.proofs.Tests.{or_right}
+use Rattle.pblk_model.proofs.Lists.{cases_passed}
+use Rattle.pblk_model.proofs.Tests.{or_right}
 use Rattle.pblk_model.proofs.ScriptTextLemmas.{run_on-end, turn-end, turn-next, turns-stay}
 
 -- what is posted once a thread has gone past a command, if it can

@@ -26,7 +26,7 @@ use Rattle.pblk_laws.proofs.StartHeads.{spelled_begins_once}
 use Rattle.pblk_laws.proofs.BlankImages.{IsEmpty, empty_line, blank_empty, blank_start}
 use Rattle.pblk_laws.proofs.FilledExample.{image, first, write, is_filled, image_fit, others_empty}
 use Rattle.pblk_laws.proofs.Shapes.{small_accepted}
-use Rattle.lemmas.proofs.Parts.{all_by_get, all_get as all_at, all_get_some}
+use Rattle.pblk_model.proofs.Parts.{all_by_get, all_get as all_at, all_get_some}
 use Rattle.pblk_model.proofs.ImageLemmas.{line_fit}
 
 -- A chunk without blocks.

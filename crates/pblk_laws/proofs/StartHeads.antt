@@ -16,8 +16,8 @@ use Rattle.pblk_model.specs.Marks.{meta_mark}
 use Rattle.pblk_model.specs.StartRecord.{Row, StartRecord, magic, row_bytes, start_bytes, rows_fit, start_fits}
 use Rattle.pblk_model.specs.Sealed.{BeginsNarrower}
 use Rattle.pblk_laws.proofs.Starts.{numbers, spelled}
-use Rattle.lemmas.proofs.Numbers.{byte_is}
-use Rattle.lemmas.proofs.Parts.{take_less}
+use Rattle.pblk_model.proofs.Numbers.{byte_is}
+use Rattle.pblk_model.proofs.Parts.{take_less}
 use Rattle.pblk_model.proofs.BytesLemmas.{number_front, zeros_first}
 use Rattle.pblk_model.proofs.StartRecordLemmas.{width_there}
 

@@ -21,8 +21,8 @@ use Rattle.pblk_model.specs.StartRecord.{Row, StartRecord, magic, row_bytes, sta
 use Rattle.pblk_laws.specs.StartBlocks.{AreStart}
 use Rattle.pblk_model.proofs.LeastLengths.{start_len_least, sector_at_least}
 use Rattle.pblk_laws.proofs.Runs.{run_some, run_is}
-use Rattle.lemmas.proofs.Lists.{all_append, all_replicated}
-use Rattle.lemmas.proofs.Numbers.{byte_is}
+use Rattle.pblk_model.proofs.Lists.{all_append, all_replicated}
+use Rattle.pblk_model.proofs.Numbers.{byte_is}
 
 -- The numbers fit their fields.
 

@@ -10,7 +10,7 @@ use Rattle.pblk_model.specs.UnitLog.{UnitOutcome, Answered, Failed, Stopped, Uni
 use Rattle.pblk_laws.specs.StopLog.{WritesInFlight, IsStopOf}
 use Rattle.pblk_laws.proofs.ChunkStep.{step_is_chunk, failure_is_chunk, stop_is_chunk}
 use Rattle.pblk_laws.proofs.UnitLog.{answered, failed, stopped, stop_event, log_grows, log_leaves}
-use Rattle.lemmas.proofs.Parts.{all_get, all_set}
+use Rattle.pblk_model.proofs.Parts.{all_get, all_set}
 use Rattle.pblk_model.proofs.UnitLogLemmas.{after_event_is}
 
 -- Failures and answers are events.

@@ -6,7 +6,7 @@ use Rattle.std.specs.List.Sorted.{IsStrictlyIncreasing}
 use Rattle.std.proofs.lemmas.Bool.{cases_lt, lt-ltb, le-ltb}
 use Rattle.std.proofs.lemmas.Option.{same_Some, none-some}
 use Rattle.pblk_model.specs.History.{users}
-use Rattle.lemmas.proofs.Parts.{all_get}
+use Rattle.pblk_model.proofs.Parts.{all_get}
 
 Rises : List ℕ → Type 0
 Rises [] = Unit {0}
@@ -38,7 +38,7 @@ users_first p x xs h = ap (λ b. length (cond b (x ∷ filter (λ q. nat_lt q p)
 users_past : (p x : ℕ) (xs : List ℕ) → p ≤ x → users (x ∷ xs) p ≡ users xs p
 users_past p x xs h = ap (λ b. length (cond b (x ∷ filter (λ q. nat_lt q p) xs) (filter (λ q. nat_lt q p) xs))) (le-ltb x p h)
 
-users_none : (p : ℕ) (xs : List ℕ) → AllByRecursion (λ y. p ≤ y) xs → users xs p ≡ 0
+pub users_none : (p : ℕ) (xs : List ℕ) → AllByRecursion (λ y. p ≤ y) xs → users xs p ≡ 0
 users_none p [] h = refl
 users_none p (x ∷ xs) h = users_past p x xs h.0 ∙ users_none p xs h.1
 

@@ -4,7 +4,7 @@ use Rattle.std.specs.List.{slice_get, filter_map, cons_option}
 use Rattle.pblk_model.specs.Shape.{units}
 use Rattle.pblk_model.specs.Chunk.{Chunk}
 use Rattle.pblk_model.specs.Image.{Image, IsFit, is_online_in, width}
-use Rattle.lemmas.proofs.Maps.{filter_short}
+use Rattle.pblk_model.proofs.Maps.{filter_short}
 
 cond_length : {X : Type 0} (b : Bool) (x : X) (xs : List X) (n : ℕ) → length xs ≤ n → length (cond b (x ∷ xs) xs) ≤ n + 1
 cond_length true x xs n h = omega arith

@@ -7,7 +7,7 @@ use Rattle.pblk_model.specs.Image.{Image}
 use Rattle.pblk_model.specs.Records.{Record}
 use Rattle.pblk_model.specs.Contents.{IsNewer, is_newer, newer, is_of, winner, IsWinner, counted}
 use Rattle.pblk_laws.proofs.RecordPlaces.{counted_alike}
-use Rattle.lemmas.proofs.Lists.{contains_cases, contains_first, contains_more}
+use Rattle.pblk_model.proofs.Lists.{contains_cases, contains_first, contains_more}
 use Rattle.pblk_model.proofs.ContentsLemmas.{of_same}
 
 -- One number is less than another, or they are equal and more holds.

@@ -5,7 +5,7 @@ use Rattle.std.specs.Option.{option_map_or}
 use Rattle.pblk_model.specs.Chunk.{Chunk}
 use Rattle.pblk_model.specs.Image.{Image, is_online_in, line_units}
 use Rattle.pblk_layout.specs.Online.{is_in, units_in, HasOnlineUnits}
-use Rattle.lemmas.proofs.Maps.{none_kept}
+use Rattle.pblk_model.proofs.Maps.{none_kept}
 use Rattle.pblk_model.proofs.ChunkLemmas.{map_cond}
 
 -- whether a unit's chunks have one of the line that isn't Offline

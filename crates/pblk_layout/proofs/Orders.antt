@@ -10,7 +10,7 @@ use Rattle.pblk_model.specs.Shape.{units}
 use Rattle.pblk_layout.specs.Online.{is_in, units_below, units_in}
 use Rattle.pblk_layout.proofs.Sizes.{ShortLaw}
 use Rattle.pblk_layout.proofs.Sets.{rank_is, member, get_within}
-use Rattle.lemmas.proofs.Numbers.{some_units}
+use Rattle.pblk_model.proofs.Numbers.{some_units}
 
 -- what the line order has at an address
 abbrev pub OrderLaw : Type 0
@@ -88,7 +88,8 @@ address_parts q g k w r some =
 -- the address that `addr_of` gives is below 2 ^ 17, and so are the numbers in between
 pub found_short : (s : Shape) (online g k unit b : ℕ) → OrderLaw → BlockLaw → ShortLaw → IsAccepted s → g ≡ length (units_in online) → g ≤ units s
     → k ≡ length (units_below online unit) → unit < 64 → is_in online unit ≡ true → b < s.clba
-    → (address_of s g k b < 131072) × (b / s.ws_opt * g ≤ address_of s g k b) × (slice_get (line_order s (units_in online)) (address_of s g k b) ≡ Some (unit, b))
+    → (address_of s g k b < 131072) × (b / s.ws_opt * g ≤ address_of s g k b)
+    × (slice_get (line_order s (units_in online)) (address_of s g k b) ≡ Some (unit, b))
     × (b / s.ws_opt * g + k ≤ address_of s g k b) × ((b / s.ws_opt * g + k) * s.ws_opt ≤ address_of s g k b)
 found_short s online g k unit b law blocks lines accepted g-is few k-is inside is below =
     let there : slice_get (units_in online) k ≡ Some unit = ap (slice_get (units_in online)) k-is ∙ rank_is online unit inside is in

@@ -155,7 +155,8 @@ here online unit left n inside is none so_far =
     sym so_far ∙ ap (slice_get (units_from online unit)) none ∙ ap (λ xs. slice_get xs 0) (one_on online unit inside)
     ∙ kept_first (is_in online unit) unit (units_from online (unit + 1)) is
 
-pub behind : (online unit left n : ℕ) → unit < 64 → is_in online unit ≡ true → 0 < left → slice_get (units_from online unit) left ≡ slice_get (units_in online) n
+pub behind : (online unit left n : ℕ) → unit < 64 → is_in online unit ≡ true → 0 < left
+    → slice_get (units_from online unit) left ≡ slice_get (units_in online) n
     → slice_get (units_from online (unit + 1)) (left - 1) ≡ slice_get (units_in online) n
 behind online unit left n inside is some so_far =
     let k : left ≡ suc (left - 1) = omega arith in
@@ -199,7 +200,8 @@ get_within [] k h = absurd (omega arith)
 get_within (x ∷ xs) zero h = (x, refl)
 get_within (x ∷ xs) (suc k) h = get_within xs k (omega arith)
 
-pub none_left : (online unit left n : ℕ) → 64 ≤ unit → n < length (units_in online) → slice_get (units_from online unit) left ≡ slice_get (units_in online) n → ⊥
+pub none_left : (online unit left n : ℕ) → 64 ≤ unit → n < length (units_in online) → slice_get (units_from online unit) left ≡ slice_get (units_in online) n
+    → ⊥
 unfolding units_in
 none_left online unit left n far inside so_far =
     let k : 64 - unit ≡ 0 = omega arith in

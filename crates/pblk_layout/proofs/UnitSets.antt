@@ -8,8 +8,8 @@ use Rattle.std.proofs.lemmas.Bool.Decides.{nat_tests}
 use Rattle.std.proofs.lemmas.Nat.{mod_below, one_shl, pow_pos, shr-shr}
 use Rattle.std.proofs.lemmas.Nat.Bits.{bit_at-zero, bit_at-lt, bit_at_or, bit_at-pow_same, bit_at-pow_other, same_from_bits}
 use Rattle.std.proofs.lemmas.Option.{slice_get-get_or}
-use Rattle.lemmas.proofs.Maps.{all_in_range, filter_agree}
-use Rattle.lemmas.proofs.Tests.{lt_true, no_both, not_before, same_number}
+use Rattle.pblk_model.proofs.Maps.{all_in_range, filter_agree}
+use Rattle.pblk_model.proofs.Tests.{lt_true, no_both, not_before, same_number}
 use Rattle.pblk_model.specs.declared.shape.Shape.{Shape}
 use Rattle.pblk_model.specs.declared.chunk.ChunkState.{ChunkState}
 use Rattle.pblk_model.specs.declared.chunk.ChunkState.TheVariants.{Free, Open, Closed, Offline}
@@ -97,12 +97,14 @@ by_state (Some Open) unit rest = refl
 by_state (Some Closed) unit rest = refl
 by_state (Some Offline) unit rest = refl
 
-online_are : (s : Shape) (f : Found) (line : ℕ) (us : List ℕ) → filter (is_found s f line) us ≡ filter_map (λ unit. online_unit (state_at s f line unit) unit) us
+online_are : (s : Shape) (f : Found) (line : ℕ) (us : List ℕ)
+    → filter (is_found s f line) us ≡ filter_map (λ unit. online_unit (state_at s f line unit) unit) us
 online_are s f line [] = refl
 online_are s f line (u ∷ us) =
     by_state (state_at s f line u) u (filter (is_found s f line) us) ∙ ap (cons_option (online_unit (state_at s f line u) u)) (online_are s f line us)
 
-pub found_all : (s : Shape) (f : Found) (line n online : ℕ) → n ≡ units s → n ≤ 64 → HasBelow (is_found s f line) n online → units_in online ≡ online_units s f line
+pub found_all : (s : Shape) (f : Found) (line n online : ℕ) → n ≡ units s → n ≤ 64 → HasBelow (is_found s f line) n online
+    → units_in online ≡ online_units s f line
 found_all s f line n online n-is few has =
     all_units (is_found s f line) n online few has ∙ online_are s f line (range_with_len 0 n)
     ∙ ap (λ k. filter_map (λ unit. online_unit (state_at s f line unit) unit) (range_with_len 0 k)) n-is

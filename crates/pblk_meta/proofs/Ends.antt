@@ -18,9 +18,9 @@ use Rattle.pblk_meta.specs.declared.end_record.EndRecord.{EndRecord}
 use Rattle.pblk_meta.specs.Records.{end_numbers}
 use Rattle.pblk_meta.specs.Headers.{end_header, end_read}
 use Rattle.pblk_meta.proofs.Pieces.{taken, joined, front_of, rest_of, are_zeros, no_zeros, AreBytes, rest_bytes, le64_back}
-use Rattle.lemmas.proofs.Bytes.{same_bytes, true_same}
-use Rattle.lemmas.proofs.Options.{none_unless}
-use Rattle.lemmas.proofs.Tests.{data_within}
+use Rattle.pblk_model.proofs.Bytes.{same_bytes, true_same}
+use Rattle.pblk_model.proofs.Options.{none_unless}
+use Rattle.pblk_model.proofs.Tests.{data_within}
 use Rattle.pblk_model.proofs.EndRecordLemmas.{length-pairs_in, pairs_length}
 
 -- ---- the spelling in its three parts

@@ -14,8 +14,8 @@ use Rattle.pblk_meta.specs.declared.start_header.StartHeader.{StartHeader}
 use Rattle.pblk_meta.specs.Records.{row_numbers, row_in}
 use Rattle.pblk_meta.specs.Headers.{with_rows, row_fits, rows_hold, rows_read}
 use Rattle.pblk_meta.proofs.Pieces.{false_differ}
-use Rattle.lemmas.proofs.Bytes.{same_bytes, true_same}
-use Rattle.lemmas.proofs.Tests.{and_refused}
+use Rattle.pblk_model.proofs.Bytes.{same_bytes, true_same}
+use Rattle.pblk_model.proofs.Tests.{and_refused}
 
 -- ---- rows
 

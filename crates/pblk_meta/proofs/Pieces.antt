@@ -10,8 +10,8 @@ use Rattle.std.proofs.lemmas.Nat.{le_bytes_4, le_bytes_8}
 use Rattle.pblk_model.specs.Bytes.{le32, le64, zeros, number_at}
 use Rattle.pblk_model.specs.StartRecord.{row_bytes}
 use Rattle.pblk_meta.specs.Records.{row_in}
-use Rattle.lemmas.proofs.Bytes.{same_bytes, true_same}
-use Rattle.lemmas.proofs.Parts.{take_whole}
+use Rattle.pblk_model.proofs.Bytes.{same_bytes, true_same}
+use Rattle.pblk_model.proofs.Parts.{take_whole}
 use Rattle.pblk_model.proofs.BytesLemmas.{zeros_length}
 
 -- ---- lists

@@ -17,8 +17,8 @@ use Rattle.pblk_meta.specs.declared.start_record.StartRecord.{StartRecord}
 use Rattle.pblk_meta.specs.Records.{row_numbers, start_numbers}
 use Rattle.pblk_meta.specs.Headers.{start_header, header_in, header_of, with_rows, header_fits, rows_hold, rows_read, start_read}
 use Rattle.pblk_meta.proofs.Pieces.{taken, joined, front_of, rest_of, are_zeros, no_zeros}
-use Rattle.lemmas.proofs.Bytes.{same_bytes, true_same}
-use Rattle.lemmas.proofs.Options.{none_unless}
+use Rattle.pblk_model.proofs.Bytes.{same_bytes, true_same}
+use Rattle.pblk_model.proofs.Options.{none_unless}
 use Rattle.pblk_model.proofs.StartRecordLemmas.{length-rows_in}
 
 -- ---- the spelling in its three parts

@@ -7,7 +7,7 @@ use Rattle.std.proofs.lemmas.List.FromFn.{get_or-range_with_len}
 use Rattle.std.specs.Int.{IsPowerOfTwo}
 use Rattle.std.specs.List.{range_with_len}
 use Rattle.std.specs.Prelude.{◌||◌}
-use Rattle.lemmas.proofs.Numbers.{below_15, few_blocks, sector_is_long}
+use Rattle.pblk_model.proofs.Numbers.{below_15, few_blocks, sector_is_long}
 use Rattle.pblk_model.proofs.ChecksLemmas.{passes}
 use Rattle.pblk_model.specs.Accepted.{IsAccepted, is_ring_power, settings_checks}
 use Rattle.pblk_model.specs.Checks.{first_failing}

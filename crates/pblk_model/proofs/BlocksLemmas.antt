@@ -1,7 +1,7 @@
 -- Lemmas on the words of Blocks.
 use Rattle.std.proofs.Common.{List, [], ap, arith, drop, length, length-drop, refl, suc, take, zero, ℕ, ◌*◌, ◌++◌, ◌+◌, ◌∷◌, ◌≡◌, ◌≤◌}
 use Rattle.std.proofs.lemmas.List.{drop-append-le, drop-take, nil_from_length, take-append-le, take-take}
-use Rattle.lemmas.proofs.Numbers.{suc-times}
+use Rattle.pblk_model.proofs.Numbers.{suc-times}
 use Rattle.pblk_model.specs.Blocks.{blocks_of}
 use Rattle.pblk_model.specs.declared.chunk.Mark.{Mark}
 

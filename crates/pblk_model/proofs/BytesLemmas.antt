@@ -3,7 +3,7 @@ use Rattle.std.proofs.Common.{List, ap, arith, drop, get_or, length, length-appe
 use Rattle.std.proofs.lemmas.List.{drop-take, length-replicate, take-take}
 use Rattle.std.specs.Int.{Width, byte_len, from_le_bytes, w64}
 use Rattle.std.specs.List.{repeat}
-use Rattle.lemmas.proofs.Numbers.{byte_is}
+use Rattle.pblk_model.proofs.Numbers.{byte_is}
 use Rattle.pblk_model.specs.Bytes.{le64, number_at, zeros}
 
 pub zeros_length : (n : ℕ) → length (zeros n) ≡ n

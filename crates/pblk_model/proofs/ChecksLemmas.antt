@@ -2,7 +2,7 @@
 use Rattle.std.proofs.Common.{Bool, List, None, Option, Some, [], false, refl, true, ℕ, ◌∙◌, ◌∷◌, ◌≡◌}
 use Rattle.std.proofs.lemmas.Bool.{cond-true}
 use Rattle.std.specs.List.{AllByRecursion}
-use Rattle.lemmas.proofs.Options.{first_passes}
+use Rattle.pblk_model.proofs.Options.{first_passes}
 use Rattle.pblk_model.specs.Checks.{first_failing, first_refusal, unless}
 
 pub none_each : {E : Type 0} (rs : List (Option E)) → first_refusal rs ≡ None → AllByRecursion (λ r. r ≡ None) rs

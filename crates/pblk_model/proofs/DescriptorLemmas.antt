@@ -3,7 +3,7 @@ use Rattle.std.proofs.Common.{Err, List, Ok, Some, ap, eqb, length, ltb, not, re
 use Rattle.std.proofs.lemmas.Bool.{and_parts, cond-true, eq-eqb, eqb-true, leb-true}
 use Rattle.std.specs.Int.{w64}
 use Rattle.std.specs.List.{slice_index}
-use Rattle.lemmas.proofs.Tests.{below_of, some_of}
+use Rattle.pblk_model.proofs.Tests.{below_of, some_of}
 use Rattle.pblk_model.specs.Bytes.{number_at, zeros}
 use Rattle.pblk_model.specs.Chunk.{PointerFits}
 use Rattle.pblk_model.specs.Descriptor.{Descriptor, descriptor_in, of_state, pointer_holds, read_descriptor, spelled, state_code, state_in, unless_astray}

@@ -1,8 +1,8 @@
 -- Lemmas on the words of Image.
 use Rattle.std.proofs.Common.{List, false, if◌then◌else◌, length, nat_lt, refl, true, ℕ, ◌+◌, ◌≡◌}
 use Rattle.std.specs.List.{AllByRecursion, slice_get}
-use Rattle.lemmas.proofs.Maps.{all_filter, all_filter_map}
-use Rattle.lemmas.proofs.Parts.{all_get_some}
+use Rattle.pblk_model.proofs.Maps.{all_filter, all_filter_map}
+use Rattle.pblk_model.proofs.Parts.{all_get_some}
 use Rattle.pblk_model.specs.Chunk.{Block, Chunk, IsChunk, pointer}
 use Rattle.pblk_model.specs.ChunkStep.{appended}
 use Rattle.pblk_model.specs.Image.{Image, IsFit, is_online_in, line_chunks}

@@ -6,7 +6,7 @@ use Rattle.std.proofs.Math.Nat.{lt_of_mul-lt-mul_right, mul-le-mul_left, mul-le-
 use Rattle.pblk_model.specs.declared.shape.Shape.{Shape}
 use Rattle.pblk_model.specs.Accepted.{IsAccepted}
 use Rattle.pblk_model.specs.LineOrder.{IsLeastMultiple, HoldsStart, HoldsEnd, start_len, end_len}
-use Rattle.lemmas.proofs.Numbers.{sector_is_long}
+use Rattle.pblk_model.proofs.Numbers.{sector_is_long}
 
 pub ceil_holds : (x d : ℕ) → 0 < d → x ≤ div_ceil x d * d
 ceil_holds x d h = (div_ceil_times x d h).0

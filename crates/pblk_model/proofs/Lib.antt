@@ -1,3 +1,10 @@
+pub mod Numbers
+pub mod Tests
+pub mod Parts
+pub mod Options
+pub mod Bytes
+pub mod Lists
+pub mod Maps
 mod Settings
 pub mod Sizes
 pub mod LineOrder

@@ -9,10 +9,10 @@ use Rattle.std.proofs.lemmas.Nat.{div-add-mod', div_below, mul-add-lt}
 use Rattle.pblk_model.specs.declared.shape.Shape.{Shape}
 use Rattle.pblk_model.specs.LineOrder.{line_order, column_of, block_of}
 use Rattle.pblk_model.proofs.LineOrder.{stripe_below, chunk_below}
-use Rattle.lemmas.proofs.Maps.{range_get}
-use Rattle.lemmas.proofs.Numbers.{some_units}
-use Rattle.lemmas.proofs.Options.{map_some}
-use Rattle.lemmas.proofs.Parts.{get_first, get_rest}
+use Rattle.pblk_model.proofs.Maps.{range_get}
+use Rattle.pblk_model.proofs.Numbers.{some_units}
+use Rattle.pblk_model.proofs.Options.{map_some}
+use Rattle.pblk_model.proofs.Parts.{get_first, get_rest}
 
 -- pieces of one length
 pub get_piece : {X Y : Type 0} (f : X → List Y) (m : ℕ) (xs : List X) (i j : ℕ) → ((x : X) → length (f x) ≡ m) → j < m

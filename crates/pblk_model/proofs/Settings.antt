@@ -5,7 +5,7 @@ use Rattle.std.proofs.lemmas.Bool.{leb-true, eqb-true, eq-eqb}
 use Rattle.pblk_model.specs.declared.shape.Shape.{Shape}
 use Rattle.pblk_model.specs.Accepted.{IsDriveShape, IsAccepted, settings_checks, is_ring_power}
 use Rattle.pblk_model.specs.Checks.{first_failing}
-use Rattle.lemmas.proofs.Tests.{both, either}
+use Rattle.pblk_model.proofs.Tests.{both, either}
 use Rattle.pblk_model.proofs.AcceptedLemmas.{ring_power_is, settings_pass}
 
 or_one : (a b : Bool) → (a ≡ true) ⊎ (b ≡ true) → (a || b) ≡ true

@@ -2,7 +2,7 @@
 use Rattle.std.proofs.Common.{List, None, Option, Some, ap, ap₂, refl, sym, ℕ, ◌∙◌, ◌≡◌, ◌≢◌}
 use Rattle.std.specs.List.{slice_get, slice_set}
 use Rattle.std.specs.Option.{option_map_or}
-use Rattle.lemmas.proofs.Parts.{got_else, got_here}
+use Rattle.pblk_model.proofs.Parts.{got_else, got_here}
 use Rattle.pblk_model.specs.Chunk.{Chunk}
 use Rattle.pblk_model.specs.ChunkStep.{Read}
 use Rattle.pblk_model.specs.UnitLog.{Answered, Failed, Stopped, UnitEvent, UnitOutcome, after_event, after_outcome}

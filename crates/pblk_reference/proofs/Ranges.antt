@@ -4,7 +4,7 @@ use Rattle.std.specs.List.{filter_map, flat_map, range_with_len, cons_option}
 use Rattle.std.proofs.lemmas.List.{append-nil}
 use Rattle.std.proofs.lemmas.List.Elements.{filter_map-append}
 use Rattle.std.proofs.lemmas.List.Concat.{flat_map-append}
-use Rattle.lemmas.proofs.Maps.{range_from_0}
+use Rattle.pblk_model.proofs.Maps.{range_from_0}
 
 pub filter_map_range_more : {X : Type 0} (f : ℕ → Option X) (n : ℕ) (o : Option X) → o ≡ f n → filter_map f (range_with_len 0 (n + 1)) ≡ filter_map f (range_with_len 0 n) ++ cons_option o []
 filter_map_range_more f n o e = ap (filter_map f) (range_from_0 n) ∙ filter_map-append f (range_with_len 0 n) (n ∷ []) ∙ ap (λ x. filter_map f (range_with_len 0 n) ++ cons_option x []) (sym e)

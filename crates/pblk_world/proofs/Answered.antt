@@ -9,7 +9,7 @@ use Rattle.pblk_world.specs.World.{World, Logs, log_of, known, prefixes}
 use Rattle.pblk_world.specs.EngineLog.{Answer, DidLand, WasLost, Placed, placed_on, placements, placed_by, answers, answer_by}
 use Rattle.pblk_world.specs.Legal.{IsLegal, IsLegalStep, IsAllowed}
 use Rattle.pblk_world.proofs.Appending.{placements_more}
-use Rattle.lemmas.proofs.Tests.{same}
+use Rattle.pblk_model.proofs.Tests.{same}
 use Rattle.pblk_world.proofs.EngineLogLemmas.{answers_more}
 
 -- what one event adds to the answers of a unit, and to its stripes, as numbers

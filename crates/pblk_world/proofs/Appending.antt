@@ -6,7 +6,7 @@ use Rattle.std.proofs.lemmas.List.{take-append-le}
 use Rattle.std.proofs.lemmas.List.Sums.{fold-append}
 use Rattle.pblk_world.specs.Events.{Event, Logged, Decides, Place}
 use Rattle.pblk_world.specs.EngineLog.{AsFound, life_of, turned, turned_by, openings, opened_by, placements, placed_by, named_events, named_by}
-use Rattle.lemmas.proofs.Maps.{more}
+use Rattle.pblk_model.proofs.Maps.{more}
 
 abbrev numbered_one : {X : Type 0} → ℕ → X → List (ℕ × X)
 numbered_one k x = (k, x) ∷ []

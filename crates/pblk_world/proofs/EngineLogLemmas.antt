@@ -3,7 +3,7 @@ use Rattle.std.proofs.Common.{List, None, Some, [], ap, arith, length, length-ap
 use Rattle.std.proofs.lemmas.Option.{none-some, same_Some}
 use Rattle.std.specs.Option.{option_to_list}
 use Rattle.std.specs.Prelude.{slice_get}
-use Rattle.lemmas.proofs.Maps.{more}
+use Rattle.pblk_model.proofs.Maps.{more}
 use Rattle.pblk_world.specs.EngineLog.{Answer, Begun, Opened, Opening, answer_by, answers, begun, begun_by, is_land, taken_by, takes}
 use Rattle.pblk_world.specs.Events.{Begin, Beginning, Decides, EngineEvent, Event, Logged}
 

@@ -8,7 +8,7 @@ use Rattle.pblk_model.specs.Image.{Image}
 use Rattle.pblk_world.specs.Events.{Logged, Step}
 use Rattle.pblk_world.specs.World.{World, log_of, known}
 use Rattle.pblk_world.specs.Legal.{IsLegal, IsLegalStep}
-use Rattle.lemmas.proofs.Parts.{is_in}
+use Rattle.pblk_model.proofs.Parts.{is_in}
 
 abbrev by_step : Step → Bool → List Logged
 by_step s true = s.logged ∷ []

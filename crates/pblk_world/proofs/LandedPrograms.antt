@@ -11,7 +11,7 @@ use Rattle.pblk_world.specs.World.{World, Logs, log_of, known, prefixes, unit_ev
 use Rattle.pblk_world.specs.Answering.{MayLand}
 use Rattle.pblk_world.specs.Legal.{IsLegal, IsLegalStep, IsAllowed}
 use Rattle.pblk_world.proofs.Growing.{at_end}
-use Rattle.lemmas.proofs.Parts.{get_more, get_whole}
+use Rattle.pblk_model.proofs.Parts.{get_more, get_whole}
 
 then_same : {X Y : Type 0} (f : X → Option Y) (o p : Option X) (y : Y) → ((x : X) → o ≡ Some x → p ≡ Some x) → option_and_then f o ≡ Some y
     → option_and_then f p ≡ Some y

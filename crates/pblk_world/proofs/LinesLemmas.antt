@@ -1,6 +1,6 @@
 -- Lemmas on the words of Lines.
 use Rattle.std.proofs.Common.{List, None, Option, Some, ap, false, if◌then◌else◌, length, nat_lt, not, refl, sym, true, ℕ, ◌&&◌, ◌==◌, ◌∙◌, ◌≡◌}
-use Rattle.lemmas.proofs.Maps.{numbered_length}
+use Rattle.pblk_model.proofs.Maps.{numbered_length}
 use Rattle.pblk_model.specs.Chunk.{Chunk, free_chunk, offline_chunk, pointer}
 use Rattle.pblk_model.specs.ChunkStep.{after_reset, reset_in}
 use Rattle.pblk_model.specs.Found.{IsUsed}

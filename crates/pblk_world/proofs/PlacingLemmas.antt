@@ -1,6 +1,6 @@
 -- Lemmas on the words of Placing.
 use Rattle.std.proofs.Common.{List, length, replicate, ℕ, ◌∙◌, ◌≡◌}
-use Rattle.lemmas.proofs.Lists.{length_replicate}
+use Rattle.pblk_model.proofs.Lists.{length_replicate}
 use Rattle.pblk_model.proofs.BlocksLemmas.{length-blocks_of}
 use Rattle.pblk_model.specs.Marks.{meta_mark}
 use Rattle.pblk_model.specs.declared.shape.Shape.{Shape}

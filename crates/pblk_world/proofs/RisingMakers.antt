@@ -7,7 +7,7 @@ use Rattle.pblk_model.specs.UnitLog.{UnitEvent}
 use Rattle.pblk_world.specs.Events.{Maker, Event, Does, Step}
 use Rattle.pblk_world.specs.World.{World}
 use Rattle.pblk_world.specs.Makers.{is_made_by, commands_of, IsNumbered, HasMakers}
-use Rattle.lemmas.proofs.Tests.{same_number}
+use Rattle.pblk_model.proofs.Tests.{same_number}
 
 -- one step more, of this worker or not
 one_more : (worker : ℕ) (s : Step) (w : World) → commands_of worker w ≤ commands_of worker (s ∷ w)

@@ -6,7 +6,7 @@ use Rattle.pblk_model.specs.Contents.{least_missing}
 use Rattle.pblk_world.specs.Events.{Logged}
 use Rattle.pblk_world.specs.EngineLog.{takes}
 use Rattle.pblk_world.specs.Fronts.{IsSynced, first_position, has_landed_at, synced, taken}
-use Rattle.lemmas.proofs.Tests.{below_by, no_both}
+use Rattle.pblk_model.proofs.Tests.{below_by, no_both}
 
 -- all from p on up to the least missing one are borne, and it is missing or the turns are over
 pub record IsLeast (borne : ℕ → Bool) (turns p m : ℕ) : Type 0 where

@@ -10,8 +10,8 @@ use Rattle.pblk_world.specs.World.{Logs}
 use Rattle.pblk_world.specs.EngineLog.{Taken, Placed, placements, has_landed, holds_position}
 use Rattle.pblk_world.specs.Fronts.{has_landed_at}
 use Rattle.pblk_world.specs.Victims.{is_in_force, take_before, landed_line, landed_line_of, took_from}
-use Rattle.lemmas.proofs.Maps.{find_none}
-use Rattle.lemmas.proofs.Tests.{and_false, either_false}
+use Rattle.pblk_model.proofs.Maps.{find_none}
+use Rattle.pblk_model.proofs.Tests.{and_false, either_false}
 
 pub not_landed_line : (s : Shape) (log : List Logged) (q : ℕ) → has_landed_at s log q ≡ false → landed_line s log q ≡ None
 not_landed_line s log q none = ap (option_map (λ (p : Placed). p.stripe.line))

@@ -1,6 +1,6 @@
 -- Lemmas on the words of Victims.
 use Rattle.std.proofs.Common.{le_refl, length, refl, suc, take_all, zero, ℕ, ◌≡◌}
-use Rattle.lemmas.proofs.Numbers.{fun_same}
+use Rattle.pblk_model.proofs.Numbers.{fun_same}
 use Rattle.pblk_world.specs.Victims.{engine_prefix}
 use Rattle.pblk_world.specs.World.{Logs}
 

@@ -2,8 +2,8 @@
 use Rattle.std.proofs.Common.{Bool, List, [], ap, arith, false, if◌then◌else◌, length, refl, suc, true, ℕ, ◌++◌, ◌+◌, ◌<◌, ◌==◌, ◌∙◌, ◌∷◌, ◌≡◌, ◌≢◌}
 use Rattle.std.specs.List.{enumerate_from, filter_map, slice_get}
 use Rattle.std.specs.Option.{option_and_then, option_map}
-use Rattle.lemmas.proofs.Maps.{map_same, numbered_at, numbered_length}
-use Rattle.lemmas.proofs.Parts.{get_taken}
+use Rattle.pblk_model.proofs.Maps.{map_same, numbered_at, numbered_length}
+use Rattle.pblk_model.proofs.Parts.{get_taken}
 use Rattle.pblk_model.specs.Chunk.{Chunk}
 use Rattle.pblk_model.specs.Image.{Image}
 use Rattle.pblk_model.specs.UnitLog.{after_log}

@@ -12,7 +12,7 @@ use Rattle.stripe_placer.specs.Placing.{Program, placement}
 use Rattle.stripe_placer.specs.declared.placement.Placement.{Placement}
 use Rattle.stripe_placer.proofs.Rows.{named_by, none_named}
 use Rattle.plain_placer.specs.Fitting.{FitsLine, FitLines}
-use Rattle.lemmas.proofs.Parts.{put_at_end}
+use Rattle.pblk_model.proofs.Parts.{put_at_end}
 
 -- The first of a list of choices makes none, or it doesn't pass; else it is the one.
 pub no_choice : {X : Type 0} (p : Program → Bool) (f : X → Option Program) (x : X) (xs : List X) → option_map placement (f x) ≡ None

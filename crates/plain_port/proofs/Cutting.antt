@@ -7,8 +7,8 @@ use Rattle.pblk_model.specs.Bytes.{zeros}
 use Rattle.block_port.specs.Own.{sectors_of}
 use Rattle.plain_port.specs.Sectors.{put_from}
 use Rattle.block_port.proofs.OwnLemmas.{length_sectors, sectors_append}
-use Rattle.lemmas.proofs.Numbers.{suc-times}
-use Rattle.lemmas.proofs.Parts.{part_length, put_at_end}
+use Rattle.pblk_model.proofs.Numbers.{suc-times}
+use Rattle.pblk_model.proofs.Parts.{part_length, put_at_end}
 
 pub sectors_of_zeros : (size n : ℕ) → sectors_of size n (replicate (n * size) 0) ≡ replicate n (zeros size)
 unfolding sectors_of zeros

@@ -3,7 +3,7 @@ use Rattle.std.proofs.Common.{◌≡◌, ℕ, ◌⊎◌, zero, suc, Some, None, 
 use Rattle.std.specs.Prelude.{slice_get}
 use Rattle.std.specs.List.{filter_map, flat_map, cons_option}
 use Rattle.std.proofs.lemmas.Option.{same_Some, none-some}
-use Rattle.lemmas.proofs.Lists.{IsAmong, among_more, later}
+use Rattle.pblk_model.proofs.Lists.{IsAmong, among_more, later}
 
 pub behind : {X : Type 0} (xs ys : List X) (x : X) → IsAmong ys x → IsAmong (xs ++ ys) x
 behind [] ys x at = at

@@ -9,10 +9,10 @@ use Rattle.pblk_model.specs.declared.shape.Shape.{Shape}
 use Rattle.pblk_world.specs.Events.{Landed, Lost, Event, Decides, Does, Logged}
 use Rattle.pblk_world.specs.EngineLog.{Taken, takes, Placed, placements, Answer, DidLand, WasLost, answer_by, answer_of, turn, is_land, is_loss, has_landed, was_lost, is_answered, holds_position}
 use Rattle.pblk_world.specs.Fronts.{has_landed_at, times_placed, times_lost, waits, was_placed}
-use Rattle.lemmas.proofs.Lists.{IsAmong, all_of, among_all, among_contained}
-use Rattle.lemmas.proofs.Maps.{filter_agree, filter_none, in_filter}
-use Rattle.lemmas.proofs.Parts.{all_at, contained_among, get_below}
-use Rattle.lemmas.proofs.Tests.{and_false, lt_true, no_both, not_both, same_number}
+use Rattle.pblk_model.proofs.Lists.{IsAmong, all_of, among_all, among_contained}
+use Rattle.pblk_model.proofs.Maps.{filter_agree, filter_none, in_filter}
+use Rattle.pblk_model.proofs.Parts.{all_at, contained_among, get_below}
+use Rattle.pblk_model.proofs.Tests.{and_false, lt_true, no_both, not_both, same_number}
 use Rattle.pblk_world.specs.LegalMounts.{is_losing, decides, NoStripeLost}
 use Rattle.world_laws.proofs.Fronts.{at_landed}
 use Rattle.prefix_law.specs.PlacedAgain.{ArePlacedAgain}

@@ -12,8 +12,8 @@ use Rattle.pblk_model.specs.Image.{Image}
 use Rattle.pblk_laws.proofs.Ends.{end_is_end}
 use Rattle.pblk_laws.proofs.Winners.{winner_is_winner, winner_is_only, no_winner_no_record, no_winner}
 use Rattle.prefix_law.specs.Assembled.{Given, Entries, IsEntry, IsEntryOf, IsLastOf, by_row, CountsOld, HoldsUnder, IsAssembled}
-use Rattle.lemmas.proofs.Lists.{contains_cases, contains_first, contains_more, contains_none}
-use Rattle.lemmas.proofs.Tests.{both, either, le_true as true_le, lt_true as true_lt, or_left, or_right, within_is}
+use Rattle.pblk_model.proofs.Lists.{contains_cases, contains_first, contains_more, contains_none}
+use Rattle.pblk_model.proofs.Tests.{both, either, le_true as true_le, lt_true as true_lt, or_left, or_right, within_is}
 
 -- ---- what is in a filtered list
 

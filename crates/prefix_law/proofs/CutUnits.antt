@@ -7,8 +7,8 @@ use Rattle.pblk_world.specs.Events.{Logged, Step}
 use Rattle.pblk_world.specs.World.{World, log_of, known, prefixes}
 use Rattle.pblk_world.specs.Legal.{IsAllowed, IsLegalStep, IsLegal}
 use Rattle.pblk_world.proofs.WorldLemmas.{log_here, log_elsewhere}
-use Rattle.lemmas.proofs.Numbers.{fun_same}
-use Rattle.lemmas.proofs.Tests.{same}
+use Rattle.pblk_model.proofs.Numbers.{fun_same}
+use Rattle.pblk_model.proofs.Tests.{same}
 use Rattle.pblk_world.specs.LegalMounts.{IsLegalMount}
 use Rattle.prefix_law.specs.Cuts.{AreCuts}
 

@@ -17,10 +17,10 @@ use Rattle.pblk_world.proofs.SyncedFront.{synced_is}
 use Rattle.pblk_laws.proofs.Ends.{end_is_end}
 use Rattle.pblk_laws.proofs.Heads.{head_is_head, head_is_only, no_head_no_start}
 use Rattle.pblk_laws.proofs.Winners.{winner_is_winner}
-use Rattle.lemmas.proofs.Lists.{IsAmong, among_contained, last_in}
-use Rattle.lemmas.proofs.Maps.{all_mapped, all_passed, from_filter, in_filter}
-use Rattle.lemmas.proofs.Parts.{all_at, all_by_get, contained_among}
-use Rattle.lemmas.proofs.Tests.{same_number}
+use Rattle.pblk_model.proofs.Lists.{IsAmong, among_contained, last_in}
+use Rattle.pblk_model.proofs.Maps.{all_mapped, all_passed, from_filter, in_filter}
+use Rattle.pblk_model.proofs.Parts.{all_at, all_by_get, contained_among}
+use Rattle.pblk_model.proofs.Tests.{same_number}
 use Rattle.pblk_world.specs.LegalMounts.{IsLegalMount}
 use Rattle.world_laws.proofs.Fronts.{IsLandedAt, landed_at, synced_from}
 use Rattle.world_laws.proofs.LandedRecords.{freed_below_front}

@@ -16,9 +16,9 @@ use Rattle.pblk_world.specs.Legal.{IsLegal}
 use Rattle.pblk_world.specs.Lines.{found_image}
 use Rattle.pblk_world.proofs.SyncedFront.{synced_within}
 use Rattle.pblk_laws.proofs.MarkNames.{sector_exactly}
-use Rattle.lemmas.proofs.Lists.{IsAmong}
-use Rattle.lemmas.proofs.Maps.{get_mapped}
-use Rattle.lemmas.proofs.Options.{map_some}
+use Rattle.pblk_model.proofs.Lists.{IsAmong}
+use Rattle.pblk_model.proofs.Maps.{get_mapped}
+use Rattle.pblk_model.proofs.Options.{map_some}
 use Rattle.pblk_world.specs.LegalMounts.{IsLegalMount}
 use Rattle.world_laws.proofs.Fronts.{synced_from}
 use Rattle.world_laws.proofs.Lives.{life_is_known}

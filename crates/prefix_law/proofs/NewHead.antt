@@ -12,8 +12,8 @@ use Rattle.pblk_model.specs.Contents.{Bears, IsWinner, head, end, counted, winne
 use Rattle.pblk_world.specs.Lines.{next_seq}
 use Rattle.pblk_world.specs.Starts.{bound_by}
 use Rattle.pblk_laws.proofs.Winners.{winner_is_winner, no_winner_no_record}
-use Rattle.lemmas.proofs.Lists.{among_contained}
-use Rattle.lemmas.proofs.Parts.{contained_among}
+use Rattle.pblk_model.proofs.Lists.{among_contained}
+use Rattle.pblk_model.proofs.Parts.{contained_among}
 use Rattle.world_laws.proofs.FoundCounts.{bound_within, seq_older}
 use Rattle.prefix_law.specs.Assembled.{Given, Entries, IsEntry, IsEntryOf, by_row, CountsOld, HoldsUnder, IsAssembled}
 use Rattle.prefix_law.specs.AfterMount.{start_rows, IsOldLine, IsAfterMount, IsBorneAnew, StandsUnder, HasNewHead}

@@ -19,10 +19,10 @@ use Rattle.prefix_law.specs.AfterMount.{start_row, start_rows}
 use Rattle.prefix_law.proofs.Among.{made_into, made_from}
 use Rattle.prefix_law.proofs.Assembly.{filtered_from, filtered_into, CountsBy, counts_by, counts_young, counts_row}
 use Rattle.prefix_law.proofs.RecordLines.{range_is, IsAt, record_is_at}
-use Rattle.lemmas.proofs.Lists.{IsAmong, contains_none, later}
-use Rattle.lemmas.proofs.Maps.{any_found, any_member, found_passes, range_get}
-use Rattle.lemmas.proofs.Options.{some_value}
-use Rattle.lemmas.proofs.Tests.{and_both, both, le_true, lt_true, same_number}
+use Rattle.pblk_model.proofs.Lists.{IsAmong, contains_none, later}
+use Rattle.pblk_model.proofs.Maps.{any_found, any_member, found_passes, range_get}
+use Rattle.pblk_model.proofs.Options.{some_value}
+use Rattle.pblk_model.proofs.Tests.{and_both, both, le_true, lt_true, same_number}
 
 -- ---- the rows of a start record
 

@@ -18,8 +18,8 @@ use Rattle.pblk_world.specs.Lines.{found_by, found_image, next_seq}
 use Rattle.pblk_world.specs.Starts.{bound_by, found_row, older_row, older_rows}
 use Rattle.pblk_world.specs.Victims.{engine_prefix}
 use Rattle.pblk_world.proofs.EngineLogLemmas.{begun_taken}
-use Rattle.lemmas.proofs.Lists.{IsAmong, among_contained}
-use Rattle.lemmas.proofs.Parts.{contained_among, take-all}
+use Rattle.pblk_model.proofs.Lists.{IsAmong, among_contained}
+use Rattle.pblk_model.proofs.Parts.{contained_among, take-all}
 use Rattle.world_laws.proofs.Begun.{IsBegunWith, begun_with, first_is}
 use Rattle.world_laws.proofs.StartRecords.{IsNthOpening, nth_opening, seq_of_nth, front_synced, front_from_first, opened_later}
 use Rattle.world_laws.proofs.Stripes.{IsOpening, opening_is}

@@ -25,10 +25,10 @@ use Rattle.pblk_laws.proofs.FilledLists.{after_length}
 use Rattle.world_laws.specs.EarlyLogs.{ArePrefixes}
 use Rattle.world_laws.specs.SameImages.{HoldsTheSame}
 use Rattle.world_laws.proofs.FoundImages.{found_holds, early_before, early_holds}
-use Rattle.lemmas.proofs.Lists.{among_contained}
-use Rattle.lemmas.proofs.Maps.{from_filter}
-use Rattle.lemmas.proofs.Parts.{contained_among, same_lists, take_nothing}
-use Rattle.lemmas.proofs.Tests.{not_both}
+use Rattle.pblk_model.proofs.Lists.{among_contained}
+use Rattle.pblk_model.proofs.Maps.{from_filter}
+use Rattle.pblk_model.proofs.Parts.{contained_among, same_lists, take_nothing}
+use Rattle.pblk_model.proofs.Tests.{not_both}
 use Rattle.pblk_world.specs.LegalMounts.{IsLegalMount}
 use Rattle.world_laws.proofs.Beginnings.{has_begun}
 use Rattle.world_laws.proofs.NewLines.{IsTakenRecord}

@@ -13,10 +13,10 @@ use Rattle.pblk_model.specs.StartRecord.{StartRecord, start_of}
 use Rattle.pblk_model.specs.Records.{Record, named, mark_at, bears, record_at, records_after, line_records, records}
 use Rattle.pblk_laws.proofs.MarkNames.{sector_exactly}
 use Rattle.prefix_law.proofs.Among.{flat_into, flat_from, made_from}
-use Rattle.lemmas.proofs.Lists.{IsAmong, among_contained}
-use Rattle.lemmas.proofs.Maps.{range_get}
-use Rattle.lemmas.proofs.Options.{map_some, split_then}
-use Rattle.lemmas.proofs.Parts.{contained_among}
+use Rattle.pblk_model.proofs.Lists.{IsAmong, among_contained}
+use Rattle.pblk_model.proofs.Maps.{range_get}
+use Rattle.pblk_model.proofs.Options.{map_some, split_then}
+use Rattle.pblk_model.proofs.Parts.{contained_among}
 
 -- ---- one record
 

@@ -9,8 +9,8 @@ use Rattle.pblk_model.specs.StartRecord.{StartRecord}
 use Rattle.pblk_model.specs.Contents.{end, is_of, contents}
 use Rattle.pblk_model.proofs.ContentsLemmas.{contents_count, of_same}
 use Rattle.pblk_laws.proofs.Winners.{lba_is}
-use Rattle.lemmas.proofs.Parts.{same_lists}
-use Rattle.lemmas.proofs.Tests.{no_both}
+use Rattle.pblk_model.proofs.Parts.{same_lists}
+use Rattle.pblk_model.proofs.Tests.{no_both}
 use Rattle.world_laws.proofs.WinnerBlocks.{contents_at}
 use Rattle.prefix_law.specs.Assembled.{Given, Entries, IsEntryOf, IsLastOf, IsAssembled}
 use Rattle.prefix_law.proofs.Assembly.{last_stands, under_stands}

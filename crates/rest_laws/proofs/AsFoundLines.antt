@@ -23,11 +23,11 @@ use Rattle.pblk_world.specs.World.{World, Logs, log_of}
 use Rattle.pblk_world.proofs.EngineLogLemmas.{begun_knows}
 use Rattle.pblk_world.proofs.LinesLemmas.{length_found, length_known}
 use Rattle.pblk_world.proofs.VictimsLemmas.{whole_prefix}
-use Rattle.lemmas.proofs.Lists.{IsAmong, all_imply, among_all}
-use Rattle.lemmas.proofs.Maps.{all_filter, all_mapped, all_passed, any_fail, any_member, kept_at, range_get}
-use Rattle.lemmas.proofs.Options.{split_then}
-use Rattle.lemmas.proofs.Parts.{all_at, contained_among, none_past}
-use Rattle.lemmas.proofs.Tests.{first_of, not_both, not_true, same, same_number}
+use Rattle.pblk_model.proofs.Lists.{IsAmong, all_imply, among_all}
+use Rattle.pblk_model.proofs.Maps.{all_filter, all_mapped, all_passed, any_fail, any_member, kept_at, range_get}
+use Rattle.pblk_model.proofs.Options.{split_then}
+use Rattle.pblk_model.proofs.Parts.{all_at, contained_among, none_past}
+use Rattle.pblk_model.proofs.Tests.{first_of, not_both, not_true, same, same_number}
 use Rattle.pblk_world.specs.LegalMounts.{IsLegalMount}
 use Rattle.world_laws.specs.UnitChunks.{chunk_after}
 use Rattle.world_laws.proofs.FoundCounts.{counted_below, seq_older}

@@ -18,7 +18,7 @@ use Rattle.pblk_world.specs.Lines.{found_image}
 use Rattle.pblk_world.specs.Taking.{Copies, CopiesStale, IsMarked, IsPlaceOfLatest, MayTake}
 use Rattle.pblk_world.specs.Victims.{comes_to_work, engine_prefix, is_freed, stays_at_work, victim}
 use Rattle.pblk_world.specs.World.{World, Logs, log_of, prefixes}
-use Rattle.lemmas.proofs.Lists.{IsAmong}
+use Rattle.pblk_model.proofs.Lists.{IsAmong}
 use Rattle.pblk_world.specs.LegalMounts.{IsLegalMount}
 use Rattle.pblk_world.specs.Reasons.{AreBegun, WasBegun}
 use Rattle.world_laws.proofs.KeptChunks.{found_before}

@@ -12,7 +12,7 @@ use Rattle.pblk_world.specs.Space.{room}
 use Rattle.pblk_world.specs.Taking.{IsPlaceOfLatest, MayTake}
 use Rattle.pblk_world.specs.Victims.{engine_prefix, is_live_in, victim}
 use Rattle.pblk_world.specs.World.{World, Logs, log_of, prefixes}
-use Rattle.lemmas.proofs.Parts.{get_taken, get_whole_within}
+use Rattle.pblk_model.proofs.Parts.{get_taken, get_whole_within}
 use Rattle.pblk_world.specs.LegalMounts.{IsLegalMount}
 use Rattle.pblk_world.specs.Reasons.{AreBegun, WasBegun, WasRoom}
 use Rattle.world_laws.proofs.NextLives.{IsDecided, decided}

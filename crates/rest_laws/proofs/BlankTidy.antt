@@ -9,9 +9,9 @@ use Rattle.pblk_model.specs.Chunk.{Chunk, free_chunk}
 use Rattle.pblk_model.specs.Image.{blank}
 use Rattle.pblk_model.specs.Shape.{units}
 use Rattle.pblk_laws.proofs.SealedImages.{blank_sealed}
-use Rattle.lemmas.proofs.Lists.{all_replicated}
-use Rattle.lemmas.proofs.Options.{split_then}
-use Rattle.lemmas.proofs.Parts.{all_at}
+use Rattle.pblk_model.proofs.Lists.{all_replicated}
+use Rattle.pblk_model.proofs.Options.{split_then}
+use Rattle.pblk_model.proofs.Parts.{all_at}
 use Rattle.core_laws.proofs.EachChunk.{chunks_pass}
 use Rattle.rest_laws.specs.Tidy.{HasWholeChunks, has_free_chunks, IsTidy, IsWholeChunk, is_free_state}
 

@@ -16,10 +16,10 @@ use Rattle.pblk_world.specs.Placing.{line_end}
 use Rattle.pblk_world.specs.Space.{is_closed_in, landed_blocks}
 use Rattle.pblk_world.specs.Starts.{have_landed}
 use Rattle.pblk_world.specs.World.{World, log_of}
-use Rattle.lemmas.proofs.Lists.{IsAmong, among_contained}
-use Rattle.lemmas.proofs.Maps.{from_filter, in_filter}
-use Rattle.lemmas.proofs.Parts.{all_by_get, contained_among, get_below, got_within}
-use Rattle.lemmas.proofs.Tests.{or_right, same_number}
+use Rattle.pblk_model.proofs.Lists.{IsAmong, among_contained}
+use Rattle.pblk_model.proofs.Maps.{from_filter, in_filter}
+use Rattle.pblk_model.proofs.Parts.{all_by_get, contained_among, get_below, got_within}
+use Rattle.pblk_model.proofs.Tests.{or_right, same_number}
 use Rattle.pblk_world.specs.LegalMounts.{IsLegalMount}
 use Rattle.world_laws.proofs.LineStarts.{landed_of}
 use Rattle.world_laws.proofs.LineStripes.{next_fits}

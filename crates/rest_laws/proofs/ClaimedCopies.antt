@@ -14,7 +14,7 @@ use Rattle.pblk_world.specs.Fronts.{first_position, taken}
 use Rattle.pblk_world.specs.Taking.{MayTake}
 use Rattle.pblk_world.specs.World.{World, log_of, prefixes}
 use Rattle.pblk_world.proofs.EngineLogLemmas.{takes_more}
-use Rattle.lemmas.proofs.Parts.{get_whole_within, got_within, take_next}
+use Rattle.pblk_model.proofs.Parts.{get_whole_within, got_within, take_next}
 use Rattle.pblk_world.specs.LegalMounts.{IsLegalMount}
 use Rattle.pblk_world.specs.Reasons.{AreBegun, WasBegun, WasRoom}
 use Rattle.world_laws.proofs.NextLives.{IsDecided, decided}

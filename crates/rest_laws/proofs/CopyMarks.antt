@@ -11,9 +11,9 @@ use Rattle.pblk_world.specs.Fronts.{taken}
 use Rattle.pblk_world.specs.Taking.{Copies, CopiesStale, IsMarked}
 use Rattle.pblk_world.specs.Victims.{engine_prefix, is_live_in}
 use Rattle.pblk_world.specs.World.{World, log_of, prefixes}
-use Rattle.lemmas.proofs.Lists.{IsAmong, among_contained, among_more}
-use Rattle.lemmas.proofs.Parts.{take_and_drop}
-use Rattle.lemmas.proofs.Tests.{not_both}
+use Rattle.pblk_model.proofs.Lists.{IsAmong, among_contained, among_more}
+use Rattle.pblk_model.proofs.Parts.{take_and_drop}
+use Rattle.pblk_model.proofs.Tests.{not_both}
 use Rattle.pblk_world.specs.LegalMounts.{IsLegalMount}
 use Rattle.world_laws.proofs.Later.{takes_joined}
 use Rattle.world_laws.proofs.Positions.{position_below}

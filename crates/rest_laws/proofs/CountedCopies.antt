@@ -14,8 +14,8 @@ use Rattle.pblk_world.specs.Fronts.{last_take, taken}
 use Rattle.pblk_world.specs.Taking.{IsPlaceOfLatest}
 use Rattle.pblk_world.specs.Victims.{engine_prefix, live}
 use Rattle.pblk_world.specs.World.{World, Logs, log_of}
-use Rattle.lemmas.proofs.Maps.{given_at}
-use Rattle.lemmas.proofs.Parts.{contained_among, get_taken}
+use Rattle.pblk_model.proofs.Maps.{given_at}
+use Rattle.pblk_model.proofs.Parts.{contained_among, get_taken}
 use Rattle.pblk_world.specs.LegalMounts.{IsLegalMount}
 use Rattle.pblk_world.specs.Reasons.{WasBegun}
 use Rattle.world_laws.proofs.NextLives.{IsDecided, decided}

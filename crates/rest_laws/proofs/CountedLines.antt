@@ -1,7 +1,7 @@
 -- How many numbers of a range pass one of several tests.
 use Rattle.std.proofs.Common.{◌≡◌, ◌⊎◌, inl, inr, ℕ, ◌+◌, ◌<◌, ◌≤◌, ◌||◌, zero, suc, Bool, true, false, cond, List, [], ◌∷◌, length, refl, ap, arith}
 use Rattle.std.specs.List.{AllByRecursion, filter, range_with_len}
-use Rattle.lemmas.proofs.Maps.{none_kept}
+use Rattle.pblk_model.proofs.Maps.{none_kept}
 
 -- where no two of them pass, one does at most
 pub one_in_range : (test : ℕ → Bool) (a n : ℕ)

@@ -16,9 +16,9 @@ use Rattle.pblk_world.specs.Fronts.{taken}
 use Rattle.pblk_world.specs.Taking.{IsMarked, MayTake}
 use Rattle.pblk_world.specs.Victims.{engine_prefix, is_live_in, live, victim}
 use Rattle.pblk_world.specs.World.{World, Logs, log_of, prefixes}
-use Rattle.lemmas.proofs.Maps.{given_at}
-use Rattle.lemmas.proofs.Parts.{contained_among, get_taken}
-use Rattle.lemmas.proofs.Tests.{not_both}
+use Rattle.pblk_model.proofs.Maps.{given_at}
+use Rattle.pblk_model.proofs.Parts.{contained_among, get_taken}
+use Rattle.pblk_model.proofs.Tests.{not_both}
 use Rattle.world_laws.proofs.NextLives.{IsDecided, decided}
 use Rattle.world_laws.proofs.TakenEvents.{IsTakenAt, taken_at}
 use Rattle.room_law.specs.Counting.{Copy, Elsewhere, Fresh, Loss, MayLose, NoCopy, OfCopied, OfVictim, Outlived, Stale, State, Victim, after, copy_after, fewer_live, fresh, lost_by, past_copy}

@@ -20,10 +20,10 @@ use Rattle.pblk_world.specs.Lines.{found_image}
 use Rattle.pblk_world.specs.Taking.{IsPlaceOfLatest}
 use Rattle.pblk_world.specs.Victims.{engine_prefix, is_live_in, line_of, line_of_position, live}
 use Rattle.pblk_world.specs.World.{World, log_of}
-use Rattle.lemmas.proofs.Lists.{IsAmong, among_contained, among_more}
-use Rattle.lemmas.proofs.Maps.{any_member, range_get}
-use Rattle.lemmas.proofs.Parts.{all_at, contained_among, take_and_drop}
-use Rattle.lemmas.proofs.Tests.{and_both, not_both, same, same_number}
+use Rattle.pblk_model.proofs.Lists.{IsAmong, among_contained, among_more}
+use Rattle.pblk_model.proofs.Maps.{any_member, range_get}
+use Rattle.pblk_model.proofs.Parts.{all_at, contained_among, take_and_drop}
+use Rattle.pblk_model.proofs.Tests.{and_both, not_both, same, same_number}
 use Rattle.pblk_world.specs.LegalMounts.{IsLegalMount}
 use Rattle.world_laws.proofs.Entries.{marks_bear}
 use Rattle.world_laws.proofs.KeptChunks.{found_before}

@@ -10,8 +10,8 @@ use Rattle.pblk_model.specs.Image.{Image}
 use Rattle.pblk_world.specs.Lines.{is_free_line, known_image, line_data}
 use Rattle.pblk_world.specs.Space.{free_addresses, full_data, is_due}
 use Rattle.pblk_world.specs.World.{Logs}
-use Rattle.lemmas.proofs.Maps.{all_in_range}
-use Rattle.lemmas.proofs.Tests.{le_true, not_both}
+use Rattle.pblk_model.proofs.Maps.{all_in_range}
+use Rattle.pblk_model.proofs.Tests.{le_true, not_both}
 use Rattle.rest_laws.specs.RoomSteps.{free_data, free_lines}
 use Rattle.rest_laws.specs.Tidy.{AreWide}
 

@@ -8,7 +8,7 @@ use Rattle.pblk_world.specs.Lines.{are_empty, found_image, has_number, is_free_l
 use Rattle.pblk_world.specs.Space.{full_data}
 use Rattle.pblk_world.specs.World.{World, log_of}
 use Rattle.std.specs.Prelude.{List, Option}
-use Rattle.lemmas.proofs.Tests.{lt_true}
+use Rattle.pblk_model.proofs.Tests.{lt_true}
 use Rattle.pblk_world.specs.LegalMounts.{IsLegalMount}
 use Rattle.pblk_world.specs.Orders.{AreReset}
 use Rattle.rest_laws.specs.Tidy.{AreWide}

@@ -17,7 +17,7 @@ use Rattle.pblk_world.specs.Space.{free_addresses}
 use Rattle.pblk_world.specs.World.{World, Logs, log_of, unit_event_at, unit_event_of}
 use Rattle.pblk_world.proofs.Appending.{life_more}
 use Rattle.pblk_world.proofs.LinesLemmas.{free_unopened}
-use Rattle.lemmas.proofs.Tests.{not_both, other_number, same_number}
+use Rattle.pblk_model.proofs.Tests.{not_both, other_number, same_number}
 use Rattle.pblk_world.specs.LegalMounts.{IsLegalMount}
 use Rattle.world_laws.specs.UnitPrograms.{IsProgramOfStripe}
 use Rattle.world_laws.proofs.NextLives.{IsPlacedIn, placed_in}

@@ -10,7 +10,7 @@ use Rattle.pblk_world.specs.Events.{Logged}
 use Rattle.pblk_world.specs.Freeing.{HasLandedIn, IsAnswered, IsLandedRecord, IsWrittenRecord, MayFree}
 use Rattle.pblk_world.specs.Lines.{known_image, place_of}
 use Rattle.pblk_world.specs.World.{World, Logs, log_of, media}
-use Rattle.lemmas.proofs.Options.{split_then}
+use Rattle.pblk_model.proofs.Options.{split_then}
 use Rattle.pblk_world.specs.LegalMounts.{IsLegalMount, NoStripeLost}
 use Rattle.world_laws.specs.SameTold.{AreSameTold}
 use Rattle.world_laws.proofs.Freeing.{landed_in_told}

@@ -17,10 +17,10 @@ use Rattle.pblk_world.specs.Lines.{are_over, known_image}
 use Rattle.pblk_world.specs.Space.{freed, gives_back, is_closed_in, is_readable_in, landed_blocks, placed_front}
 use Rattle.pblk_world.specs.World.{World, log_of}
 use Rattle.pblk_world.proofs.SyncedFront.{IsLeast, least}
-use Rattle.lemmas.proofs.Lists.{IsAmong, among_contained}
-use Rattle.lemmas.proofs.Maps.{any_member, enumerate_get, in_filter}
-use Rattle.lemmas.proofs.Parts.{contained_among, get_below, take_and_drop}
-use Rattle.lemmas.proofs.Tests.{and_both, either_false, le_of_lt_false, le_true, lt_true, not_both, same_number}
+use Rattle.pblk_model.proofs.Lists.{IsAmong, among_contained}
+use Rattle.pblk_model.proofs.Maps.{any_member, enumerate_get, in_filter}
+use Rattle.pblk_model.proofs.Parts.{contained_among, get_below, take_and_drop}
+use Rattle.pblk_model.proofs.Tests.{and_both, either_false, le_of_lt_false, le_true, lt_true, not_both, same_number}
 use Rattle.pblk_world.specs.LegalMounts.{IsLegalMount}
 use Rattle.world_laws.proofs.Later.{placed_later, placed_within}
 use Rattle.world_laws.proofs.LineStripes.{stripe_count}

@@ -13,7 +13,7 @@ use Rattle.pblk_world.specs.Fronts.{synced, taken}
 use Rattle.pblk_world.specs.Space.{placed_front}
 use Rattle.pblk_world.specs.Victims.{engine_prefix, live, taken_up_to, victim}
 use Rattle.pblk_world.specs.World.{World, Logs, log_of, prefixes}
-use Rattle.lemmas.proofs.Parts.{all_taken}
+use Rattle.pblk_model.proofs.Parts.{all_taken}
 use Rattle.pblk_world.specs.LegalMounts.{IsLegalMount, NoStripeLost, decides, is_losing}
 use Rattle.pblk_world.specs.Reasons.{AreBegun, WasBegun}
 use Rattle.world_laws.specs.SameTold.{AreSameTold}

@@ -13,7 +13,7 @@ use Rattle.pblk_world.specs.Space.{is_closed_in}
 use Rattle.pblk_world.specs.Starts.{have_landed}
 use Rattle.pblk_world.specs.World.{World, log_of, prefixes}
 use Rattle.pblk_world.proofs.LegalLemmas.{whole_own}
-use Rattle.lemmas.proofs.Parts.{contained_among, get_below, get_right, take_and_drop}
+use Rattle.pblk_model.proofs.Parts.{contained_among, get_below, get_right, take_and_drop}
 use Rattle.pblk_world.specs.LegalMounts.{IsLegalMount}
 use Rattle.world_laws.specs.SameTold.{AreSameTold}
 use Rattle.world_laws.proofs.Later.{landed_later}

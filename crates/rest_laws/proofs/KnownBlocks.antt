@@ -19,7 +19,7 @@ use Rattle.pblk_world.specs.Events.{Logged}
 use Rattle.pblk_world.specs.Lines.{is_empty_state}
 use Rattle.pblk_world.specs.World.{World, cut_logs, known, knows_engine, log_of, media}
 use Rattle.pblk_world.proofs.WorldLemmas.{length_media}
-use Rattle.lemmas.proofs.Parts.{got_within, is_in}
+use Rattle.pblk_model.proofs.Parts.{got_within, is_in}
 use Rattle.pblk_world.specs.LegalMounts.{IsLegalMount}
 use Rattle.world_laws.specs.UnitChunks.{chunk_after}
 use Rattle.world_laws.specs.SameTold.{AreSameTold}
@@ -39,9 +39,9 @@ use Rattle.world_laws.proofs.Tellings.{IsToldBefore, answered_told, last_program
 use Rattle.world_laws.proofs.UnitChunks.{still_there}
 use Rattle.core_laws.proofs.LandedNow.{opened_now}
 use Rattle.rest_laws.proofs.StaleSources.{HoldsTold, found_upto}
-use Rattle.lemmas.proofs.Lists.{among_contained}
-use Rattle.lemmas.proofs.Maps.{in_filter}
-use Rattle.lemmas.proofs.Tests.{same_number}
+use Rattle.pblk_model.proofs.Lists.{among_contained}
+use Rattle.pblk_model.proofs.Maps.{in_filter}
+use Rattle.pblk_model.proofs.Tests.{same_number}
 
 -- what has landed was answered
 landed_answered : (log : List Logged) (p : Placed) → has_landed log p ≡ true → is_answered log p ≡ true

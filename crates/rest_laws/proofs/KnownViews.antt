@@ -12,9 +12,9 @@ use Rattle.pblk_world.specs.Events.{Decides, Entry, Logged, Source, Take}
 use Rattle.pblk_world.specs.Fronts.{last_take, taken}
 use Rattle.pblk_world.specs.Taking.{Copies, CopiesStale, IsLatest, IsMarked, IsPlaceOfLatest}
 use Rattle.pblk_world.specs.World.{World, Logs, known, log_of, prefixes}
-use Rattle.lemmas.proofs.Lists.{IsAmong, among_contained, among_more}
-use Rattle.lemmas.proofs.Numbers.{fun_same}
-use Rattle.lemmas.proofs.Parts.{contained_among, get_taken, got_within, is_in, take_and_drop}
+use Rattle.pblk_model.proofs.Lists.{IsAmong, among_contained, among_more}
+use Rattle.pblk_model.proofs.Numbers.{fun_same}
+use Rattle.pblk_model.proofs.Parts.{contained_among, get_taken, got_within, is_in, take_and_drop}
 use Rattle.pblk_world.specs.LegalMounts.{IsLegalMount}
 use Rattle.pblk_world.specs.Reasons.{WasBegun}
 use Rattle.world_laws.proofs.Later.{takes_joined}

@@ -14,9 +14,9 @@ use Rattle.pblk_world.specs.Lines.{found_image, next_seq}
 use Rattle.pblk_world.specs.Placing.{IsStart, next_address, start_blocks, stripe_at}
 use Rattle.pblk_world.specs.Starts.{has_landed_start, newest_start, start_stripes}
 use Rattle.pblk_world.specs.World.{World, log_of}
-use Rattle.lemmas.proofs.Lists.{among_contained, last_in}
-use Rattle.lemmas.proofs.Maps.{all_filter, all_mapped, filter_both, map_last}
-use Rattle.lemmas.proofs.Parts.{all_by_get, contained_among, get_below, got_within, take_all, take_more}
+use Rattle.pblk_model.proofs.Lists.{among_contained, last_in}
+use Rattle.pblk_model.proofs.Maps.{all_filter, all_mapped, filter_both, map_last}
+use Rattle.pblk_model.proofs.Parts.{all_by_get, contained_among, get_below, got_within, take_all, take_more}
 use Rattle.pblk_world.specs.LegalMounts.{IsLegalMount}
 use Rattle.world_laws.proofs.FoundImages.{found_seq}
 use Rattle.world_laws.proofs.HeldSectors.{last_last}

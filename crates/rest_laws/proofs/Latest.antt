@@ -22,10 +22,10 @@ use Rattle.pblk_world.specs.Lines.{found_image}
 use Rattle.pblk_world.specs.Taking.{IsPlaceOf, IsPlaceOfLatest, IsPlaceOfWinner}
 use Rattle.pblk_world.specs.World.{World, log_of}
 use Rattle.pblk_world.proofs.EngineLogLemmas.{begun_taken}
-use Rattle.lemmas.proofs.Lists.{IsAmong, among_more}
-use Rattle.lemmas.proofs.Maps.{any_member}
-use Rattle.lemmas.proofs.Parts.{all_at, get_first, take_and_drop}
-use Rattle.lemmas.proofs.Tests.{and_both, same_number}
+use Rattle.pblk_model.proofs.Lists.{IsAmong, among_more}
+use Rattle.pblk_model.proofs.Maps.{any_member}
+use Rattle.pblk_model.proofs.Parts.{all_at, get_first, take_and_drop}
+use Rattle.pblk_model.proofs.Tests.{and_both, same_number}
 use Rattle.pblk_world.specs.LegalMounts.{IsLegalMount}
 use Rattle.world_laws.proofs.Entries.{marks_bear}
 use Rattle.world_laws.proofs.Later.{landed_later, placed_later, placed_within, takes_joined}

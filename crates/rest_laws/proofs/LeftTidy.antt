@@ -17,9 +17,9 @@ use Rattle.pblk_world.specs.Events.{Logged}
 use Rattle.pblk_world.specs.Lines.{are_empty, found_image, has_number, is_empty_state, is_free_line, known_image}
 use Rattle.pblk_world.specs.Space.{is_due}
 use Rattle.pblk_world.specs.World.{World, Logs, log_of, media, unit_event_at, unit_event_of, unit_events}
-use Rattle.lemmas.proofs.Maps.{given_at}
-use Rattle.lemmas.proofs.Options.{split_then}
-use Rattle.lemmas.proofs.Parts.{all_at, get_below}
+use Rattle.pblk_model.proofs.Maps.{given_at}
+use Rattle.pblk_model.proofs.Options.{split_then}
+use Rattle.pblk_model.proofs.Parts.{all_at, get_below}
 use Rattle.world_laws.specs.KnownChunks.{IsChange}
 use Rattle.pblk_world.specs.LegalMounts.{IsLegalMount}
 use Rattle.world_laws.specs.UnitChunks.{chunk_after}

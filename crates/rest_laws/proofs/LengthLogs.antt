@@ -17,9 +17,9 @@ use Rattle.pblk_world.proofs.VictimsLemmas.{whole_prefix}
 use Rattle.pblk_world.specs.EngineLog.{Begun, takes}
 use Rattle.pblk_world.specs.Fronts.{first_position, taken}
 use Rattle.pblk_world.proofs.EngineLogLemmas.{begun_taken}
-use Rattle.lemmas.proofs.Lists.{among_contained}
-use Rattle.lemmas.proofs.Numbers.{fun_same}
-use Rattle.lemmas.proofs.Parts.{get_taken, get_whole_within, got_within, is_in, take_and_drop}
+use Rattle.pblk_model.proofs.Lists.{among_contained}
+use Rattle.pblk_model.proofs.Numbers.{fun_same}
+use Rattle.pblk_model.proofs.Parts.{get_taken, get_whole_within, got_within, is_in, take_and_drop}
 use Rattle.world_laws.specs.SameTold.{AreSameTold}
 use Rattle.world_laws.proofs.Made.{IsMade, known_part, log_then, made, own_then}
 use Rattle.world_laws.proofs.ToldImages.{found_at}

@@ -9,8 +9,8 @@ use Rattle.pblk_model.specs.Image.{Image}
 use Rattle.pblk_world.specs.Fronts.{last_take}
 use Rattle.pblk_world.specs.Victims.{is_live_in, line_of, live}
 use Rattle.pblk_world.specs.World.{Logs}
-use Rattle.lemmas.proofs.Maps.{none_kept}
-use Rattle.lemmas.proofs.Tests.{other_number, same}
+use Rattle.pblk_model.proofs.Maps.{none_kept}
+use Rattle.pblk_model.proofs.Tests.{other_number, same}
 
 -- ---- counting pairs by their first and by their second parts
 

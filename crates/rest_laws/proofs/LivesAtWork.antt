@@ -13,8 +13,8 @@ use Rattle.pblk_world.specs.Lines.{found_image}
 use Rattle.pblk_world.specs.Starts.{seq_in}
 use Rattle.pblk_world.specs.Victims.{is_freed, victim}
 use Rattle.pblk_world.specs.World.{World, log_of}
-use Rattle.lemmas.proofs.Options.{map_some}
-use Rattle.lemmas.proofs.Tests.{not_both, same_number}
+use Rattle.pblk_model.proofs.Options.{map_some}
+use Rattle.pblk_model.proofs.Tests.{not_both, same_number}
 use Rattle.pblk_world.specs.LegalMounts.{IsLegalMount}
 use Rattle.world_laws.proofs.KeptChunks.{found_before}
 use Rattle.world_laws.proofs.NextLives.{IsFreedAt, life_next, open_or_freed}

@@ -11,8 +11,8 @@ use Rattle.pblk_world.specs.EngineLog.{named_by, named_events}
 use Rattle.pblk_world.specs.Events.{Again, Begin, Decides, Does, Event, Free, Landed, Logged, Lost, Open, Place, ResetDone, Take}
 use Rattle.pblk_world.specs.Legal.{IsLegal}
 use Rattle.pblk_world.specs.World.{World, Logs, known, log_of, prefixes, unit_event_at, unit_event_of}
-use Rattle.lemmas.proofs.Parts.{all_by_get, get_whole}
-use Rattle.lemmas.proofs.Tests.{same_number}
+use Rattle.pblk_model.proofs.Parts.{all_by_get, get_whole}
+use Rattle.pblk_model.proofs.Tests.{same_number}
 use Rattle.pblk_world.specs.LegalMounts.{NoStripeLost, decides, is_losing}
 use Rattle.world_laws.proofs.KnownPrefixes.{named_there}
 use Rattle.world_laws.proofs.NextLives.{IsDecided, decided}

@@ -24,10 +24,10 @@ use Rattle.pblk_world.specs.Space.{position_limit}
 use Rattle.pblk_world.specs.Starts.{has_landed_start, have_landed, newest_start, start_stripes}
 use Rattle.pblk_world.specs.Victims.{engine_prefix}
 use Rattle.pblk_world.specs.World.{World, log_of, media}
-use Rattle.lemmas.proofs.Lists.{IsAmong, among_contained}
-use Rattle.lemmas.proofs.Maps.{in_filter}
-use Rattle.lemmas.proofs.Parts.{all_by_get, contained_among, get_below, get_first, get_whole_within, got_within, take_and_drop}
-use Rattle.lemmas.proofs.Tests.{and_both, le_true}
+use Rattle.pblk_model.proofs.Lists.{IsAmong, among_contained}
+use Rattle.pblk_model.proofs.Maps.{in_filter}
+use Rattle.pblk_model.proofs.Parts.{all_by_get, contained_among, get_below, get_first, get_whole_within, got_within, take_and_drop}
+use Rattle.pblk_model.proofs.Tests.{and_both, le_true}
 use Rattle.pblk_world.specs.LegalMounts.{IsLegalMount, NoStripeLost}
 use Rattle.world_laws.proofs.FoundImages.{found_seq}
 use Rattle.world_laws.proofs.LineStarts.{landed_of}

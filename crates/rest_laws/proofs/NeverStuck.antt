@@ -13,7 +13,7 @@ use Rattle.pblk_world.specs.Space.{addresses, placed_front}
 use Rattle.pblk_world.specs.Victims.{engine_prefix, victim}
 use Rattle.pblk_world.specs.World.{World, Logs, log_of}
 use Rattle.pblk_world.proofs.VictimsLemmas.{whole_prefix}
-use Rattle.lemmas.proofs.Parts.{got_within}
+use Rattle.pblk_model.proofs.Parts.{got_within}
 use Rattle.pblk_world.specs.Orders.{AreReset}
 use Rattle.world_laws.specs.SameTold.{AreSameTold}
 use Rattle.world_laws.proofs.ToldTables.{addresses_told}

@@ -15,10 +15,10 @@ use Rattle.pblk_world.specs.Lines.{known_image}
 use Rattle.pblk_world.specs.Placing.{IsNext, next_address}
 use Rattle.pblk_world.specs.Starts.{have_landed}
 use Rattle.pblk_world.specs.World.{World, log_of}
-use Rattle.lemmas.proofs.Lists.{all_of}
-use Rattle.lemmas.proofs.Maps.{any_fail}
-use Rattle.lemmas.proofs.Parts.{all_by_get, all_taken, contained_among, got_within}
-use Rattle.lemmas.proofs.Tests.{and_both, le_true, lt_true}
+use Rattle.pblk_model.proofs.Lists.{all_of}
+use Rattle.pblk_model.proofs.Maps.{any_fail}
+use Rattle.pblk_model.proofs.Parts.{all_by_get, all_taken, contained_among, got_within}
+use Rattle.pblk_model.proofs.Tests.{and_both, le_true, lt_true}
 use Rattle.pblk_world.specs.LegalMounts.{IsLegalMount}
 use Rattle.world_laws.proofs.LineStripes.{some_data}
 use Rattle.world_laws.proofs.NextPrograms.{landed_of_answered}

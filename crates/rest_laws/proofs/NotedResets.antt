@@ -5,7 +5,7 @@ use Rattle.pblk_world.specs.AtRest.{IsUnnotedReset}
 use Rattle.pblk_world.specs.EngineLog.{Begun, begun}
 use Rattle.pblk_world.specs.Lines.{are_empty, known_image}
 use Rattle.pblk_world.specs.World.{World, log_of}
-use Rattle.lemmas.proofs.Tests.{not_both}
+use Rattle.pblk_model.proofs.Tests.{not_both}
 use Rattle.pblk_world.specs.LegalMounts.{IsLegalMount}
 use Rattle.pblk_world.specs.Orders.{AreReset}
 use Rattle.rest_laws.proofs.UsedResets.{IsUnheardReset, in_range, still_given, unempty_now, unnoted}

@@ -20,8 +20,8 @@ use Rattle.pblk_world.specs.World.{World, Logs, log_of, media}
 use Rattle.pblk_world.proofs.EngineLogLemmas.{begun_knows}
 use Rattle.pblk_world.proofs.LinesLemmas.{length_known}
 use Rattle.pblk_world.proofs.VictimsLemmas.{whole_prefix}
-use Rattle.lemmas.proofs.Options.{split_then}
-use Rattle.lemmas.proofs.Parts.{all_at, all_by_get, get_below, got_within}
+use Rattle.pblk_model.proofs.Options.{split_then}
+use Rattle.pblk_model.proofs.Parts.{all_at, all_by_get, get_below, got_within}
 use Rattle.pblk_world.specs.LegalMounts.{IsLegalMount, NoStripeLost}
 use Rattle.world_laws.proofs.FitMedia.{media_fit}
 use Rattle.world_laws.proofs.KnownChunks.{IsKnownTo, known_first, known_later}

@@ -7,9 +7,9 @@ use Rattle.pblk_world.specs.EngineLog.{holds_position, Opening, openings, placem
 use Rattle.pblk_world.specs.Fronts.{first_position, taken, waiting}
 use Rattle.pblk_world.specs.Space.{freed, placed_front}
 use Rattle.pblk_world.specs.World.{World, log_of}
-use Rattle.lemmas.proofs.Lists.{contains_none}
-use Rattle.lemmas.proofs.Parts.{contained_among}
-use Rattle.lemmas.proofs.Tests.{and_both, le_true, lt_true}
+use Rattle.pblk_model.proofs.Lists.{contains_none}
+use Rattle.pblk_model.proofs.Parts.{contained_among}
+use Rattle.pblk_model.proofs.Tests.{and_both, le_true, lt_true}
 use Rattle.world_laws.proofs.Stripes.{life_of_stripe, opening_then}
 use Rattle.core_laws.proofs.LosslessMounts.{IsLosslessMount}
 use Rattle.core_laws.proofs.Distinct.{passing}

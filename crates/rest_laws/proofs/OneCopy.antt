@@ -17,10 +17,10 @@ use Rattle.pblk_world.specs.Fronts.{first_position, synced, taken, was_placed}
 use Rattle.pblk_world.specs.Space.{placed_front}
 use Rattle.pblk_world.specs.World.{World, log_of}
 use Rattle.pblk_world.proofs.SyncedFront.{synced_is, synced_within}
-use Rattle.lemmas.proofs.Lists.{among_contained}
-use Rattle.lemmas.proofs.Maps.{fewer_taken, given_at, in_filter}
-use Rattle.lemmas.proofs.Parts.{all_by_get, contained_among, get_taken, get_whole_within, got_within}
-use Rattle.lemmas.proofs.Tests.{lt_true}
+use Rattle.pblk_model.proofs.Lists.{among_contained}
+use Rattle.pblk_model.proofs.Maps.{fewer_taken, given_at, in_filter}
+use Rattle.pblk_model.proofs.Parts.{all_by_get, contained_among, get_taken, get_whole_within, got_within}
+use Rattle.pblk_model.proofs.Tests.{lt_true}
 use Rattle.pblk_world.specs.LegalMounts.{IsLegalMount}
 use Rattle.pblk_world.specs.Reasons.{AreBegun, TakesCopy, WasBegun}
 use Rattle.world_laws.proofs.Fronts.{IsLandedAt, landed_at, synced_from}

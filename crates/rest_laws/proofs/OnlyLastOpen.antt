@@ -13,10 +13,10 @@ use Rattle.pblk_world.specs.Lines.{are_over}
 use Rattle.pblk_world.specs.Placing.{IsEnd, end_address, end_blocks, line_end, next_address, stripe_at}
 use Rattle.pblk_world.specs.Space.{unplaced_in}
 use Rattle.pblk_world.specs.World.{World, log_of}
-use Rattle.lemmas.proofs.Lists.{all_of, among_contained}
-use Rattle.lemmas.proofs.Maps.{any_fail}
-use Rattle.lemmas.proofs.Parts.{get_below}
-use Rattle.lemmas.proofs.Tests.{not_both}
+use Rattle.pblk_model.proofs.Lists.{all_of, among_contained}
+use Rattle.pblk_model.proofs.Maps.{any_fail}
+use Rattle.pblk_model.proofs.Parts.{get_below}
+use Rattle.pblk_model.proofs.Tests.{not_both}
 use Rattle.pblk_world.specs.LegalMounts.{IsLegalMount}
 use Rattle.world_laws.proofs.LineStripes.{IsSplit, failed_later, some_data, stripes_split}
 use Rattle.world_laws.proofs.NextLives.{IsOpenSince, open_since}

@@ -19,8 +19,8 @@ use Rattle.pblk_world.specs.Space.{unplaced_in}
 use Rattle.pblk_world.specs.Starts.{have_landed, seq_in}
 use Rattle.pblk_world.specs.Victims.{engine_prefix, positions_in}
 use Rattle.pblk_world.specs.World.{World, log_of}
-use Rattle.lemmas.proofs.Lists.{IsAmong, all_contains, among_contained}
-use Rattle.lemmas.proofs.Parts.{contained_among, get_below, take_and_drop}
+use Rattle.pblk_model.proofs.Lists.{IsAmong, all_contains, among_contained}
+use Rattle.pblk_model.proofs.Parts.{contained_among, get_below, take_and_drop}
 use Rattle.pblk_world.specs.LegalMounts.{IsLegalMount}
 use Rattle.world_laws.proofs.LineStarts.{landed_of}
 use Rattle.world_laws.proofs.LineStripes.{stripe_then}

@@ -23,10 +23,10 @@ use Rattle.pblk_world.specs.World.{World, log_of}
 use Rattle.pblk_world.proofs.EngineLogLemmas.{begun_taken}
 use Rattle.pblk_world.proofs.LinesLemmas.{length_known}
 use Rattle.pblk_world.proofs.SyncedFront.{synced_missing}
-use Rattle.lemmas.proofs.Lists.{IsAmong, among_contained}
-use Rattle.lemmas.proofs.Maps.{any_member, in_filter}
-use Rattle.lemmas.proofs.Parts.{contained_among, get_below, take_and_drop}
-use Rattle.lemmas.proofs.Tests.{and_both, below_of, both, le_true, lt_true, not_both, same_number}
+use Rattle.pblk_model.proofs.Lists.{IsAmong, among_contained}
+use Rattle.pblk_model.proofs.Maps.{any_member, in_filter}
+use Rattle.pblk_model.proofs.Parts.{contained_among, get_below, take_and_drop}
+use Rattle.pblk_model.proofs.Tests.{and_both, below_of, both, le_true, lt_true, not_both, same_number}
 use Rattle.pblk_world.specs.LegalMounts.{IsLegalMount}
 use Rattle.world_laws.proofs.Fronts.{synced_from}
 use Rattle.world_laws.proofs.Later.{answered_later, placed_later, placed_within}
@@ -49,7 +49,7 @@ use Rattle.core_laws.proofs.LaterLines.{none_in_older}
 use Rattle.core_laws.proofs.PlainLogs.{NoPlacementLost, never_lost}
 use Rattle.rest_laws.proofs.ChunkRows.{IsInRow, all_landed, in_row}
 use Rattle.rest_laws.proofs.WideLines.{column_of_unit}
-use Rattle.lemmas.proofs.Tests.{same}
+use Rattle.pblk_model.proofs.Tests.{same}
 use Rattle.std.proofs.Common.{◌==◌}
 
 module _ (i : Image) (w : World) (lossless : IsLosslessMount i w) (full : OpensWhenFull i (log_of w)) where

@@ -16,10 +16,10 @@ use Rattle.pblk_world.specs.Lines.{found_image}
 use Rattle.pblk_world.specs.Victims.{engine_prefix, is_live_in, landed_line_of, line_of, line_of_winner, live, take_before, taken_up_to}
 use Rattle.pblk_world.specs.World.{World, log_of}
 use Rattle.pblk_world.proofs.WorldLemmas.{log_elsewhere}
-use Rattle.lemmas.proofs.Lists.{IsAmong, among_more}
-use Rattle.lemmas.proofs.Numbers.{fun_same}
-use Rattle.lemmas.proofs.Parts.{get_last, take_front}
-use Rattle.lemmas.proofs.Tests.{and_both, lt_true, not_both, same_number}
+use Rattle.pblk_model.proofs.Lists.{IsAmong, among_more}
+use Rattle.pblk_model.proofs.Numbers.{fun_same}
+use Rattle.pblk_model.proofs.Parts.{get_last, take_front}
+use Rattle.pblk_model.proofs.Tests.{and_both, lt_true, not_both, same_number}
 use Rattle.pblk_world.specs.LegalMounts.{IsLegalMount}
 use Rattle.world_laws.proofs.Freeing.{IsFreeable, freed_at}
 use Rattle.world_laws.proofs.Fronts.{synced_later}

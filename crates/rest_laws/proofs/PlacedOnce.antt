@@ -7,9 +7,9 @@ use Rattle.pblk_model.specs.declared.shape.Shape.{Shape}
 use Rattle.pblk_world.specs.Events.{Logged}
 use Rattle.pblk_world.specs.EngineLog.{Placed, holds_position, placements}
 use Rattle.pblk_world.specs.Fronts.{first_position}
-use Rattle.lemmas.proofs.Lists.{IsAmong, later}
-use Rattle.lemmas.proofs.Parts.{all_at}
-use Rattle.lemmas.proofs.Tests.{either, or_left, or_right}
+use Rattle.pblk_model.proofs.Lists.{IsAmong, later}
+use Rattle.pblk_model.proofs.Parts.{all_at}
+use Rattle.pblk_model.proofs.Tests.{either, or_left, or_right}
 use Rattle.world_laws.proofs.UnitTurns.{Rises, rise_all}
 use Rattle.core_laws.specs.Placed.{placed_count, placed_positions}
 use Rattle.core_laws.specs.PlacerOf.{positions_in_stripe}

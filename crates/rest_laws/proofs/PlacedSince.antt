@@ -14,10 +14,10 @@ use Rattle.pblk_world.specs.Fronts.{first_position, was_placed}
 use Rattle.pblk_world.specs.Space.{placed_front}
 use Rattle.pblk_world.specs.Victims.{position_in}
 use Rattle.pblk_world.specs.World.{World, log_of}
-use Rattle.lemmas.proofs.Lists.{IsAmong, among_contained}
-use Rattle.lemmas.proofs.Maps.{filter_both, in_filter}
-use Rattle.lemmas.proofs.Parts.{all_at, all_by_get, contained_among, get_right, take_and_drop}
-use Rattle.lemmas.proofs.Tests.{same_number}
+use Rattle.pblk_model.proofs.Lists.{IsAmong, among_contained}
+use Rattle.pblk_model.proofs.Maps.{filter_both, in_filter}
+use Rattle.pblk_model.proofs.Parts.{all_at, all_by_get, contained_among, get_right, take_and_drop}
+use Rattle.pblk_model.proofs.Tests.{same_number}
 use Rattle.pblk_world.specs.LegalMounts.{IsLegalMount}
 use Rattle.world_laws.proofs.Later.{placed_within, placements_joined}
 use Rattle.world_laws.proofs.LineStripes.{stripe_count, turn_of_stripe}

@@ -11,7 +11,7 @@ use Rattle.pblk_world.specs.Fronts.{taken, waiting}
 use Rattle.pblk_world.specs.Lines.{found_image}
 use Rattle.pblk_world.specs.Space.{addresses, free_addresses, freed, full_data, is_due, open_addresses, placed_front, position_limit, ring_limit, room, space_limit}
 use Rattle.pblk_world.specs.World.{World, log_of}
-use Rattle.lemmas.proofs.Lists.{among_contained}
+use Rattle.pblk_model.proofs.Lists.{among_contained}
 use Rattle.world_laws.proofs.StartRecords.{nth_opening}
 use Rattle.core_laws.proofs.LosslessMounts.{IsLosslessMount}
 use Rattle.rest_laws.specs.RestingMounts.{IsRestingMount}

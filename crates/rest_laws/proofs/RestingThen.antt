@@ -17,10 +17,10 @@ use Rattle.pblk_world.specs.Space.{addresses, is_due, open_addresses, position_l
 use Rattle.pblk_world.specs.Victims.{engine_prefix}
 use Rattle.pblk_world.specs.World.{World, Logs, log_of, unit_event_of}
 use Rattle.pblk_world.proofs.EngineLogLemmas.{begun_taken}
-use Rattle.lemmas.proofs.Lists.{among_contained, among_more}
-use Rattle.lemmas.proofs.Maps.{enumerate_append}
-use Rattle.lemmas.proofs.Options.{split_then}
-use Rattle.lemmas.proofs.Parts.{contained_among, get_below, get_more, take_and_drop}
+use Rattle.pblk_model.proofs.Lists.{among_contained, among_more}
+use Rattle.pblk_model.proofs.Maps.{enumerate_append}
+use Rattle.pblk_model.proofs.Options.{split_then}
+use Rattle.pblk_model.proofs.Parts.{contained_among, get_below, get_more, take_and_drop}
 use Rattle.pblk_world.specs.LegalMounts.{IsLegalMount, NoStripeLost}
 use Rattle.pblk_world.specs.Orders.{AreReset}
 use Rattle.world_laws.specs.SameTold.{AreSameTold}

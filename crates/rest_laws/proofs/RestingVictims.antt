@@ -14,8 +14,8 @@ use Rattle.pblk_world.specs.Victims.{engine_prefix, live, taken_up_to}
 use Rattle.pblk_world.specs.World.{World, log_of}
 use Rattle.pblk_world.proofs.EngineLogLemmas.{begun_knows}
 use Rattle.std.proofs.Math.Seq.{take-length}
-use Rattle.lemmas.proofs.Options.{map_some}
-use Rattle.lemmas.proofs.Parts.{all_at}
+use Rattle.pblk_model.proofs.Options.{map_some}
+use Rattle.pblk_model.proofs.Parts.{all_at}
 use Rattle.world_laws.proofs.Newest.{IsNewest, newest_grows}
 use Rattle.core_laws.specs.ClosedLines.{ClosedLine, IsSpentBy, StartNumbers}
 use Rattle.core_laws.proofs.LosslessMounts.{IsLosslessMount}

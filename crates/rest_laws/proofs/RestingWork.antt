@@ -18,10 +18,10 @@ use Rattle.pblk_world.specs.Space.{addresses, free_addresses, open_addresses, pl
 use Rattle.pblk_world.specs.Starts.{has_landed_start, older_rows}
 use Rattle.pblk_world.specs.World.{World, log_of}
 use Rattle.pblk_world.proofs.SyncedFront.{synced_missing}
-use Rattle.lemmas.proofs.Lists.{among_contained, contains_none}
-use Rattle.lemmas.proofs.Maps.{any_member, sum_more as sum_next}
-use Rattle.lemmas.proofs.Parts.{contained_among, get_below, get_dropped, got_within}
-use Rattle.lemmas.proofs.Tests.{and_both, both, le_true, lt_true, not_both, not_true, positive}
+use Rattle.pblk_model.proofs.Lists.{among_contained, contains_none}
+use Rattle.pblk_model.proofs.Maps.{any_member, sum_more as sum_next}
+use Rattle.pblk_model.proofs.Parts.{contained_among, get_below, get_dropped, got_within}
+use Rattle.pblk_model.proofs.Tests.{and_both, both, le_true, lt_true, not_both, not_true, positive}
 use Rattle.world_laws.proofs.Fronts.{synced_from}
 use Rattle.world_laws.proofs.NextPrograms.{landed_of_answered}
 use Rattle.world_laws.proofs.Positions.{position_of}

@@ -26,7 +26,7 @@ use Rattle.pblk_world.proofs.Growing.{grows}
 use Rattle.pblk_world.proofs.LegalLemmas.{whole_own}
 use Rattle.pblk_world.proofs.LinesLemmas.{free_unopened}
 use Rattle.pblk_world.proofs.WorldLemmas.{log_elsewhere}
-use Rattle.lemmas.proofs.Parts.{get_whole, get_whole_within}
+use Rattle.pblk_model.proofs.Parts.{get_whole, get_whole_within}
 use Rattle.pblk_world.specs.LegalMounts.{IsLegalMount, NoStripeLost}
 use Rattle.world_laws.specs.SameTold.{AreSameTold}
 use Rattle.world_laws.proofs.Made.{IsMade, known_within, step_by}

@@ -10,8 +10,8 @@ use Rattle.pblk_world.specs.Fronts.{taken, waiting}
 use Rattle.pblk_world.specs.Space.{addresses, is_due, placed_front, position_limit}
 use Rattle.pblk_world.specs.Victims.{engine_prefix, live, taken_up_to, victim}
 use Rattle.pblk_world.specs.World.{World, Logs, log_of}
-use Rattle.lemmas.proofs.Parts.{all_taken}
-use Rattle.lemmas.proofs.Tests.{other_number}
+use Rattle.pblk_model.proofs.Parts.{all_taken}
+use Rattle.pblk_model.proofs.Tests.{other_number}
 use Rattle.pblk_world.specs.LegalMounts.{IsLegalMount, NoStripeLost, decides, is_losing}
 use Rattle.pblk_world.specs.Reasons.{WasAsked}
 use Rattle.world_laws.specs.SameTold.{AreSameTold}
@@ -180,7 +180,8 @@ module _ (i : Image) (w : World) (is : IsReasonedMount i w) where
           where
             go : (n < a.at) ⊎ (a.at ≤ n) → position ≤ max new.before_due new.while_due
             go (inr early) =
-                let low : position ≤ max s.before_due s.while_due = was.asks position (record { at = a.at; has_begun = a.has_begun; within = early; why = a.why }) in
+                let low : position ≤ max s.before_due s.while_due =
+                was.asks position (record { at = a.at; has_begun = a.has_begun; within = early; why = a.why }) in
                 omega arith
             go (inl late) =
                 let same : a.at ≡ suc n = omega (arith, a.within) in

@@ -18,10 +18,10 @@ use Rattle.pblk_world.specs.Space.{full_data, placed_front}
 use Rattle.pblk_world.specs.Taking.{MayTake}
 use Rattle.pblk_world.specs.Victims.{engine_prefix, is_freed, victim}
 use Rattle.pblk_world.specs.World.{World, Logs, log_of, prefixes}
-use Rattle.lemmas.proofs.Lists.{IsAmong, among_contained}
-use Rattle.lemmas.proofs.Maps.{all_passed, from_filter}
-use Rattle.lemmas.proofs.Parts.{all_at, all_taken, contained_among, from_last}
-use Rattle.lemmas.proofs.Tests.{le_of_lt_false, not_both, not_true, same, same_number}
+use Rattle.pblk_model.proofs.Lists.{IsAmong, among_contained}
+use Rattle.pblk_model.proofs.Maps.{all_passed, from_filter}
+use Rattle.pblk_model.proofs.Parts.{all_at, all_taken, contained_among, from_last}
+use Rattle.pblk_model.proofs.Tests.{le_of_lt_false, not_both, not_true, same, same_number}
 use Rattle.pblk_world.specs.LegalMounts.{IsLegalMount, NoStripeLost, decides, is_freeing, is_losing}
 use Rattle.pblk_world.specs.Reasons.{WasRoom, WasUrgent}
 use Rattle.world_laws.proofs.Made.{IsMade, made}

@@ -16,9 +16,9 @@ use Rattle.pblk_world.specs.Victims.{engine_prefix}
 use Rattle.pblk_world.specs.World.{World, Logs, known, log_of}
 use Rattle.pblk_world.proofs.Growing.{grows}
 use Rattle.pblk_world.proofs.WorldLemmas.{log_here}
-use Rattle.lemmas.proofs.Maps.{filter_same, none_kept}
-use Rattle.lemmas.proofs.Parts.{take_next}
-use Rattle.lemmas.proofs.Tests.{within_is}
+use Rattle.pblk_model.proofs.Maps.{filter_same, none_kept}
+use Rattle.pblk_model.proofs.Parts.{take_next}
+use Rattle.pblk_model.proofs.Tests.{within_is}
 use Rattle.pblk_world.specs.LegalMounts.{IsLegalMount}
 use Rattle.pblk_world.specs.Orders.{AreReset}
 use Rattle.world_laws.specs.SameTold.{AreSameTold}

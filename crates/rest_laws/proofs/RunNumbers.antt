@@ -21,7 +21,7 @@ use Rattle.pblk_world.specs.Opening.{MayOpen}
 use Rattle.pblk_world.specs.Space.{addresses, free_addresses, full_data, open_addresses, placed_front}
 use Rattle.pblk_world.specs.Victims.{engine_prefix}
 use Rattle.pblk_world.specs.World.{World, Logs, log_of, prefixes, unit_event_at, unit_event_of}
-use Rattle.lemmas.proofs.Parts.{all_taken}
+use Rattle.pblk_model.proofs.Parts.{all_taken}
 use Rattle.pblk_world.specs.LegalMounts.{IsLegalMount, NoStripeLost, decides, is_losing}
 use Rattle.world_laws.specs.SameTold.{AreSameTold}
 use Rattle.world_laws.proofs.Made.{step_by}

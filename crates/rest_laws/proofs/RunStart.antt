@@ -18,9 +18,9 @@ use Rattle.pblk_world.specs.Lines.{are_empty, chunks_of, found_by, found_image, 
 use Rattle.pblk_world.specs.Space.{full_data, open_addresses, placed_front, unplaced_in}
 use Rattle.pblk_world.specs.Victims.{engine_prefix, victim}
 use Rattle.pblk_world.specs.World.{World, Logs, log_of}
-use Rattle.lemmas.proofs.Lists.{contains_none}
-use Rattle.lemmas.proofs.Tests.{and_both, both, lt_true}
-use Rattle.lemmas.proofs.Parts.{got_within, take_next}
+use Rattle.pblk_model.proofs.Lists.{contains_none}
+use Rattle.pblk_model.proofs.Tests.{and_both, both, lt_true}
+use Rattle.pblk_model.proofs.Parts.{got_within, take_next}
 use Rattle.world_laws.proofs.Beginnings.{first_begins}
 use Rattle.world_laws.proofs.FitMedia.{found_fit}
 use Rattle.world_laws.proofs.ToldImages.{found_at}

@@ -18,7 +18,7 @@ use Rattle.pblk_world.specs.Space.{addresses, free_addresses, full_data, room, s
 use Rattle.pblk_world.specs.Victims.{engine_prefix, victim}
 use Rattle.pblk_world.specs.World.{World, Logs, log_of}
 use Rattle.pblk_world.proofs.EngineLogLemmas.{takes_more}
-use Rattle.lemmas.proofs.Parts.{take_next}
+use Rattle.pblk_model.proofs.Parts.{take_next}
 use Rattle.pblk_world.specs.Reasons.{WasRoom}
 use Rattle.world_laws.proofs.ToldTables.{room_told}
 use Rattle.room_law.specs.Counting.{AreSizes, IsReached, State}

@@ -26,10 +26,10 @@ use Rattle.pblk_world.specs.Victims.{engine_prefix}
 use Rattle.pblk_world.specs.World.{World, log_of}
 use Rattle.rest_laws.specs.NewestOpened.{IsLastOpened}
 use Rattle.rest_laws.specs.Tidy.{AreWide, has_free_chunks, is_free_state}
-use Rattle.lemmas.proofs.Lists.{IsAmong, among_contained, contains_none}
-use Rattle.lemmas.proofs.Maps.{all_in_range, filter_at, from_given}
-use Rattle.lemmas.proofs.Parts.{all_at, contained_among, get_below, got_within}
-use Rattle.lemmas.proofs.Tests.{same_number, within_is}
+use Rattle.pblk_model.proofs.Lists.{IsAmong, among_contained, contains_none}
+use Rattle.pblk_model.proofs.Maps.{all_in_range, filter_at, from_given}
+use Rattle.pblk_model.proofs.Parts.{all_at, contained_among, get_below, got_within}
+use Rattle.pblk_model.proofs.Tests.{same_number, within_is}
 use Rattle.pblk_world.specs.LegalMounts.{IsLegalMount}
 use Rattle.pblk_world.specs.Orders.{AreReset}
 use Rattle.world_laws.proofs.Beginnings.{first_begins}

@@ -21,11 +21,11 @@ use Rattle.pblk_world.specs.Taking.{BearsIt, IsLatest, IsPlaceOf, IsPlaceOfLates
 use Rattle.pblk_world.specs.Victims.{engine_prefix}
 use Rattle.pblk_world.specs.World.{World, Logs, log_of, cut_logs, media}
 use Rattle.pblk_world.proofs.WorldLemmas.{length_media}
-use Rattle.lemmas.proofs.Lists.{IsAmong, among_contained, among_more}
-use Rattle.lemmas.proofs.Maps.{in_filter}
-use Rattle.lemmas.proofs.Options.{some_value}
-use Rattle.lemmas.proofs.Parts.{all_at, contained_among, take_and_drop}
-use Rattle.lemmas.proofs.Tests.{same_number}
+use Rattle.pblk_model.proofs.Lists.{IsAmong, among_contained, among_more}
+use Rattle.pblk_model.proofs.Maps.{in_filter}
+use Rattle.pblk_model.proofs.Options.{some_value}
+use Rattle.pblk_model.proofs.Parts.{all_at, contained_among, take_and_drop}
+use Rattle.pblk_model.proofs.Tests.{same_number}
 use Rattle.pblk_world.specs.LegalMounts.{IsLegalMount}
 use Rattle.world_laws.specs.SameTold.{AreSameTold}
 use Rattle.world_laws.specs.UnitChunks.{chunk_after}

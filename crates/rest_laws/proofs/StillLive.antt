@@ -19,10 +19,10 @@ use Rattle.pblk_world.specs.Taking.{IsPlaceOfLatest}
 use Rattle.pblk_world.specs.Victims.{engine_prefix, is_live_in, line_of, line_of_position, live, victim}
 use Rattle.pblk_world.specs.World.{World, Logs, log_of}
 use Rattle.pblk_world.proofs.EngineLogLemmas.{begun_taken, takes_more}
-use Rattle.lemmas.proofs.Lists.{IsAmong, among_contained}
-use Rattle.lemmas.proofs.Maps.{in_filter}
-use Rattle.lemmas.proofs.Parts.{contained_among, from_last, get_last, take_and_drop, take_next}
-use Rattle.lemmas.proofs.Tests.{not_both, same, same_number}
+use Rattle.pblk_model.proofs.Lists.{IsAmong, among_contained}
+use Rattle.pblk_model.proofs.Maps.{in_filter}
+use Rattle.pblk_model.proofs.Parts.{contained_among, from_last, get_last, take_and_drop, take_next}
+use Rattle.pblk_model.proofs.Tests.{not_both, same, same_number}
 use Rattle.pblk_world.specs.LegalMounts.{IsLegalMount}
 use Rattle.world_laws.proofs.Later.{landed_later, placed_later, placed_within}
 use Rattle.world_laws.proofs.Latest.{one_entry}

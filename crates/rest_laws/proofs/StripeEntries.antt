@@ -12,10 +12,10 @@ use Rattle.pblk_world.specs.Events.{Stripe}
 use Rattle.pblk_world.specs.Fronts.{waiting}
 use Rattle.pblk_world.specs.Placing.{IsData, IsEnd, IsPad, IsStart}
 use Rattle.pblk_world.specs.World.{World, Logs, log_of}
-use Rattle.lemmas.proofs.Lists.{zipped}
-use Rattle.lemmas.proofs.Maps.{any_member}
-use Rattle.lemmas.proofs.Parts.{all_dropped, all_taken}
-use Rattle.lemmas.proofs.Tests.{and_both, both, not_both, same_number}
+use Rattle.pblk_model.proofs.Lists.{zipped}
+use Rattle.pblk_model.proofs.Maps.{any_member}
+use Rattle.pblk_model.proofs.Parts.{all_dropped, all_taken}
+use Rattle.pblk_model.proofs.Tests.{and_both, both, not_both, same_number}
 use Rattle.core_laws.proofs.LosslessMounts.{IsLosslessMount}
 use Rattle.core_laws.proofs.Distinct.{passing}
 use Rattle.core_laws.proofs.LogOrders.{small_capacity}

@@ -25,10 +25,10 @@ use Rattle.pblk_world.specs.Space.{addresses, free_addresses, freed, open_addres
 use Rattle.pblk_world.specs.Victims.{position_in}
 use Rattle.pblk_world.specs.World.{World, Logs, log_of}
 use Rattle.pblk_world.proofs.LinesLemmas.{length_known}
-use Rattle.lemmas.proofs.Lists.{IsAmong, among_contained}
-use Rattle.lemmas.proofs.Maps.{in_filter, range_get}
-use Rattle.lemmas.proofs.Parts.{all_at, all_by_get, all_taken, contained_among, got_within}
-use Rattle.lemmas.proofs.Tests.{and_both, le_true, lt_true, same_number}
+use Rattle.pblk_model.proofs.Lists.{IsAmong, among_contained}
+use Rattle.pblk_model.proofs.Maps.{in_filter, range_get}
+use Rattle.pblk_model.proofs.Parts.{all_at, all_by_get, all_taken, contained_among, got_within}
+use Rattle.pblk_model.proofs.Tests.{and_both, le_true, lt_true, same_number}
 use Rattle.pblk_world.specs.LegalMounts.{decides, is_losing, IsLegalMount, NoStripeLost}
 use Rattle.pblk_world.specs.Reasons.{AreGranted, WasRoom}
 use Rattle.world_laws.proofs.Fronts.{synced_from}

@@ -15,10 +15,10 @@ use Rattle.pblk_world.specs.EngineLog.{Begun, begun, life_of}
 use Rattle.pblk_world.specs.Lines.{are_empty, chunks_of, found_by, found_image, has_number, is_empty_state, is_free_line, known_image, line_data}
 use Rattle.pblk_world.specs.Space.{is_due}
 use Rattle.pblk_world.specs.World.{World, Logs, log_of}
-use Rattle.lemmas.proofs.Maps.{given_at}
-use Rattle.lemmas.proofs.Options.{split_then}
-use Rattle.lemmas.proofs.Parts.{all_by_get}
-use Rattle.lemmas.proofs.Tests.{both, not_both, not_true}
+use Rattle.pblk_model.proofs.Maps.{given_at}
+use Rattle.pblk_model.proofs.Options.{split_then}
+use Rattle.pblk_model.proofs.Parts.{all_by_get}
+use Rattle.pblk_model.proofs.Tests.{both, not_both, not_true}
 use Rattle.pblk_world.specs.LegalMounts.{IsLegalMount}
 use Rattle.world_laws.specs.Padding.{ArePadded, IsPaddedAt}
 use Rattle.world_laws.specs.EarlyLogs.{ArePrefixes}

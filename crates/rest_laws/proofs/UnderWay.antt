@@ -11,7 +11,7 @@ use Rattle.pblk_world.specs.EngineLog.{Taken, taken_by}
 use Rattle.pblk_world.specs.Events.{Decides, Entry, Free, Logged, Take}
 use Rattle.pblk_world.specs.Victims.{engine_prefix, is_live_in, live, victim}
 use Rattle.pblk_world.specs.World.{World, Logs, log_of}
-use Rattle.lemmas.proofs.Maps.{in_filter, range_get}
+use Rattle.pblk_model.proofs.Maps.{in_filter, range_get}
 use Rattle.room_law.specs.Counting.{Copy, Fresh, NoCopy, Outlived, Stale, Victim}
 use Rattle.rest_laws.specs.Copies.{TookCopy}
 use Rattle.rest_laws.specs.RoomRuns.{AreBegunAt, IsCopyAt, IsReasonedMount, IsVictimOf, UnderWay}

@@ -19,8 +19,8 @@ use Rattle.pblk_world.specs.Starts.{seq_in}
 use Rattle.pblk_world.specs.World.{World, Logs, log_of, prefixes, unit_event_at, unit_event_of}
 use Rattle.pblk_world.proofs.Appending.{life_more}
 use Rattle.pblk_world.proofs.LinesLemmas.{not_given_up}
-use Rattle.lemmas.proofs.Maps.{filter_same}
-use Rattle.lemmas.proofs.Tests.{lt_true, not_both}
+use Rattle.pblk_model.proofs.Maps.{filter_same}
+use Rattle.pblk_model.proofs.Tests.{lt_true, not_both}
 use Rattle.pblk_world.specs.LegalMounts.{IsLegalMount}
 use Rattle.world_laws.specs.SameTold.{AreSameTold}
 use Rattle.world_laws.proofs.ToldDecisions.{opening_told}

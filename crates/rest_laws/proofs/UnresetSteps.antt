@@ -18,7 +18,7 @@ use Rattle.pblk_world.specs.World.{World, Logs, log_of, unit_event_at, unit_even
 use Rattle.pblk_world.proofs.Appending.{life_more}
 use Rattle.pblk_world.proofs.EngineLogLemmas.{begun_stays}
 use Rattle.pblk_world.proofs.LinesLemmas.{not_given_up}
-use Rattle.lemmas.proofs.Tests.{both, not_both, other_number, same_number}
+use Rattle.pblk_model.proofs.Tests.{both, not_both, other_number, same_number}
 use Rattle.pblk_world.specs.LegalMounts.{IsLegalMount}
 use Rattle.core_laws.specs.Stepping.{after}
 use Rattle.core_laws.proofs.FreedLives.{known_freed, life_beside, life_freed}

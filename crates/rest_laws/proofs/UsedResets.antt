@@ -25,9 +25,9 @@ use Rattle.pblk_world.specs.World.{World, Logs, knows_engine, log_of, media, uni
 use Rattle.pblk_world.proofs.EngineLogLemmas.{begun_taken}
 use Rattle.pblk_world.proofs.LinesLemmas.{used_is}
 use Rattle.pblk_world.proofs.VictimsLemmas.{whole_prefix}
-use Rattle.lemmas.proofs.Options.{split_then}
-use Rattle.lemmas.proofs.Parts.{all_at, contained_among, get_below, get_taken, got_within}
-use Rattle.lemmas.proofs.Tests.{not_both}
+use Rattle.pblk_model.proofs.Options.{split_then}
+use Rattle.pblk_model.proofs.Parts.{all_at, contained_among, get_below, get_taken, got_within}
+use Rattle.pblk_model.proofs.Tests.{not_both}
 use Rattle.pblk_world.specs.LegalMounts.{IsLegalMount}
 use Rattle.world_laws.specs.UnitChunks.{NoProgram, chunk_after, first_events}
 use Rattle.world_laws.proofs.Deeds.{IsDeed, deed}

@@ -21,9 +21,9 @@ use Rattle.pblk_world.specs.World.{World, Logs, log_of}
 use Rattle.rest_laws.specs.BehindLines.{IsBehind}
 use Rattle.rest_laws.specs.NewestOpened.{IsLastOpened}
 use Rattle.rest_laws.specs.Tidy.{AreWide}
-use Rattle.lemmas.proofs.Lists.{all_imply, among_contained}
-use Rattle.lemmas.proofs.Maps.{all_in_range}
-use Rattle.lemmas.proofs.Tests.{and_both, le_true, lt_true, not_both, or_left, or_right, same, same_number, within_is}
+use Rattle.pblk_model.proofs.Lists.{all_imply, among_contained}
+use Rattle.pblk_model.proofs.Maps.{all_in_range}
+use Rattle.pblk_model.proofs.Tests.{and_both, le_true, lt_true, not_both, or_left, or_right, same, same_number, within_is}
 use Rattle.pblk_world.specs.LegalMounts.{IsLegalMount}
 use Rattle.pblk_world.specs.Orders.{AreReset}
 use Rattle.world_laws.proofs.StartRecords.{front_from_first, seq_of_nth}

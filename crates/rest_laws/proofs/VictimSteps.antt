@@ -8,7 +8,7 @@ use Rattle.pblk_world.specs.EngineLog.{Freed, last_opening, LineLife, life_of, O
 use Rattle.pblk_world.specs.Events.{Decides, Event, Free, Logged, Open}
 use Rattle.pblk_world.specs.Victims.{comes_to_work, engine_prefix, is_freed, stays_at_work, victim}
 use Rattle.pblk_world.specs.World.{World, log_of}
-use Rattle.lemmas.proofs.Tests.{same}
+use Rattle.pblk_model.proofs.Tests.{same}
 use Rattle.pblk_world.specs.LegalMounts.{IsLegalMount}
 use Rattle.world_laws.proofs.NextLives.{life_next}
 use Rattle.rest_laws.proofs.LengthLogs.{IsWorldAt, world_at}

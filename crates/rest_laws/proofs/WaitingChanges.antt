@@ -20,8 +20,8 @@ use Rattle.pblk_world.specs.Victims.{position_in}
 use Rattle.pblk_world.specs.World.{World, log_of, prefixes}
 use Rattle.pblk_world.proofs.Appending.{placements_more}
 use Rattle.pblk_world.proofs.EngineLogLemmas.{takes_more}
-use Rattle.lemmas.proofs.Lists.{all_append}
-use Rattle.lemmas.proofs.Tests.{not_both}
+use Rattle.pblk_model.proofs.Lists.{all_append}
+use Rattle.pblk_model.proofs.Tests.{not_both}
 use Rattle.pblk_world.specs.LegalMounts.{IsLegalMount, NoStripeLost, decides, is_losing}
 use Rattle.world_laws.proofs.ToldDecisions.{placing_told}
 use Rattle.world_laws.proofs.ToldImages.{told_back}

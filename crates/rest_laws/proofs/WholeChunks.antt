@@ -20,8 +20,8 @@ use Rattle.pblk_world.specs.EngineLog.{Begun, begun}
 use Rattle.pblk_world.specs.Events.{Logged}
 use Rattle.pblk_world.specs.Lines.{found_by, found_image, known_image}
 use Rattle.pblk_world.specs.World.{World, log_of, media, unit_event_at, unit_event_of}
-use Rattle.lemmas.proofs.Options.{split_then}
-use Rattle.lemmas.proofs.Parts.{all_at, got_within}
+use Rattle.pblk_model.proofs.Options.{split_then}
+use Rattle.pblk_model.proofs.Parts.{all_at, got_within}
 use Rattle.world_laws.specs.KnownChunks.{IsChange}
 use Rattle.pblk_world.specs.LegalMounts.{IsLegalMount}
 use Rattle.world_laws.specs.UnitChunks.{chunk_after, first_events}
@@ -33,7 +33,7 @@ use Rattle.world_laws.proofs.UnitChunks.{still_there}
 use Rattle.rest_laws.specs.TidyMounts.{HasNoFailures}
 use Rattle.rest_laws.specs.Tidy.{HasWholeChunks, IsFaultless, IsFoundFaultless}
 use Rattle.pblk_laws.proofs.ChunkStep.{IsPlaced, write_placed}
-use Rattle.lemmas.proofs.Tests.{le_of_lt_false, same_number}
+use Rattle.pblk_model.proofs.Tests.{le_of_lt_false, same_number}
 use Rattle.rest_laws.specs.Tidy.{IsWholeChunk}
 
 -- ---- one command

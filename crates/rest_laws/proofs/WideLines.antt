@@ -8,9 +8,9 @@ use Rattle.std.proofs.lemmas.List.FromFn.{length-enumerate_from}
 use Rattle.pblk_model.specs.Chunk.{Chunk}
 use Rattle.pblk_model.specs.Image.{Image, is_online_in, line_units, width}
 use Rattle.pblk_laws.proofs.LineUnits.{line_units_count}
-use Rattle.lemmas.proofs.Lists.{IsAmong}
-use Rattle.lemmas.proofs.Maps.{enumerate_get, in_map, kept_at}
-use Rattle.lemmas.proofs.Parts.{got_within}
+use Rattle.pblk_model.proofs.Lists.{IsAmong}
+use Rattle.pblk_model.proofs.Maps.{enumerate_get, in_map, kept_at}
+use Rattle.pblk_model.proofs.Parts.{got_within}
 use Rattle.world_laws.proofs.FoundEmpty.{all_pass}
 use Rattle.core_laws.proofs.LandedCounts.{count_all}
 

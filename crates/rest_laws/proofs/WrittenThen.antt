@@ -22,8 +22,8 @@ use Rattle.pblk_world.specs.Lines.{is_empty_state, place_of}
 use Rattle.pblk_world.specs.World.{World, known, log_of, media, prefixes}
 use Rattle.pblk_world.proofs.Growing.{knowledge_rises}
 use Rattle.pblk_world.proofs.WorldLemmas.{length_media, media_same}
-use Rattle.lemmas.proofs.Options.{split_then}
-use Rattle.lemmas.proofs.Parts.{get_below, get_more, get_whole, got_within, is_in}
+use Rattle.pblk_model.proofs.Options.{split_then}
+use Rattle.pblk_model.proofs.Parts.{get_below, get_more, get_whole, got_within, is_in}
 use Rattle.pblk_world.specs.LegalMounts.{IsLegalMount}
 use Rattle.world_laws.specs.UnitChunks.{chunk_after}
 use Rattle.world_laws.proofs.Deeds.{deed, IsDeed}

@@ -16,7 +16,7 @@ use Rattle.run_report.specs.declared.rows.Row.{Row}
 use Rattle.run_report.specs.Recorded.{AreAnswered, AreThreads, IsRecorded, IsThread}
 use Rattle.run_report.specs.Rows.{insert, in_order, answered_rows, rows_from, thread_rows}
 use Rattle.run_report.specs.RowFits.{AreAsMany, AreRows, HasSectors}
-use Rattle.lemmas.proofs.Lists.{all_append}
+use Rattle.pblk_model.proofs.Lists.{all_append}
 
 -- as many answers as commands
 as_many : (commands : List Command) (answers : List Answer) → IsThread commands answers → length answers ≡ length commands

@@ -8,7 +8,7 @@ use Rattle.pblk_model.specs.Bytes.{le64, number_at, zeros}
 use Rattle.pblk_model.specs.History.{tag_sector}
 use Rattle.pblk_model.specs.Text.{Tag, Mixed, word_of}
 use Rattle.run_report.specs.Listing.{is_blank}
-use Rattle.lemmas.proofs.Bytes.{same_bytes}
+use Rattle.pblk_model.proofs.Bytes.{same_bytes}
 
 abbrev eight_more : ℕ → ℕ
 eight_more n = suc (suc (suc (suc (suc (suc (suc (suc n)))))))

@@ -6,7 +6,7 @@ use Rattle.block_port.specs.Port.{IsSectorSize}
 use Rattle.pblk_model.specs.Text.{Word, Tag, Mixed, newline, word_of, word_text}
 use Rattle.run_report.specs.Listing.{is_blank, sector_line}
 use Rattle.run_report.proofs.Blanks.{word_blank, not_blank}
-use Rattle.lemmas.proofs.Parts.{drop_at}
+use Rattle.pblk_model.proofs.Parts.{drop_at}
 
 abbrev pub lines_from : ℕ → List (List ℕ) → List ℕ
 lines_from lba sectors = flat_map sector_line (enumerate_from lba sectors)

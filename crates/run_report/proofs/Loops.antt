@@ -13,7 +13,7 @@ use Rattle.run_threads.specs.declared.records.Answer.{Answer}
 use Rattle.run_report.specs.declared.rows.Row.{Row}
 use Rattle.run_report.specs.Rows.{thread_rows, rows_from, lines_of}
 use Rattle.run_report.specs.RowFits.{HasSectors, AreAsMany}
-use Rattle.lemmas.proofs.Maps.{enumerate_append}
+use Rattle.pblk_model.proofs.Maps.{enumerate_append}
 
 drop_at : {X : Type 0} (xs : List X) (i : ℕ) (d x : X) → i < length xs → x ≡ get_or xs i d → drop i xs ≡ x ∷ drop (i + 1) xs
 drop_at xs i d x below is = drop_more xs i d below ∙ ap (λ y. y ∷ drop (i + 1) xs) (sym is)

@@ -32,8 +32,8 @@ use Rattle.run_report.proofs.Known.{as_many, is_at, known_positions, known_write
 use Rattle.run_report.proofs.Sorting.{in_order_already}
 use Rattle.run_report.proofs.Steps.{places, run_climbs, run_placed, run_threads, run_written, seen_at, seen_rises, users_all, users_more, written_more}
 use Rattle.block_port.proofs.PortLemmas.{learns_more}
-use Rattle.lemmas.proofs.Lists.{all_append}
-use Rattle.lemmas.proofs.Parts.{all_taken}
+use Rattle.pblk_model.proofs.Lists.{all_append}
+use Rattle.pblk_model.proofs.Parts.{all_taken}
 use Rattle.pblk_model.proofs.HistoryLemmas.{few_users}
 use Rattle.run_threads.proofs.RunLemmas.{run_faults}
 

@@ -13,7 +13,7 @@ use Rattle.run_script.specs.declared.reader.Reader.{Reader}
 use Rattle.run_script.specs.declared.names.Names.{Names}
 use Rattle.run_script.specs.Names.{holds}
 use Rattle.run_script.specs.Heard.{ArePosted, threads_kept, BeginsThread, IsRead, Adds, Hears}
-use Rattle.lemmas.proofs.Tests.{below_of, first_of}
+use Rattle.pblk_model.proofs.Tests.{below_of, first_of}
 
 -- The threads.
 

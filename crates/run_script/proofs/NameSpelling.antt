@@ -7,7 +7,7 @@ use Rattle.std.proofs.lemmas.Str.{IsUtf8-from_ascii}
 use Rattle.std.proofs.lemmas.Str.Ascii.{IsAscii-nil, IsAscii-cons}
 use Rattle.pblk_model.specs.ScriptText.{is_name_byte, name_of}
 use Rattle.run_script.specs.Said.{is_name}
-use Rattle.lemmas.proofs.Tests.{both as both_hold, second_of}
+use Rattle.pblk_model.proofs.Tests.{both as both_hold, second_of}
 
 pub name_some : (word : List ℕ) → is_name word ≡ true → name_of word ≡ Some word
 name_some word is = rw is refl

@@ -16,7 +16,7 @@ use Rattle.std.proofs.lemmas.Str.Parse.{IsNumeralModel, numerals_by_value, numer
 use Rattle.pblk_model.specs.ScriptText as text
 use Rattle.pblk_model.specs.ScriptText.{number_of}
 use Rattle.run_script.specs.Number.{is_padded}
-use Rattle.lemmas.proofs.Bytes.{short_zero}
+use Rattle.pblk_model.proofs.Bytes.{short_zero}
 
 digits : IsNumeralModel (AllDigits 10) (digits_value 10)
 digits = numerals_by_value (AllDigits 10) tells_digits

@@ -7,7 +7,7 @@ use Rattle.pblk_model.specs.declared.script.ScriptErr.{ScriptErr}
 use Rattle.pblk_model.specs.declared.script.ScriptErr.TheVariants.{Form, Limit, Range, NeverPosted, Stuck, Memory}
 use Rattle.pblk_model.specs.Checks.{first_refusal, unless}
 use Rattle.pblk_model.specs.ScriptText.{Said, Heard, saids, form_holds, limit_holds, range_holds}
-use Rattle.lemmas.proofs.Tests.{second_of}
+use Rattle.pblk_model.proofs.Tests.{second_of}
 use Rattle.run_script.specs.Heard.{placed_at, refusal_of}
 use Rattle.run_script.specs.Reading.{Refuses}
 

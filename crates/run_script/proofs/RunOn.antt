@@ -18,8 +18,8 @@ use Rattle.run_script.specs.Names.{holds}
 use Rattle.run_script.specs.declared.reader.Reader.{Reader}
 use Rattle.run_script.specs.Heard.{ArePosted, BeginsThread, IsRead}
 use Rattle.run_script.specs.Turns.{lifted, AreLeft, passed, Passes, lesser, line_of}
-use Rattle.lemmas.proofs.Maps.{map_dropped}
-use Rattle.lemmas.proofs.Parts.{next_item}
+use Rattle.pblk_model.proofs.Maps.{map_dropped}
+use Rattle.pblk_model.proofs.Parts.{next_item}
 
 -- Names that are left.
 

@@ -7,7 +7,7 @@ use Rattle.pblk_model.specs.declared.script.Command.{Command}
 use Rattle.pblk_model.specs.ScriptText.{Said, Numbered, run_on, turn, turns, least_standing, stuck_at, unposted}
 use Rattle.run_script.specs.declared.names.Names.{Names}
 use Rattle.run_script.specs.Turns.{lifted, AreLeft, Passes, RunsOn, TakesTurn}
-use Rattle.lemmas.proofs.Parts.{drop_front}
+use Rattle.pblk_model.proofs.Parts.{drop_front}
 use Rattle.run_script.proofs.RunOn.{known_next, known_parts, known_more, next_mapped, unposted-end}
 use Rattle.pblk_model.proofs.ScriptTextLemmas.{run_on-end, turn-end, turn-next, turns-next, turns-stay}
 use Rattle.pblk_laws.proofs.ScriptTurns.{run_on-past, run_on-stands, turn-stays}

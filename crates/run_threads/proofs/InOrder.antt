@@ -10,7 +10,7 @@ use Rattle.pblk_model.specs.Script.{ScriptFits, NeverStuck, command_at}
 use Rattle.run_threads.specs.Board.{posts, posts_in, IsUnblocked, AreInOrder}
 use Rattle.run_threads.proofs.Running.{order_ext, same_bytes}
 use Rattle.run_threads.proofs.Names.{posts_last}
-use Rattle.lemmas.proofs.Tests.{either, or_true}
+use Rattle.pblk_model.proofs.Tests.{either, or_true}
 
 get_before : (before rest : List Command) (i : ℕ) → i < length before → slice_get (before ++ rest) i ≡ slice_get before i
 get_before [] rest i below = absurd (omega (arith, below))

@@ -16,8 +16,8 @@ use Rattle.run_threads.specs.declared.records.Word.{Word}
 use Rattle.run_threads.specs.Board.{note_at, has_name, posts, posts_in, IsAgreed, MayRun, AreInOrder}
 use Rattle.run_threads.specs.Rooms.{HasWordRoom, HaveWordRoom}
 use Rattle.run_threads.specs.Run.{Answers, Runs}
-use Rattle.lemmas.proofs.Options.{not_noted}
-use Rattle.lemmas.proofs.Tests.{or_true}
+use Rattle.pblk_model.proofs.Options.{not_noted}
+use Rattle.pblk_model.proofs.Tests.{or_true}
 
 pub same_bytes : (name : List ℕ) → bytes_eq name name ≡ true
 same_bytes name = (bytes_decides name name).1 refl

@@ -18,9 +18,9 @@ use Rattle.scan_recovery.specs.Reading.{line_blocks}
 use Rattle.scan_recovery.specs.Units.{image_of, AreFit}
 use Rattle.scan_recovery.proofs.LineStates.{is_on, line_units_range}
 use Rattle.scan_recovery.proofs.PadLoops.{fit_image}
-use Rattle.lemmas.proofs.Maps.{all_filter, all_in_range}
-use Rattle.lemmas.proofs.Options.{mapped_some}
-use Rattle.lemmas.proofs.Parts.{all_get}
+use Rattle.pblk_model.proofs.Maps.{all_filter, all_in_range}
+use Rattle.pblk_model.proofs.Options.{mapped_some}
+use Rattle.pblk_model.proofs.Parts.{all_get}
 use Rattle.pblk_model.proofs.AcceptedLemmas.{line_is_short}
 use Rattle.pblk_model.proofs.OrderedBlocks.{order_block}
 

@@ -31,8 +31,8 @@ use Rattle.scan_recovery.specs.Units.{image_of, AreFit}
 use Rattle.scan_recovery.specs.Fetches.{IsFetch, IsGood, FetchEnds, HasFetched, IsReadableAt}
 use Rattle.world_laws.proofs.ImageLines.{img}
 use Rattle.scan_recovery.proofs.PadSteps.{unit_at, chunk_of}
-use Rattle.lemmas.proofs.Lists.{all_append}
-use Rattle.lemmas.proofs.Parts.{all_get, get_set_same, set_same}
+use Rattle.pblk_model.proofs.Lists.{all_append}
+use Rattle.pblk_model.proofs.Parts.{all_get, get_set_same, set_same}
 use Rattle.pblk_model.proofs.UnitLogLemmas.{read_leaves}
 
 -- An event that is a fetch.
@@ -215,7 +215,8 @@ lost_fetch s us new line unit block number e v r did lost there number-is =
       },
     )
 
-pub told_lost : (before after : List ℕ) (r : Result Got UnitErr) (e : UnitErr) (o : UnitOutcome) → r ≡ Err e → TellsBlock before after r o → failed_or_stopped o ≡ true
+pub told_lost : (before after : List ℕ) (r : Result Got UnitErr) (e : UnitErr) (o : UnitOutcome) → r ≡ Err e → TellsBlock before after r o
+    → failed_or_stopped o ≡ true
 told_lost before after r unit_errors.Failed o is h = let t = subst (λ (x : Result Got UnitErr). TellsBlock before after x o) is h in ap failed_or_stopped t.0
 told_lost before after r unit_errors.Stopped o is h = let t = subst (λ (x : Result Got UnitErr). TellsBlock before after x o) is h in ap failed_or_stopped t.0
 

@@ -18,7 +18,7 @@ use Rattle.scan_recovery.specs.Units.{image_of}
 use Rattle.world_laws.specs.Finding.{IsFoundOf, NoneOpen}
 use Rattle.scan_recovery.specs.Readying.{HoldsSame, AreHandedBack, IsUntouchedOrPadded, IsFoundAfter, ReadyCause}
 use Rattle.scan_recovery.proofs.Losses.{WasDone, fetch_lost, fetches_done, lost_at, none_lost, pads_done, pads_front, stop_lost}
-use Rattle.lemmas.proofs.Lists.{all_append, last_of}
+use Rattle.pblk_model.proofs.Lists.{all_append, last_of}
 
 -- nothing was done
 pub back_as_they_were : (s : Shape) (us : List ModelUnit) → AreHandedBack s us us

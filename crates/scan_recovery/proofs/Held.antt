@@ -29,10 +29,10 @@ use Rattle.world_laws.proofs.WinnerLines.{if_map, if_then}
 use Rattle.scan_recovery.proofs.ScanSteps.{kept_all}
 use Rattle.scan_recovery.proofs.Surveys.{flat_one}
 use Rattle.scan_recovery.proofs.Tables.{table_list, table_same, take_one}
-use Rattle.lemmas.proofs.Lists.{all_append}
-use Rattle.lemmas.proofs.Maps.{all_filter, range_last}
-use Rattle.lemmas.proofs.Options.{some_mapped}
-use Rattle.lemmas.proofs.Parts.{all_get as all_at, all_get_some, drop_front, take_front}
+use Rattle.pblk_model.proofs.Lists.{all_append}
+use Rattle.pblk_model.proofs.Maps.{all_filter, range_last}
+use Rattle.pblk_model.proofs.Options.{some_mapped}
+use Rattle.pblk_model.proofs.Parts.{all_get as all_at, all_get_some, drop_front, take_front}
 use Rattle.pblk_model.proofs.BytesLemmas.{zeros_length}
 use Rattle.pblk_model.proofs.ImageLemmas.{line_fit}
 

@@ -15,8 +15,8 @@ use Rattle.scan_recovery.specs.declared.trace.Trace.{Trace}
 use Rattle.scan_recovery.specs.Reading.{run_of, sectors_of, have_mark, start_from, start_among, end_from, end_among, record_in, traces_from}
 use Rattle.scan_recovery.specs.Traces.{bare, bares, without_sector}
 use Rattle.scan_recovery.proofs.PackedLines.{drop_one}
-use Rattle.lemmas.proofs.Maps.{map_last}
-use Rattle.lemmas.proofs.Parts.{drop_past, take_all}
+use Rattle.pblk_model.proofs.Maps.{map_last}
+use Rattle.pblk_model.proofs.Parts.{drop_past, take_all}
 
 -- Runs of written blocks.
 

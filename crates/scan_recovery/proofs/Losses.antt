@@ -17,8 +17,8 @@ use Rattle.scan_recovery.specs.DriveFaults.{IsDriveFault, IsDriveFaultAt, NoDriv
 use Rattle.scan_recovery.specs.Pads.{ArePads, IsQuiet}
 use Rattle.scan_recovery.specs.Units.{IsLastEvent}
 use Rattle.scan_recovery.proofs.UnitLogs.{all_own, grown_after, some_own}
-use Rattle.lemmas.proofs.Parts.{all_at, get_first, get_right}
-use Rattle.lemmas.proofs.Tests.{and_refused, or_left, or_no, same}
+use Rattle.pblk_model.proofs.Parts.{all_at, get_first, get_right}
+use Rattle.pblk_model.proofs.Tests.{and_refused, or_left, or_no, same}
 
 abbrev pub WasDone : EventAt → Type 0
 WasDone e = is_drive_fault e.event ≡ false
@@ -67,7 +67,8 @@ fetches_done (e ∷ events) good = (fetch_done e.event.command e.event.outcome g
 pub none_lost : (old new : List ModelUnit) (events : List EventAt) → new ≡ after_all old events → AllByRecursion WasDone events → NoDriveFaults old new
 none_lost old new events is done = λ number u v there after.
     let grown = grown_after events old number u v there (ap (λ (us : List ModelUnit). slice_get us number) (sym is) ∙ after) in
-    subst (AllByRecursion (λ (e : UnitEvent). is_drive_fault e ≡ false)) (sym grown.1) (all_own (λ (e : UnitEvent). is_drive_fault e ≡ false) number events done)
+    subst (AllByRecursion (λ (e : UnitEvent). is_drive_fault e ≡ false)) (sym grown.1)
+    (all_own (λ (e : UnitEvent). is_drive_fault e ≡ false) number events done)
 
 -- of each unit the last event alone may have been lost
 events_split : (unit : ℕ) (front : List EventAt) (last : EventAt)

@@ -29,7 +29,7 @@ use Rattle.scan_recovery.proofs.Surveys.{blocks_length}
 use Rattle.scan_recovery.proofs.Tallies.{row_there}
 use Rattle.pblk_model.proofs.AcceptedLemmas.{line_is_short}
 use Rattle.pblk_model.proofs.OrderedBlocks.{order_length}
-use Rattle.lemmas.proofs.Parts.{all_get, get_past}
+use Rattle.pblk_model.proofs.Parts.{all_get, get_past}
 use Rattle.pblk_model.proofs.ImageFileLemmas.{kept_chunks}
 
 -- The units of a drive.

@@ -6,8 +6,8 @@ use borrow.Rule.Slice.PartMut.{post_of}
 use Rattle.pblk_model.specs.declared.chunk.Mark.{Mark}
 use Rattle.pblk_model.specs.Chunk.{Block}
 use Rattle.scan_recovery.specs.Packed.{packed, written_count}
-use Rattle.lemmas.proofs.Numbers.{suc-times}
-use Rattle.lemmas.proofs.Parts.{take_all, take_front}
+use Rattle.pblk_model.proofs.Numbers.{suc-times}
+use Rattle.pblk_model.proofs.Parts.{take_all, take_front}
 use Rattle.scan_recovery.proofs.Tables.{vec_written}
 
 abbrev block : List ℕ → Mark → Option Block

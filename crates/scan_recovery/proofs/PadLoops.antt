@@ -34,8 +34,8 @@ use Rattle.scan_recovery.specs.declared.error.ScanErr.TheVariants as errors
 use Rattle.scan_recovery.specs.Units.{image_of, AreFit, IsUnitOf}
 use Rattle.scan_recovery.specs.Pads.{pads_from, room_in, room_at, ArePads, Ends, HasPadded, IsNextPad, IsNotOpen, IsOpenAt, IsQuiet, NoneOpenBefore}
 use Rattle.scan_recovery.proofs.PadSteps.{Leaves, leaves, chunk_of, next_above, event_was, event_is, event_others}
-use Rattle.lemmas.proofs.Lists.{all_append}
-use Rattle.lemmas.proofs.Parts.{all_get, get_set_other, get_set_same}
+use Rattle.pblk_model.proofs.Lists.{all_append}
+use Rattle.pblk_model.proofs.Parts.{all_get, get_set_other, get_set_same}
 
 -- Units of a drive.
 

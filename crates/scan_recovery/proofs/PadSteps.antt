@@ -29,8 +29,8 @@ use Rattle.unit_port.specs.Did.{command_at}
 use Rattle.unit_port.proofs.Units.{after_one_is}
 use Rattle.scan_recovery.specs.Units.{image_of, AreFit}
 use Rattle.scan_recovery.specs.Pads.{pads_from, room_in, AreBlank, IsOpenAt}
-use Rattle.lemmas.proofs.Lists.{all_replicated}
-use Rattle.lemmas.proofs.Parts.{all_get, drop_front, get_set_other, get_set_same, take_front}
+use Rattle.pblk_model.proofs.Lists.{all_replicated}
+use Rattle.pblk_model.proofs.Parts.{all_get, drop_front, get_set_other, get_set_same, take_front}
 use Rattle.pblk_model.proofs.AcceptedLemmas.{line_is_short, sector_within}
 use Rattle.pblk_model.proofs.UnitLogLemmas.{after_event_is}
 use Rattle.scan_recovery.proofs.PadsLemmas.{pads_count}

@@ -20,9 +20,9 @@ use Rattle.scan_recovery.specs.Survey.{IsSurvey}
 use Rattle.scan_recovery.specs.Traces.{bare, bares, without_sector}
 use Rattle.scan_recovery.specs.Units.{IsStateOf}
 use Rattle.scan_recovery.proofs.Tables.{take_one, map_take_one}
-use Rattle.lemmas.proofs.Lists.{all_append}
-use Rattle.lemmas.proofs.Maps.{all_cons_option}
-use Rattle.lemmas.proofs.Parts.{all_get, take_all}
+use Rattle.pblk_model.proofs.Lists.{all_append}
+use Rattle.pblk_model.proofs.Maps.{all_cons_option}
+use Rattle.pblk_model.proofs.Parts.{all_get, take_all}
 
 -- States.
 

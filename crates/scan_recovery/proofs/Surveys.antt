@@ -28,8 +28,8 @@ use Rattle.scan_recovery.specs.Survey.{is_later, seen_line, head_to, IsLine, IsS
 use Rattle.scan_recovery.specs.Tally.{HasStartFits}
 use Rattle.scan_recovery.specs.Traces.{IsTable, bares, without_sector}
 use Rattle.scan_recovery.proofs.Tables.{table_push}
-use Rattle.lemmas.proofs.Maps.{length_mapped, range_last}
-use Rattle.lemmas.proofs.Parts.{drop_front, take_front}
+use Rattle.pblk_model.proofs.Maps.{length_mapped, range_last}
+use Rattle.pblk_model.proofs.Parts.{drop_front, take_front}
 
 -- Runs of a line.
 

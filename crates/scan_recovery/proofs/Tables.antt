@@ -10,10 +10,10 @@ use Rattle.pblk_model.specs.StartRecord.{StartRecord}
 use Rattle.pblk_model.specs.Records.{Record}
 use Rattle.pblk_model.specs.Contents.{is_borne}
 use Rattle.scan_recovery.specs.Traces.{IsTable, borne_at}
-use Rattle.lemmas.proofs.Lists.{length_replicate}
-use Rattle.lemmas.proofs.Maps.{map_last}
-use Rattle.lemmas.proofs.Parts.{drop_past, get_last, get_set_other, get_set_same, take_all}
-use Rattle.lemmas.proofs.Tests.{and_false}
+use Rattle.pblk_model.proofs.Lists.{length_replicate}
+use Rattle.pblk_model.proofs.Maps.{map_last}
+use Rattle.pblk_model.proofs.Parts.{drop_past, get_last, get_set_other, get_set_same, take_all}
+use Rattle.pblk_model.proofs.Tests.{and_false}
 
 -- one entry changes
 pub table_set : {X : Type 0} (n : ℕ) (f g : ℕ → X) (xs : List X) (k : ℕ) (x : X) → IsTable n f xs → k < n → g k ≡ x → ((j : ℕ) → j ≢ k → g j ≡ f j)

@@ -17,7 +17,7 @@ use Rattle.scan_recovery.specs.declared.counting.Tally.{Tally}
 use Rattle.scan_recovery.specs.Tally.{IsTally}
 use Rattle.scan_recovery.specs.Traces.{IsTable, bare, bares, is_below_row, head_row}
 use Rattle.scan_recovery.proofs.Tables.{table_set, table_same, table_new, map_take_one}
-use Rattle.lemmas.proofs.Parts.{all_get}
+use Rattle.pblk_model.proofs.Parts.{all_get}
 use Rattle.pblk_model.proofs.ContentsLemmas.{of_same}
 
 and_left : (a b : Bool) → a && b ≡ true → a ≡ true

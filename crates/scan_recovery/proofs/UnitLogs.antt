@@ -12,8 +12,8 @@ use Rattle.unit_port.specs.Unit.{ModelUnit}
 use Rattle.unit_port.specs.Commands.{EventAt, with_event, after_one, after_all, events_of}
 use Rattle.unit_port.proofs.Units.{after_one_is}
 use Rattle.scan_recovery.specs.DriveFaults.{grown_by}
-use Rattle.lemmas.proofs.Lists.{all_cond}
-use Rattle.lemmas.proofs.Parts.{drop_front, get_set_other, get_set_same}
+use Rattle.pblk_model.proofs.Lists.{all_cond}
+use Rattle.pblk_model.proofs.Parts.{drop_front, get_set_other, get_set_same}
 
 -- ---- after an event of one unit
 

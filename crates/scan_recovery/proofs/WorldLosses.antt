@@ -12,8 +12,8 @@ use Rattle.pblk_world.specs.World.{World, log_of, unit_event_of, unit_events}
 use Rattle.pblk_world.proofs.Growing.{grows}
 use Rattle.pblk_world.proofs.WorldLemmas.{log_here, log_elsewhere}
 use Rattle.scan_recovery.specs.DriveFaults.{AreStepsOf, IsGivenBy, is_drive_fault_of, drive_faults_of, place_in, is_drive_fault}
-use Rattle.lemmas.proofs.Parts.{get_first, get_last, get_more}
-use Rattle.lemmas.proofs.Tests.{second_of}
+use Rattle.pblk_model.proofs.Parts.{get_first, get_last, get_more}
+use Rattle.pblk_model.proofs.Tests.{second_of}
 
 -- ---- the events of a unit
 
@@ -208,14 +208,16 @@ losses_more worker (step ∷ later) old unit index made one =
     by (λ earlier. losses_more worker later old unit index made.1 earlier) (is_drive_fault_of worker step.logged.event) refl
   where
     by : (OneSince old (later ++ old) unit index → drive_faults_of worker (later ++ old) ≡ drive_faults_of worker old ++ (unit, index) ∷ [])
-        → (b : Bool) → is_drive_fault_of worker step.logged.event ≡ b → drive_faults_of worker (step ∷ (later ++ old)) ≡ drive_faults_of worker old ++ (unit, index) ∷ []
+        → (b : Bool) → is_drive_fault_of worker step.logged.event ≡ b
+        → drive_faults_of worker (step ∷ (later ++ old)) ≡ drive_faults_of worker old ++ (unit, index) ∷ []
     by more true lost = is_last worker step later old unit index made.0 made.1 one lost
     by more false kept = loss_kept worker step (later ++ old) kept ∙ more (is_earlier worker step later old unit index made.0 made.1 one kept)
 
 -- ---- steps of others
 
 -- what no step of another worker changes
-pub losses_beside : (worker other : ℕ) (later old : World) → worker ≢ other → AreStepsOf worker later → drive_faults_of other (later ++ old) ≡ drive_faults_of other old
+pub losses_beside : (worker other : ℕ) (later old : World) → worker ≢ other → AreStepsOf worker later
+    → drive_faults_of other (later ++ old) ≡ drive_faults_of other old
 losses_beside worker other [] old apart made = refl
 losses_beside worker other (step ∷ later) old apart made =
     loss_kept other step (later ++ old) (not_his step.logged.event made.0) ∙ losses_beside worker other later old apart made.1

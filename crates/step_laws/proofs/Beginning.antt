@@ -19,7 +19,7 @@ use Rattle.step_laws.specs.Whole.{knows_all, after_begin, IsLevel}
 use Rattle.step_laws.proofs.EngineSteps.{decided_legal, engine_logs}
 use Rattle.step_laws.proofs.Knowing.{known_whole}
 use Rattle.step_laws.proofs.Levels.{level_by}
-use Rattle.lemmas.proofs.Numbers.{fun_same}
+use Rattle.pblk_model.proofs.Numbers.{fun_same}
 
 pub mount_begins : (i : Image) (w : World) (b : Beginning) → IsLegalMount i w → MayBegin i (log_of w) b → IsLegalMount i (after_begin i.shape b w)
 mount_begins i w b mount may = decided_legal i w (Begin b) mount may

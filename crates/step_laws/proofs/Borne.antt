@@ -20,8 +20,8 @@ use Rattle.pblk_world.proofs.Appending.{placements_more}
 use Rattle.core_laws.proofs.KeptByEvents.{IsKept, kept}
 use Rattle.core_laws.proofs.BorneOnce.{BearsNone, records_none, pads_none}
 use Rattle.core_laws.proofs.PlacedInOrder.{waiting_among}
-use Rattle.lemmas.proofs.Lists.{IsAmong, all_append, all_imply, all_replicated, all_true, among_more}
-use Rattle.lemmas.proofs.Parts.{all_dropped, all_taken}
+use Rattle.pblk_model.proofs.Lists.{IsAmong, all_append, all_imply, all_replicated, all_true, among_more}
+use Rattle.pblk_model.proofs.Parts.{all_dropped, all_taken}
 use Rattle.pblk_world.proofs.EngineLogLemmas.{takes_more}
 
 -- it is that of one of these entries

@@ -10,7 +10,7 @@ use Rattle.pblk_model.specs.UnitLog.{UnitOutcome, Answered, Failed, Stopped, Uni
 use Rattle.pblk_model.specs.Image.{Image}
 use Rattle.pblk_laws.specs.LineBlocks.{chunk_in}
 use Rattle.core_laws.proofs.LandedRows.{event_beside as beside_in}
-use Rattle.lemmas.proofs.Parts.{got_here, same_lists}
+use Rattle.pblk_model.proofs.Parts.{got_here, same_lists}
 
 -- ---- lists
 

@@ -12,7 +12,7 @@ use Rattle.pblk_world.specs.LegalMounts.{IsLegalMount}
 use Rattle.core_laws.specs.Stepping.{after}
 use Rattle.step_laws.specs.Whole.{knows_all, engine_step}
 use Rattle.step_laws.proofs.Knowing.{next_legal}
-use Rattle.lemmas.proofs.Numbers.{fun_same}
+use Rattle.pblk_model.proofs.Numbers.{fun_same}
 use Rattle.pblk_world.proofs.EngineLogLemmas.{begun_stays}
 use Rattle.pblk_world.proofs.WorldLemmas.{log_elsewhere, log_here}
 

@@ -38,10 +38,10 @@ use Rattle.step_laws.proofs.Borne.{IsOfOne, IsEntrys, placed_entries}
 use Rattle.core_laws.proofs.LineAddresses.{number_is, address_within, place_is}
 use Rattle.step_laws.proofs.LiveUnits.{online_units}
 use Rattle.core_laws.proofs.ReadBlocks.{IsReadIn, IsEntryOnDrive}
-use Rattle.lemmas.proofs.Lists.{IsAmong}
-use Rattle.lemmas.proofs.Maps.{any_member, in_filter}
-use Rattle.lemmas.proofs.Parts.{all_at, contained_among}
-use Rattle.lemmas.proofs.Tests.{both, same_number}
+use Rattle.pblk_model.proofs.Lists.{IsAmong}
+use Rattle.pblk_model.proofs.Maps.{any_member, in_filter}
+use Rattle.pblk_model.proofs.Parts.{all_at, contained_among}
+use Rattle.pblk_model.proofs.Tests.{both, same_number}
 use Rattle.pblk_model.proofs.MarksLemmas.{accepted_small}
 use Rattle.pblk_world.proofs.WorldLemmas.{length_media}
 

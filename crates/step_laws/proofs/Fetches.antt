@@ -18,7 +18,7 @@ use Rattle.step_laws.specs.Whole.{after_unit, IsLevel}
 use Rattle.step_laws.proofs.ChunkEvents.{same_images, fetch_leaves}
 use Rattle.step_laws.proofs.Levels.{ends_by_command, level_unit}
 use Rattle.step_laws.proofs.UnitSteps.{unit_next, media_now, media_elsewhere}
-use Rattle.lemmas.proofs.Parts.{set_same}
+use Rattle.pblk_model.proofs.Parts.{set_same}
 
 -- each block may be fetched, before the mount begins and after it
 pub may_read : (i : Image) (logs : Logs) (unit chunk block : ℕ) (c : Chunk) (command : ChunkCommand) (o : Option Begun) → command ≡ Read block

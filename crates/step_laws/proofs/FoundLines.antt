@@ -18,10 +18,10 @@ use Rattle.pblk_world.proofs.EngineLogLemmas.{begun_knows}
 use Rattle.pblk_world.proofs.LinesLemmas.{length_found, length_known}
 use Rattle.pblk_world.proofs.VictimsLemmas.{whole_prefix}
 use Rattle.pblk_world.proofs.WorldLemmas.{length_media}
-use Rattle.lemmas.proofs.Lists.{all_imply}
-use Rattle.lemmas.proofs.Maps.{all_passed, any_fail}
-use Rattle.lemmas.proofs.Parts.{got_within}
-use Rattle.lemmas.proofs.Tests.{first_of, not_both, not_true}
+use Rattle.pblk_model.proofs.Lists.{all_imply}
+use Rattle.pblk_model.proofs.Maps.{all_passed, any_fail}
+use Rattle.pblk_model.proofs.Parts.{got_within}
+use Rattle.pblk_model.proofs.Tests.{first_of, not_both, not_true}
 use Rattle.world_laws.proofs.FoundImages.{found_strays}
 use Rattle.world_laws.specs.UnitChunks.{chunk_after}
 use Rattle.world_laws.proofs.KeptChunks.{found_stays}

@@ -20,12 +20,12 @@ use Rattle.pblk_model.proofs.OrderedBlocks.{order_exactly}
 use Rattle.pblk_laws.specs.LineBlocks.{chunk_in}
 use Rattle.pblk_laws.proofs.LineUnits.{line_units_count, block_named}
 use Rattle.core_laws.proofs.WinnerStarts.{winner_is}
-use Rattle.lemmas.proofs.Lists.{all_append}
-use Rattle.lemmas.proofs.Maps.{all_filter}
-use Rattle.lemmas.proofs.Numbers.{some_units}
-use Rattle.lemmas.proofs.Options.{map_some, split_then}
-use Rattle.lemmas.proofs.Parts.{got_within}
-use Rattle.lemmas.proofs.Tests.{le_of_lt_false}
+use Rattle.pblk_model.proofs.Lists.{all_append}
+use Rattle.pblk_model.proofs.Maps.{all_filter}
+use Rattle.pblk_model.proofs.Numbers.{some_units}
+use Rattle.pblk_model.proofs.Options.{map_some, split_then}
+use Rattle.pblk_model.proofs.Parts.{got_within}
+use Rattle.pblk_model.proofs.Tests.{le_of_lt_false}
 
 -- ---- options
 

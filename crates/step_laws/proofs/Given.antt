@@ -18,10 +18,10 @@ use Rattle.pblk_world.specs.Events.{Logged}
 use Rattle.pblk_world.specs.World.{World, log_of, media}
 use Rattle.pblk_world.specs.EngineLog.{Opening, Opened, life_of, last_opening, openings, Placed, stripes_of, stripes_on, has_landed, was_lost}
 use Rattle.pblk_world.specs.Space.{is_closed_in, is_readable_in, landed_blocks}
-use Rattle.lemmas.proofs.Maps.{all_passed, any_found, found_passes, from_filter}
-use Rattle.lemmas.proofs.Options.{some_value, split_then}
-use Rattle.lemmas.proofs.Parts.{all_at, contained_among, got_within}
-use Rattle.lemmas.proofs.Tests.{either, lt_true}
+use Rattle.pblk_model.proofs.Maps.{all_passed, any_found, found_passes, from_filter}
+use Rattle.pblk_model.proofs.Options.{some_value, split_then}
+use Rattle.pblk_model.proofs.Parts.{all_at, contained_among, got_within}
+use Rattle.pblk_model.proofs.Tests.{either, lt_true}
 use Rattle.stripe_placer.proofs.Chunks.{lt_of}
 use Rattle.pblk_world.specs.LegalMounts.{IsLegalMount}
 use Rattle.world_laws.proofs.Lives.{life_is_known}

@@ -19,7 +19,7 @@ use Rattle.core_laws.proofs.Placing.{not_below}
 use Rattle.core_laws.proofs.CachedEntries.{IsCachedEntry, cached, cached_within, cached_stands}
 use Rattle.stripe_placer.proofs.Rows.{get_map as mapped_get}
 use Rattle.core_laws.proofs.WindowOfLemmas.{bytes_without}
-use Rattle.lemmas.proofs.Parts.{get_dropped}
+use Rattle.pblk_model.proofs.Parts.{get_dropped}
 
 pub sector_held : (s : Shape) (log : List Logged) (from q : ℕ) (win : WindowView) (t : Taken) → sectors_in win ≡ window_from s log from
     → first_position log ≤ from → from ≤ q

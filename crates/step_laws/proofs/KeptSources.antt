@@ -19,7 +19,7 @@ use Rattle.pblk_world.specs.Lines.{found_image}
 use Rattle.pblk_world.specs.Taking.{IsLatest}
 use Rattle.pblk_world.specs.World.{World, log_of}
 use Rattle.l2p_map.specs.declared.slot.Slot.TheVariants.{Media}
-use Rattle.lemmas.proofs.Parts.{is_in}
+use Rattle.pblk_model.proofs.Parts.{is_in}
 use Rattle.world_laws.specs.EarlyLogs.{ArePrefixes}
 use Rattle.world_laws.proofs.BeforeFreeing.{IsEarlier}
 use Rattle.world_laws.proofs.EarlierLogs.{begun_now, found_same, is_earlier, taken_since, unopened_then}

@@ -11,7 +11,7 @@ use Rattle.pblk_world.specs.Events.{Event, Logged}
 use Rattle.pblk_world.specs.World.{World, Logs, log_of, known, cut_logs}
 use Rattle.pblk_world.specs.Legal.{IsAllowed, IsKnowledge, IsLegalStep, IsLegal}
 use Rattle.step_laws.specs.Whole.{knows_all}
-use Rattle.lemmas.proofs.Numbers.{fun_same}
+use Rattle.pblk_model.proofs.Numbers.{fun_same}
 use Rattle.world_laws.proofs.Made.{known_within}
 use Rattle.core_laws.proofs.NextWorlds.{none_beyond}
 

@@ -27,7 +27,7 @@ use Rattle.step_laws.specs.SlotBlocks.{IsOfLatest, IsBlockOfSlot}
 use Rattle.step_laws.proofs.EntryBlocks.{taken_at}
 use Rattle.step_laws.proofs.HeldSectors.{cached_held}
 use Rattle.step_laws.proofs.WinnerBlocks.{found_shape}
-use Rattle.lemmas.proofs.Maps.{range_get}
+use Rattle.pblk_model.proofs.Maps.{range_get}
 use Rattle.pblk_model.proofs.MarksLemmas.{accepted_small}
 
 -- ---- what the mount found

@@ -15,7 +15,7 @@ use Rattle.pblk_world.specs.Commanding.{is_program, was_stopped, ends_program, e
 use Rattle.step_laws.specs.Whole.{engine_step, unit_step, after_unit, noted, IsLevel}
 use Rattle.step_laws.proofs.Knowing.{known_whole}
 use Rattle.step_laws.proofs.UnitSteps.{unit_log, other_log, engine_log}
-use Rattle.lemmas.proofs.Tests.{and_both, and_false, lt_true, not_first}
+use Rattle.pblk_model.proofs.Tests.{and_both, and_false, lt_true, not_first}
 use Rattle.pblk_world.proofs.EngineLogLemmas.{answers_more}
 use Rattle.pblk_world.proofs.WorldLemmas.{log_elsewhere, log_here}
 

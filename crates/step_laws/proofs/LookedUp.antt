@@ -27,7 +27,7 @@ use Rattle.pblk_world.specs.World.{Logs, World, log_of}
 use Rattle.pblk_world.proofs.EngineLogLemmas.{begun_taken}
 use Rattle.l2p_map.specs.declared.slot.Slot.TheVariants.{Media}
 use Rattle.stripe_placer.proofs.Chunks.{lt_of}
-use Rattle.lemmas.proofs.Parts.{is_in}
+use Rattle.pblk_model.proofs.Parts.{is_in}
 use Rattle.world_laws.specs.EarlyLogs.{ArePrefixes}
 use Rattle.world_laws.specs.SameTold.{AreSameNamed, AreSameTold}
 use Rattle.world_laws.proofs.BeforeFreeing.{IsEarlier}

@@ -10,7 +10,7 @@ use Rattle.pblk_laws.specs.LineBlocks.{chunk_in}
 use Rattle.pblk_world.specs.World.{World, log_of, media, unit_events}
 use Rattle.pblk_world.specs.EngineLog.{Placed, placed_on}
 use Rattle.pblk_world.specs.Commanding.{ended_stripes, has_stopped}
-use Rattle.lemmas.proofs.Parts.{all_at, got_within}
+use Rattle.pblk_model.proofs.Parts.{all_at, got_within}
 use Rattle.world_laws.proofs.FitMedia.{media_fit}
 use Rattle.pblk_world.specs.LegalMounts.{IsLegalMount}
 use Rattle.world_laws.proofs.NextLives.{IsPlacedIn, placed_in}

@@ -18,7 +18,7 @@ use Rattle.step_laws.proofs.Levels.{ends_by_stop, level_by, level_unit, level_an
 use Rattle.step_laws.proofs.Programs.{program_begun, program_next, may_land, may_lose, may_offer_again}
 use Rattle.step_laws.proofs.UnitSteps.{engine_log, engine_longer}
 use Rattle.step_laws.proofs.Waiting.{waits_still, waits_no_more, stopped_now, own_again, others_again}
-use Rattle.lemmas.proofs.Tests.{other_number, same_number}
+use Rattle.pblk_model.proofs.Tests.{other_number, same_number}
 
 module _ (i : Image) (w : World) (unit : ℕ) (p : Placed) (e : UnitEvent) (maker : Maker) (mount : IsLegalMount i w)
     (can : CanProgram i (log_of w) unit p e) where

@@ -10,7 +10,7 @@ use Rattle.pblk_world.specs.Events.{EngineEvent, Free, Maker, ResetDone}
 use Rattle.pblk_world.specs.World.{World, log_of}
 use Rattle.step_laws.specs.FreedWorlds.{freed_world}
 use Rattle.step_laws.specs.Whole.{after_reset_noted, after_unit, engine_step, next_event, unit_step}
-use Rattle.lemmas.proofs.Tests.{not_both, same_number}
+use Rattle.pblk_model.proofs.Tests.{not_both, same_number}
 use Rattle.world_laws.proofs.NotedResets.{noted_kept, noted_reset as reset_with_note}
 
 pub noted_decided : (s : Shape) (e : EngineEvent) (w : World) → AreResetsNoted (log_of w) → AreResetsNoted (log_of (engine_step s e w ∷ w))

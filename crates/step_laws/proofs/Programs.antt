@@ -26,9 +26,9 @@ use Rattle.step_laws.specs.Whole.{unit_step, after_unit, next_event}
 use Rattle.step_laws.proofs.Knowing.{known_whole}
 use Rattle.step_laws.proofs.NextProgram.{has_chunk_of, program_is_taken}
 use Rattle.step_laws.proofs.UnitSteps.{unit_log, new_event, engine_log, has_begun, engine_longer, unit_next, is_new}
-use Rattle.lemmas.proofs.Lists.{IsAmong}
-use Rattle.lemmas.proofs.Maps.{from_filter}
-use Rattle.lemmas.proofs.Parts.{contained_among}
+use Rattle.pblk_model.proofs.Lists.{IsAmong}
+use Rattle.pblk_model.proofs.Maps.{from_filter}
+use Rattle.pblk_model.proofs.Parts.{contained_among}
 
 -- ---- the stripe
 

@@ -27,8 +27,8 @@ use Rattle.scan_recovery.proofs.PadsLemmas.{pads_count}
 use Rattle.scan_recovery.proofs.UnitLogs.{others_event, own_event}
 use Rattle.step_laws.specs.Opened.{IsArmed}
 use Rattle.step_laws.proofs.UnitEvents.{IsPadOrFetch, IsReadying, AreReadying}
-use Rattle.lemmas.proofs.Lists.{all_replicated}
-use Rattle.lemmas.proofs.Tests.{not_both, or_no, or_right}
+use Rattle.pblk_model.proofs.Lists.{all_replicated}
+use Rattle.pblk_model.proofs.Tests.{not_both, or_no, or_right}
 
 -- ---- units that a fuse or a plan may stop
 

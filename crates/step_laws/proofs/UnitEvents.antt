@@ -21,7 +21,7 @@ use Rattle.scan_recovery.proofs.UnitLogs.{with_events}
 use Rattle.step_laws.specs.Whole.{unit_step, opening_maker}
 use Rattle.step_laws.specs.Opened.{after_events}
 use Rattle.step_laws.proofs.UnitSteps.{engine_log, events_now, events_elsewhere, media_now, stops_now, unit_next}
-use Rattle.lemmas.proofs.Tests.{either}
+use Rattle.pblk_model.proofs.Tests.{either}
 
 abbrev pub IsPadOrFetch : Image → Chunk → ChunkCommand → Type 0
 IsPadOrFetch i c (Write at blocks) = IsPadding i c at blocks

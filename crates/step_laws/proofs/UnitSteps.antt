@@ -28,10 +28,10 @@ use Rattle.step_laws.specs.NextEvents.{CanDo}
 use Rattle.step_laws.specs.Whole.{engine_step, unit_step, after_unit, next_event}
 use Rattle.step_laws.proofs.ChunkEvents.{IsTurned, turned_here, turned_beside}
 use Rattle.step_laws.proofs.Knowing.{next_legal}
-use Rattle.lemmas.proofs.Lists.{all_contains}
-use Rattle.lemmas.proofs.Maps.{all_filter_map, more}
-use Rattle.lemmas.proofs.Parts.{all_by_get, get_last, get_whole_within}
-use Rattle.lemmas.proofs.Tests.{not_both, or_no, other_number, same_number}
+use Rattle.pblk_model.proofs.Lists.{all_contains}
+use Rattle.pblk_model.proofs.Maps.{all_filter_map, more}
+use Rattle.pblk_model.proofs.Parts.{all_by_get, get_last, get_whole_within}
+use Rattle.pblk_model.proofs.Tests.{not_both, or_no, other_number, same_number}
 use Rattle.pblk_world.proofs.WorldLemmas.{length_media, log_elsewhere, log_here, media_at}
 
 -- ---- the logs

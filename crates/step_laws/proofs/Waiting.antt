@@ -12,8 +12,8 @@ use Rattle.pblk_world.proofs.Appending.{placements_more}
 use Rattle.core_laws.specs.PlacerOf.{stopped_by, unanswered_on, was_stopped_on}
 use Rattle.core_laws.proofs.Engine.{stopped_more}
 use Rattle.step_laws.specs.Whole.{engine_step, noted}
-use Rattle.lemmas.proofs.Parts.{get_past}
-use Rattle.lemmas.proofs.Tests.{other_number, same_number}
+use Rattle.pblk_model.proofs.Parts.{get_past}
+use Rattle.pblk_model.proofs.Tests.{other_number, same_number}
 use Rattle.pblk_world.proofs.EngineLogLemmas.{answers_more}
 use Rattle.pblk_world.proofs.WorldLemmas.{log_here}
 

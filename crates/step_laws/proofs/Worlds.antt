@@ -27,7 +27,7 @@ use Rattle.step_laws.specs.Opened.{AreArmed, new_events, after_events, after_uni
 use Rattle.step_laws.proofs.ChunkEvents.{same_images}
 use Rattle.step_laws.proofs.Readied.{all_ready, own_ready}
 use Rattle.step_laws.proofs.UnitEvents.{AreReadying, IsAt, all_steps, at_elsewhere, events_quiet, others_events, own_events, stopped_after}
-use Rattle.lemmas.proofs.Parts.{get_past}
+use Rattle.pblk_model.proofs.Parts.{get_past}
 
 -- ---- units one after another
 

@@ -7,7 +7,7 @@ use Rattle.stripe_placer.specs.OpenLines.Stripe.{Unplaced, Unanswered, Landed, L
 use Rattle.stripe_placer.specs.Slots.{tally, KeepsCounts}
 use Rattle.stripe_placer.proofs.Chunks.{lt_of}
 use Rattle.stripe_placer.proofs.Tallies.{one, tally_set, tally_first, tally_part, tally_part_before, tally_part_after, take_set, tally_same, tally_some, tally_at_most, get_take, get_drop}
-use Rattle.lemmas.proofs.Tests.{le_of_lt_false}
+use Rattle.pblk_model.proofs.Tests.{le_of_lt_false}
 
 abbrev pub is_left : Stripe → Bool
 is_left s = not (is_landed s)

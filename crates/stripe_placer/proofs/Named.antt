@@ -20,8 +20,8 @@ use Rattle.stripe_placer.proofs.Numbered.{IsFirst, first_is}
 use Rattle.stripe_placer.proofs.Agreeing.{one_among}
 use Rattle.stripe_placer.proofs.Places.{stripe_of, its_unit_below}
 use Rattle.stripe_placer.proofs.Rows.{find_first, find_second}
-use Rattle.lemmas.proofs.Maps.{found_passes, from_given, given_at}
-use Rattle.lemmas.proofs.Tests.{and_refused, first_of, second_of}
+use Rattle.pblk_model.proofs.Maps.{found_passes, from_given, given_at}
+use Rattle.pblk_model.proofs.Tests.{and_refused, first_of, second_of}
 use Rattle.stripe_placer.proofs.PlacingLemmas.{cond_true}
 
 -- ---- the first that passes

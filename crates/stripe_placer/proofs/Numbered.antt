@@ -3,7 +3,7 @@ use Rattle.std.proofs.Common.{◌≡◌, ◌≢◌, ℕ, zero, suc, ◌+◌, ◌
 use Rattle.std.specs.Prelude.{map, nat_eq, is_some}
 use Rattle.std.proofs.lemmas.Bool.{eqb-true, eqb-false}
 use Rattle.std.specs.List.{slice_get, slice_set, range_with_len, find, list_any}
-use Rattle.lemmas.proofs.Tests.{or_right}
+use Rattle.pblk_model.proofs.Tests.{or_right}
 
 shift : (a i : ℕ) → (a + 1) + i ≡ a + suc i
 shift a i = omega arith

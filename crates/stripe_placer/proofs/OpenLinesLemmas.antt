@@ -3,7 +3,7 @@ use Rattle.std.proofs.Common.{List, [], ap, false, length, refl, replicate, suc,
 use Rattle.std.specs.List.{AllByRecursion}
 use Rattle.std.specs.Option.{option_map_or}
 use Rattle.std.specs.Prelude.{slice_get}
-use Rattle.lemmas.proofs.Maps.{none_any}
+use Rattle.pblk_model.proofs.Maps.{none_any}
 use Rattle.stripe_placer.specs.OpenLines.{OpenLine, Stripe, in_one_chunk, is_closed, is_lost, numbers, stripe_is}
 use Rattle.stripe_placer.specs.OpenLines.Stripe.{Unplaced}
 

@@ -17,7 +17,7 @@ use Rattle.stripe_placer.specs.declared.slot.Chunk.TheVariants as chunk
 use Rattle.stripe_placer.proofs.Chunks.{lt_of}
 use Rattle.stripe_placer.proofs.Tallies.{none_of_new, all_of_new}
 use Rattle.stripe_placer.proofs.Counted.{is_left}
-use Rattle.lemmas.proofs.Tests.{le_of_lt_false, lt_true, not_before}
+use Rattle.pblk_model.proofs.Tests.{le_of_lt_false, lt_true, not_before}
 use Rattle.stripe_placer.proofs.OpenLinesLemmas.{length_new}
 
 pub open_at : (n k : ℕ) → slice_index_or (replicate n chunk.Open) k chunk.Open ≡ chunk.Open
@@ -36,9 +36,11 @@ abbrev unplaced_by : Bool → Stripe
 unplaced_by b = cond b Landed Unplaced
 
 pub nothing_placed : (m w n : ℕ) → outcomes (replicate m chunk.Open) w 0 n ≡ replicate n Unplaced
-nothing_placed m w n = all_same (outcome_in (replicate m chunk.Open) w 0) Unplaced 0 n (λ i. ap (λ (c : Chunk). outcome_by c i) (open_at m (i % w)) ∙ ap (λ b. unplaced_by b) (not_before i 0 (omega arith)))
+nothing_placed m w n = all_same (outcome_in (replicate m chunk.Open) w 0) Unplaced 0 n
+    (λ i. ap (λ (c : Chunk). outcome_by c i) (open_at m (i % w)) ∙ ap (λ b. unplaced_by b) (not_before i 0 (omega arith)))
 
-by_room : (start end all w : ℕ) → cond (nat_lt (all - start - end) w) 0 (all - start - end) ≢ 0 → start + cond (nat_lt (all - start - end) w) 0 (all - start - end) ≤ all
+by_room : (start end all w : ℕ) → cond (nat_lt (all - start - end) w) 0 (all - start - end) ≢ 0
+    → start + cond (nat_lt (all - start - end) w) 0 (all - start - end) ≤ all
 by_room start end all w some = elim (nat_lt (all - start - end) w) as (λ b. cond b 0 (all - start - end) ≢ 0 → start + cond b 0 (all - start - end) ≤ all) [
   | true ↦ λ h. absurd (h refl)
   | false ↦ λ h. omega (arith, h)
@@ -89,7 +91,8 @@ drop_new (suc n) (suc k) = drop_new n k ∙ ap (λ m. replicate m Unplaced) (ome
 pub opened_counts : (n sc dc : ℕ) → sc + dc ≤ n → KeepsCounts (replicate n Unplaced) sc dc sc dc 0 0
 opened_counts n sc dc h = record {
   start_is = sym (ap (tally is_left) (take_new n sc (omega arith)) ∙ all_of_new is_left Unplaced sc refl);
-  data_is = sym (ap (λ xs. tally is_left (take dc xs)) (drop_new n sc) ∙ ap (tally is_left) (take_new (n - sc) dc (omega arith)) ∙ all_of_new is_left Unplaced dc refl);
+  data_is = sym (ap (λ xs. tally is_left (take dc xs)) (drop_new n sc) ∙ ap (tally is_left) (take_new (n - sc) dc (omega arith))
+      ∙ all_of_new is_left Unplaced dc refl);
   unanswered_is = sym (none_of_new is_unanswered Unplaced n refl);
   lost_is = sym (none_of_new is_lost Unplaced n refl);
 }
@@ -135,7 +138,9 @@ pub opened_stripes : (s : Shape) (online w a b n : ℕ) (chunks : List Chunk) �
 opened_stripes s online w a b n chunks o = ap (λ xs. outcomes xs w 0 n) o.chunks_are ∙ nothing_placed 64 w n
 
 pub opened_tallies : (s : Shape) (online w a b n : ℕ) (chunks : List Chunk) → Opens s online w a b n chunks → KeepsCounts (outcomes chunks w 0 n) a b a b 0 0
-opened_tallies s online w a b n chunks o = subst (λ (xs : List Stripe). KeepsCounts xs a b a b 0 0) (sym (opened_stripes s online w a b n chunks o)) (opened_counts n a b (parts_inside s online w a b n chunks o))
+opened_tallies s online w a b n chunks o =
+    subst (λ (xs : List Stripe). KeepsCounts xs a b a b 0 0) (sym (opened_stripes s online w a b n chunks o))
+    (opened_counts n a b (parts_inside s online w a b n chunks o))
 
 pub opened_line : (s : Shape) (line online w a b n : ℕ) (chunks : List Chunk) → Opens s online w a b n chunks
     → ◌≡◌ {A = OpenLine} (record { line = line; online = online; start_count = a; data_count = b; stripes = outcomes chunks w 0 n }) (opened s line online)
@@ -143,9 +148,11 @@ opened_line s line online w a b n chunks o =
     let make : ℕ → ℕ → List Stripe → OpenLine = λ x y xs. record { line = line; online = online; start_count = x; data_count = y; stripes = xs } in
     ap (λ x. make x b (outcomes chunks w 0 n)) o.start_is
     ∙ ap (λ y. make (start_len s / s.ws_opt) y (outcomes chunks w 0 n)) (o.data_is ∙ ap (λ g. data_len s g / s.ws_opt) o.width_is)
-    ∙ ap (make (start_len s / s.ws_opt) (data_len s (length (units_in online)) / s.ws_opt)) (opened_stripes s online w a b n chunks o ∙ ap (λ k. replicate k Unplaced) (o.count_is ∙ ap (λ g. g * (s.clba / s.ws_opt)) o.width_is))
+    ∙ ap (make (start_len s / s.ws_opt) (data_len s (length (units_in online)) / s.ws_opt))
+    (opened_stripes s online w a b n chunks o ∙ ap (λ k. replicate k Unplaced) (o.count_is ∙ ap (λ g. g * (s.clba / s.ws_opt)) o.width_is))
 
-pub opened_fits : (s : Shape) (line online w a b n : ℕ) (chunks : List Chunk) → Opens s online w a b n chunks → online < 2 ^ units s → FitsShape s (opened s line online)
+pub opened_fits : (s : Shape) (line online w a b n : ℕ) (chunks : List Chunk) → Opens s online w a b n chunks → online < 2 ^ units s
+    → FitsShape s (opened s line online)
 opened_fits s line online w a b n chunks o h = record {
   online = h;
   some = omega (arith, o.width_is, width_some s w o.accepted.drive.ws_opt o.some);

@@ -4,7 +4,7 @@ use Rattle.std.specs.List.{slice_get}
 use Rattle.std.specs.Option.{option_map_or}
 use Rattle.stripe_placer.specs.Placing.{Program, Placing, is_stopped, placed, placed_again, placed_first}
 use Rattle.stripe_placer.specs.Placing.UnitRow.{UnderWay}
-use Rattle.lemmas.proofs.Parts.{get_set_same}
+use Rattle.pblk_model.proofs.Parts.{get_set_same}
 
 pub cond_true : (b : Bool) (of o : Program) → cond b (Some of) None ≡ Some o → b ≡ true
 cond_true true of o e = refl

@@ -4,7 +4,7 @@ use Rattle.std.specs.Prelude.{nat_lt, nat_le}
 use Rattle.std.specs.List.{All, AllByRecursion, filter, list_any}
 use Rattle.std.proofs.lemmas.Bool.Decides.{nat_tests}
 use Rattle.stripe_placer.specs.Entries.{Rises}
-use Rattle.lemmas.proofs.Tests.{le_of_lt_false, le_true, lt_true, not_before}
+use Rattle.pblk_model.proofs.Tests.{le_of_lt_false, le_true, lt_true, not_before}
 
 pub le_false : (a b : ℕ) → b < a → nat_le a b ≡ false
 le_false a b h = grind (arith, nat_tests)

@@ -6,7 +6,7 @@ use mathlib.Core.Option.{some, some-ne-none}
 use lib.ListN.{get_elem?}
 use Rattle.atomic_table.specs.Table.{Me, Allows, keeps}
 use Rattle.unit_port.specs.Log.{IsLogWord}
-use Rattle.lemmas.proofs.Parts.{store_sets}
+use Rattle.pblk_model.proofs.Parts.{store_sets}
 
 module _ {E : Type 0} where
   -- a seat that has a view where there is one view is seat 0

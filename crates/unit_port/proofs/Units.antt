@@ -22,7 +22,7 @@ use Rattle.unit_port.specs.declared.unit.UnitErr.{UnitErr}
 use Rattle.unit_port.specs.declared.unit.UnitErr.TheVariants as errors
 use Rattle.unit_port.specs.Did.{failed_or_stopped, is_empty, Did}
 use Rattle.unit_port.specs.Commands.{UnitCommand, EventAt, with_event, after_one, IsNext, IsKept, AreKept, IsTaken}
-use Rattle.lemmas.proofs.Parts.{get_set_other, get_set_same, set_same}
+use Rattle.pblk_model.proofs.Parts.{get_set_other, get_set_same, set_same}
 use Rattle.pblk_model.proofs.UnitLogLemmas.{after_event_is, read_leaves}
 
 same_fields : (s s' : Shape) (m m' : List Chunk) (l l' : List UnitEvent) (a a' : Armed) → s ≡ s' → m ≡ m' → l ≡ l' → a ≡ a'

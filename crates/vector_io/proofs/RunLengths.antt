@@ -11,8 +11,8 @@ use Rattle.pblk_model.specs.Chunk.{Block}
 use Rattle.pblk_model.specs.Geometry.{Geometry}
 use Rattle.vector_io.specs.Plans.{unit_of, goes_on, placed_from, placed_by, placed_at, Program, program_of, with_first, programs}
 use Rattle.vector_io.specs.Runs.{is_next_block, run_behind, run_len}
-use Rattle.lemmas.proofs.Numbers.{suc-times}
-use Rattle.lemmas.proofs.Tests.{both}
+use Rattle.pblk_model.proofs.Numbers.{suc-times}
+use Rattle.pblk_model.proofs.Tests.{both}
 
 -- Blocks of parts of two lists.
 

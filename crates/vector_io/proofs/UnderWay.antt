@@ -10,7 +10,7 @@ use Rattle.unit_port.specs.Did.{Did, failed_or_stopped, is_empty}
 use Rattle.vector_io.specs.Status.{width, flags, HasBits, Answers}
 use Rattle.vector_io.proofs.Bits.{no_bits, bit_unset}
 use Rattle.unit_port.proofs.Units.{kept_none, kept_more, Spares, still_taken}
-use Rattle.lemmas.proofs.Parts.{take_all, take_next}
+use Rattle.pblk_model.proofs.Parts.{take_all, take_next}
 
 -- The first n commands of a plan are done, which were of so many addresses, and became these events; these bits tell of
 -- them, and the rest of the plan can be done.

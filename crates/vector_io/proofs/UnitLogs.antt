@@ -7,7 +7,7 @@ use Rattle.pblk_model.specs.UnitLog.{UnitEvent, IsEvent, IsUnitLog}
 use Rattle.unit_port.specs.Unit.{ModelUnit}
 use Rattle.unit_port.specs.Commands.{UnitCommand, EventAt, with_event, after_one, after_all, IsNext, AreNext, Ran, HadEvents, events_of}
 use Rattle.unit_port.proofs.Units.{after_one_is}
-use Rattle.lemmas.proofs.Parts.{get_set_other, get_set_same}
+use Rattle.pblk_model.proofs.Parts.{get_set_other, get_set_same}
 
 no_events : (u : ModelUnit) → HadEvents u [] u
 unfolding IsUnitLog

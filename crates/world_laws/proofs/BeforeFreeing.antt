@@ -18,8 +18,8 @@ use Rattle.pblk_world.specs.Legal.{IsLegal}
 use Rattle.pblk_world.specs.Commanding.{ended_stripes}
 use Rattle.pblk_world.specs.Victims.{engine_prefix}
 use Rattle.pblk_world.proofs.EngineLogLemmas.{begun_of_first}
-use Rattle.lemmas.proofs.Parts.{get_below, get_more, take_front}
-use Rattle.lemmas.proofs.Tests.{same_number}
+use Rattle.pblk_model.proofs.Parts.{get_below, get_more, take_front}
+use Rattle.pblk_model.proofs.Tests.{same_number}
 use Rattle.world_laws.proofs.Freeing.{freed_at}
 use Rattle.world_laws.proofs.Made.{IsMade, log_then, made, own_then}
 use Rattle.world_laws.specs.LifeBlocks.{IsBlockOfLife}

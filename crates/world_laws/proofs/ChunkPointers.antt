@@ -18,10 +18,10 @@ use Rattle.pblk_world.specs.World.{World, log_of, knows_engine, known, unit_even
 use Rattle.pblk_world.specs.EngineLog.{Begun, begun, is_life, life_of, Opened, Opening, Placed, placed_on, placements, stripes_of, stripes_on}
 use Rattle.pblk_world.specs.Commanding.{ended_stripes, has_stopped, is_program, was_stopped}
 use Rattle.pblk_world.specs.Lines.{is_empty_state}
-use Rattle.lemmas.proofs.Lists.{IsAmong}
-use Rattle.lemmas.proofs.Maps.{from_filter, in_filter}
-use Rattle.lemmas.proofs.Parts.{contained_among, get_below, got_within}
-use Rattle.lemmas.proofs.Tests.{lt_true, not_both, same_number}
+use Rattle.pblk_model.proofs.Lists.{IsAmong}
+use Rattle.pblk_model.proofs.Maps.{from_filter, in_filter}
+use Rattle.pblk_model.proofs.Parts.{contained_among, get_below, got_within}
+use Rattle.pblk_model.proofs.Tests.{lt_true, not_both, same_number}
 use Rattle.pblk_world.specs.LegalMounts.{IsLegalMount}
 use Rattle.world_laws.proofs.Stripes.{IsPlaced, opening_then, placed_is, stripe_is}
 use Rattle.world_laws.proofs.Openings.{placed_at}

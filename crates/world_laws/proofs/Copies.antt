@@ -39,11 +39,11 @@ use Rattle.world_laws.proofs.ToldImages.{found_at}
 use Rattle.world_laws.proofs.ToldSince.{told_up_to, told_when_made}
 use Rattle.world_laws.proofs.WinnerBlocks.{HasBlock, counted_block, winner_holds}
 use Rattle.world_laws.proofs.WinnerLines.{counted_has_start}
-use Rattle.lemmas.proofs.Lists.{IsAmong, all_imply, among_all, last_in}
-use Rattle.lemmas.proofs.Maps.{all_filter, all_passed, any_fail, from_filter}
-use Rattle.lemmas.proofs.Options.{split_then}
-use Rattle.lemmas.proofs.Parts.{all_at, contained_among, is_in, take-all}
-use Rattle.lemmas.proofs.Tests.{first_of, no_both, not_true, same}
+use Rattle.pblk_model.proofs.Lists.{IsAmong, all_imply, among_all, last_in}
+use Rattle.pblk_model.proofs.Maps.{all_filter, all_passed, any_fail, from_filter}
+use Rattle.pblk_model.proofs.Options.{split_then}
+use Rattle.pblk_model.proofs.Parts.{all_at, contained_among, is_in, take-all}
+use Rattle.pblk_model.proofs.Tests.{first_of, no_both, not_true, same}
 use Rattle.world_laws.specs.LifeBlocks.{IsBlockOfLife}
 use Rattle.world_laws.specs.UnitChunks.{chunk_after}
 use Rattle.world_laws.proofs.FirstEvent.{IsBeginning, beginning_of}

@@ -17,8 +17,8 @@ use Rattle.pblk_world.specs.World.{World, cut_logs, known, log_of}
 use Rattle.pblk_world.proofs.EngineLogLemmas.{begun_of_first}
 use Rattle.pblk_world.proofs.Growing.{knowledge_rises}
 use Rattle.pblk_world.proofs.WorldLemmas.{media_same}
-use Rattle.lemmas.proofs.Lists.{among_contained}
-use Rattle.lemmas.proofs.Parts.{contained_among, get_more, get_whole_within, got_within, take_and_drop, take_front}
+use Rattle.pblk_model.proofs.Lists.{among_contained}
+use Rattle.pblk_model.proofs.Parts.{contained_among, get_more, get_whole_within, got_within, take_and_drop, take_front}
 use Rattle.world_laws.specs.EarlyLogs.{ArePrefixes}
 use Rattle.world_laws.specs.SameTold.{AreSameNamed}
 use Rattle.world_laws.proofs.BeforeFreeing.{IsEarlier, engine_then, within_later}

@@ -21,9 +21,9 @@ use Rattle.pblk_laws.proofs.UnitLog.{log_leaves}
 use Rattle.world_laws.specs.Padding.{IsPaddedAt, ArePadded}
 use Rattle.world_laws.specs.EarlyLogs.{ArePrefixes, AreEarly}
 use Rattle.world_laws.proofs.PaddedChunks.{IsPaddedIn, PadsOnly, IsEarlyCommand, pads_or_reads}
-use Rattle.lemmas.proofs.Lists.{all_but_last, last_of}
-use Rattle.lemmas.proofs.Maps.{numbered_at}
-use Rattle.lemmas.proofs.Parts.{all_get, take_nothing}
+use Rattle.pblk_model.proofs.Lists.{all_but_last, last_of}
+use Rattle.pblk_model.proofs.Maps.{numbered_at}
+use Rattle.pblk_model.proofs.Parts.{all_get, take_nothing}
 use Rattle.pblk_world.proofs.LegalLemmas.{whole_own}
 use Rattle.pblk_world.proofs.WorldLemmas.{length_media}
 

@@ -18,7 +18,7 @@ use Rattle.pblk_model.specs.Sealed.{BeginsNarrower}
 use Rattle.pblk_model.proofs.BytesLemmas.{zeros_first}
 use Rattle.pblk_laws.proofs.EndSpelling.{end_spelled}
 use Rattle.pblk_laws.proofs.StartHeads.{sector_long}
-use Rattle.lemmas.proofs.Parts.{take_less}
+use Rattle.pblk_model.proofs.Parts.{take_less}
 
 abbrev head_bytes : List ℕ
 head_bytes = le32 magic ++ le16 1 ++ le16 1

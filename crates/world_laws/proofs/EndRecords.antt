@@ -36,10 +36,10 @@ use Rattle.pblk_world.specs.Placing.{IsEnd, IsNext, data_marks, end_address, end
 use Rattle.pblk_world.specs.Starts.{start_stripes}
 use Rattle.pblk_world.specs.Victims.{engine_prefix}
 use Rattle.pblk_world.proofs.PlacingLemmas.{length_record}
-use Rattle.lemmas.proofs.Lists.{length_replicate}
-use Rattle.lemmas.proofs.Maps.{from_filter, get_mapped}
-use Rattle.lemmas.proofs.Options.{split_then}
-use Rattle.lemmas.proofs.Parts.{all_at, all_by_get, contained_among, get_more, get_past, get_rest, got_within, is_in, same_lists, take_and_drop}
+use Rattle.pblk_model.proofs.Lists.{length_replicate}
+use Rattle.pblk_model.proofs.Maps.{from_filter, get_mapped}
+use Rattle.pblk_model.proofs.Options.{split_then}
+use Rattle.pblk_model.proofs.Parts.{all_at, all_by_get, contained_among, get_more, get_past, get_rest, got_within, is_in, same_lists, take_and_drop}
 use Rattle.world_laws.proofs.FitMedia.{media_fit}
 use Rattle.pblk_world.specs.LegalMounts.{IsLegalMount}
 use Rattle.world_laws.proofs.Later.{landed_later, placed_within}

@@ -5,7 +5,7 @@ use Rattle.pblk_world.specs.Events.{Event, Logged, Step}
 use Rattle.pblk_world.specs.World.{World, Logs, log_of, prefixes}
 use Rattle.pblk_world.specs.Legal.{IsLegal, IsLegalStep, IsAllowed}
 use Rattle.pblk_world.proofs.LegalLemmas.{whole_own}
-use Rattle.lemmas.proofs.Tests.{same}
+use Rattle.pblk_model.proofs.Tests.{same}
 
 abbrev pub logged_as : Event → List ℕ → Logged
 logged_as e knows = record { event = e; knows = knows }

@@ -19,9 +19,9 @@ use Rattle.pblk_world.specs.Taking.{IsMarked}
 use Rattle.pblk_world.specs.Victims.{engine_prefix}
 use Rattle.pblk_world.proofs.EngineLogLemmas.{takes_more}
 use Rattle.pblk_laws.proofs.MarkNames.{meta_none, pad_none}
-use Rattle.lemmas.proofs.Lists.{IsAmong, all_append, all_imply, all_replicated, among_all, among_more}
-use Rattle.lemmas.proofs.Maps.{all_filter, all_mapped}
-use Rattle.lemmas.proofs.Parts.{all_dropped, all_taken, take_and_drop}
+use Rattle.pblk_model.proofs.Lists.{IsAmong, all_append, all_imply, all_replicated, among_all, among_more}
+use Rattle.pblk_model.proofs.Maps.{all_filter, all_mapped}
+use Rattle.pblk_model.proofs.Parts.{all_dropped, all_taken, take_and_drop}
 use Rattle.world_laws.proofs.Engine.{Keeps, logged_as, of_engine}
 use Rattle.world_laws.proofs.Later.{takes_joined}
 use Rattle.world_laws.proofs.Openings.{placed_at}

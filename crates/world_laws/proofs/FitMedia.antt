@@ -18,7 +18,7 @@ use Rattle.pblk_world.specs.World.{World, Logs, log_of, known, cut_logs, prefixe
 use Rattle.pblk_world.specs.EngineLog.{Begun, begun}
 use Rattle.pblk_world.specs.Lines.{found_by, found_image}
 use Rattle.pblk_world.specs.Legal.{IsAllowed, IsLegal}
-use Rattle.lemmas.proofs.Maps.{numbered_length}
+use Rattle.pblk_model.proofs.Maps.{numbered_length}
 use Rattle.pblk_world.proofs.WorldLemmas.{media_at}
 
 -- ---- numbered elements

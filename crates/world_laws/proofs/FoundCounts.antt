@@ -18,8 +18,8 @@ use Rattle.pblk_world.specs.Lines.{next_seq}
 use Rattle.pblk_world.specs.Starts.{bound_by, row_bound}
 use Rattle.world_laws.specs.Finding.{top_of}
 use Rattle.world_laws.proofs.WrittenBlocks.{counted_passed}
-use Rattle.lemmas.proofs.Lists.{all_contains, contains_cases, contains_none}
-use Rattle.lemmas.proofs.Maps.{longer_option}
+use Rattle.pblk_model.proofs.Lists.{all_contains, contains_cases, contains_none}
+use Rattle.pblk_model.proofs.Maps.{longer_option}
 use Rattle.pblk_model.proofs.AcceptedLemmas.{line_is_short}
 
 -- ---- the head's numbers

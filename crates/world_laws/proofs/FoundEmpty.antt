@@ -21,10 +21,10 @@ use Rattle.pblk_world.specs.Legal.{IsLegal}
 use Rattle.pblk_world.proofs.EngineLogLemmas.{begun_knows, begun_taken}
 use Rattle.pblk_world.proofs.Growing.{knowledge_rises}
 use Rattle.pblk_world.proofs.WorldLemmas.{media_at, unit_event_cut}
-use Rattle.lemmas.proofs.Lists.{IsAmong}
-use Rattle.lemmas.proofs.Maps.{given_at, made_alike, numbered_at}
-use Rattle.lemmas.proofs.Parts.{get_below, get_whole_within, got_within}
-use Rattle.lemmas.proofs.Tests.{first_of, second_of}
+use Rattle.pblk_model.proofs.Lists.{IsAmong}
+use Rattle.pblk_model.proofs.Maps.{given_at, made_alike, numbered_at}
+use Rattle.pblk_model.proofs.Parts.{get_below, get_whole_within, got_within}
+use Rattle.pblk_model.proofs.Tests.{first_of, second_of}
 use Rattle.world_laws.specs.UnitChunks.{first_events}
 use Rattle.world_laws.proofs.FirstEvent.{IsBeginning, beginning_of}
 use Rattle.world_laws.proofs.KnownEmpty.{IsEmptySince, IsToldReset, known_empty, told_chunk, told_first}

@@ -21,8 +21,8 @@ use Rattle.world_laws.specs.Padding.{ArePadded}
 use Rattle.world_laws.specs.EarlyLogs.{ArePrefixes, AreEarly}
 use Rattle.world_laws.proofs.PaddedImages.{padded_lines, padded_sealed, padded_holds}
 use Rattle.world_laws.proofs.EarlyLogs.{early_padded}
-use Rattle.lemmas.proofs.Lists.{all_imply, with_last}
-use Rattle.lemmas.proofs.Parts.{all_taken}
+use Rattle.pblk_model.proofs.Lists.{all_imply, with_last}
+use Rattle.pblk_model.proofs.Parts.{all_taken}
 use Rattle.pblk_world.proofs.EngineLogLemmas.{begun_of_first, begun_stays, first_begins}
 use Rattle.pblk_world.proofs.LegalLemmas.{whole_own}
 use Rattle.pblk_world.proofs.WorldLemmas.{log_elsewhere, log_here}

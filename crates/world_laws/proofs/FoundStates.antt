@@ -16,8 +16,8 @@ use Rattle.pblk_laws.specs.LineBlocks.{chunk_in}
 use Rattle.pblk_world.specs.Lines.{is_empty_state, are_empty}
 use Rattle.world_laws.specs.Finding.{IsFoundOf, taken_state, taken_states}
 use Rattle.world_laws.proofs.NumberedLists.{joined_at, joined_count}
-use Rattle.lemmas.proofs.Maps.{all_flat_map}
-use Rattle.lemmas.proofs.Parts.{all_get}
+use Rattle.pblk_model.proofs.Maps.{all_flat_map}
+use Rattle.pblk_model.proofs.Parts.{all_get}
 
 abbrev pub state_of : Chunk → ChunkState
 state_of c = taken_state c.state

@@ -15,7 +15,7 @@ use Rattle.pblk_world.specs.EngineLog.{Begun, begun, LineLife, AsFound, Opened, 
 use Rattle.pblk_world.specs.Lines.{is_empty_state}
 use Rattle.pblk_world.specs.Commanding.{is_program}
 use Rattle.pblk_world.specs.Legal.{IsLegal}
-use Rattle.lemmas.proofs.Parts.{get_first}
+use Rattle.pblk_model.proofs.Parts.{get_first}
 use Rattle.world_laws.specs.LifeBlocks.{IsBlockOfLife}
 use Rattle.world_laws.specs.UnitChunks.{NoProgram, chunk_after}
 use Rattle.world_laws.proofs.BeforeFreeing.{IsBefore, before_freeing, block_later, chunk_then, opening_within, within_later}

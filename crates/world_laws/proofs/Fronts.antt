@@ -9,11 +9,11 @@ use Rattle.pblk_world.specs.Events.{Logged}
 use Rattle.pblk_world.specs.EngineLog.{Begun, begun, takes, Placed, placements, has_landed, holds_position}
 use Rattle.pblk_world.specs.Fronts.{first_position, taken, has_landed_at, synced}
 use Rattle.pblk_world.proofs.SyncedFront.{synced_is, synced_within, synced_missing}
-use Rattle.lemmas.proofs.Lists.{among_contained}
-use Rattle.lemmas.proofs.Maps.{any_found, any_member, found_passes}
-use Rattle.lemmas.proofs.Options.{some_value}
-use Rattle.lemmas.proofs.Parts.{contained_among}
-use Rattle.lemmas.proofs.Tests.{and_both, first_of, no_both, second_of}
+use Rattle.pblk_model.proofs.Lists.{among_contained}
+use Rattle.pblk_model.proofs.Maps.{any_found, any_member, found_passes}
+use Rattle.pblk_model.proofs.Options.{some_value}
+use Rattle.pblk_model.proofs.Parts.{contained_among}
+use Rattle.pblk_model.proofs.Tests.{and_both, first_of, no_both, second_of}
 use Rattle.world_laws.proofs.Later.{takes_joined, landed_later, placed_later, placed_within}
 
 -- a stripe that has landed holds the position

@@ -16,8 +16,8 @@ use Rattle.pblk_world.specs.Space.{room}
 use Rattle.pblk_world.specs.Taking.{IsPlaceOfLatest}
 use Rattle.pblk_world.specs.World.{World, Logs, log_of, known, prefixes}
 use Rattle.pblk_world.proofs.Growing.{grows}
-use Rattle.lemmas.proofs.Numbers.{fun_same}
-use Rattle.lemmas.proofs.Parts.{is_in}
+use Rattle.pblk_model.proofs.Numbers.{fun_same}
+use Rattle.pblk_model.proofs.Parts.{is_in}
 use Rattle.world_laws.specs.SameTold.{AreSameNamed, UnitsWentOn}
 use Rattle.world_laws.proofs.Made.{known_within}
 

@@ -13,10 +13,10 @@ use Rattle.pblk_world.specs.World.{World, log_of}
 use Rattle.pblk_world.specs.EngineLog.{Taken, takes}
 use Rattle.pblk_world.specs.Fronts.{first_position, is_users, history, user_positions}
 use Rattle.pblk_world.specs.Legal.{IsLegal}
-use Rattle.lemmas.proofs.Lists.{IsAmong}
-use Rattle.lemmas.proofs.Maps.{all_filter, all_mapped, filter_both, filter_none}
-use Rattle.lemmas.proofs.Parts.{all_by_get, get_dropped, get_last, get_more, get_set_other, get_set_same, get_taken, get_whole_within, take_and_drop, take_front}
-use Rattle.lemmas.proofs.Tests.{lt_true, not_before, other_number, same, same_number}
+use Rattle.pblk_model.proofs.Lists.{IsAmong}
+use Rattle.pblk_model.proofs.Maps.{all_filter, all_mapped, filter_both, filter_none}
+use Rattle.pblk_model.proofs.Parts.{all_by_get, get_dropped, get_last, get_more, get_set_other, get_set_same, get_taken, get_whole_within, take_and_drop, take_front}
+use Rattle.pblk_model.proofs.Tests.{lt_true, not_before, other_number, same, same_number}
 use Rattle.world_laws.proofs.Latest.{IsLatestBelow}
 use Rattle.world_laws.proofs.Lives.{by_last}
 use Rattle.world_laws.proofs.Positions.{position_of}

@@ -22,7 +22,7 @@ use Rattle.pblk_laws.proofs.Runs.{run_some}
 use Rattle.pblk_laws.proofs.Starts.{found_is}
 use Rattle.pblk_laws.proofs.EndSpelling.{end_found, end_written}
 use Rattle.world_laws.specs.SameImages.{HoldsTheSame}
-use Rattle.lemmas.proofs.Parts.{all_get}
+use Rattle.pblk_model.proofs.Parts.{all_get}
 
 abbrev pub img : Shape → List (List Chunk) → Image
 img s us = record { shape = s; units = us }

@@ -21,7 +21,7 @@ use Rattle.pblk_world.specs.Legal.{IsLegal}
 use Rattle.pblk_world.proofs.EngineLogLemmas.{begun_taken}
 use Rattle.pblk_world.proofs.Growing.{knowledge_rises}
 use Rattle.pblk_world.proofs.LinesLemmas.{reset_empty}
-use Rattle.lemmas.proofs.Parts.{get_below, got_within}
+use Rattle.pblk_model.proofs.Parts.{get_below, got_within}
 use Rattle.world_laws.specs.UnitChunks.{NoProgram, chunk_after}
 use Rattle.world_laws.proofs.NamedPrefixes.{was_made}
 use Rattle.world_laws.proofs.FirstEvent.{IsBeginning, beginning_of}

@@ -11,8 +11,8 @@ use Rattle.pblk_world.specs.EngineLog.{AsFound, Opened, Opening, Placed, Taken, 
 use Rattle.pblk_world.specs.Fronts.{synced}
 use Rattle.pblk_world.specs.Lines.{found_image}
 use Rattle.pblk_world.specs.Starts.{newest_start}
-use Rattle.lemmas.proofs.Lists.{among_contained}
-use Rattle.lemmas.proofs.Parts.{contained_among}
+use Rattle.pblk_model.proofs.Lists.{among_contained}
+use Rattle.pblk_model.proofs.Parts.{contained_among}
 use Rattle.pblk_world.specs.LegalMounts.{IsLegalMount}
 use Rattle.world_laws.proofs.LandedRecords.{freed_below_front}
 use Rattle.world_laws.proofs.Latest.{IsLatestBelow, IsStandingAt, latest_stands}

@@ -16,7 +16,7 @@ use Rattle.pblk_world.specs.EngineLog.{Begun, begun, named_by}
 use Rattle.pblk_world.specs.Lines.{told_by}
 use Rattle.pblk_world.specs.Commanding.{is_program, is_reset, was_stopped}
 use Rattle.pblk_world.specs.Legal.{IsLegal}
-use Rattle.lemmas.proofs.Parts.{get_below, got_within}
+use Rattle.pblk_model.proofs.Parts.{get_below, got_within}
 use Rattle.world_laws.specs.UnitChunks.{chunk_after, first_events}
 use Rattle.world_laws.proofs.FirstEvent.{IsBeginning, beginning_of}
 use Rattle.world_laws.proofs.Deeds.{IsDeed, deed, fetch_leaves}
@@ -79,7 +79,8 @@ module _ (i : Image) (w : World) (legal : IsLegal i w) (b : Begun) (begins : beg
       go true same = by_command d.event.command refl (eqb-true d.event.chunk line same)
       go false other = d.others line (eqb-false d.event.chunk line other)
 
-  pub quiet_until : (from d : ℕ) → slice_index b.knows (suc unit) ≤ from → from + d ≤ length (log_of w (suc unit)) → AreGoing (from + d) → NoActive from (from + d)
+  pub quiet_until : (from d : ℕ) → slice_index b.knows (suc unit) ≤ from → from + d ≤ length (log_of w (suc unit)) → AreGoing (from + d)
+      → NoActive from (from + d)
       → chunk_after i (log_of w) line unit (from + d) ≡ chunk_after i (log_of w) line unit from
   quiet_until from zero low inside going none = let same : from + 0 ≡ from = omega arith in ap (chunk_after i (log_of w) line unit) same
   quiet_until from (suc d) low inside going none =

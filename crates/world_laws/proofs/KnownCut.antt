@@ -8,9 +8,9 @@ use Rattle.pblk_world.specs.Events.{Logged, Step}
 use Rattle.pblk_world.specs.World.{World, Logs, log_of, known, prefixes}
 use Rattle.pblk_world.specs.Legal.{IsLegal, IsLegalStep, IsAllowed}
 use Rattle.pblk_world.proofs.WorldLemmas.{log_here}
-use Rattle.lemmas.proofs.Numbers.{fun_same}
-use Rattle.lemmas.proofs.Parts.{get_last, get_more, take_nothing}
-use Rattle.lemmas.proofs.Tests.{below_of, le_of_lt_false, same}
+use Rattle.pblk_model.proofs.Numbers.{fun_same}
+use Rattle.pblk_model.proofs.Parts.{get_last, get_more, take_nothing}
+use Rattle.pblk_model.proofs.Tests.{below_of, le_of_lt_false, same}
 use Rattle.world_laws.specs.KnownCut.{cut, IsClosedCut}
 
 -- ---- its logs

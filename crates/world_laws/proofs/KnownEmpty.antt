@@ -20,10 +20,10 @@ use Rattle.pblk_world.specs.Lines.{is_empty_state, told_by}
 use Rattle.pblk_world.specs.Commanding.{is_program, was_stopped}
 use Rattle.pblk_world.specs.Answering.{IsDoneReset, IsNew, IsOfStripe, MayLand, MayLose, MayNoteReset, MayOfferAgain}
 use Rattle.pblk_world.specs.Legal.{IsLegal}
-use Rattle.lemmas.proofs.Maps.{more}
-use Rattle.lemmas.proofs.Options.{split_then}
-use Rattle.lemmas.proofs.Parts.{get_whole_within, got_within, take_next}
-use Rattle.lemmas.proofs.Tests.{not_both, same_number}
+use Rattle.pblk_model.proofs.Maps.{more}
+use Rattle.pblk_model.proofs.Options.{split_then}
+use Rattle.pblk_model.proofs.Parts.{get_whole_within, got_within, take_next}
+use Rattle.pblk_model.proofs.Tests.{not_both, same_number}
 use Rattle.world_laws.proofs.LastUses.{IsOfChunk}
 use Rattle.world_laws.proofs.NextLives.{IsDecided, decided}
 use Rattle.world_laws.proofs.Tellings.{IsNamedAt}

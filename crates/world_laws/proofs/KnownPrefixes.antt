@@ -17,11 +17,11 @@ use Rattle.pblk_world.specs.Lines.{known_image}
 use Rattle.pblk_world.proofs.EngineLogLemmas.{begun_knows}
 use Rattle.pblk_world.proofs.LinesLemmas.{length_known}
 use Rattle.pblk_world.proofs.VictimsLemmas.{whole_prefix}
-use Rattle.lemmas.proofs.Lists.{among_contained}
-use Rattle.lemmas.proofs.Maps.{from_given, given_at}
-use Rattle.lemmas.proofs.Options.{split_then}
-use Rattle.lemmas.proofs.Parts.{contained_among, get_below, get_taken, got_within}
-use Rattle.lemmas.proofs.Tests.{either}
+use Rattle.pblk_model.proofs.Lists.{among_contained}
+use Rattle.pblk_model.proofs.Maps.{from_given, given_at}
+use Rattle.pblk_model.proofs.Options.{split_then}
+use Rattle.pblk_model.proofs.Parts.{contained_among, get_below, get_taken, got_within}
+use Rattle.pblk_model.proofs.Tests.{either}
 use Rattle.world_laws.specs.KnownChunks.{IsChange}
 use Rattle.world_laws.specs.UnitChunks.{chunk_after}
 use Rattle.world_laws.proofs.KnownChunks.{IsKnownTo, known_first, known_later}

@@ -16,10 +16,10 @@ use Rattle.pblk_world.specs.Freeing.{IsLandedRecord}
 use Rattle.pblk_world.specs.Legal.{IsLegal}
 use Rattle.pblk_world.specs.Lines.{known_image, place_of}
 use Rattle.pblk_world.specs.Victims.{engine_prefix}
-use Rattle.lemmas.proofs.Maps.{any_found, found_passes}
-use Rattle.lemmas.proofs.Options.{some_value}
-use Rattle.lemmas.proofs.Parts.{take_and_drop}
-use Rattle.lemmas.proofs.Tests.{first_of, same, second_of}
+use Rattle.pblk_model.proofs.Maps.{any_found, found_passes}
+use Rattle.pblk_model.proofs.Options.{some_value}
+use Rattle.pblk_model.proofs.Parts.{take_and_drop}
+use Rattle.pblk_model.proofs.Tests.{first_of, same, second_of}
 use Rattle.world_laws.proofs.Freeing.{answered_when_freed}
 use Rattle.world_laws.proofs.Later.{answer_later, placed_within}
 use Rattle.world_laws.proofs.Lives.{IsFreedLife}

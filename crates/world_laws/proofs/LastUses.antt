@@ -16,7 +16,7 @@ use Rattle.pblk_world.specs.Lines.{is_empty_state}
 use Rattle.pblk_world.specs.Commanding.{is_program, is_reset, was_stopped}
 use Rattle.pblk_world.specs.Legal.{IsLegal}
 use Rattle.pblk_world.proofs.LinesLemmas.{reset_empty}
-use Rattle.lemmas.proofs.Parts.{got_within}
+use Rattle.pblk_model.proofs.Parts.{got_within}
 use Rattle.world_laws.specs.UnitChunks.{chunk_after}
 use Rattle.world_laws.proofs.Deeds.{IsDeed, deed}
 

@@ -9,10 +9,10 @@ use Rattle.std.proofs.lemmas.Option.{none-some, same_Some}
 use Rattle.pblk_world.specs.Events.{Event, Logged, Decides, Place}
 use Rattle.pblk_world.specs.EngineLog.{takes, taken_by, Placed, placed_by, placements, Answer, answers, answer_by, answer_of, turn, is_land, is_loss, has_landed, was_lost, is_answered}
 use Rattle.pblk_world.proofs.Appending.{placements_more}
-use Rattle.lemmas.proofs.Lists.{all_append, all_contains, all_imply, among_contained}
-use Rattle.lemmas.proofs.Maps.{all_filter, filter_none, numbers_below}
-use Rattle.lemmas.proofs.Parts.{contained_among, get_more}
-use Rattle.lemmas.proofs.Tests.{not_before}
+use Rattle.pblk_model.proofs.Lists.{all_append, all_contains, all_imply, among_contained}
+use Rattle.pblk_model.proofs.Maps.{all_filter, filter_none, numbers_below}
+use Rattle.pblk_model.proofs.Parts.{contained_among, get_more}
+use Rattle.pblk_model.proofs.Tests.{not_before}
 
 pub takes_joined : (log more : List Logged) → takes (log ++ more) ≡ takes log ++ takes more
 takes_joined log more = filter_map-append (λ (l : Logged). taken_by l.event) log more

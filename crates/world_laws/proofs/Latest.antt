@@ -23,11 +23,11 @@ use Rattle.pblk_world.specs.Lines.{found_image}
 use Rattle.pblk_world.specs.Victims.{engine_prefix}
 use Rattle.pblk_world.proofs.SyncedFront.{synced_is}
 use Rattle.pblk_laws.proofs.MarkNames.{sector_exactly}
-use Rattle.lemmas.proofs.Lists.{IsAmong, among_contained}
-use Rattle.lemmas.proofs.Maps.{all_passed, any_member, from_filter, in_filter}
-use Rattle.lemmas.proofs.Options.{map_some}
-use Rattle.lemmas.proofs.Parts.{all_at, contained_among, get_taken, take_and_drop, take_next}
-use Rattle.lemmas.proofs.Tests.{and_both, other_number, same_number}
+use Rattle.pblk_model.proofs.Lists.{IsAmong, among_contained}
+use Rattle.pblk_model.proofs.Maps.{all_passed, any_member, from_filter, in_filter}
+use Rattle.pblk_model.proofs.Options.{map_some}
+use Rattle.pblk_model.proofs.Parts.{all_at, contained_among, get_taken, take_and_drop, take_next}
+use Rattle.pblk_model.proofs.Tests.{and_both, other_number, same_number}
 use Rattle.world_laws.proofs.Begun.{IsBegunWith, begun_with}
 use Rattle.world_laws.proofs.FoundCounts.{counted_below}
 use Rattle.world_laws.proofs.Entries.{IsEntryOrNone, entries_of_stripe, marks_bear}

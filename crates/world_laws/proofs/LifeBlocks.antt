@@ -16,7 +16,7 @@ use Rattle.pblk_world.specs.World.{World, log_of, unit_event_of}
 use Rattle.pblk_world.specs.EngineLog.{Begun, begun, Opened, Opening, life_of}
 use Rattle.pblk_world.specs.Lines.{is_empty_state}
 use Rattle.pblk_world.specs.Legal.{IsLegal}
-use Rattle.lemmas.proofs.Parts.{get_below, get_more, get_rest, got_within}
+use Rattle.pblk_model.proofs.Parts.{get_below, get_more, get_rest, got_within}
 use Rattle.world_laws.specs.LifeBlocks.{IsBlockOfLife}
 use Rattle.world_laws.specs.UnitChunks.{chunk_after}
 use Rattle.world_laws.proofs.Deeds.{IsDeed, deed}

@@ -22,8 +22,8 @@ use Rattle.pblk_world.specs.Victims.{engine_prefix}
 use Rattle.pblk_world.proofs.EngineLogLemmas.{begun_knows, begun_taken}
 use Rattle.pblk_world.proofs.LinesLemmas.{length_known}
 use Rattle.pblk_world.proofs.WorldLemmas.{length_media, media_at}
-use Rattle.lemmas.proofs.Maps.{made_alike, numbered_at}
-use Rattle.lemmas.proofs.Parts.{get_below, got_within}
+use Rattle.pblk_model.proofs.Maps.{made_alike, numbered_at}
+use Rattle.pblk_model.proofs.Parts.{get_below, got_within}
 use Rattle.world_laws.proofs.Openings.{opened_at}
 use Rattle.world_laws.specs.UnitChunks.{NoProgram, chunk_after, first_events}
 use Rattle.world_laws.proofs.FirstEvent.{IsBeginning, beginning_of}

@@ -18,8 +18,8 @@ use Rattle.pblk_world.specs.EngineLog.{block_of_taken}
 use Rattle.pblk_world.specs.Fronts.{waiting}
 use Rattle.pblk_world.specs.Lines.{known_image, place_of}
 use Rattle.pblk_world.specs.Placing.{MayPlace, IsStart, IsData, IsEnd, IsPad, data_blocks, next_address, padded, stripe_at}
-use Rattle.lemmas.proofs.Lists.{length_replicate}
-use Rattle.lemmas.proofs.Options.{mapped_some}
+use Rattle.pblk_model.proofs.Lists.{length_replicate}
+use Rattle.pblk_model.proofs.Options.{mapped_some}
 
 -- a multiple of n with a rest below n is one without a rest
 no_rest : (n x r y : ℕ) → r < n → x * n + r ≡ y * n → r ≡ 0

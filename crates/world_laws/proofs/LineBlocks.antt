@@ -22,11 +22,11 @@ use Rattle.pblk_world.specs.Answering.{MayLand}
 use Rattle.pblk_world.specs.Legal.{IsLegal}
 use Rattle.pblk_world.specs.Lines.{known_image, place_of}
 use Rattle.pblk_world.specs.Victims.{engine_prefix}
-use Rattle.lemmas.proofs.Lists.{IsAmong, among_contained}
-use Rattle.lemmas.proofs.Maps.{from_filter, in_filter}
-use Rattle.lemmas.proofs.Options.{mapped_some, split_then}
-use Rattle.lemmas.proofs.Parts.{contained_among, get_below, get_whole_within, one_column}
-use Rattle.lemmas.proofs.Tests.{same, same_number}
+use Rattle.pblk_model.proofs.Lists.{IsAmong, among_contained}
+use Rattle.pblk_model.proofs.Maps.{from_filter, in_filter}
+use Rattle.pblk_model.proofs.Options.{mapped_some, split_then}
+use Rattle.pblk_model.proofs.Parts.{contained_among, get_below, get_whole_within, one_column}
+use Rattle.pblk_model.proofs.Tests.{same, same_number}
 use Rattle.pblk_world.specs.LegalMounts.{IsLegalMount}
 use Rattle.world_laws.proofs.Later.{placed_within}
 use Rattle.world_laws.proofs.Lives.{life_is_known}

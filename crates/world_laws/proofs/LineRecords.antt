@@ -29,11 +29,11 @@ use Rattle.pblk_world.specs.EngineLog.{bears_position, has_landed, holds_positio
 use Rattle.pblk_world.specs.Placing.{IsData, end_address, next_address, record_blocks, stripe_at}
 use Rattle.pblk_world.specs.Starts.{has_landed_start, start_stripes}
 use Rattle.pblk_world.specs.Victims.{engine_prefix}
-use Rattle.lemmas.proofs.Lists.{IsAmong, among_contained, contains_none}
-use Rattle.lemmas.proofs.Maps.{any_member, from_given, given_at, range_get}
-use Rattle.lemmas.proofs.Options.{map_some, split_then}
-use Rattle.lemmas.proofs.Parts.{all_at, contained_among, get_below, take_and_drop}
-use Rattle.lemmas.proofs.Tests.{and_both, le_of_lt_false, not_before, same_number}
+use Rattle.pblk_model.proofs.Lists.{IsAmong, among_contained, contains_none}
+use Rattle.pblk_model.proofs.Maps.{any_member, from_given, given_at, range_get}
+use Rattle.pblk_model.proofs.Options.{map_some, split_then}
+use Rattle.pblk_model.proofs.Parts.{all_at, contained_among, get_below, take_and_drop}
+use Rattle.pblk_model.proofs.Tests.{and_both, le_of_lt_false, not_before, same_number}
 use Rattle.pblk_world.specs.LegalMounts.{IsLegalMount}
 use Rattle.world_laws.proofs.Entries.{IsEntryOrNone, entries_of_stripe, marks_bear}
 use Rattle.world_laws.proofs.LandedRecords.{IsBlockAt, block_at_position}

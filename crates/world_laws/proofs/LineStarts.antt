@@ -28,10 +28,10 @@ use Rattle.pblk_world.specs.Placing.{IsNext, IsPad, end_address, next_address, s
 use Rattle.pblk_world.specs.Starts.{has_landed_start, have_landed, start_stripes}
 use Rattle.pblk_world.specs.Victims.{engine_prefix}
 use Rattle.pblk_world.proofs.PlacingLemmas.{length_record}
-use Rattle.lemmas.proofs.Lists.{all_replicated, length_replicate}
-use Rattle.lemmas.proofs.Options.{split_then}
-use Rattle.lemmas.proofs.Parts.{all_at, all_get, get_dropped, get_past, get_taken, got_within, is_in, same_lists}
-use Rattle.lemmas.proofs.Tests.{second_of}
+use Rattle.pblk_model.proofs.Lists.{all_replicated, length_replicate}
+use Rattle.pblk_model.proofs.Options.{split_then}
+use Rattle.pblk_model.proofs.Parts.{all_at, all_get, get_dropped, get_past, get_taken, got_within, is_in, same_lists}
+use Rattle.pblk_model.proofs.Tests.{second_of}
 use Rattle.pblk_world.specs.LegalMounts.{IsLegalMount}
 use Rattle.world_laws.proofs.Stripes.{stripe_is}
 use Rattle.world_laws.proofs.FoundEmpty.{all_pass}

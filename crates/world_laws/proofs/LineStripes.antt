@@ -25,11 +25,11 @@ use Rattle.pblk_world.specs.Starts.{have_landed, start_stripes}
 use Rattle.pblk_world.specs.Victims.{engine_prefix}
 use Rattle.pblk_world.proofs.EngineLogLemmas.{opened_same}
 use Rattle.pblk_world.proofs.PlacingLemmas.{length_record}
-use Rattle.lemmas.proofs.Lists.{IsAmong, all_imply, among_all, among_contained, length_replicate}
-use Rattle.lemmas.proofs.Maps.{all_filter, any_found, any_member, filter_none, found_passes, from_filter}
-use Rattle.lemmas.proofs.Options.{some_value}
-use Rattle.lemmas.proofs.Parts.{all_at, contained_among, get_below, get_more, part_is_whole, take_and_drop}
-use Rattle.lemmas.proofs.Tests.{first_of, lt_true, not_before, positive, second_of, within_is}
+use Rattle.pblk_model.proofs.Lists.{IsAmong, all_imply, among_all, among_contained, length_replicate}
+use Rattle.pblk_model.proofs.Maps.{all_filter, any_found, any_member, filter_none, found_passes, from_filter}
+use Rattle.pblk_model.proofs.Options.{some_value}
+use Rattle.pblk_model.proofs.Parts.{all_at, contained_among, get_below, get_more, part_is_whole, take_and_drop}
+use Rattle.pblk_model.proofs.Tests.{first_of, lt_true, not_before, positive, second_of, within_is}
 use Rattle.world_laws.proofs.Later.{lost_later, placed_within, placements_joined}
 use Rattle.world_laws.proofs.Openings.{opened_at, placed_at}
 use Rattle.world_laws.proofs.Stripes.{IsOpening, IsPlaced, opening_is, placed_is, stripe_is}
@@ -56,8 +56,8 @@ stripes_split log o n =
       later = all_filter (λ (p : Placed). length (take n log) ≤ p.number) test joined.0 joined.2;
     }
 
-earlier_all : (log : List Logged) (o : Opening) → AllByRecursion (λ (p : Placed). p.number < length log) (stripes_of log o)
-earlier_all log o = all_filter (λ (p : Placed). p.number < length log) (λ p. is_life o.number p.life) (placements log)
+pub stripes_before : (log : List Logged) (o : Opening) → AllByRecursion (λ (p : Placed). p.number < length log) (stripes_of log o)
+stripes_before log o = all_filter (λ (p : Placed). p.number < length log) (λ p. is_life o.number p.life) (placements log)
     (all_imply (IsAmong (placements log)) (λ (p : Placed). p.number < length log) (λ p at. placed_within log p (contained_among (placements log) p at))
     (placements log) (among_all (placements log)))
 
@@ -87,7 +87,7 @@ module _ (log : List Logged) (o : Opening) (test : Placed → Bool) (k : ℕ) (p
       let n : ℕ = p.number in
       let split : IsSplit log o n = stripes_split log o n in
       let at : IsAmong (stripes_of log o) p = from_filter test (stripes_of log o) p (k, there) in
-      let inside : p.number < length log = all_at (λ (q : Placed). q.number < length log) (stripes_of log o) at.0 p at.1 (earlier_all log o) in
+      let inside : p.number < length log = all_at (λ (q : Placed). q.number < length log) (stripes_of log o) at.0 p at.1 (stripes_before log o) in
       let long : length (take n log) ≡ n = omega (arith, length-take n log) in
       let parts : filter test (stripes_of log o) ≡ filter test (stripes_of (take n log) o) ++ filter test split.more =
       ap (filter test) split.parts ∙ filter-append test (stripes_of (take n log) o) split.more in
@@ -95,7 +95,7 @@ module _ (log : List Logged) (o : Opening) (test : Placed → Bool) (k : ℕ) (p
       (subst Rises parts (some_rise test (stripes_of log o) (some_rise (λ q. is_life o.number q.life) (placements log) (rise_all log))))
       (all_filter (λ (q : Placed). q.number < p.number) test (stripes_of (take n log) o)
       (all_imply (λ (q : Placed). q.number < length (take n log)) (λ (q : Placed). q.number < p.number) (λ q below. omega arith) (stripes_of (take n log) o)
-      (earlier_all (take n log) o)))
+      (stripes_before (take n log) o)))
       (all_filter (λ (q : Placed). p.number ≤ q.number) test split.more
       (all_imply (λ (q : Placed). length (take n log) ≤ q.number) (λ (q : Placed). p.number ≤ q.number) (λ q above. omega arith) split.more split.later))
       (ap (λ ps. slice_get ps k) (sym parts) ∙ there)
@@ -137,7 +137,7 @@ lost_before log o n failed =
     let found = some_value (find (was_lost (take n log)) then_) (sym (any_found (was_lost (take n log)) then_) ∙ failed) in
     let passes = found_passes (was_lost (take n log)) then_ found.0 found.1 in
     let inside : found.0.number < length (take n log) =
-    all_at (λ (q : Placed). q.number < length (take n log)) then_ passes.1.0 found.0 passes.1.1 (earlier_all (take n log) o) in
+    all_at (λ (q : Placed). q.number < length (take n log)) then_ passes.1.0 found.0 passes.1.1 (stripes_before (take n log) o) in
     record {
       turn = passes.1.0;
       placed = found.0;

@@ -16,9 +16,9 @@ use Rattle.pblk_world.proofs.Appending.{life_more, openings_more}
 use Rattle.pblk_world.proofs.Growing.{at_end}
 use Rattle.pblk_world.proofs.EngineLogLemmas.{opened_same}
 use Rattle.pblk_world.proofs.LinesLemmas.{free_unopened}
-use Rattle.lemmas.proofs.Lists.{all_append, all_imply, among_contained, contains_none}
-use Rattle.lemmas.proofs.Parts.{contained_among, get_last, get_more, take_front}
-use Rattle.lemmas.proofs.Tests.{not_both, same, same_number}
+use Rattle.pblk_model.proofs.Lists.{all_append, all_imply, among_contained, contains_none}
+use Rattle.pblk_model.proofs.Parts.{contained_among, get_last, get_more, take_front}
+use Rattle.pblk_model.proofs.Tests.{not_both, same, same_number}
 use Rattle.world_laws.proofs.Engine.{logged_as, of_engine}
 
 -- by what comes last in a log

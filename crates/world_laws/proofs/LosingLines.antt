@@ -37,11 +37,11 @@ use Rattle.pblk_laws.proofs.MarkNames.{named_meta}
 use Rattle.pblk_laws.proofs.Widths.{width_within}
 use Rattle.pblk_laws.proofs.Starts.{HasNumbers, numbers, found_is}
 use Rattle.pblk_laws.proofs.StartHeads.{sector_long}
-use Rattle.lemmas.proofs.Lists.{IsAmong, among_contained}
-use Rattle.lemmas.proofs.Maps.{all_in_range, from_given, given_at, range_get}
-use Rattle.lemmas.proofs.Options.{map_some, split_then}
-use Rattle.lemmas.proofs.Parts.{all_by_get, all_get, contained_among}
-use Rattle.lemmas.proofs.Tests.{not_before}
+use Rattle.pblk_model.proofs.Lists.{IsAmong, among_contained}
+use Rattle.pblk_model.proofs.Maps.{all_in_range, from_given, given_at, range_get}
+use Rattle.pblk_model.proofs.Options.{map_some, split_then}
+use Rattle.pblk_model.proofs.Parts.{all_by_get, all_get, contained_among}
+use Rattle.pblk_model.proofs.Tests.{not_before}
 use Rattle.world_laws.specs.Losing.{IsLostAt, AreKeptOrLost, LosesChunks}
 use Rattle.world_laws.specs.SealedLines.{IsSealedLine}
 use Rattle.world_laws.proofs.OnlineUnits.{is_on as online}

@@ -17,7 +17,7 @@ use Rattle.world_laws.specs.SameImages.{IsSameLine, HoldsTheSame}
 use Rattle.world_laws.specs.Losing.{AreKeptOrLost, IsLostLine, AreLost}
 use Rattle.world_laws.proofs.ImageLines.{img, same_img, same_line_units, same_width, same_block, same_chunk, same_start, same_end, same_records, holds_the_same}
 use Rattle.world_laws.proofs.LosingLines.{none_begins, none_still, not_wider, sealed_line}
-use Rattle.lemmas.proofs.Parts.{all_by_get, all_get}
+use Rattle.pblk_model.proofs.Parts.{all_by_get, all_get}
 
 -- ---- a line that kept its chunks
 

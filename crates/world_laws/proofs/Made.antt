@@ -9,9 +9,9 @@ use Rattle.pblk_world.specs.Events.{Logged, Step}
 use Rattle.pblk_world.specs.World.{World, log_of, known}
 use Rattle.pblk_world.specs.Legal.{IsLegal, IsLegalStep}
 use Rattle.pblk_world.proofs.Growing.{at_end, grows}
-use Rattle.lemmas.proofs.Lists.{among_contained}
-use Rattle.lemmas.proofs.Parts.{take_front}
-use Rattle.lemmas.proofs.Tests.{same}
+use Rattle.pblk_model.proofs.Lists.{among_contained}
+use Rattle.pblk_model.proofs.Parts.{take_front}
+use Rattle.pblk_model.proofs.Tests.{same}
 
 abbrev pub step_by : ℕ → Logged → Step
 step_by author l = record { author = author; logged = l }

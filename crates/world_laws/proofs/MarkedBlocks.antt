@@ -16,9 +16,9 @@ use Rattle.pblk_world.specs.Legal.{IsLegal}
 use Rattle.pblk_world.specs.LegalMounts.{IsLegalMount}
 use Rattle.pblk_world.specs.Lines.{found_image}
 use Rattle.pblk_world.specs.World.{World, known, log_of, media}
-use Rattle.lemmas.proofs.Lists.{IsAmong, all_contains, among_all, among_contained}
-use Rattle.lemmas.proofs.Maps.{all_filter}
-use Rattle.lemmas.proofs.Parts.{contained_among, is_in}
+use Rattle.pblk_model.proofs.Lists.{IsAmong, all_contains, among_all, among_contained}
+use Rattle.pblk_model.proofs.Maps.{all_filter}
+use Rattle.pblk_model.proofs.Parts.{contained_among, is_in}
 use Rattle.world_laws.specs.LifeBlocks.{IsBlockOfLife}
 use Rattle.world_laws.specs.OpenedChunks.{IsOpenedChunk}
 use Rattle.world_laws.specs.UnitChunks.{chunk_after}

@@ -16,7 +16,7 @@ use Rattle.world_laws.specs.Finding.{IsFoundOf, NoneOpen}
 use Rattle.world_laws.specs.MountBeginnings.{seq_after, beginning_of}
 use Rattle.world_laws.proofs.FoundCounts.{IsHeadAt, head_at}
 use Rattle.world_laws.proofs.FoundRows.{row_at}
-use Rattle.lemmas.proofs.Parts.{all_by_get}
+use Rattle.pblk_model.proofs.Parts.{all_by_get}
 
 none_open : (i : Image) → NoneOpen i → AllByRecursion (AllByRecursion (λ c. c.state ≢ states.Open)) i.units
 none_open i none = all_by_get (AllByRecursion (λ (c : Chunk). c.state ≢ states.Open)) i.units (λ unit u there.

@@ -8,8 +8,8 @@ use Rattle.pblk_model.specs.Image.{Image}
 use Rattle.pblk_world.specs.Events.{Logged}
 use Rattle.pblk_world.specs.World.{World, Logs, log_of, known, prefixes}
 use Rattle.pblk_world.specs.Legal.{IsAllowed, IsLegal}
-use Rattle.lemmas.proofs.Numbers.{fun_same}
-use Rattle.lemmas.proofs.Parts.{get_first, is_in}
+use Rattle.pblk_model.proofs.Numbers.{fun_same}
+use Rattle.pblk_model.proofs.Parts.{get_first, is_in}
 use Rattle.world_laws.proofs.Made.{IsMade, made, log_then, known_within}
 
 -- an event with its number in its author's log

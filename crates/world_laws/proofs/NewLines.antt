@@ -15,8 +15,8 @@ use Rattle.pblk_world.specs.Events.{Logged}
 use Rattle.pblk_world.specs.World.{World, log_of, media}
 use Rattle.pblk_world.specs.EngineLog.{Begun, begun, LineLife, AsFound, Freed, Opened, Opening, Placed, Taken, has_landed, holds_position, last_opening, life_of, openings, stripes_of, takes}
 use Rattle.pblk_world.specs.Starts.{has_landed_start}
-use Rattle.lemmas.proofs.Lists.{IsAmong, among_contained}
-use Rattle.lemmas.proofs.Parts.{contained_among, get_more}
+use Rattle.pblk_model.proofs.Lists.{IsAmong, among_contained}
+use Rattle.pblk_model.proofs.Parts.{contained_among, get_more}
 use Rattle.pblk_world.specs.LegalMounts.{IsLegalMount}
 use Rattle.world_laws.proofs.Later.{takes_joined}
 use Rattle.world_laws.proofs.Lives.{life_is_known}

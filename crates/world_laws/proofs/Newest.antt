@@ -20,10 +20,10 @@ use Rattle.pblk_world.specs.Legal.{IsLegal}
 use Rattle.pblk_world.specs.Lines.{found_image, next_seq}
 use Rattle.pblk_world.specs.Starts.{start_stripes, have_landed, has_landed_start, newest_start, seq_in}
 use Rattle.pblk_world.specs.Victims.{engine_prefix}
-use Rattle.lemmas.proofs.Lists.{IsAmong, all_imply, among_all, among_contained, later}
-use Rattle.lemmas.proofs.Maps.{all_filter, all_passed, from_filter, in_filter}
-use Rattle.lemmas.proofs.Parts.{all_at, all_by_get, all_taken, contained_among, take_and_drop}
-use Rattle.lemmas.proofs.Tests.{and_both, first_of, le_true, second_of, within_is}
+use Rattle.pblk_model.proofs.Lists.{IsAmong, all_imply, among_all, among_contained, later}
+use Rattle.pblk_model.proofs.Maps.{all_filter, all_passed, from_filter, in_filter}
+use Rattle.pblk_model.proofs.Parts.{all_at, all_by_get, all_taken, contained_among, take_and_drop}
+use Rattle.pblk_model.proofs.Tests.{and_both, first_of, le_true, second_of, within_is}
 use Rattle.world_laws.proofs.Begun.{IsBegunWith, begun_with}
 use Rattle.world_laws.proofs.FoundCounts.{front_low}
 use Rattle.world_laws.proofs.Freeing.{IsFreeable, freed_life_at}

@@ -14,7 +14,7 @@ use Rattle.pblk_world.specs.Placing.{MayPlace}
 use Rattle.pblk_world.specs.Legal.{IsAllowed, IsLegal}
 use Rattle.pblk_world.proofs.Appending.{life_more}
 use Rattle.pblk_world.proofs.LinesLemmas.{free_unopened}
-use Rattle.lemmas.proofs.Parts.{get_below, got_within, take_next}
+use Rattle.pblk_model.proofs.Parts.{get_below, got_within, take_next}
 use Rattle.world_laws.proofs.NamedPrefixes.{IsByPrefixes, was_made}
 use Rattle.world_laws.proofs.Placements.{IsPlacing, placing_on}
 

@@ -28,12 +28,12 @@ use Rattle.pblk_world.specs.Commanding.{ended_stripes, has_stopped}
 use Rattle.pblk_world.specs.Lines.{is_empty_state, place_of}
 use Rattle.pblk_world.specs.Placing.{IsNext, MayPlace, end_address, next_block}
 use Rattle.pblk_world.specs.Victims.{engine_prefix}
-use Rattle.lemmas.proofs.Lists.{IsAmong, among_contained}
-use Rattle.lemmas.proofs.Maps.{all_passed, any_member, from_filter, in_filter}
-use Rattle.lemmas.proofs.Numbers.{some_units}
-use Rattle.lemmas.proofs.Options.{mapped_some}
-use Rattle.lemmas.proofs.Parts.{all_at, contained_among, get_more, got_within, take_and_drop}
-use Rattle.lemmas.proofs.Tests.{either_false, not_before, not_both, other_number, same_number}
+use Rattle.pblk_model.proofs.Lists.{IsAmong, among_contained}
+use Rattle.pblk_model.proofs.Maps.{all_passed, any_member, from_filter, in_filter}
+use Rattle.pblk_model.proofs.Numbers.{some_units}
+use Rattle.pblk_model.proofs.Options.{mapped_some}
+use Rattle.pblk_model.proofs.Parts.{all_at, contained_among, get_more, got_within, take_and_drop}
+use Rattle.pblk_model.proofs.Tests.{either_false, not_before, not_both, other_number, same_number}
 use Rattle.pblk_world.specs.LegalMounts.{IsLegalMount}
 use Rattle.world_laws.proofs.Later.{landed_later, placed_within}
 use Rattle.world_laws.proofs.Stripes.{IsPlaced, life_of_stripe, placed_is, stripe_is}

@@ -23,9 +23,9 @@ use Rattle.pblk_world.specs.Events.{Logged}
 use Rattle.pblk_world.specs.Legal.{IsLegal}
 use Rattle.pblk_world.specs.Lines.{known_image}
 use Rattle.pblk_world.specs.World.{World, log_of, media, unit_event_of, unit_events}
-use Rattle.lemmas.proofs.Maps.{any_member, given_at}
-use Rattle.lemmas.proofs.Parts.{get_below, got_within}
-use Rattle.lemmas.proofs.Tests.{and_both, not_both, or_left, or_right, same_number}
+use Rattle.pblk_model.proofs.Maps.{any_member, given_at}
+use Rattle.pblk_model.proofs.Parts.{get_below, got_within}
+use Rattle.pblk_model.proofs.Tests.{and_both, not_both, or_left, or_right, same_number}
 use Rattle.world_laws.specs.KnownChunks.{IsChange}
 use Rattle.world_laws.specs.UnitChunks.{chunk_after}
 use Rattle.world_laws.proofs.Deeds.{IsDeed, deed}

@@ -17,11 +17,11 @@ use Rattle.pblk_world.specs.Legal.{IsLegal}
 use Rattle.pblk_world.specs.World.{World, Logs, knows_engine, log_of, unit_event_at, unit_event_of}
 use Rattle.pblk_world.proofs.Growing.{at_end}
 use Rattle.pblk_world.proofs.WorldLemmas.{log_here}
-use Rattle.lemmas.proofs.Lists.{among_contained, among_more}
-use Rattle.lemmas.proofs.Maps.{given_at}
-use Rattle.lemmas.proofs.Options.{split_then}
-use Rattle.lemmas.proofs.Parts.{contained_among, get_last, get_more, take_and_drop}
-use Rattle.lemmas.proofs.Tests.{not_both, same}
+use Rattle.pblk_model.proofs.Lists.{among_contained, among_more}
+use Rattle.pblk_model.proofs.Maps.{given_at}
+use Rattle.pblk_model.proofs.Options.{split_then}
+use Rattle.pblk_model.proofs.Parts.{contained_among, get_last, get_more, take_and_drop}
+use Rattle.pblk_model.proofs.Tests.{not_both, same}
 use Rattle.world_laws.specs.Merged.{AreMerged, Begins}
 use Rattle.world_laws.proofs.Deeds.{IsDeed, deed}
 use Rattle.world_laws.proofs.NamedPrefixes.{was_made}

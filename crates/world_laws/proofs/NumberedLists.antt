@@ -6,10 +6,10 @@ use Rattle.std.specs.Option.{option_map, option_and_then}
 use Rattle.std.proofs.lemmas.Bool.{cases_eq, cases_order}
 use Rattle.std.proofs.lemmas.Option.{none-some, same_Some, slice_get-map}
 use Rattle.pblk_model.specs.Found.{Rise}
-use Rattle.lemmas.proofs.Lists.{contains_cases, contains_first, contains_more, contains_none}
-use Rattle.lemmas.proofs.Maps.{range_get as range_at}
-use Rattle.lemmas.proofs.Options.{map_some}
-use Rattle.lemmas.proofs.Parts.{get_first, get_rest}
+use Rattle.pblk_model.proofs.Lists.{contains_cases, contains_first, contains_more, contains_none}
+use Rattle.pblk_model.proofs.Maps.{range_get as range_at}
+use Rattle.pblk_model.proofs.Options.{map_some}
+use Rattle.pblk_model.proofs.Parts.{get_first, get_rest}
 
 -- ---- elements by place
 

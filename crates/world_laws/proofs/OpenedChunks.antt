@@ -18,7 +18,7 @@ use Rattle.pblk_world.specs.Commanding.{is_program, ended_stripes}
 use Rattle.pblk_world.specs.Legal.{IsLegal}
 use Rattle.pblk_world.proofs.EngineLogLemmas.{opened_same}
 use Rattle.pblk_world.proofs.Growing.{knowledge_rises}
-use Rattle.lemmas.proofs.Parts.{get_below, get_whole, got_within}
+use Rattle.pblk_model.proofs.Parts.{get_below, get_whole, got_within}
 use Rattle.world_laws.specs.LifeBlocks.{IsBlockOfLife}
 use Rattle.world_laws.specs.UnitChunks.{NoProgram, chunk_after}
 use Rattle.world_laws.proofs.Appending.{IsAppended, appends}

@@ -15,7 +15,7 @@ use Rattle.pblk_world.specs.Lines.{is_empty_state}
 use Rattle.pblk_world.specs.Commanding.{is_program, was_stopped, ended_stripes}
 use Rattle.pblk_world.specs.Legal.{IsLegal}
 use Rattle.pblk_world.proofs.Growing.{knowledge_rises}
-use Rattle.lemmas.proofs.Parts.{get_below}
+use Rattle.pblk_model.proofs.Parts.{get_below}
 use Rattle.world_laws.specs.UnitChunks.{chunk_after, first_events}
 use Rattle.world_laws.proofs.NamedPrefixes.{was_made}
 use Rattle.world_laws.proofs.FoundEmpty.{empty_by_told, low}

@@ -10,7 +10,7 @@ use Rattle.pblk_laws.specs.LineBlocks.{chunk_in}
 use Rattle.pblk_laws.proofs.LineUnits.{line_units_chunks}
 use Rattle.pblk_world.specs.World.{World, log_of, media}
 use Rattle.pblk_world.specs.EngineLog.{Opened, Opening, last_opening, life_of}
-use Rattle.lemmas.proofs.Parts.{is_in}
+use Rattle.pblk_model.proofs.Parts.{is_in}
 use Rattle.world_laws.specs.SealedLines.{IsSealedLine}
 use Rattle.pblk_world.specs.LegalMounts.{IsLegalMount}
 use Rattle.world_laws.proofs.Lives.{life_is_known}

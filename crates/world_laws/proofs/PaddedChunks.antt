@@ -14,7 +14,7 @@ use Rattle.pblk_model.specs.Marks.{pad_block}
 use Rattle.pblk_model.specs.UnitLog.{UnitOutcome, UnitEvent, Answered, Failed, Stopped, after_outcome, after_event}
 use Rattle.pblk_model.specs.Image.{is_online_in}
 use Rattle.world_laws.specs.Padding.{IsPadded}
-use Rattle.lemmas.proofs.Parts.{all_get, all_taken, get_set_other, get_set_same}
+use Rattle.pblk_model.proofs.Parts.{all_get, all_taken, get_set_other, get_set_same}
 use Rattle.pblk_model.proofs.UnitLogLemmas.{read_leaves}
 
 abbrev pub ArePads : Shape → List Block → Type 0

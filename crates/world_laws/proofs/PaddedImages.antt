@@ -21,7 +21,7 @@ use Rattle.pblk_laws.proofs.MarkNames.{pad_borne}
 use Rattle.world_laws.specs.SameImages.{HasSameLines, HoldsTheSame}
 use Rattle.world_laws.specs.Padding.{IsPaddedAt, ArePadded}
 use Rattle.world_laws.proofs.ImageLines.{img, same_img, units_same, width_same, read_by, line_block, block_there, all_there, both_ways, start_carry, end_carry, holds_the_same}
-use Rattle.lemmas.proofs.Parts.{all_by_get, all_get}
+use Rattle.pblk_model.proofs.Parts.{all_by_get, all_get}
 
 -- Lists.
 

@@ -9,7 +9,7 @@ use Rattle.pblk_world.specs.World.{World, log_of}
 use Rattle.pblk_world.specs.EngineLog.{Opened, life_of, Placed, placed_on}
 use Rattle.pblk_world.specs.Commanding.{ended_stripes}
 use Rattle.pblk_world.specs.Legal.{IsLegal}
-use Rattle.lemmas.proofs.Parts.{get_below}
+use Rattle.pblk_model.proofs.Parts.{get_below}
 use Rattle.world_laws.proofs.NextLives.{IsPlacedIn, placed_in}
 use Rattle.world_laws.proofs.StripeLines.{IsGone, open_or_gone}
 use Rattle.world_laws.proofs.Tellings.{IsTold, IsToldBefore, ended_one, ended_within, ends}

@@ -8,9 +8,9 @@ use Rattle.std.proofs.lemmas.List.Elements.{filter-append}
 use Rattle.std.proofs.lemmas.Option.{none-some, same_Some}
 use Rattle.pblk_world.specs.Events.{Event, Decides, Place, Logged}
 use Rattle.pblk_world.specs.EngineLog.{Placed, placed_by, placements, placed_on, life_of}
-use Rattle.lemmas.proofs.Lists.{IsAmong}
-use Rattle.lemmas.proofs.Maps.{from_given, from_filter}
-use Rattle.lemmas.proofs.Parts.{get_more, get_below}
+use Rattle.pblk_model.proofs.Lists.{IsAmong}
+use Rattle.pblk_model.proofs.Maps.{from_given, from_filter}
+use Rattle.pblk_model.proofs.Parts.{get_more, get_below}
 use Rattle.world_laws.proofs.Later.{placements_joined}
 
 -- ---- in a longer log

@@ -15,10 +15,10 @@ use Rattle.pblk_world.specs.Events.{Logged}
 use Rattle.pblk_world.specs.World.{World, log_of, knows_engine, known, media, unit_event_of, unit_events}
 use Rattle.pblk_world.specs.EngineLog.{Begun, begun, is_life, life_of, Opened, Opening, Placed, placed_on, placements, stripes_of, stripes_on, turn}
 use Rattle.pblk_world.specs.Commanding.{ended_stripes, ends_program, ends_stripe, has_stopped, is_program, was_stopped}
-use Rattle.lemmas.proofs.Lists.{IsAmong}
-use Rattle.lemmas.proofs.Maps.{all_passed, filter_short, from_filter, in_filter}
-use Rattle.lemmas.proofs.Parts.{all_at, contained_among, got_within}
-use Rattle.lemmas.proofs.Tests.{below_of, first_of, lt_true, not_both, second_of}
+use Rattle.pblk_model.proofs.Lists.{IsAmong}
+use Rattle.pblk_model.proofs.Maps.{all_passed, filter_short, from_filter, in_filter}
+use Rattle.pblk_model.proofs.Parts.{all_at, contained_among, got_within}
+use Rattle.pblk_model.proofs.Tests.{below_of, first_of, lt_true, not_both, second_of}
 use Rattle.pblk_world.specs.LegalMounts.{IsLegalMount}
 use Rattle.world_laws.proofs.Stripes.{IsPlaced, opening_then, placed_is, stripe_is}
 use Rattle.world_laws.proofs.Openings.{placed_at}

@@ -19,8 +19,8 @@ use Rattle.pblk_world.specs.Commanding.{is_program, is_reset, was_stopped, has_s
 use Rattle.pblk_world.specs.Legal.{IsLegal}
 use Rattle.pblk_world.proofs.EngineLogLemmas.{begun_knows}
 use Rattle.pblk_world.proofs.LinesLemmas.{not_given_up, used_is}
-use Rattle.lemmas.proofs.Parts.{got_within}
-use Rattle.lemmas.proofs.Tests.{either, or_left, or_right, second_of}
+use Rattle.pblk_model.proofs.Parts.{got_within}
+use Rattle.pblk_model.proofs.Tests.{either, or_left, or_right, second_of}
 use Rattle.world_laws.specs.UnitChunks.{NoProgram, chunk_after}
 use Rattle.world_laws.proofs.NamedPrefixes.{was_made}
 use Rattle.world_laws.proofs.Deeds.{IsDeed, deed, fetch_leaves, stop_leaves, same_events}

@@ -10,7 +10,7 @@ use Rattle.pblk_world.specs.World.{World, Logs, log_of}
 use Rattle.pblk_world.specs.EngineLog.{Begun, begun, Taken, takes}
 use Rattle.pblk_world.specs.Fronts.{history, user_positions}
 use Rattle.pblk_world.specs.Lines.{found_by, found_image}
-use Rattle.lemmas.proofs.Lists.{IsAmong}
+use Rattle.pblk_model.proofs.Lists.{IsAmong}
 use Rattle.pblk_world.specs.LegalMounts.{IsLegalMount}
 use Rattle.world_laws.proofs.HeldSectors.{latest_holds, none_holds}
 use Rattle.world_laws.proofs.Latest.{IsLatestBelow}

@@ -22,9 +22,9 @@ use Rattle.pblk_world.proofs.EngineLogLemmas.{begun_taken}
 use Rattle.pblk_world.proofs.LinesLemmas.{length_known}
 use Rattle.pblk_laws.proofs.Starts.{HasNumbers, found_is, numbers}
 use Rattle.pblk_laws.proofs.Widths.{filter_map_length}
-use Rattle.lemmas.proofs.Lists.{among_contained}
-use Rattle.lemmas.proofs.Maps.{filter_short, longer_option}
-use Rattle.lemmas.proofs.Tests.{and_both, first_of, le_true, lt_true, not_both, not_true, other_number, same_number}
+use Rattle.pblk_model.proofs.Lists.{among_contained}
+use Rattle.pblk_model.proofs.Maps.{filter_short, longer_option}
+use Rattle.pblk_model.proofs.Tests.{and_both, first_of, le_true, lt_true, not_both, not_true, other_number, same_number}
 use Rattle.world_laws.proofs.Begun.{IsBegunWith, begun_with}
 use Rattle.world_laws.proofs.FoundCounts.{bound_within, seq_older}
 use Rattle.world_laws.proofs.StartRecords.{IsNthOpening, front_from_first, nth_opening, opened_later}

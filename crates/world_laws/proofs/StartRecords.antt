@@ -16,7 +16,7 @@ use Rattle.pblk_world.specs.Legal.{IsLegal}
 use Rattle.pblk_world.specs.Opening.{MayOpen}
 use Rattle.pblk_world.specs.Victims.{engine_prefix}
 use Rattle.pblk_world.proofs.EngineLogLemmas.{begun_knows, begun_taken}
-use Rattle.lemmas.proofs.Parts.{take_and_drop}
+use Rattle.pblk_model.proofs.Parts.{take_and_drop}
 use Rattle.world_laws.proofs.Beginnings.{IsInTurn, turn_of}
 use Rattle.world_laws.proofs.Fronts.{synced_from, synced_later}
 use Rattle.world_laws.proofs.Lives.{openings_joined}

@@ -8,8 +8,8 @@ use Rattle.pblk_world.specs.Events.{Logged}
 use Rattle.pblk_world.specs.World.{World, log_of, unit_event_of}
 use Rattle.pblk_world.specs.Commanding.{has_stopped, was_stopped}
 use Rattle.pblk_world.specs.Legal.{IsLegal}
-use Rattle.lemmas.proofs.Parts.{got_within}
-use Rattle.lemmas.proofs.Tests.{or_left, or_right}
+use Rattle.pblk_model.proofs.Parts.{got_within}
+use Rattle.pblk_model.proofs.Tests.{or_left, or_right}
 use Rattle.world_laws.specs.UnitChunks.{chunk_after, first_events}
 use Rattle.world_laws.proofs.UnitChunks.{first_next}
 use Rattle.world_laws.proofs.Deeds.{IsDeed, deed, stop_leaves}

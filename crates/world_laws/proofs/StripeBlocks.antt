@@ -26,10 +26,10 @@ use Rattle.pblk_world.specs.Taking.{IsMarked}
 use Rattle.pblk_world.specs.Victims.{engine_prefix}
 use Rattle.pblk_world.proofs.EngineLogLemmas.{opened_same, takes_more}
 use Rattle.pblk_laws.proofs.StartHeads.{spelled_begins_once}
-use Rattle.lemmas.proofs.Lists.{IsAmong, all_append, all_contains, all_front, all_imply, all_replicated, among_all}
-use Rattle.lemmas.proofs.Maps.{all_filter, all_mapped}
-use Rattle.lemmas.proofs.Numbers.{next_at}
-use Rattle.lemmas.proofs.Parts.{all_dropped, all_taken, contained_among, take_and_drop}
+use Rattle.pblk_model.proofs.Lists.{IsAmong, all_append, all_contains, all_front, all_imply, all_replicated, among_all}
+use Rattle.pblk_model.proofs.Maps.{all_filter, all_mapped}
+use Rattle.pblk_model.proofs.Numbers.{next_at}
+use Rattle.pblk_model.proofs.Parts.{all_dropped, all_taken, contained_among, take_and_drop}
 use Rattle.pblk_world.specs.LegalMounts.{IsLegalMount}
 use Rattle.world_laws.proofs.EndHeads.{IsPlacedMark, end_begins_none}
 use Rattle.world_laws.proofs.Engine.{Keeps, logged_as, of_engine}

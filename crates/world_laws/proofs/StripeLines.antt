@@ -11,10 +11,10 @@ use Rattle.pblk_world.specs.World.{World, Logs, log_of, prefixes}
 use Rattle.pblk_world.specs.EngineLog.{LineLife, Opened, life_of, is_life, Placed, placements, placed_on, stripes_of, is_answered}
 use Rattle.pblk_world.specs.Freeing.{MayFree, IsAnswered}
 use Rattle.pblk_world.specs.Legal.{IsLegal}
-use Rattle.lemmas.proofs.Lists.{IsAmong}
-use Rattle.lemmas.proofs.Maps.{from_filter, in_filter}
-use Rattle.lemmas.proofs.Parts.{contained_among, get_below}
-use Rattle.lemmas.proofs.Tests.{same_number}
+use Rattle.pblk_model.proofs.Lists.{IsAmong}
+use Rattle.pblk_model.proofs.Maps.{from_filter, in_filter}
+use Rattle.pblk_model.proofs.Parts.{contained_among, get_below}
+use Rattle.pblk_model.proofs.Tests.{same_number}
 use Rattle.world_laws.proofs.NextLives.{IsDecided, IsFreedAt, IsPlacedIn, open_or_freed, placed_in}
 use Rattle.world_laws.proofs.Tellings.{IsToldBefore, answered_told}
 use Rattle.world_laws.proofs.UnitTurns.{earlier_placed, placed_then, unit_is}

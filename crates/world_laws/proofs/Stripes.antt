@@ -11,10 +11,10 @@ use Rattle.pblk_world.specs.EngineLog.{Opening, opened_by, openings, Opened, las
 use Rattle.pblk_world.specs.Legal.{IsLegal}
 use Rattle.pblk_world.specs.Placing.{MayPlace}
 use Rattle.pblk_world.specs.Victims.{engine_prefix}
-use Rattle.lemmas.proofs.Lists.{IsAmong, all_contains, among_contained, later}
-use Rattle.lemmas.proofs.Maps.{all_passed, from_filter, in_filter}
-use Rattle.lemmas.proofs.Parts.{all_at, contained_among, get_more, get_taken, take_and_drop}
-use Rattle.lemmas.proofs.Tests.{same}
+use Rattle.pblk_model.proofs.Lists.{IsAmong, all_contains, among_contained, later}
+use Rattle.pblk_model.proofs.Maps.{all_passed, from_filter, in_filter}
+use Rattle.pblk_model.proofs.Parts.{all_at, contained_among, get_more, get_taken, take_and_drop}
+use Rattle.pblk_model.proofs.Tests.{same}
 use Rattle.world_laws.proofs.Later.{placed_within, placements_joined}
 use Rattle.world_laws.proofs.Lives.{IsFreedLife, freed_before_opened, life_is_known, openings_joined}
 use Rattle.world_laws.proofs.Openings.{nth_made, placed_at}

@@ -16,10 +16,10 @@ use Rattle.pblk_world.specs.EngineLog.{Answer, DidLand, WasLost, answer_by, answ
 use Rattle.pblk_world.specs.Commanding.{is_program, was_stopped, ends_program, ends_stripe, ended_stripes}
 use Rattle.pblk_world.specs.Answering.{IsNew, IsOfStripe, MayLand, MayLose}
 use Rattle.pblk_world.specs.Legal.{IsLegal}
-use Rattle.lemmas.proofs.Maps.{fewer_taken, given_at}
-use Rattle.lemmas.proofs.Options.{some_value}
-use Rattle.lemmas.proofs.Parts.{contained_among, get_taken, get_whole_within, take_next}
-use Rattle.lemmas.proofs.Tests.{and_both, lt_true}
+use Rattle.pblk_model.proofs.Maps.{fewer_taken, given_at}
+use Rattle.pblk_model.proofs.Options.{some_value}
+use Rattle.pblk_model.proofs.Parts.{contained_among, get_taken, get_whole_within, take_next}
+use Rattle.pblk_model.proofs.Tests.{and_both, lt_true}
 use Rattle.world_laws.proofs.NextLives.{IsDecided, decided}
 use Rattle.world_laws.proofs.UnitTurns.{unit_is, turn_is}
 
@@ -200,7 +200,7 @@ module _ (i : Image) (w : World) (legal : IsLegal i w) (unit : ℕ) where
           of_stripe q m l may.program there (ap (named_by unit) event ∙ here) d.own may.new may.stripe (ap was_stopped may.done)
         where
           here : named_by unit (Decides (Landed unit m)) ≡ Some m
-          here = ap (λ b. if b then Some m else None) (Rattle.lemmas.proofs.Tests.same_number unit)
+          here = ap (λ b. if b then Some m else None) (Rattle.pblk_model.proofs.Tests.same_number unit)
   told_by_event q l (Decides (Lost other m)) a there is answers = by (nat_eq other unit) refl answers
     where
       by : (b : Bool) → nat_eq other unit ≡ b → (if b then Some (WasLost m) else None) ≡ Some a
@@ -213,7 +213,7 @@ module _ (i : Image) (w : World) (legal : IsLegal i w) (unit : ℕ) where
           of_stripe q m l may.program there (ap (named_by unit) event ∙ here) d.own may.new may.stripe (ap was_stopped may.failed)
         where
           here : named_by unit (Decides (Lost unit m)) ≡ Some m
-          here = ap (λ b. if b then Some m else None) (Rattle.lemmas.proofs.Tests.same_number unit)
+          here = ap (λ b. if b then Some m else None) (Rattle.pblk_model.proofs.Tests.same_number unit)
   told_by_event q l event a there is answers = absurd (none-some a answers)
 
   pub record IsToldBefore (j k : ℕ) : Type 0 where

@@ -21,8 +21,8 @@ use Rattle.pblk_world.specs.Commanding.{is_program, is_reset, was_stopped, has_s
 use Rattle.pblk_world.specs.Legal.{IsLegal}
 use Rattle.pblk_world.proofs.Growing.{knowledge_rises}
 use Rattle.pblk_world.proofs.LinesLemmas.{used_is}
-use Rattle.lemmas.proofs.Options.{split_then}
-use Rattle.lemmas.proofs.Parts.{get_below, got_within}
+use Rattle.pblk_model.proofs.Options.{split_then}
+use Rattle.pblk_model.proofs.Parts.{get_below, got_within}
 use Rattle.world_laws.specs.UnitChunks.{chunk_after, first_events}
 use Rattle.world_laws.specs.UnitPrograms.{IsProgramOfStripe}
 use Rattle.world_laws.proofs.NamedPrefixes.{IsByPrefixes, was_made}

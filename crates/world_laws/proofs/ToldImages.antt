@@ -10,9 +10,9 @@ use Rattle.pblk_world.specs.World.{Logs}
 use Rattle.pblk_world.specs.Lines.{found_by, found_image, told_by, told_events, known_image}
 use Rattle.pblk_world.specs.Victims.{engine_prefix}
 use Rattle.pblk_world.proofs.EngineLogLemmas.{begun_taken}
-use Rattle.lemmas.proofs.Lists.{among_contained, contains_first, contains_more}
-use Rattle.lemmas.proofs.Maps.{map_same}
-use Rattle.lemmas.proofs.Parts.{get_whole, is_in}
+use Rattle.pblk_model.proofs.Lists.{among_contained, contains_first, contains_more}
+use Rattle.pblk_model.proofs.Maps.{map_same}
+use Rattle.pblk_model.proofs.Parts.{get_whole, is_in}
 use Rattle.world_laws.specs.SameTold.{AreSameTold}
 
 made_of : {X Y : Type 0} (f g : X → Option Y) (xs : List X) → ((x : X) → Contains xs x → f x ≡ g x) → filter_map f xs ≡ filter_map g xs

@@ -18,8 +18,8 @@ use Rattle.pblk_world.specs.Victims.{engine_prefix}
 use Rattle.pblk_world.proofs.EngineLogLemmas.{begun_first}
 use Rattle.pblk_world.proofs.LegalLemmas.{whole_own}
 use Rattle.pblk_world.proofs.WorldLemmas.{media_same, unit_event_cut}
-use Rattle.lemmas.proofs.Parts.{is_in}
-use Rattle.lemmas.proofs.Tests.{same}
+use Rattle.pblk_model.proofs.Parts.{is_in}
+use Rattle.pblk_model.proofs.Tests.{same}
 use Rattle.world_laws.specs.SameTold.{AreSameTold, AreSameNamed}
 use Rattle.world_laws.proofs.Made.{IsMade, step_by, made_in, own_then, known_part}
 

@@ -17,8 +17,8 @@ use Rattle.pblk_world.specs.Lines.{found_image, known_image, chunks_of, is_over_
 use Rattle.pblk_world.specs.Starts.{bound_by, found_row, older_row, older_rows, has_landed_start, newest_start, seq_in, seq_of}
 use Rattle.pblk_world.specs.Space.{full_data, unplaced_in, open_addresses, free_addresses, addresses, is_due, placed_front, ring_limit, position_limit, room}
 use Rattle.pblk_world.specs.Victims.{line_of_position, line_of, is_live_in, live, take_before, landed_line, landed_line_of, took_from, taken_up_to, position_in, positions_in, is_failed_in, Candidate, better, may_be_collected, candidate_of, candidate, next_victim, is_freed, comes_to_work, stays_at_work, victim, engine_prefix}
-use Rattle.lemmas.proofs.Maps.{made_same}
-use Rattle.lemmas.proofs.Numbers.{fun_same}
+use Rattle.pblk_model.proofs.Maps.{made_same}
+use Rattle.pblk_model.proofs.Numbers.{fun_same}
 use Rattle.world_laws.specs.SameTold.{AreSameTold}
 use Rattle.world_laws.proofs.ToldImages.{by_three, image_same, told_then}
 

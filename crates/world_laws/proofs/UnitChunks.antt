@@ -13,9 +13,9 @@ use Rattle.pblk_laws.proofs.UnitChunks.{log_count}
 use Rattle.pblk_world.specs.Events.{Logged}
 use Rattle.pblk_world.specs.World.{Logs, unit_event_of, unit_events, media, known, prefixes}
 use Rattle.pblk_world.proofs.WorldLemmas.{media_at}
-use Rattle.lemmas.proofs.Maps.{more}
-use Rattle.lemmas.proofs.Options.{split_then}
-use Rattle.lemmas.proofs.Parts.{get_below, got_within, take_next}
+use Rattle.pblk_model.proofs.Maps.{more}
+use Rattle.pblk_model.proofs.Options.{split_then}
+use Rattle.pblk_model.proofs.Parts.{get_below, got_within, take_next}
 use Rattle.world_laws.specs.UnitChunks.{chunk_after, first_events}
 
 events_of : List Logged → List UnitEvent

@@ -11,8 +11,8 @@ use Rattle.pblk_laws.proofs.UnitLog.{log_grows}
 use Rattle.pblk_world.specs.Events.{Logged}
 use Rattle.pblk_world.specs.World.{World, log_of}
 use Rattle.pblk_world.specs.Legal.{IsLegal}
-use Rattle.lemmas.proofs.Options.{split_then}
-use Rattle.lemmas.proofs.Parts.{all_at, got_within}
+use Rattle.pblk_model.proofs.Options.{split_then}
+use Rattle.pblk_model.proofs.Parts.{all_at, got_within}
 use Rattle.world_laws.specs.UnitChunks.{chunk_after, first_events}
 use Rattle.world_laws.proofs.Deeds.{IsDeed, deed}
 use Rattle.world_laws.proofs.UnitChunks.{first_next}

@@ -9,10 +9,10 @@ use Rattle.std.proofs.lemmas.List.Elements.{filter-append}
 use Rattle.std.proofs.lemmas.Option.{none-some, same_Some}
 use Rattle.pblk_world.specs.Events.{Logged}
 use Rattle.pblk_world.specs.EngineLog.{Placed, placed_by, placements, placed_on, turn}
-use Rattle.lemmas.proofs.Lists.{IsAmong, all_imply}
-use Rattle.lemmas.proofs.Maps.{all_filter, all_passed, filter_none}
-use Rattle.lemmas.proofs.Parts.{all_at}
-use Rattle.lemmas.proofs.Tests.{lt_true, not_before}
+use Rattle.pblk_model.proofs.Lists.{IsAmong, all_imply}
+use Rattle.pblk_model.proofs.Maps.{all_filter, all_passed, filter_none}
+use Rattle.pblk_model.proofs.Parts.{all_at}
+use Rattle.pblk_model.proofs.Tests.{lt_true, not_before}
 use Rattle.world_laws.proofs.Later.{its_number, placements_joined}
 
 -- ---- the numbers rise

@@ -20,10 +20,10 @@ use Rattle.pblk_world.specs.EngineLog.{Begun, begun, AsFound, Freed, last_openin
 use Rattle.pblk_world.specs.Lines.{are_empty, found_by, found_image, is_stray, stray_lines}
 use Rattle.pblk_world.proofs.LinesLemmas.{length_found}
 use Rattle.pblk_world.proofs.WorldLemmas.{length_media}
-use Rattle.lemmas.proofs.Maps.{all_in_range, all_passed, any_found, found_passes, from_filter}
-use Rattle.lemmas.proofs.Options.{some_value}
-use Rattle.lemmas.proofs.Parts.{all_get}
-use Rattle.lemmas.proofs.Tests.{first_of, same}
+use Rattle.pblk_model.proofs.Maps.{all_in_range, all_passed, any_found, found_passes, from_filter}
+use Rattle.pblk_model.proofs.Options.{some_value}
+use Rattle.pblk_model.proofs.Parts.{all_get}
+use Rattle.pblk_model.proofs.Tests.{first_of, same}
 use Rattle.world_laws.specs.Losing.{LosesChunks}
 use Rattle.world_laws.specs.SameImages.{IsSameLine}
 use Rattle.world_laws.specs.SealedLines.{IsSealedLine}

@@ -11,8 +11,8 @@ use Rattle.pblk_model.specs.EndRecord.{end_of}
 use Rattle.pblk_model.specs.Image.{Image, width, block_at}
 use Rattle.pblk_model.specs.Records.{Record, named, mark_at, bears, record_at, records_after, line_records, records}
 use Rattle.pblk_model.specs.StartRecord.{StartRecord, start_of}
-use Rattle.lemmas.proofs.Lists.{all_contains, all_everywhere, contains_none}
-use Rattle.lemmas.proofs.Maps.{all_filter, all_filter_map, all_flat_map, range_get}
+use Rattle.pblk_model.proofs.Lists.{all_contains, all_everywhere, contains_none}
+use Rattle.pblk_model.proofs.Maps.{all_filter, all_filter_map, all_flat_map, range_get}
 use Rattle.world_laws.proofs.WinnerLines.{if_map, if_then}
 
 -- ---- the block of a record

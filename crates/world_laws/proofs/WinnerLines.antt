@@ -21,10 +21,10 @@ use Rattle.pblk_world.specs.Legal.{IsLegal}
 use Rattle.pblk_world.specs.Lines.{found_image, known_image, are_empty, line_data, has_number}
 use Rattle.pblk_world.specs.Victims.{engine_prefix}
 use Rattle.pblk_laws.proofs.Winners.{winner_is_winner}
-use Rattle.lemmas.proofs.Lists.{IsAmong, all_contains, all_everywhere}
-use Rattle.lemmas.proofs.Maps.{all_filter, all_filter_map, all_flat_map}
-use Rattle.lemmas.proofs.Parts.{get_last, get_more, take_front}
-use Rattle.lemmas.proofs.Tests.{first_of, not_both, not_true}
+use Rattle.pblk_model.proofs.Lists.{IsAmong, all_contains, all_everywhere}
+use Rattle.pblk_model.proofs.Maps.{all_filter, all_filter_map, all_flat_map}
+use Rattle.pblk_model.proofs.Parts.{get_last, get_more, take_front}
+use Rattle.pblk_model.proofs.Tests.{first_of, not_both, not_true}
 use Rattle.world_laws.proofs.Freeing.{IsFreeable, freed_at}
 use Rattle.world_laws.proofs.Beginnings.{first_begins}
 use Rattle.world_laws.proofs.Latest.{HasEntry, landed_entry}

@@ -20,8 +20,8 @@ use Rattle.pblk_laws.proofs.LineUnits.{line_units_chunks}
 use Rattle.pblk_laws.proofs.Runs.{start_none}
 use Rattle.pblk_world.specs.Lines.{is_empty_state}
 use Rattle.world_laws.specs.Finding.{taken_state}
-use Rattle.lemmas.proofs.Lists.{all_append, all_contains}
-use Rattle.lemmas.proofs.Maps.{all_cons_option, all_filter, all_passed}
+use Rattle.pblk_model.proofs.Lists.{all_append, all_contains}
+use Rattle.pblk_model.proofs.Maps.{all_cons_option, all_filter, all_passed}
 use Rattle.pblk_laws.proofs.LineBlocksLemmas.{chunk_fits}
 
 -- ---- a written block is in a chunk that is found Closed

@@ -8,8 +8,8 @@ use Rattle.pblk_model.specs.Bytes.{zeros}
 use Rattle.pblk_model.specs.Chunk.{IsBlock}
 use Rattle.pblk_model.specs.Marks.{pad_block}
 use Rattle.world_tests.specs.Steps.{meta_block, meta_blocks, sector, sector_block}
-use Rattle.lemmas.proofs.Lists.{all_replicated}
-use Rattle.lemmas.proofs.Parts.{all_dropped, all_taken}
+use Rattle.pblk_model.proofs.Lists.{all_replicated}
+use Rattle.pblk_model.proofs.Parts.{all_dropped, all_taken}
 
 pub free_not_open : states.Free ≢ states.Open
 free_not_open e = grind arith

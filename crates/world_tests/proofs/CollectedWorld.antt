@@ -30,7 +30,7 @@ use Rattle.world_tests.proofs.Knowing.{no_truth, no_both, named, step_legal, all
 use Rattle.world_tests.proofs.Blocks.{sector_is, pad_is, metas_are}
 use Rattle.world_tests.proofs.SimpleWorld.{beginning, metas_written}
 use Rattle.world_tests.proofs.FailedWorld.{first_opening, pad_lost_legal}
-use Rattle.lemmas.proofs.Tests.{not_true}
+use Rattle.pblk_model.proofs.Tests.{not_true}
 
 first_isnt_free : (line : ℕ) → line < 1 → is_free_line image (named open_second pad_lost) line ≡ false
 unfolding written_run

@@ -21,7 +21,7 @@ use Rattle.world_tests.specs.Filled.{narrow_image, narrow_start, narrow_spelling
 use Rattle.world_tests.proofs.Knowing.{no_truth, named, legal_on, all_in}
 use Rattle.world_tests.proofs.Blocks.{free_not_open, sector_is, pad_is}
 use Rattle.world_tests.proofs.CollectedWorld.{isnt_named}
-use Rattle.lemmas.proofs.Lists.{all_replicated}
+use Rattle.pblk_model.proofs.Lists.{all_replicated}
 
 offline_not_open : states.Offline ≡ states.Open → ⊥
 offline_not_open e = grind arith

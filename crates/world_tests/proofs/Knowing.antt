@@ -10,7 +10,7 @@ use Rattle.pblk_world.specs.Events.{Logged, Step}
 use Rattle.pblk_world.specs.World.{World, Logs, known, log_of, prefixes}
 use Rattle.pblk_world.specs.Legal.{IsKnowledge, IsAllowed, IsLegalStep}
 use Rattle.world_tests.specs.Steps.{image}
-use Rattle.lemmas.proofs.Tests.{first_of, second_of, within_is}
+use Rattle.pblk_model.proofs.Tests.{first_of, second_of, within_is}
 
 pub no_truth : {X : Type 0} → false ≡ true → X
 no_truth e = absurd (grind arith)

@@ -28,7 +28,7 @@ use Rattle.world_tests.specs.Older.{older_image, begin_older, older_begun, copy_
 use Rattle.world_tests.proofs.Knowing.{no_truth, named, legal_on, differ}
 use Rattle.world_tests.proofs.Blocks.{none_in, free_not_open, sector_is, pad_is, metas_are}
 use Rattle.world_tests.proofs.OverwrittenWorld.{each_in}
-use Rattle.lemmas.proofs.Lists.{all_replicated, nil_cons}
+use Rattle.pblk_model.proofs.Lists.{all_replicated, nil_cons}
 
 closed_not_open : (c : Chunk) → c.state ≡ states.Closed → c.state ≡ states.Open → ⊥
 closed_not_open c e f = closed (sym e ∙ f)

@@ -25,7 +25,7 @@ use Rattle.world_tests.specs.Halted.{stop_start, start_stopped, offer_again, off
 use Rattle.world_tests.proofs.Knowing.{no_truth, named, step_legal, legal_on, differ}
 use Rattle.world_tests.proofs.Blocks.{none_in, free_not_open, sector_is, pad_is}
 use Rattle.world_tests.proofs.SimpleWorld.{start_placed_legal, beginning as simple_beginning}
-use Rattle.lemmas.proofs.Lists.{all_replicated, nil_cons}
+use Rattle.pblk_model.proofs.Lists.{all_replicated, nil_cons}
 
 -- A stray line.
 

@@ -24,8 +24,8 @@ use Rattle.world_tests.proofs.Blocks.{pad_is}
 use Rattle.world_tests.proofs.SimpleWorld.{beginning}
 use Rattle.world_tests.proofs.FailedWorld.{first_opening}
 use Rattle.world_tests.proofs.CollectedWorld.{isnt_named}
-use Rattle.lemmas.proofs.Lists.{all_replicated}
-use Rattle.lemmas.proofs.Tests.{not_true}
+use Rattle.pblk_model.proofs.Lists.{all_replicated}
+use Rattle.pblk_model.proofs.Tests.{not_true}
 
 pub newer_is : IsBlock small (newer_block 5)
 unfolding newer_sector

@@ -19,7 +19,7 @@ use Rattle.world_tests.specs.Steps.{image, program_of}
 use Rattle.world_tests.specs.Simple.{start, start_stripe, start_landed, data_stripe}
 use Rattle.world_tests.proofs.Knowing.{no_truth, no_both, differ, all_in, all_below}
 use Rattle.world_tests.proofs.WrongStripes.{too_low, too_high}
-use Rattle.lemmas.proofs.Tests.{not_true}
+use Rattle.pblk_model.proofs.Tests.{not_true}
 use Rattle.pblk_world.proofs.EngineLogLemmas.{opened_same}
 
 abbrev logs : Logs

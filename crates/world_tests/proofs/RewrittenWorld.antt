@@ -36,7 +36,7 @@ use Rattle.world_tests.proofs.Knowing.{no_truth, differ, named, legal_on, all_in
 use Rattle.world_tests.proofs.Blocks.{pad_is, metas_are}
 use Rattle.world_tests.proofs.CollectedWorld.{isnt_named}
 use Rattle.world_tests.proofs.OlderWorld.{beginning, found_record, older_legal, younger_written_whole}
-use Rattle.lemmas.proofs.Lists.{all_replicated}
+use Rattle.pblk_model.proofs.Lists.{all_replicated}
 
 -- The resets.
 

@@ -20,7 +20,7 @@ use Rattle.pblk_model.specs.ChunkStep.{Done}
 use Rattle.pblk_model.specs.UnitLog.{Answered}
 use Rattle.world_tests.specs.Simple.{begin_step, begun_world, take_step, taken_world, open_step, opened_world, place_start, start_placed, write_start, start_written, land_start, start_landed, place_data, data_placed, write_data, data_written, land_data, simple_world, start, spelling, start_stripe, entry, data_stripe}
 use Rattle.world_tests.specs.Steps.{image, meta_blocks, program_of}
-use Rattle.lemmas.proofs.Lists.{all_replicated}
+use Rattle.pblk_model.proofs.Lists.{all_replicated}
 
 -- Steps.
 

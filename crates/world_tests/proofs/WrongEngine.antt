@@ -17,7 +17,7 @@ use Rattle.world_tests.specs.Wrong.{first_is_taken, seq_is_skipped, blank_line_i
 use Rattle.world_tests.specs.Simple.{begun_world}
 use Rattle.world_tests.proofs.Knowing.{no_truth, named, differ}
 use Rattle.world_tests.proofs.CollectedWorld.{copy_is_latest}
-use Rattle.lemmas.proofs.Lists.{nil_cons}
+use Rattle.pblk_model.proofs.Lists.{nil_cons}
 
 -- unequal things
 

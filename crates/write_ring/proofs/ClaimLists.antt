@@ -2,7 +2,7 @@
 use Rattle.std.proofs.Common.{◌≡◌, ℕ, ◌+◌, ◌<◌, ◌≤◌, List, [], ◌∷◌, ◌++◌, arith}
 use Rattle.std.proofs.lemmas.Bool.Decides.{nat_tests}
 use Rattle.std.specs.List.{AllByRecursion}
-use Rattle.lemmas.proofs.Lists.{all_weaker}
+use Rattle.pblk_model.proofs.Lists.{all_weaker}
 use Rattle.pblk_model.specs.declared.ring.Claim.{Claim}
 use Rattle.pblk_model.specs.RingState.{between, covers, covers_copy, IsGranted}
 use Rattle.write_ring.specs.declared.view.Row.{Row}

@@ -8,8 +8,8 @@ use Rattle.pblk_model.specs.RingState.{between, covers, covers_copy}
 use mathlib.Core.Option.{some}
 use lib.ListN.{get_elem?}
 use Rattle.std.specs.List.{AllByRecursion}
-use Rattle.lemmas.proofs.Lists.{all_append}
-use Rattle.lemmas.proofs.Maps.{filter_none}
+use Rattle.pblk_model.proofs.Lists.{all_append}
+use Rattle.pblk_model.proofs.Maps.{filter_none}
 use Rattle.sector_pool.specs.declared.entry.Class.{Class}
 use Rattle.write_ring.specs.declared.draft.Draft.{Draft}
 use Rattle.write_ring.specs.declared.view.Part.{Part}
@@ -239,7 +239,8 @@ rows_class c at (d ∷ ds) = (refl, rows_class c (at + 1) ds)
 
 -- a claim, and what was put at its positions
 pub class_placed : (c : Class) (p q : Part) (first count at : ℕ) (ds : List Draft)
-    → q.claims ≡ p.claims ++ record { first = first; count = count; copy = is_copy c } ∷ [] → q.puts ≡ p.puts ++ rows_from c at ds → IsOfClass (is_copy c) p → IsOfClass (is_copy c) q
+    → q.claims ≡ p.claims ++ record { first = first; count = count; copy = is_copy c } ∷ [] → q.puts ≡ p.puts ++ rows_from c at ds → IsOfClass (is_copy c) p
+    → IsOfClass (is_copy c) q
 class_placed c p q first count at ds claims puts h =
     let claim : Claim = record { first = first; count = count; copy = is_copy c } in
     class_joined (is_copy c) p (record p { claims = claim ∷ []; puts = rows_from c at ds }) q claims puts h (record {

@@ -2,7 +2,7 @@
 use Rattle.std.proofs.Common.{◌≡◌, Bool, true, false, List, [], ◌∷◌, ◌++◌, length, reverse, set, refl, sym, ap, ◌∙◌, subst, arith, Some}
 use Rattle.std.specs.List.{slice_get}
 use Rattle.std.proofs.lemmas.List.{reverse-append, set-set}
-use Rattle.lemmas.proofs.Parts.{set_same}
+use Rattle.pblk_model.proofs.Parts.{set_same}
 use Rattle.pblk_model.specs.Frames.{Region, FrameView}
 use Rattle.write_ring.specs.declared.cell.Cell.{Cell}
 use Rattle.write_ring.specs.declared.cell.Cell.TheVariants as cell

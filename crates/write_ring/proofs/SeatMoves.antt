@@ -2,7 +2,7 @@
 use Rattle.std.proofs.Common.{◌≡◌, ◌≢◌, ℕ, ◌+◌, ◌-◌, ◌<◌, ◌≤◌, List, [], ◌∷◌, set, Bool, true, false, true≢false, IsTrue, refl, sym, ap, ◌∙◌, arith, if◌then◌else◌}
 use mathlib.Core.Option.{some}
 use lib.ListN.{get_elem?}
-use Rattle.lemmas.proofs.Lists.{with_last}
+use Rattle.pblk_model.proofs.Lists.{with_last}
 use Rattle.pblk_model.specs.RingState.{between, covers, covers_copy, Numbers, IsGranted}
 use Rattle.write_ring.specs.declared.view.LastFound.{LastFound}
 use Rattle.write_ring.specs.declared.view.Key.{Key}

@@ -10,7 +10,7 @@ use Rattle.write_window.specs.declared.held.Held.{Held}
 use Rattle.write_window.specs.Entries.{has_landed, is_readable, user_count, users_in, landed_first, with_progress}
 use Rattle.write_window.specs.Window.{WindowView, IsHeld, held_at, has_landed_at, synced}
 use Rattle.write_window.proofs.Runs.{first_landed, first_waits, same_run, run_of_more}
-use Rattle.lemmas.proofs.Tests.{not_before}
+use Rattle.pblk_model.proofs.Tests.{not_before}
 
 pub element : (xs : List Held) (k : ℕ) → k < length xs → (h : Held) × (h ≡ get_or xs k h)
 element [] k inside = absurd (omega arith)

@@ -4,7 +4,7 @@ use Rattle.pblk_laws.proofs.ImageBytesHeld.{descriptor_is, state_of}
 use Rattle.ocssd_geometry.specs.Numbers.{numbers_of}
 use Rattle.drive_image.proofs.Ends.{unit_below, refused_by}
 use Rattle.drive_image.proofs.descriptors.check_descriptor.Goals as goal
-use Rattle.lemmas.proofs.Parts.{slice_length}
+use Rattle.pblk_model.proofs.Parts.{slice_length}
 use Rattle.pblk_model.proofs.ChunkLemmas.{pointer_within}
 
 pub broken_rule-requires-clause-unit : goal.broken_rule-requires-clause-unit

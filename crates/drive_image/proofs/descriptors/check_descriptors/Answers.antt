@@ -7,7 +7,7 @@ use Rattle.drive_image.specs.Parts.{descriptor_refusal}
 use Rattle.drive_image.proofs.Sums.{none_more, some_first}
 use Rattle.drive_image.proofs.Ends.{few_blocks, one_more}
 use Rattle.drive_image.proofs.descriptors.check_descriptors.Goals as goal
-use Rattle.lemmas.proofs.Maps.{sum_more}
+use Rattle.pblk_model.proofs.Maps.{sum_more}
 
 pub returns-in_err-blocks-clause-refused : goal.returns-in_err-blocks-clause-refused
 returns-in_err-blocks-clause-refused c =

@@ -2,7 +2,7 @@ use Rattle.std.proofs.Common.{◌≡◌, [], ◌∷◌, ◌++◌, List, length, 
 use Rattle.std.specs.List.{AllByRecursion, flat_map}
 use Rattle.std.specs.Vec.Iter.{into_iter_items}
 use Rattle.std.proofs.lemmas.List.{nil_from_length}
-use Rattle.lemmas.proofs.Lists.{all_front}
+use Rattle.pblk_model.proofs.Lists.{all_front}
 use Rattle.pblk_model.specs.declared.shape.Shape.{Shape}
 use Rattle.ocssd_drive.specs.Units.{WornUnit, IsUnitOf, stored_chunks}
 use Rattle.drive_image.specs.Storing.{HasCapacity, WasAdded, chunk_bytes}

@@ -2,7 +2,7 @@ use Rattle.std.proofs.Common.{◌≡◌, ◌*◌, Option, Some, None, false, is_
 use Rattle.pblk_model.specs.declared.shape.Shape.{Shape}
 use Rattle.pblk_model.specs.declared.chunk.ChunkErr.{ChunkErr}
 use Rattle.drive_tests.proofs.chunks.part_write.Goals as goal
-use Rattle.lemmas.proofs.Numbers.{le_before}
+use Rattle.pblk_model.proofs.Numbers.{le_before}
 
 no_value : (r : Option ChunkErr) → is_some r ≡ false → r ≡ None
 no_value None none = refl

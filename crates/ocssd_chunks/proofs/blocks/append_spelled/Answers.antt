@@ -2,7 +2,7 @@ use Rattle.std.proofs.Common.{◌≡◌, ◌+◌, ◌-◌, ◌*◌, ◌++◌, []
 use Rattle.std.proofs.lemmas.List.{take-append-drop, length-take-le}
 use Rattle.ocssd_chunks.proofs.Spelling.{spelling_goes_on, room_for_next, room_for_more}
 use Rattle.ocssd_chunks.proofs.blocks.append_spelled.Goals as goal
-use Rattle.lemmas.proofs.Numbers.{next_at}
+use Rattle.pblk_model.proofs.Numbers.{next_at}
 
 pub overflow_add-size : goal.overflow_add-size
 overflow_add-size c =

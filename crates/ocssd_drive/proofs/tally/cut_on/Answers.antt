@@ -2,8 +2,8 @@ use Rattle.std.proofs.Common.{◌<◌, ◌≤◌, ◌≢◌, refl, sym, arith}
 use Rattle.ocssd_drive.specs.declared.tally.Fall.{Fall}
 use Rattle.ocssd_drive.proofs.FallingOrder.{last_from_read, all_after, cut_of-absent, cut_of-at}
 use Rattle.ocssd_drive.proofs.tally.cut_on.Goals as goal
-use Rattle.lemmas.proofs.Lists.{all_imply}
-use Rattle.lemmas.proofs.Parts.{all_get}
+use Rattle.pblk_model.proofs.Lists.{all_imply}
+use Rattle.pblk_model.proofs.Parts.{all_get}
 
 pub returns-in-Some : goal.returns-in-Some
 returns-in-Some c all = sym (cut_of-at _ _ _ c.in-Some.fall.now c.requires (sym c.in-Some.ensures.value) (omega arith))

@@ -3,7 +3,7 @@ use Rattle.ocssd_drive.specs.declared.tally.Fall.{Fall}
 use Rattle.ocssd_drive.proofs.FallingOrder.{IsLast, last_from_read, all_after, before_later, IsFalling-take, cut_of-front}
 use Rattle.ocssd_drive.proofs.tally.drop_fallen.Goals as goal
 use Rattle.ocssd_drive.proofs.tally.drop_fallen.Goals.{In-Some}
-use Rattle.lemmas.proofs.Parts.{all_get}
+use Rattle.pblk_model.proofs.Parts.{all_get}
 
 -- the fault that was read is the vector's last
 last : (c : In-Some) → IsLast c.args.falls.now.items (vec_len c.args.falls.now - 1) c.in-Some.fall.now

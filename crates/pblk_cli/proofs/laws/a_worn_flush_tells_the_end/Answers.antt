@@ -11,8 +11,8 @@ use Rattle.pblk_world.specs.LegalMounts.{NoStripeLost, decides, is_losing}
 use Rattle.world_laws.proofs.Beginnings.{has_begun}
 use Rattle.prefix_law.proofs.Answered.{unlost_again}
 use Rattle.block_port.specs.declared.rows.WornAnswer.{WornAnswer}
-use Rattle.lemmas.proofs.Lists.{all_contains}
-use Rattle.lemmas.proofs.Parts.{all_taken}
+use Rattle.pblk_model.proofs.Lists.{all_contains}
+use Rattle.pblk_model.proofs.Parts.{all_taken}
 use Rattle.pblk_cli.specs.Worn.{IsRefusedFor, IsRefusedThen, worns_of}
 use Rattle.pblk_cli.proofs.RefusedLines.{each_refused}
 use Rattle.pblk_cli.proofs.laws.a_worn_flush_tells_the_end.Goals as goal

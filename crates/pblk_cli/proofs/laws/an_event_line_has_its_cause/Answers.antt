@@ -9,7 +9,7 @@ use Rattle.pblk_world.specs.World.{Logs, log_of}
 use Rattle.unit_port.specs.declared.armed.CommandKind.TheVariants as kinds
 use Rattle.unit_port.specs.declared.armed.FaultPlan.{FaultPlan}
 use Rattle.unit_port.specs.declared.armed.Fuse.{Fuse}
-use Rattle.lemmas.proofs.Lists.{contains_first}
+use Rattle.pblk_model.proofs.Lists.{contains_first}
 use Rattle.pblk_cli.specs.Status.{has_event, has_worn, names_any}
 use Rattle.pblk_cli.specs.Stops.{HasFallen, HasPlan, fuse_on}
 use Rattle.pblk_cli.proofs.Faultless.{has_cause}

@@ -1,7 +1,7 @@
 use Rattle.std.proofs.Common.{ℕ, ◌+◌, ◌<◌, ◌≤◌, ◌∙◌, List, length, drop, sym, subst, ap₂, arith}
 use Rattle.std.proofs.lemmas.List.Sums.{fold_more}
 use Rattle.std.proofs.lemmas.Option.{slice_get-get_or}
-use Rattle.lemmas.proofs.Parts.{drop_at}
+use Rattle.pblk_model.proofs.Parts.{drop_at}
 use Rattle.line_table.specs.declared.row.Row.{Row}
 use Rattle.line_table.specs.Rows.{IsRow, Table}
 use Rattle.pblk_core.specs.declared.hold.Hold.{Hold}

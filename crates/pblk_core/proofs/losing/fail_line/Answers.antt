@@ -9,7 +9,7 @@ use Rattle.line_table.specs.Rows.{IsRow, Table, kept, turned}
 use denote.Enum.Bare.{true_same}
 use Rattle.core_laws.specs.ChangedTables.{failed, with_row}
 use Rattle.core_laws.proofs.ChangedTables.{changed_is}
-use Rattle.lemmas.proofs.Parts.{got_within, set_same}
+use Rattle.pblk_model.proofs.Parts.{got_within, set_same}
 use Rattle.pblk_core.proofs.losing.fail_line.Goals as goal
 
 -- a row that is Failed is left

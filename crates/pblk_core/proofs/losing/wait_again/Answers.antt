@@ -10,7 +10,7 @@ use Rattle.stripe_placer.specs.Placing.{Placing, held, waits}
 use Rattle.pblk_core.specs.Losing.{position_of_mark}
 use Rattle.pblk_core.proofs.AllWait.{another, room_left, waits_more, waits_same}
 use Rattle.core_laws.proofs.Placing.{not_below}
-use Rattle.lemmas.proofs.Tests.{lt_true, other_number, same_number}
+use Rattle.pblk_model.proofs.Tests.{lt_true, other_number, same_number}
 use Rattle.pblk_core.proofs.losing.wait_again.Goals as goal
 use Rattle.pblk_core.proofs.losing.wait_again.Goals.{then-mark-shape, then-mark-shape-via-then-mark-shape, then-mark-shape-via-else-mark-shape+then-mark, else-mark-shape+else-mark}
 

@@ -39,7 +39,8 @@ overflow_mul-stripe c =
 pub overflow_add-stripe : goal.overflow_add-stripe
 overflow_add-stripe c =
     let is : is_in c.args.online c.args.unit ≡ true = sym c.is_in.ensures.is ∙ c.if-not-is_in.false in
-    let f = found_short c.args.shape.now c.args.online c.width.result c.rank.result c.args.unit c.args.block c.line_order_is.ensures.block c.address_is_of.ensures
+    let f = found_short c.args.shape.now c.args.online c.width.result c.rank.result c.args.unit c.args.block c.line_order_is.ensures.block
+    c.address_is_of.ensures
     c.a_line_is_short.ensures c.requires.accepted c.width.ensures.width (c.width.ensures.few _ c.requires.online) c.rank.ensures
     (rw c.if-not-is_in.false at c.is_in.ensures.below) is c.if-block-shape.false in
     omega (arith, f.0, f.1, f.3, f.4)
@@ -47,7 +48,8 @@ overflow_add-stripe c =
 pub overflow_mul-result : goal.overflow_mul-result
 overflow_mul-result c =
     let is : is_in c.args.online c.args.unit ≡ true = sym c.is_in.ensures.is ∙ c.if-not-is_in.false in
-    let f = found_short c.args.shape.now c.args.online c.width.result c.rank.result c.args.unit c.args.block c.line_order_is.ensures.block c.address_is_of.ensures
+    let f = found_short c.args.shape.now c.args.online c.width.result c.rank.result c.args.unit c.args.block c.line_order_is.ensures.block
+    c.address_is_of.ensures
     c.a_line_is_short.ensures c.requires.accepted c.width.ensures.width (c.width.ensures.few _ c.requires.online) c.rank.ensures
     (rw c.if-not-is_in.false at c.is_in.ensures.below) is c.if-block-shape.false in
     omega (arith, f.0, f.1, f.3, f.4)
@@ -55,7 +57,8 @@ overflow_mul-result c =
 pub overflow_add-result : goal.overflow_add-result
 overflow_add-result c =
     let is : is_in c.args.online c.args.unit ≡ true = sym c.is_in.ensures.is ∙ c.if-not-is_in.false in
-    let f = found_short c.args.shape.now c.args.online c.width.result c.rank.result c.args.unit c.args.block c.line_order_is.ensures.block c.address_is_of.ensures
+    let f = found_short c.args.shape.now c.args.online c.width.result c.rank.result c.args.unit c.args.block c.line_order_is.ensures.block
+    c.address_is_of.ensures
     c.a_line_is_short.ensures c.requires.accepted c.width.ensures.width (c.width.ensures.few _ c.requires.online) c.rank.ensures
     (rw c.if-not-is_in.false at c.is_in.ensures.below) is c.if-block-shape.false in
     omega (arith, f.0, f.1, f.3, f.4)

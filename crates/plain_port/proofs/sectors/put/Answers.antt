@@ -1,7 +1,7 @@
 use Rattle.plain_port.proofs.Cutting.{part_fits, put_at}
 use Rattle.std.proofs.Common.{arith, ◌≡◌, ◌+◌, ◌-◌, ◌*◌, length}
 use Rattle.plain_port.proofs.sectors.put.Goals as goal
-use Rattle.lemmas.proofs.Parts.{put_part}
+use Rattle.pblk_model.proofs.Parts.{put_part}
 
 pub slice_bounds-copy_from_slice-end : goal.slice_bounds-copy_from_slice-end
 slice_bounds-copy_from_slice-end c = part_fits c.args.size c.args.capacity c.args.lba c.args.count _ _ c.requires.sectors c.requires.bytes c.requires.inside

@@ -4,7 +4,7 @@ use Rattle.pblk_model.specs.ScriptText.{least_standing}
 use Rattle.run_script.specs.Turns.{lesser}
 use Rattle.run_script.proofs.RunOn.{next_mapped, least_turn, least_end}
 use Rattle.run_script.proofs.turns.least_standing.Goals as goal
-use Rattle.lemmas.proofs.Parts.{drop_past}
+use Rattle.pblk_model.proofs.Parts.{drop_past}
 
 pub loop-thread-preserved : goal.loop-thread-preserved
 loop-thread-preserved c =

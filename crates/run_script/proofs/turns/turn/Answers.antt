@@ -4,7 +4,7 @@ use Rattle.run_script.specs.Turns.{TakesTurn}
 use Rattle.run_script.proofs.RunOnLoops.{turned-start, turned-next, turned-end, turn_at, turn_put}
 use Rattle.run_script.proofs.turns.turn.Goals as goal
 use Rattle.run_script.proofs.turns.turn.Goals.{then-rest-thread, else-rest-thread}
-use Rattle.lemmas.proofs.Parts.{drop_past}
+use Rattle.pblk_model.proofs.Parts.{drop_past}
 
 pub loop-index-init : goal.loop-index-init
 loop-index-init c = (refl, [], refl, refl, turned-start c.args.names.now (map (λ x. x.now) c.args.left.now))

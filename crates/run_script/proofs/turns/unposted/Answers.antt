@@ -3,7 +3,7 @@ use Rattle.pblk_model.specs.ScriptText.{unposted}
 use Rattle.run_script.specs.Turns.{lifted}
 use Rattle.run_script.proofs.RunOn.{found_here, found_past, found_none}
 use Rattle.run_script.proofs.turns.unposted.Goals as goal
-use Rattle.lemmas.proofs.Parts.{drop_past, next_item}
+use Rattle.pblk_model.proofs.Parts.{drop_past, next_item}
 
 pub returns-then-is_some : goal.returns-then-is_some
 returns-then-is_some c = λ all are.

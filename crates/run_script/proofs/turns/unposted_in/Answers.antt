@@ -1,7 +1,7 @@
 use Rattle.std.proofs.Common.{sym, ◌∙◌}
 use Rattle.run_script.proofs.RunOn.{unposted_here, unposted_past, unposted_done}
 use Rattle.run_script.proofs.turns.unposted_in.Goals as goal
-use Rattle.lemmas.proofs.Parts.{drop_past, next_item}
+use Rattle.pblk_model.proofs.Parts.{drop_past, next_item}
 
 pub returns-then-is_unposted : goal.returns-then-is_unposted
 returns-then-is_unposted c = λ all are.

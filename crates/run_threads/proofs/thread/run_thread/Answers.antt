@@ -2,7 +2,7 @@ use Rattle.std.proofs.Common.{◌+◌, ◌<◌, take, drop, length, ap, ◌∙�
 use Rattle.std.proofs.lemmas.List.{take_all, drop-set-lt, length-set}
 use Rattle.run_threads.proofs.Running.{starts, steps, may_run, told_by, agreed_by, take_at, as_many_rooms}
 use Rattle.run_threads.proofs.thread.run_thread.Goals as goal
-use Rattle.lemmas.proofs.Parts.{next_item}
+use Rattle.pblk_model.proofs.Parts.{next_item}
 
 pub loop-index-init : goal.loop-index-init
 loop-index-init g c =

@@ -7,7 +7,7 @@ use Rattle.scan_recovery.specs.Traces.{bares, head_row}
 use Rattle.scan_recovery.proofs.Tallies.{counted_yes, counted_no, row_there, line_there}
 use Rattle.scan_recovery.proofs.counting.count_all.Goals as goal
 use Rattle.scan_recovery.proofs.counting.count_all.Goals.{then-counts, else-counts}
-use Rattle.lemmas.proofs.Parts.{take_all}
+use Rattle.pblk_model.proofs.Parts.{take_all}
 
 pub loop-t-preserved : goal.loop-t-preserved
 loop-t-preserved c =

@@ -9,7 +9,7 @@ use Rattle.scan_recovery.proofs.Held.{named_both}
 use Rattle.scan_recovery.proofs.Tallies.{counted_yes, counted_no, row_there, line_there}
 use Rattle.scan_recovery.proofs.counting.named_by.Goals as goal
 use Rattle.scan_recovery.proofs.counting.named_by.Goals.{then-counts, else-counts}
-use Rattle.lemmas.proofs.Parts.{take_all}
+use Rattle.pblk_model.proofs.Parts.{take_all}
 
 pub loop-t-preserved : goal.loop-t-preserved
 loop-t-preserved c =

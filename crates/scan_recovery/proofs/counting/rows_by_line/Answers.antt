@@ -4,7 +4,7 @@ use Rattle.pblk_meta.specs.Records.{row_numbers, start_numbers}
 use Rattle.scan_recovery.specs.Traces.{head_row}
 use Rattle.scan_recovery.proofs.Tables.{table_push}
 use Rattle.scan_recovery.proofs.counting.rows_by_line.Goals as goal
-use Rattle.lemmas.proofs.Maps.{map_last}
+use Rattle.pblk_model.proofs.Maps.{map_last}
 
 pub loop-line-preserved : goal.loop-line-preserved
 loop-line-preserved c =

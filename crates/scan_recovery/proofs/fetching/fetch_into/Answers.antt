@@ -17,7 +17,8 @@ returns-in-Ok-Sector-clause-fetched g c =
     let d = c.fetch_at.ensures.did in
     good_fetch c.args.shape.now (map g.U.Unit.model c.args.units.now)
     (map g.U.Unit.model c.fetch_at.new.units) c.args.line c.args.unit c.args.block d.0 c.requires.there d.1
-    (ap failed_or_stopped (told_sector c.args.out.now c.fetch_at.new.out c.fetch_at.result _ d.0.event.outcome (c.in-Ok-Sector.is ∙ ap Ok c.in-Ok-Sector.field-0-is) d.2))
+    (ap failed_or_stopped (told_sector c.args.out.now c.fetch_at.new.out c.fetch_at.result _ d.0.event.outcome
+    (c.in-Ok-Sector.is ∙ ap Ok c.in-Ok-Sector.field-0-is) d.2))
 
 pub returns-in-Err-clause-fetched : goal.returns-in-Err-clause-fetched
 returns-in-Err-clause-fetched g c =

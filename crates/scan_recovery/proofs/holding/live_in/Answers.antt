@@ -4,7 +4,7 @@ use Rattle.std.specs.Option.{is_some}
 use Rattle.scan_recovery.proofs.Held.{count_one}
 use Rattle.scan_recovery.proofs.holding.live_in.Goals as goal
 use Rattle.scan_recovery.proofs.holding.live_in.Goals.{then-is_some, else-is_some}
-use Rattle.lemmas.proofs.Parts.{take_all}
+use Rattle.pblk_model.proofs.Parts.{take_all}
 
 pub loop-winner-preserved : goal.loop-winner-preserved
 loop-winner-preserved c =

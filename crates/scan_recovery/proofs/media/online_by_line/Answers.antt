@@ -7,8 +7,8 @@ use Rattle.scan_recovery.specs.Traces.{IsTable}
 use Rattle.scan_recovery.specs.Units.{image_of}
 use Rattle.scan_recovery.proofs.Tables.{table_push}
 use Rattle.scan_recovery.proofs.media.online_by_line.Goals as goal
-use Rattle.lemmas.proofs.Lists.{all_append}
-use Rattle.lemmas.proofs.Maps.{map_last}
+use Rattle.pblk_model.proofs.Lists.{all_append}
+use Rattle.pblk_model.proofs.Maps.{map_last}
 
 pub loop-line-preserved : goal.loop-line-preserved
 loop-line-preserved c =

@@ -14,7 +14,9 @@ overflow_mul-at c =
     let s : Shape = c.args.layout.now in
     let l : OpenLine = c.args.slot.now in
     let j = c.in_ok-stripe.stripe in
-    let inside : j * s.ws_opt < width l * s.clba = stripe_inside (width l) s.clba s.ws_opt j c.shape.ensures.accepted.drive.ws_opt c.shape.ensures.accepted.drive.whole_stripes (omega (arith, c.in_ok-stripe.ensures.inside, c.requires.stripes)) in
+    let inside : j * s.ws_opt < width l * s.clba =
+    stripe_inside (width l) s.clba s.ws_opt j c.shape.ensures.accepted.drive.ws_opt c.shape.ensures.accepted.drive.whole_stripes
+    (omega (arith, c.in_ok-stripe.ensures.inside, c.requires.stripes)) in
     let at : j * c.shape.result.now.ws_opt ≡ j * s.ws_opt = ap (λ (t : Shape). j * t.ws_opt) c.shape.ensures.shape in
     omega (arith, inside, at, c.a_line_is_short.ensures s (width l) c.shape.ensures.accepted c.requires.few)
 
@@ -23,12 +25,16 @@ place-unit-requires-clause-inside c =
     let s : Shape = c.args.layout.now in
     let l : OpenLine = c.args.slot.now in
     let j = c.in_ok-stripe.stripe in
-    let inside : j * s.ws_opt < width l * s.clba = stripe_inside (width l) s.clba s.ws_opt j c.shape.ensures.accepted.drive.ws_opt c.shape.ensures.accepted.drive.whole_stripes (omega (arith, c.in_ok-stripe.ensures.inside, c.requires.stripes)) in
+    let inside : j * s.ws_opt < width l * s.clba =
+    stripe_inside (width l) s.clba s.ws_opt j c.shape.ensures.accepted.drive.ws_opt c.shape.ensures.accepted.drive.whole_stripes
+    (omega (arith, c.in_ok-stripe.ensures.inside, c.requires.stripes)) in
     let at : j * c.shape.result.now.ws_opt ≡ j * s.ws_opt = ap (λ (t : Shape). j * t.ws_opt) c.shape.ensures.shape in
     let wide : length (units_in c.online.result) ≡ width l = ap (λ n. length (units_in n)) c.online.ensures in
     omega (arith, inside, at, ap (λ n. n * s.clba) wide)
 
-placed_at : (c : goal.After-line) → (c.place-unit.result.0 ≡ unit_of c.args.slot.now c.in_ok-stripe.stripe) × (c.place-unit.result.1 ≡ c.in_ok-stripe.stripe / width c.args.slot.now * c.args.layout.now.ws_opt)
+placed_at : (c : goal.After-line)
+    → (c.place-unit.result.0 ≡ unit_of c.args.slot.now c.in_ok-stripe.stripe)
+    × (c.place-unit.result.1 ≡ c.in_ok-stripe.stripe / width c.args.slot.now * c.args.layout.now.ws_opt)
 placed_at c =
     let s : Shape = c.args.layout.now in
     let l : OpenLine = c.args.slot.now in
@@ -36,8 +42,10 @@ placed_at c =
     let r : ℕ × ℕ = c.place-unit.result in
     let at : j * c.shape.result.now.ws_opt ≡ j * s.ws_opt = ap (λ (t : Shape). j * t.ws_opt) c.shape.ensures.shape in
     let there : slice_get (line_order s (units_in l.online)) (j * s.ws_opt) ≡ Some r =
-    ap (λ n. slice_get (line_order s (units_in n)) (j * s.ws_opt)) (sym c.online.ensures) ∙ ap (λ a. slice_get (line_order s (units_in c.online.result)) a) (sym at) ∙ c.place-unit.ensures in
-    place_is s l j r c.line_order_is.ensures.block c.shape.ensures.accepted.drive.ws_opt c.shape.ensures.accepted.drive.whole_stripes c.requires c.in_ok-stripe.ensures.inside there
+    ap (λ n. slice_get (line_order s (units_in n)) (j * s.ws_opt)) (sym c.online.ensures)
+    ∙ ap (λ a. slice_get (line_order s (units_in c.online.result)) a) (sym at) ∙ c.place-unit.ensures in
+    place_is s l j r c.line_order_is.ensures.block c.shape.ensures.accepted.drive.ws_opt c.shape.ensures.accepted.drive.whole_stripes c.requires
+    c.in_ok-stripe.ensures.inside there
 
 pub returns-clause-next : goal.returns-clause-next
 returns-clause-next c =

@@ -6,7 +6,7 @@ use Rattle.stripe_placer.specs.Placing.{Program, placement, is_ready, next_in}
 use Rattle.stripe_placer.specs.Inside.{first_given}
 use Rattle.stripe_placer.proofs.Rows.{one_fails, one_passes, get_is, named_by, none_named}
 use Rattle.stripe_placer.proofs.next.next_new.Goals as goal
-use Rattle.lemmas.proofs.Parts.{drop_at}
+use Rattle.pblk_model.proofs.Parts.{drop_at}
 
 pub ready_in-requires : goal.ready_in-requires
 ready_in-requires c = record {

@@ -6,7 +6,7 @@ use Rattle.stripe_placer.specs.Placing.{placement, UnitRow, stopped_in, is_ready
 use Rattle.stripe_placer.specs.Inside.{first_given}
 use Rattle.stripe_placer.proofs.Rows.{stopped_skip, stopped_hit, stopped_ready, get_is, named_by, none_named}
 use Rattle.stripe_placer.proofs.unit_state.stopped_stripe.Goals as goal
-use Rattle.lemmas.proofs.Parts.{drop_at}
+use Rattle.pblk_model.proofs.Parts.{drop_at}
 
 pub stopped_at-requires : goal.stopped_at-requires
 stopped_at-requires c = λ of e.

@@ -9,7 +9,7 @@ use Rattle.ocssd_drive.specs.Units.{WornUnit, new_unit}
 use Rattle.scan_recovery.specs.Units.{AreFit, IsUnitOf}
 use Rattle.step_laws.specs.Opened.{AreArmed}
 use Rattle.target_tests.proofs.harness.new_units.Goals as goal
-use Rattle.lemmas.proofs.Lists.{all_replicated}
+use Rattle.pblk_model.proofs.Lists.{all_replicated}
 use Rattle.pblk_model.proofs.ChunkLemmas.{free_is_chunk}
 
 -- each unit of as many that are the same

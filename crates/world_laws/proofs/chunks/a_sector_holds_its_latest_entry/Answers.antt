@@ -1,5 +1,5 @@
-use Rattle.lemmas.proofs.Lists.{among_contained}
-use Rattle.lemmas.proofs.Parts.{contained_among}
+use Rattle.pblk_model.proofs.Lists.{among_contained}
+use Rattle.pblk_model.proofs.Parts.{contained_among}
 use Rattle.pblk_world.specs.World.{log_of}
 use Rattle.pblk_world.specs.EngineLog.{takes}
 use Rattle.world_laws.proofs.SectorValues.{found_is_held, latest_is_held}

@@ -1,6 +1,6 @@
 use Rattle.std.proofs.Common.{◌∷◌, [], length, reverse, refl, sym, ap, ◌∙◌, subst, arith, length-append}
 use Rattle.std.specs.List.{AllByRecursion}
-use Rattle.lemmas.proofs.Lists.{all_append}
+use Rattle.pblk_model.proofs.Lists.{all_append}
 use Rattle.write_ring.specs.declared.cell.Cell.TheVariants as cell
 use Rattle.write_ring.specs.Frames.{IsFreeOf}
 use Rattle.write_ring.specs.Openings.{IsDrawn}

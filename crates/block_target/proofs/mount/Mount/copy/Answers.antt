@@ -40,7 +40,7 @@ use Rattle.block_target.proofs.ReadLook.{at_inside, fetchable, line_inside, line
 use Rattle.block_target.proofs.mount.Mount.copy.Given.{Over}
 use Rattle.block_target.proofs.mount.Mount.copy.Goals.{After-copy_ready, After-fetch_block-fetched, After-regain_frame, After-take_copy, In-None}
 use Rattle.block_target.proofs.mount.Mount.copy.Goals as goal
-use Rattle.lemmas.proofs.Parts.{take_whole}
+use Rattle.pblk_model.proofs.Parts.{take_whole}
 
 not_copying : {b : Bool} {X : Type 0} → b ≡ false → (b ≡ true) ⊎ (¬ X) → X → ⊥
 not_copying calm (inl is) x = absurd cc
@@ -100,7 +100,8 @@ pub address-unit-requires-clause-inside : goal.address-unit-requires-clause-insi
 address-unit-requires-clause-inside g c =
     let d = (goal.at.address-unit-requires-clause-inside g c).After-copy_ready in
     let job = c.in-Some-copy_ready.job in
-    subst (λ (k : Core). (online : ℕ) → slice_get k.online.items job.line ≡ Some online → job.at < length (units_in online) * k.layout.clba) (sym (same_core g d))
+    subst (λ (k : Core). (online : ℕ) → slice_get k.online.items job.line ≡ Some online → job.at < length (units_in online) * k.layout.clba)
+    (sym (same_core g d))
     (at_inside (v g d) c.self.inside.heart.core job.lba job.line job.at job.position (m g d).sound.legal (m g d).heart.stands
     (its g d job c.in-Some-copy_ready.ensures.ready))
 

@@ -38,7 +38,8 @@ free_lines-requires g c =
     let ready : IsMadeReady s old new c.in-Ok.ready =
     subst (λ xs. IsMadeReady s (map g.U.Unit.model xs) new c.in-Ok.ready) c.as_mut_slice.ensures.value c.in-Ok.ensures.ready in
     record {
-      beating = first_beating s old new c.in-Ok.ready.found c.requires.opens.accepted c.requires.opens.fit c.requires.opens.armed ready.found c.in-Ok-new-2.heart
+      beating = first_beating s old new c.in-Ok.ready.found c.requires.opens.accepted c.requires.opens.fit c.requires.opens.armed ready.found
+          c.in-Ok-new-2.heart
           c.in-Ok-new-2.ensures.begun;
     }
 
@@ -58,7 +59,8 @@ invariant_of-result g c =
     subst (λ xs. IsMount
     (mount_view s c.in-Ok.ready.drives c.free_lines.new.deeds (map g.U.Unit.model xs) (map g.U.Unit.wear xs) heart.granted (pad_of heart.core) 0)
     heart stripe) (sym back)
-    (mount_opens s old new c.in-Ok.ready.found c.requires.opens.accepted c.requires.opens.fit c.requires.opens.armed ready.found (map g.U.Unit.wear made) c.in-Ok-new-2.heart
+    (mount_opens s old new c.in-Ok.ready.found c.requires.opens.accepted c.requires.opens.fit c.requires.opens.armed ready.found
+    (map g.U.Unit.wear made) c.in-Ok-new-2.heart
     heart stripe c.in-Ok.ready.drives c.in-Ok.ready.deeds c.free_lines.new.deeds c.in-Ok-new-2.ensures.begun ready.drives ready.deeds c.free_lines.ensures
     c.in-Ok-new-2.ensures.resting c.in-Ok-new-2.ensures.idle (ap (λ (x : Filling). x.shape) c.in-Ok-new.ensures))
 
@@ -76,7 +78,8 @@ returns-in-Ok-new-2-clause-opened g c =
     let heart = c.free_lines.new.heart in
     subst (λ xs. IsOpened s old
     (mount_view s c.in-Ok.ready.drives c.free_lines.new.deeds (map g.U.Unit.model xs) (map g.U.Unit.wear xs) heart.granted (pad_of heart.core) 0)) (sym back)
-    (opened_view s old new c.in-Ok.ready.found c.requires.opens.accepted c.requires.opens.fit c.requires.opens.armed ready.found (map g.U.Unit.wear made) c.in-Ok-new-2.heart
+    (opened_view s old new c.in-Ok.ready.found c.requires.opens.accepted c.requires.opens.fit c.requires.opens.armed ready.found
+    (map g.U.Unit.wear made) c.in-Ok-new-2.heart
     heart c.in-Ok-new.stripe c.in-Ok.ready.drives c.in-Ok.ready.deeds c.free_lines.new.deeds c.in-Ok-new-2.ensures.begun ready.drives ready.deeds
     c.free_lines.ensures)
 

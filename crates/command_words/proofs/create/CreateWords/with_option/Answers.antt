@@ -4,7 +4,7 @@ use Rattle.command_words.specs.Grammar.{create_options}
 use Rattle.command_words.proofs.OptionValues.{small_options, below_all}
 use Rattle.command_words.proofs.CreateReading.{read_option, other_option, second_option, other_number}
 use Rattle.command_words.proofs.create.CreateWords.with_option.Goals as goal
-use Rattle.lemmas.proofs.Options.{none_there, some_value}
+use Rattle.pblk_model.proofs.Options.{none_there, some_value}
 
 pub returns-in_err-option-clause-refused : goal.returns-in_err-option-clause-refused
 returns-in_err-option-clause-refused c = rw c.from_residual.ensures

@@ -1,7 +1,7 @@
 use Rattle.std.proofs.Common.{sym, refl}
 use Rattle.command_words.proofs.RunReading.{with_stop, second_stop, other_stop}
 use Rattle.command_words.proofs.run.RunWords.with_stop.Goals as goal
-use Rattle.lemmas.proofs.Options.{none_there, some_value}
+use Rattle.pblk_model.proofs.Options.{none_there, some_value}
 
 pub returns-then-is_some-clause-refused : goal.returns-then-is_some-clause-refused
 returns-then-is_some-clause-refused c = λ items more image script options h of.

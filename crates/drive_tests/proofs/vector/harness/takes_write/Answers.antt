@@ -2,7 +2,7 @@ use Rattle.std.proofs.Common.{refl, sym, length}
 use Rattle.std.proofs.lemmas.Option.{slice_get_read}
 use Rattle.drive_tests.proofs.Checks.{write_taken}
 use Rattle.drive_tests.proofs.vector.harness.takes_write.Goals as goal
-use Rattle.lemmas.proofs.Tests.{below_of}
+use Rattle.pblk_model.proofs.Tests.{below_of}
 
 pub returns-in-Some : goal.returns-in-Some
 returns-in-Some c g is fit =

@@ -4,7 +4,7 @@ use Rattle.ocssd_drive.specs.Units.{IsChunkIn}
 use Rattle.ocssd_drive.proofs.UnitChunks.{IsAt, at_place, chunk_within, unit_of, wear_within}
 use Rattle.ocssd_drive.proofs.memory_unit.MemoryUnit.restore.Goals as goal
 use Rattle.ocssd_drive.proofs.memory_unit.MemoryUnit.restore.Goals.{After-index_mut-found}
-use Rattle.lemmas.proofs.Parts.{all_set}
+use Rattle.pblk_model.proofs.Parts.{all_set}
 
 -- the chunk that was found is the unit's
 found : (c : After-index_mut-found) → IsAt c.self.inside c.args.chunk c.index_mut-found.result.now

@@ -2,7 +2,7 @@ use Rattle.std.proofs.Common.{◌≡◌, ◌≢◌, ◌<◌, if◌then◌else◌
 use Rattle.std.specs.Prelude.{slice_get, slice_set}
 use Rattle.std.proofs.lemmas.Bool.{eq-eqb, ne_eqb}
 use Rattle.std.proofs.lemmas.Option.{get_or_from_slice_get, slice_get-get_or}
-use Rattle.lemmas.proofs.Parts.{set_same}
+use Rattle.pblk_model.proofs.Parts.{set_same}
 use Rattle.pblk_core.specs.LineNotes.{newest_after, newest_landed, newer_note, note_landed, note_started, start_in}
 use Rattle.pblk_core.specs.declared.line_notes.LineNote.{LineNote}
 use Rattle.pblk_core.specs.declared.line_notes.StartNote.{StartNote}

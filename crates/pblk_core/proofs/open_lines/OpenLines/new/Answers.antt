@@ -3,8 +3,8 @@ use Rattle.std.specs.List.{AllByRecursion}
 use Rattle.pblk_core.specs.LineRecords.{RecordsView}
 use Rattle.pblk_core.specs.declared.open_lines.OpenLine.{OpenLine}
 use Rattle.pblk_core.proofs.open_lines.OpenLines.new.Goals as goal
-use Rattle.lemmas.proofs.Lists.{with_last}
-use Rattle.lemmas.proofs.Parts.{all_at}
+use Rattle.pblk_model.proofs.Lists.{with_last}
+use Rattle.pblk_model.proofs.Parts.{all_at}
 
 pub loop-init : goal.loop-init
 loop-init c = record {

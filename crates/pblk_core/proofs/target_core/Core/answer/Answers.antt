@@ -12,7 +12,7 @@ use Rattle.stripe_placer.specs.Placing.{Placing, Program, UnitRow, positions_in,
 use Rattle.stripe_placer.specs.Placing.UnitRow.{UnderWay}
 use Rattle.core_laws.specs.ClosedLines.{top_of}
 use Rattle.core_laws.proofs.HistorySectors.{set_length}
-use Rattle.lemmas.proofs.Parts.{got_within}
+use Rattle.pblk_model.proofs.Parts.{got_within}
 use Rattle.pblk_core.specs.Answering.{IsLessIn, IsLineOf, IsRemoved, IsStandingBut}
 use Rattle.pblk_core.specs.LineNotes.{note_added}
 use Rattle.pblk_core.specs.Stands.{answer_count, under_way}
@@ -54,7 +54,8 @@ module _ (self : Core) (at : Placement) (but : IsStandingBut self)
   slot_live : (k : ℕ) (slot : OpenLine) → IsLineOf self.open at.line k slot → slot.online < 2 ^ units self.layout
   slot_live k slot found =
       subst (λ s. slot.online < 2 ^ units s) (sym but.standing.stands.layout)
-      (subst (λ (l : OpenLine). l.online < 2 ^ units i.shape) (sym (its_slot k slot found).slot) (live_few i w core at.unit of but.standing.legal its.is its.has))
+      (subst (λ (l : OpenLine). l.online < 2 ^ units i.shape) (sym (its_slot k slot found).slot)
+      (live_few i w core at.unit of but.standing.legal its.is its.has))
 
   slot_shape : (k : ℕ) (slot : OpenLine) → IsLineOf self.open at.line k slot → slot.records.shape ≡ self.layout
   slot_shape k slot found =

@@ -8,7 +8,7 @@ use Rattle.pblk_world.specs.Victims.{live}
 use Rattle.pblk_world.specs.World.{World, log_of}
 use Rattle.pblk_world.specs.LegalMounts.{IsLegalMount}
 use Rattle.l2p_map.specs.declared.slot.Slot.TheVariants.{Media}
-use Rattle.lemmas.proofs.Tests.{both, not_both, not_true}
+use Rattle.pblk_model.proofs.Tests.{both, not_both, not_true}
 use Rattle.pblk_core.specs.declared.collecting.CopyJob.{CopyJob}
 use Rattle.pblk_core.specs.declared.target_core.Core.{Core}
 use Rattle.pblk_core.specs.Collecting.{Collects, HasPassed, IsCopyReady}

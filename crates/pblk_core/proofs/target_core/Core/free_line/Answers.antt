@@ -6,7 +6,7 @@ use Rattle.pblk_world.specs.Events.{EngineEvent, Free}
 use Rattle.pblk_world.specs.World.{Logs, log_of}
 use Rattle.core_laws.specs.Stepping.{after}
 use Rattle.stripe_placer.specs.Placing.{Placing}
-use Rattle.lemmas.proofs.Tests.{not_both, same, same_number}
+use Rattle.pblk_model.proofs.Tests.{not_both, same, same_number}
 use Rattle.pblk_core.specs.declared.target_core.Core.{Core}
 use Rattle.pblk_core.specs.Collecting.{HasPassed, IsBarrenRightly, weighed}
 use Rattle.pblk_core.specs.Copies.{is_copying}

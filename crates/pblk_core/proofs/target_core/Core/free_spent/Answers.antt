@@ -11,7 +11,7 @@ use Rattle.line_table.specs.declared.row.LineState.TheVariants.{Freed}
 use Rattle.line_table.specs.Rows.{Changes, turned}
 use Rattle.pblk_core.specs.declared.line_notes.LineNote.{LineNote}
 use Rattle.pblk_core.specs.Mounts.{InItsMount}
-use Rattle.lemmas.proofs.Parts.{get_set_other}
+use Rattle.pblk_model.proofs.Parts.{get_set_other}
 use Rattle.pblk_core.proofs.BarrenLines.{brings_none, set_unclosed, turned_elsewhere}
 use Rattle.pblk_core.proofs.FreedConditions.{fewer_closed, may_give_up}
 use Rattle.pblk_core.proofs.SpentTables.{freed_where_spent, spent_where_freed}

@@ -7,7 +7,7 @@ use Rattle.line_table.specs.Rows.{free_addresses}
 use Rattle.stripe_placer.specs.Entries.{waiting}
 use Rattle.write_window.specs.Window as view
 use Rattle.core_laws.specs.RowsOf.{row_of_line}
-use Rattle.lemmas.proofs.Tests.{lt_true}
+use Rattle.pblk_model.proofs.Tests.{lt_true}
 use Rattle.pblk_core.specs.declared.target_core.Core.{Core}
 use Rattle.pblk_core.specs.Collecting.{IsCollecting}
 use Rattle.pblk_core.specs.Copies.{copy_due, is_due_in}

@@ -8,11 +8,11 @@ use Rattle.stripe_placer.specs.Placing.{nothing_placed}
 use Rattle.world_laws.specs.MountBeginnings.{seq_after}
 use Rattle.core_laws.specs.OnlineUnits.{all_online}
 use Rattle.core_laws.specs.OpeningTables.{IsOpeningTable, slot_found}
-use Rattle.lemmas.proofs.Lists.{length_replicate}
+use Rattle.pblk_model.proofs.Lists.{length_replicate}
 use Rattle.pblk_core.specs.OlderLines.{older_found}
 use Rattle.pblk_core.specs.LineNotes.{head_start, note_found}
 use Rattle.pblk_core.specs.Resets.{resets_found, used_below}
-use Rattle.lemmas.proofs.Lists.{length_replicate}
+use Rattle.pblk_model.proofs.Lists.{length_replicate}
 use Rattle.pblk_core.proofs.FitFindings.{stray_inside, stray_used, head_inside, small_seq, opening_table}
 use Rattle.pblk_core.proofs.target_core.Core.made.Goals as goal
 

@@ -19,8 +19,8 @@ use Rattle.pblk_world.specs.LegalMounts.{IsLegalMount}
 use Rattle.core_laws.specs.ChangedTables.{with_row, full_if}
 use Rattle.core_laws.specs.ClosedLines.{top_of}
 use Rattle.core_laws.proofs.HistorySectors.{set_length}
-use Rattle.lemmas.proofs.Parts.{get_set_other, got_within}
-use Rattle.lemmas.proofs.Tests.{either_false}
+use Rattle.pblk_model.proofs.Parts.{get_set_other, got_within}
+use Rattle.pblk_model.proofs.Tests.{either_false}
 use Rattle.pblk_core.specs.Answering.{IsAnsweredInto, IsLineAnswered, closed_when}
 use Rattle.pblk_core.specs.Entries.{noted_lines}
 use Rattle.pblk_core.specs.Landing.{all_landed, is_open}

@@ -19,7 +19,7 @@ use Rattle.core_laws.specs.ChangedTables.{failed, with_row}
 use Rattle.core_laws.specs.ClosedLines.{top_of}
 use Rattle.core_laws.specs.OpenedLines.{open_line}
 use Rattle.core_laws.proofs.HistorySectors.{set_length}
-use Rattle.lemmas.proofs.Parts.{got_within, get_set_other}
+use Rattle.pblk_model.proofs.Parts.{got_within, get_set_other}
 use Rattle.pblk_core.specs.Answering.{IsAnsweredInto, IsLineAnswered, closed_when}
 use Rattle.pblk_core.specs.Keeping.{KeepsFrames}
 use Rattle.pblk_core.specs.LineNotes.{note_added}

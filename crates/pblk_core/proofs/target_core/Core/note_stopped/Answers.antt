@@ -3,7 +3,7 @@ use Rattle.std.specs.Prelude.{slice_get}
 use Rattle.std.proofs.lemmas.Option.{slice_get_within}
 use Rattle.stripe_placer.specs.Placing.{Placing, Program, program, stopped}
 use Rattle.stripe_placer.specs.Placing.UnitRow.{Stopped, UnderWay}
-use Rattle.lemmas.proofs.Parts.{get_set_same}
+use Rattle.pblk_model.proofs.Parts.{get_set_same}
 use Rattle.pblk_core.proofs.StandsAgain.{stopped_stands}
 use Rattle.pblk_core.proofs.StripeUnderWay.{each_was, here}
 use Rattle.pblk_core.proofs.target_core.Core.note_stopped.Goals as goal

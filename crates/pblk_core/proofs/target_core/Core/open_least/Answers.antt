@@ -16,7 +16,7 @@ use Rattle.line_table.specs.declared.row.LineState.TheVariants as states
 use Rattle.line_table.specs.Rows.{Changes, turned}
 use Rattle.stripe_placer.specs.Placing.{Placing, begun as line_begun}
 use Rattle.core_laws.specs.OpenedLines.{open_lines}
-use Rattle.lemmas.proofs.Parts.{get_set_other}
+use Rattle.pblk_model.proofs.Parts.{get_set_other}
 use Rattle.pblk_core.specs.declared.line_notes.LineNote.{LineNote}
 use Rattle.pblk_core.specs.LineNotes.{note_opened}
 use Rattle.pblk_core.specs.Slots.{opened_slot}

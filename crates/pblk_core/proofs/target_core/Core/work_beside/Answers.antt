@@ -1,7 +1,7 @@
 use Rattle.std.proofs.Common.{◌≡◌, ◌&&◌, not, if◌then◌else◌, Bool, true, false, refl, sym, ap, ap₂, ◌∙◌}
 use Rattle.std.specs.Option.{is_some}
-use Rattle.lemmas.proofs.Options.{some_mapped}
-use Rattle.lemmas.proofs.Tests.{and_false, not_first}
+use Rattle.pblk_model.proofs.Options.{some_mapped}
+use Rattle.pblk_model.proofs.Tests.{and_false, not_first}
 use Rattle.stripe_placer.specs.Placing.{next_stripe, program}
 use Rattle.pblk_core.specs.declared.work.Work.TheVariants.{Copy, Nothing}
 use Rattle.pblk_core.specs.declared.work.Work.TheVariants as works

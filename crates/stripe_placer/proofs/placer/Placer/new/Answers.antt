@@ -7,7 +7,7 @@ use Rattle.stripe_placer.specs.Placing.UnitRow.{Idle}
 use Rattle.stripe_placer.specs.Inside.{Agree}
 use Rattle.stripe_placer.proofs.Steps.{nothing_agrees}
 use Rattle.stripe_placer.proofs.placer.Placer.new.Goals as goal
-use Rattle.lemmas.proofs.Lists.{length_replicate}
+use Rattle.pblk_model.proofs.Lists.{length_replicate}
 
 pub invariant_of-result : goal.invariant_of-result
 invariant_of-result c =

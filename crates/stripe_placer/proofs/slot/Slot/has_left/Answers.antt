@@ -6,7 +6,7 @@ use Rattle.stripe_placer.specs.Slots.{open_line}
 use Rattle.stripe_placer.proofs.Numbered.{some_is_first}
 use Rattle.stripe_placer.proofs.Tallies.{some_counted}
 use Rattle.stripe_placer.proofs.slot.Slot.has_left.Goals as goal
-use Rattle.lemmas.proofs.Tests.{lt_true, not_before, or_right}
+use Rattle.pblk_model.proofs.Tests.{lt_true, not_before, or_right}
 
 or_false : (a b : Bool) → b ≡ false → (a || b) ≡ a
 or_false true b e = refl

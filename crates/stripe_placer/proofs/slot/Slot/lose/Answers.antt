@@ -12,7 +12,8 @@ use Rattle.stripe_placer.proofs.slot.Slot.lose.Goals as goal
 pub overflow_sub-self : goal.overflow_sub-self
 overflow_sub-self c =
     let s = c.self.inside in
-    some_unanswered (outcomes s.chunks s.width s.next s.stripe_count) c.args.stripe s.start_count s.data_count s.start_left s.data_left s.unanswered s.lost c.self.invariant.counts (its_stripe s c.args.self.now c.args.stripe c.self.view_is c.requires)
+    some_unanswered (outcomes s.chunks s.width s.next s.stripe_count) c.args.stripe s.start_count s.data_count s.start_left s.data_left s.unanswered s.lost
+    c.self.invariant.counts (its_stripe s c.args.self.now c.args.stripe c.self.view_is c.requires)
 
 pub overflow_add-self : goal.overflow_add-self
 overflow_add-self c = omega (arith, lost_short c.self.inside c.self.invariant)
@@ -24,12 +25,15 @@ invariant_of-self c =
     let stripes : List Stripe = outcomes s.chunks s.width s.next s.stripe_count in
     let p : IsWaiting s.chunks s.width s.next s.stripe_count j = it_waits s c.args.self.now j c.self.invariant c.self.view_is c.requires in
     let here : slice_get stripes j ≡ Some Unanswered = its_stripe s c.args.self.now j c.self.view_is c.requires in
-    let some : 1 ≤ s.unanswered = some_unanswered stripes j s.start_count s.data_count s.start_left s.data_left s.unanswered s.lost c.self.invariant.counts here in
+    let some : 1 ≤ s.unanswered = some_unanswered stripes j s.start_count s.data_count s.start_left s.data_left s.unanswered s.lost c.self.invariant.counts
+    here in
     record {
-      keeps = answered_keeps s.online s.width s.start_count s.data_count s.stripe_count s.next j s.chunks (chunk.Closed j) c.self.invariant.keeps (refl, p.from);
+      keeps = answered_keeps s.online s.width s.start_count s.data_count s.stripe_count s.next j s.chunks (chunk.Closed j) c.self.invariant.keeps
+          (refl, p.from);
       counts = subst (λ (xs : List Stripe). KeepsCounts xs s.start_count s.data_count s.start_left s.data_left (s.unanswered - 1) (s.lost + 1))
           (lost_outcomes s.chunks s.width s.next s.stripe_count j c.self.invariant.keeps.some (its_column s j c.self.invariant) p)
-          (lost_counts stripes j s.start_count s.data_count s.start_left s.data_left (s.unanswered - 1) s.unanswered s.lost c.self.invariant.counts here (omega arith));
+          (lost_counts stripes j s.start_count s.data_count s.start_left s.data_left (s.unanswered - 1) s.unanswered s.lost c.self.invariant.counts here
+          (omega arith));
     }
 
 pub returns : goal.returns
@@ -37,4 +41,5 @@ returns c =
     let s = c.self.inside in
     let j = c.args.stripe in
     let p : IsWaiting s.chunks s.width s.next s.stripe_count j = it_waits s c.args.self.now j c.self.invariant c.self.view_is c.requires in
-    stripe_changed s c.args.self.now j Lost _ c.self.view_is (lost_outcomes s.chunks s.width s.next s.stripe_count j c.self.invariant.keeps.some (its_column s j c.self.invariant) p)
+    stripe_changed s c.args.self.now j Lost _ c.self.view_is
+    (lost_outcomes s.chunks s.width s.next s.stripe_count j c.self.invariant.keeps.some (its_column s j c.self.invariant) p)

@@ -6,7 +6,9 @@ use Rattle.stripe_placer.specs.OpenLines.{OpenLine}
 use Rattle.stripe_placer.specs.Inside.{FitsShape}
 use Rattle.stripe_placer.proofs.slot.Slot.new.Goals as goal
 
-opens : (c : goal.After-all_open) → Opens c.args.layout.now c.args.online c.width-width.result (c.start_len.result / c.shape-shape.result.now.ws_opt) (c.data_len.result / c.shape-shape.result.now.ws_opt)
+opens : (c : goal.After-all_open)
+    → Opens c.args.layout.now c.args.online c.width-width.result (c.start_len.result / c.shape-shape.result.now.ws_opt)
+    (c.data_len.result / c.shape-shape.result.now.ws_opt)
     (c.width-width.result * (c.shape-shape.result.now.clba / c.shape-shape.result.now.ws_opt)) c.all_open.result
 opens c =
     let s : Shape = c.args.layout.now in
@@ -32,4 +34,8 @@ invariant_of-result c = record { keeps = opened_keeps _ _ _ _ _ _ _ (opens c); c
 pub returns : goal.returns
 returns c =
     let view = opened_line _ c.args.line _ _ _ _ _ _ (opens c) in
-    record { opened = view; fits = subst (λ (l : OpenLine). FitsShape c.args.layout.now l) (sym view) (opened_fits _ c.args.line _ _ _ _ _ _ (opens c) c.requires.online) }
+    record {
+      opened = view;
+      fits =
+          subst (λ (l : OpenLine). FitsShape c.args.layout.now l) (sym view) (opened_fits _ c.args.line _ _ _ _ _ _ (opens c) c.requires.online);
+    }

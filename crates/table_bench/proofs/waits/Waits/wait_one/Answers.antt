@@ -4,7 +4,7 @@ use Rattle.std.proofs.lemmas.List.FromFn.{length-range_with_len}
 use Rattle.stripe_placer.specs.Placing.{Placing, positions_in}
 use Rattle.table_bench.proofs.Waiting.{held_is, range_below, range_lacks}
 use Rattle.table_bench.proofs.waits.Waits.wait_one.Goals as goal
-use Rattle.lemmas.proofs.Maps.{range_from_0}
+use Rattle.pblk_model.proofs.Maps.{range_from_0}
 
 pub wait-requires-clause-room : goal.wait-requires-clause-room
 wait-requires-clause-room c =

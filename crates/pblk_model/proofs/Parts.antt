@@ -8,7 +8,7 @@ use Rattle.std.specs.List.{AllByRecursion, Contains}
 use Rattle.std.specs.List.Sorted.{IsStrictlyIncreasing}
 use Rattle.std.specs.Option.{IfSome, is_some}
 use Rattle.std.specs.Prelude.{slice_index}
-use Rattle.lemmas.proofs.Lists.{IsAmong, later, rises_far}
+use Rattle.pblk_model.proofs.Lists.{IsAmong, later, rises_far}
 use borrow.Rule.Slice.PartMut.{put_mid}
 
 pub all_at : {X : Type 0} (P : X → Type 0) (xs : List X) (k : ℕ) (x : X) → slice_get xs k ≡ Some x → AllByRecursion P xs → P x

@@ -9,7 +9,7 @@ use Rattle.std.proofs.lemmas.Option.{none-some, same_Some}
 use Rattle.std.specs.List.{AllByRecursion, cons_option, enumerate_from, filter, filter_map, find, flat_map, list_all, list_any, range_with_len, sum_by}
 use Rattle.std.specs.Option.{IfSome, option_map, option_to_list}
 use Rattle.std.specs.Prelude.{is_some, slice_set}
-use Rattle.lemmas.proofs.Lists.{IsAmong, all_append, later}
+use Rattle.pblk_model.proofs.Lists.{IsAmong, all_append, later}
 
 pub map_agree : {X Y : Type 0} (P : X → Type 0) (f g : X → Y) → ((x : X) → P x → f x ≡ g x) → (xs : List X) → AllByRecursion P xs → map f xs ≡ map g xs
 map_agree P f g same [] all = refl
