@@ -1,4 +1,5 @@
 pub mod PrefixLemmas
+pub mod Rights
 pub mod Parts
 pub mod Worlds
 pub mod Views

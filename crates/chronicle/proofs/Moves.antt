@@ -1,7 +1,9 @@
 -- Each step keeps the rule of a chronicle.
-use Rattle.std.proofs.Common.{◌≡◌, ◌≢◌, ⊎_elim, ℕ, zero, suc, ◌+◌, ◌-◌, ◌%◌, ◌^◌, ◌==◌, ◌<◌, ◌≤◌, false, true, Bool, if◌then◌else◌, List, [], ◌∷◌, ◌++◌, length, replicate, set, drop, take, refl, sym, ap, ◌∙◌, subst, arith, length-set, length-append, get_or-set_same, get_or-set_other}
+use Rattle.std.proofs.Common.{◌≡◌, ◌≢◌, ⊎_elim, None, Some, ℕ, zero, suc, ◌+◌, ◌-◌, ◌%◌, ◌^◌, ◌==◌, ◌<◌, ◌≤◌, false, true, Bool, if◌then◌else◌, List, [], ◌∷◌, ◌++◌, length, replicate, set, drop, take, refl, sym, ap, ◌∙◌, subst, arith, length-set, length-append, get_or-set_same, get_or-set_other}
 use Rattle.std.specs.Prelude.{slice_index}
 use Rattle.std.specs.List.{Contains, range_with_len}
+use Rattle.std.specs.Option.{option_map}
+use Rattle.std.proofs.lemmas.Option.{none-some, same_Some}
 use Rattle.std.proofs.lemmas.Bool.{cases_eq}
 use Rattle.std.proofs.lemmas.List.{set-get_or}
 use Rattle.std.proofs.lemmas.List.FromFn.{get_or-range_with_len, length-range_with_len}
@@ -11,23 +13,25 @@ use lib.ListN.{get_elem?}
 use Rattle.atomic_table.specs.Table.{State, Allows, Splits, Joins, keeps, opening}
 use Rattle.atomic_table.proofs.Lists.{at_set}
 use Rattle.pblk_model.proofs.Tests.{same_number, other_number}
-use Rattle.pblk_world.specs.Events.{Event, Logged}
+use Rattle.pblk_world.specs.Events.{Maker, Event, Logged}
+use Rattle.pblk_world.specs.Makers.{HasMakers, commands_of}
 use Rattle.pblk_world.specs.World.{World, Logs, log_of}
 use Rattle.pblk_world.specs.Legal.{IsAllowed, IsLegal}
 use Rattle.pblk_world.proofs.WorldLemmas.{log_here, log_elsewhere}
 use Rattle.chronicle.specs.Views.{Part, Past, View}
-use Rattle.chronicle.specs.Prefixes.{logs_of, longer_of, AreLegalLogs, naming}
-use Rattle.chronicle.specs.Rule.{IsPart, IsView, IsKept, IsHeard}
-use Rattle.chronicle.specs.Steps.{no_past, starting, spent, began, appended, but_first, first_of, noted, with_heard, joined, merged}
+use Rattle.chronicle.specs.Prefixes.{logs_of, longer_of, AreLegalLogs, AreOpeningLogs, IsNext, naming}
+use Rattle.chronicle.specs.Rule.{HasRights, IsPart, IsView, IsKept, IsHeard, IsWhole, Owners}
+use Rattle.chronicle.specs.Steps.{no_past, starting, spent, began, appended, but_first, first_of, lent, makers_from, named, naming_next, noted, with_heard, without_makers, joined, merged}
 use Rattle.chronicle.proofs.PrefixLemmas.{nothing_begins, begins_longer, longer_at, longer_some}
 use Rattle.chronicle.proofs.Parts.{next_step, nothing_part, later_part, moved_part, appended_part, own_begins, heard_own_begins, joined_part}
-use Rattle.chronicle.proofs.Worlds.{whole_part, known_legal, step_legal}
+use Rattle.chronicle.proofs.Rights.{moved_rights, next_is_own, next_numbered, no_rights}
+use Rattle.chronicle.proofs.Worlds.{whole_part, known_legal, known_whole, opening_legal, step_legal}
 use Rattle.chronicle.proofs.Views.{each_changed, each_more, only_one, IsStale, stale, stale_changed}
 
 -- ---- where the world stays
 
 -- the rule for other seats over the same world
-module _ (s : State (Unit {0}) View) (h : IsKept s) (owner : ℕ → ℕ) (views : List View)
+module _ (s : State (Unit {0}) View) (h : IsKept s) (owner : Owners) (views : List View)
     (each : (seat : ℕ) (u : View) → get_elem? views seat ≡ some u → IsView h.past h.world owner seat u)
     (old : (seat : ℕ) (u : View) → get_elem? views seat ≡ some u → IsStale seat u) where
   same_world : IsKept (record { words = s.words; homes = s.homes; views = views })
@@ -36,6 +40,7 @@ module _ (s : State (Unit {0}) View) (h : IsKept s) (owner : ℕ → ℕ) (views
     world = h.world;
     owner = owner;
     legal = h.legal;
+    numbered = h.numbered;
     counts = h.counts;
     views = each;
     alone = λ seat u there fresh. absurd (old seat u there fresh);
@@ -49,6 +54,7 @@ module _ (s : State (Unit {0}) View) (h : IsKept s) (owner : ℕ → ℕ) (views
     world = h.world;
     owner = owner;
     legal = h.legal;
+    numbered = h.numbered;
     counts = subst (λ (words : List ℕ). (author : ℕ) → author < length words
         → slice_index words author ≡ (length (log_of h.world author) - length (logs_of h.past.logs author)) % 2 ^ 64)
         (sym (set-get_or s.words word 0)) h.counts;
@@ -56,9 +62,11 @@ module _ (s : State (Unit {0}) View) (h : IsKept s) (owner : ℕ → ℕ) (views
     alone = λ seat u there fresh. absurd (old seat u there fresh);
   }
 
-bystander : (start : Past) (w : World) (owner : ℕ → ℕ) (seat seat' : ℕ) (p : Part) → IsPart start w owner seat p
-    → IsPart start w owner seat' (record p { owned = [] })
-bystander start w owner seat seat' p h = moved_part start w owner seat owner seat' p [] (λ author has. absurd (let none = has.1 in omega arith)) h
+-- what it knows alone
+bystander : (start : Past) (w : World) (owner : Owners) (seat seat' : ℕ) (p : Part) → IsPart start w owner seat p
+    → IsPart start w owner seat' (record p { owned = []; makers = []; spare = None })
+bystander start w owner seat seat' p h = moved_part start w owner seat owner seat' p [] [] None (λ author has. absurd (let none = has.1 in omega arith))
+    (no_rights w owner seat') h
 
 -- a seat that knows as much is split off
 pub notes : (by : ℕ) (v : View) → v.fresh ≡ false → Splits IsKept by v v (noted v)
@@ -100,28 +108,31 @@ parts_first : (by : ℕ) (v : View) (log : ℕ) (rest : List ℕ) → v.mine.own
 parts_first by v log rest owned apart s h here =
     let mine = h.views by v here in
     let views = set s.views by (but_first v) in
-    let owner = moved_to h.owner log (length views) in
+    let owner : Owners = record h.owner { log = moved_to h.owner.log log (length views) } in
     let P = IsView h.past h.world owner in
     let was : Contains v.mine.owned log = subst (λ xs. Contains xs log) (sym owned) (0, omega arith, refl) in
-    let own : h.owner log ≡ by = (mine.mine.owns log was).0 in
+    let own : h.owner.log log ≡ by = (mine.mine.owns log was).0 in
     let other : (seat : ℕ) (p : Part) → seat ≢ by → IsPart h.past h.world h.owner seat p → IsPart h.past h.world owner seat p =
-    λ seat p not_by part. moved_part h.past h.world h.owner seat owner seat p p.owned
-    (λ author has. (has, λ is. unmoved h.owner log (length views) author (λ e. not_by (sym is ∙ ap h.owner e ∙ own)) ∙ is)) part in
+    λ seat p not_by part. moved_part h.past h.world h.owner seat owner seat p p.owned p.makers p.spare
+    (λ author has. (has, λ is. unmoved h.owner.log log (length views) author (λ e. not_by (sym is ∙ ap h.owner.log e ∙ own)) ∙ is))
+    (moved_rights h.world h.owner seat owner seat p.makers p.spare refl (λ worker is. is) part.rights) part in
     let left : IsView h.past h.world owner by (but_first v) = record {
-      mine = moved_part h.past h.world h.owner by owner by v.mine (drop 1 v.mine.owned)
+      mine = moved_part h.past h.world h.owner by owner by v.mine (drop 1 v.mine.owned) v.mine.makers v.mine.spare
           (λ author has.
           let among : Contains rest author = subst (λ xs. Contains (drop 1 xs) author) owned has in (
             subst (λ xs. Contains xs author) (sym owned) (suc among.0, omega (arith, among.1), among.2),
-            λ is. unmoved h.owner log (length views) author (apart author among) ∙ is,
-          )) mine.mine;
+            λ is. unmoved h.owner.log log (length views) author (apart author among) ∙ is,
+          ))
+          (moved_rights h.world h.owner by owner by v.mine.makers v.mine.spare refl (λ worker is. is) mine.mine.rights) mine.mine;
       heard = nothing_part h.past h.world owner by;
     } in
     let right : IsView h.past h.world owner (length views) (first_of v) = record {
-      mine = moved_part h.past h.world h.owner by owner (length views) v.mine (take 1 v.mine.owned)
+      mine = moved_part h.past h.world h.owner by owner (length views) v.mine (take 1 v.mine.owned) [] None
           (λ author has.
           let among : Contains (log ∷ []) author = subst (λ xs. Contains (take 1 xs) author) owned has in
           let is : author ≡ log = only log author among in
-          (subst (Contains v.mine.owned) (sym is) was, λ _. ap owner is ∙ moved h.owner log (length views))) mine.mine;
+          (subst (Contains v.mine.owned) (sym is) was, λ _. ap owner.log is ∙ moved h.owner.log log (length views)))
+          (no_rights h.world owner (length views)) mine.mine;
       heard = nothing_part h.past h.world owner (length views);
     } in
     same_world s h owner (views ++ first_of v ∷ [])
@@ -156,14 +167,19 @@ meets by v other w s h here apart there =
     let its : IsView h.past h.world h.owner other w =
     ⊎_elim (λ (t : (other ≡ by) × (with_heard v w ≡ w)). absurd (apart t.0))
     (λ (t : (other ≢ by) × (get_elem? s.views other ≡ some w)). h.views other w t.1) (at_set s.views by other (with_heard v w) w there) in
-    let owner = handed_to h.owner other by in
+    let owner : Owners = record { log = handed_to h.owner.log other by; worker = handed_to h.owner.worker other by; named = h.owner.named } in
     let P = IsView h.past h.world owner in
     let stays : (seat : ℕ) (p : Part) → seat ≢ other → IsPart h.past h.world h.owner seat p → IsPart h.past h.world owner seat p =
-    λ seat p not_other part. moved_part h.past h.world h.owner seat owner seat p p.owned
-    (λ author has. (has, unhanded h.owner other by author seat not_other)) part in
+    λ seat p not_other part. moved_part h.past h.world h.owner seat owner seat p p.owned p.makers p.spare
+    (λ author has. (has, unhanded h.owner.log other by author seat not_other))
+    (moved_rights h.world h.owner seat owner seat p.makers p.spare refl (λ worker. unhanded h.owner.worker other by worker seat not_other) part.rights)
+    part in
     let both : IsView h.past h.world owner by (with_heard v w) = record {
       mine = stays by v.mine (λ e. apart (sym e)) mine.mine;
-      heard = moved_part h.past h.world h.owner other owner by w.mine w.mine.owned (λ author has. (has, handed h.owner other by author)) its.mine;
+      heard = moved_part h.past h.world h.owner other owner by w.mine w.mine.owned w.mine.makers w.mine.spare
+          (λ author has. (has, handed h.owner.log other by author))
+          (moved_rights h.world h.owner other owner by w.mine.makers w.mine.spare refl (λ worker. handed h.owner.worker other by worker) its.mine.rights)
+          its.mine;
     } in
     let none = nothing_part h.past h.world owner other in
     let views = set s.views by (with_heard v w) in
@@ -208,6 +224,117 @@ hears by v c slots word some_mine some_heard s h long here small =
       ),
     )
 
+-- ---- who numbers commands
+
+-- a new seat numbers the commands of this seat's workers
+pub lends : (by : ℕ) (v : View) → Splits IsKept by v (without_makers v) (lent v)
+lends by v s h here =
+    let mine = h.views by v here in
+    let views = set s.views by (without_makers v) in
+    let owner : Owners = record h.owner { worker = handed_to h.owner.worker by (length views) } in
+    let P = IsView h.past h.world owner in
+    let stays : (seat : ℕ) (p : Part) → seat ≢ by → IsPart h.past h.world h.owner seat p → IsPart h.past h.world owner seat p =
+    λ seat p not_by part. moved_part h.past h.world h.owner seat owner seat p p.owned p.makers p.spare (λ author has. (has, λ is. is))
+    (moved_rights h.world h.owner seat owner seat p.makers p.spare refl (λ worker. unhanded h.owner.worker by (length views) worker seat not_by) part.rights)
+    part in
+    let left : IsView h.past h.world owner by (without_makers v) = record {
+      mine = moved_part h.past h.world h.owner by owner by v.mine v.mine.owned [] None (λ author has. (has, λ is. is)) (no_rights h.world owner by)
+          mine.mine;
+      heard = nothing_part h.past h.world owner by;
+    } in
+    let right : IsView h.past h.world owner (length views) (lent v) = record {
+      mine = moved_part h.past h.world h.owner by owner (length views) v.mine [] v.mine.makers v.mine.spare
+          (λ author has. absurd (let none = has.1 in omega arith))
+          (moved_rights h.world h.owner by owner (length views) v.mine.makers v.mine.spare refl
+          (λ worker. handed h.owner.worker by (length views) worker) mine.mine.rights) mine.mine;
+      heard = nothing_part h.past h.world owner (length views);
+    } in
+    same_world s h owner (views ++ lent v ∷ [])
+    (each_more P views (lent v)
+    (each_changed P s.views by (without_makers v)
+    (λ seat u not_by there. let each =
+    h.views seat u there in record { mine = stays seat u.mine not_by each.mine; heard = stays seat u.heard not_by each.heard })
+    left) right)
+    (each_more IsStale views (lent v) (stale_changed s h by v (without_makers v) here refl) (stale (length views) (lent v) refl))
+
+-- a new seat numbers the commands of the next new worker
+pub names : (by : ℕ) (v : View) (n : ℕ) → v.mine.spare ≡ Some n → n < 2 ^ 64 → Splits IsKept by v (naming_next v) (named v)
+names by v n spare small s h here =
+    let mine = h.views by v here in
+    let views = set s.views by (naming_next v) in
+    let rights = mine.mine.rights in
+    let next : n ≡ h.owner.named = rights.next n spare in
+    let own : h.owner.worker n ≡ by = (rights.unnamed n n spare (omega arith) small).0 in
+    let none : commands_of n h.world ≡ 0 = (rights.unnamed n n spare (omega arith) small).1 in
+    let owner : Owners = record { log = h.owner.log; worker = moved_to h.owner.worker n (length views); named = h.owner.named + 1 } in
+    let P = IsView h.past h.world owner in
+    let stays : (seat : ℕ) (p : Part) → seat ≢ by → IsPart h.past h.world h.owner seat p → IsPart h.past h.world owner seat p =
+    λ seat p not_by part. moved_part h.past h.world h.owner seat owner seat p p.owned p.makers p.spare (λ author has. (has, λ is. is))
+    (record {
+      each = λ m has. let e = part.rights.each m has in (
+        unmoved h.owner.worker n (length views) m.worker (λ same. absurd (let low = e.1 in omega arith)) ∙ e.0,
+        (let low = e.1 in omega arith),
+        e.2,
+      );
+      next = λ k is. absurd (not_by (sym (part.rights.unnamed k n is (let at = part.rights.next k is in omega arith) small).0 ∙ own));
+      unnamed = λ k worker is low few. absurd (not_by (sym (part.rights.unnamed k n is (let at = part.rights.next k is in omega arith) small).0 ∙ own));
+    }) part in
+    let left : IsView h.past h.world owner by (naming_next v) = record {
+      mine = moved_part h.past h.world h.owner by owner by v.mine v.mine.owned v.mine.makers (option_map (λ n. n + 1) v.mine.spare)
+          (λ author has. (has, λ is. is))
+          (subst (HasRights h.world owner by v.mine.makers) (ap (option_map (λ n. n + 1)) (sym spare)) (record {
+            each = λ m has. let e = rights.each m has in (
+              unmoved h.owner.worker n (length views) m.worker (λ same. absurd (let low = e.1 in omega arith)) ∙ e.0,
+              (let low = e.1 in omega arith),
+              e.2,
+            );
+            next = λ k is. let same : n + 1 ≡ k = same_Some (n + 1) k is in omega arith;
+            unnamed = λ k worker is low few.
+                let same : n + 1 ≡ k = same_Some (n + 1) k is in
+                let u = rights.unnamed n worker spare (omega arith) few in
+                (unmoved h.owner.worker n (length views) worker (λ e. absurd (omega arith)) ∙ u.0, u.1);
+          })) mine.mine;
+      heard = nothing_part h.past h.world owner by;
+    } in
+    let right : IsView h.past h.world owner (length views) (named v) = record {
+      mine = moved_part h.past h.world h.owner by owner (length views) v.mine [] (makers_from v.mine.spare) None
+          (λ author has. absurd (let empty = has.1 in omega arith))
+          (subst (λ o. HasRights h.world owner (length views) (makers_from o) None) (sym spare) (record {
+            each = λ m has.
+                let is : m ≡ record { worker = n; made = 0 } = sym (one (record { worker = n; made = 0 }) m has) in
+                subst (λ (m : Maker). (owner.worker m.worker ≡ length views) × (m.worker < owner.named) × (m.made ≡ commands_of m.worker h.world)) (sym is)
+                (moved h.owner.worker n (length views), (omega arith), sym none);
+            next = λ k is. absurd (none-some k is);
+            unnamed = λ k worker is. absurd (none-some k is);
+          })) mine.mine;
+      heard = nothing_part h.past h.world owner (length views);
+    } in
+    same_world s h owner (views ++ named v ∷ [])
+    (each_more P views (named v)
+    (each_changed P s.views by (naming_next v)
+    (λ seat u not_by there. let each =
+    h.views seat u there in record { mine = stays seat u.mine not_by each.mine; heard = stays seat u.heard not_by each.heard })
+    left) right)
+    (each_more IsStale views (named v) (stale_changed s h by v (naming_next v) here refl) (stale (length views) (named v) refl))
+  where
+    one : (m k : Maker) → Contains (m ∷ []) k → m ≡ k
+    one m k (zero, _, is) = is
+    one m k (suc i, within, _) = absurd (omega arith)
+
+-- a seat that owns all logs is told that it knows them whole
+pub looks : (by : ℕ) (v : View) (c : List (ℕ × Unit {0})) (slots word : ℕ) → v.fresh ≡ false → 0 < length v.mine.known
+    → Allows IsKept slots by (v, c) word (λ n. n) (λ n m. (m ≡ (v, c)) × IsWhole v.mine)
+looks by v c slots word begun any s h long here small =
+    let u = h.views by v here in
+    let P = IsView h.past h.world h.owner in (
+      v,
+      keeps,
+      tt,
+      after_load s h h.owner (set s.views by v) (each_changed P s.views by v (λ seat u _ there. h.views seat u there) u)
+          (stale_changed s h by v v here begun) s.homes word,
+      (refl, known_whole h.past h.world h.owner by v.mine u.mine any h.legal h.numbered),
+    )
+
 -- ---- an author appends
 
 -- the word counts one more
@@ -231,10 +358,11 @@ counts_more words past w author l n is counts other within = ⊎_elim
 
 pub appends : (by : ℕ) (v : View) (c : List (ℕ × Unit {0})) (slots author n : ℕ) (e : Event) → Contains v.mine.owned author → author < length v.mine.known
     → IsAllowed v.mine.past.image author e (logs_of v.mine.known)
+    → IsNext e v.mine.makers
     → n ≡ (length (logs_of v.mine.known author) + 1 - length (logs_of v.mine.past.logs author)) % 2 ^ 64
     → Allows IsKept slots by (v, c) author (λ _. n) (λ _ m. m ≡ (appended v author e, c))
-unfolding IsLegal
-appends by v c slots author n e has within allowed count s h long here small =
+unfolding IsLegal HasMakers
+appends by v c slots author n e has within allowed next count s h long here small =
     let u = h.views by v here in
     let own = u.mine.owns author has in
     let some : 0 < length v.mine.known = omega arith in
@@ -243,7 +371,8 @@ appends by v c slots author n e has within allowed count s h long here small =
     let w = step ∷ h.world in
     let P = IsView h.past w h.owner in
     let later : (seat : ℕ) (p : Part) → seat ≢ by → IsPart h.past h.world h.owner seat p → IsPart h.past w h.owner seat p =
-    λ seat p apart part. later_part h.past h.world h.owner seat step p (λ e. apart (sym e ∙ own.0)) part in (
+    λ seat p apart part. later_part h.past h.world h.owner seat step p (λ e. apart (sym e ∙ own.0))
+    (λ worker is. next_is_own h.world h.owner by step v.mine.makers v.mine.spare u.mine.rights e worker next (λ its. apart (sym is ∙ its))) part in (
       appended v author e,
       keeps,
       tt,
@@ -256,12 +385,13 @@ appends by v c slots author n e has within allowed count s h long here small =
               (subst (λ (p : Past). IsAllowed p.image author e (logs_of v.mine.known)) past allowed),
           h.legal,
         );
+        numbered = (next_numbered h.world h.owner by step v.mine.makers v.mine.spare u.mine.rights e next, h.numbered);
         counts = counts_more s.words h.past h.world author (naming v.mine.known e) n
             (count ∙ ap (λ (x : List Logged × Past). (length x.0 + 1 - length (logs_of x.1.logs author)) % 2 ^ 64) (λ i. (own.1 i, past i))) h.counts;
         views = each_changed P s.views by (appended v author e)
             (λ seat u apart there. let each =
             h.views seat u there in record { mine = later seat u.mine apart each.mine; heard = later seat u.heard apart each.heard })
-            (record { mine = appended_part h.past h.world h.owner by v.mine author e has within u.mine; heard = nothing_part h.past w h.owner by });
+            (record { mine = appended_part h.past h.world h.owner by v.mine author e has within u.mine next; heard = nothing_part h.past w h.owner by });
         alone = λ seat u there fresh. absurd (stale_changed s h by v (appended v author e) here refl seat u there fresh);
       },
       refl,
@@ -274,20 +404,24 @@ zeros zero k = refl
 zeros (suc n) zero = refl
 zeros (suc n) (suc k) = zeros n k
 
+abbrev first_owners : Owners
+first_owners = record { log = λ _. 0; worker = λ _. 0; named = 0 }
+
 pub opens : (count : ℕ) → IsKept (opening (replicate count 0) [] (starting count))
-unfolding IsLegal
+unfolding IsLegal HasMakers
 opens count = record {
   past = no_past;
   world = [];
-  owner = λ _. 0;
+  owner = first_owners;
   legal = tt;
+  numbered = tt;
   counts = λ author within. zeros count author;
   views = λ seat u there. let one = only_one (starting count) seat u there in
-      subst (λ (x : ℕ × View). IsView no_past [] (λ _. 0) x.0 x.1) (λ i. (sym one.0 i, one.1 i)) first;
+      subst (λ (x : ℕ × View). IsView no_past [] first_owners x.0 x.1) (λ i. (sym one.0 i, one.1 i)) first;
   alone = λ seat u there fresh. (ap (λ (v : View). v ∷ []) (only_one (starting count) seat u there).1, refl);
 }
   where
-    first : IsView no_past [] (λ _. 0) 0 (starting count)
+    first : IsView no_past [] first_owners 0 (starting count)
     first = record {
       mine = record {
         begins = λ author. nothing_begins [];
@@ -295,8 +429,9 @@ opens count = record {
         owns = λ author has. (refl, refl);
         past = λ some. absurd (omega arith);
         authors = λ some. absurd (omega arith);
+        rights = no_rights [] first_owners 0;
       };
-      heard = nothing_part no_past [] (λ _. 0) 0;
+      heard = nothing_part no_past [] first_owners 0;
     }
 
 -- no word counts anything yet
@@ -315,27 +450,36 @@ counts_none words past before w world logs none counts author within =
     now ∙ sym (ap (λ (l : Logs). (length (l author) - length (logs_of past.logs author)) % 2 ^ 64) logs
     ∙ ap (λ k. k % 2 ^ 64) (let z : length (logs_of past.logs author) - length (logs_of past.logs author) ≡ 0 = omega arith in z))
 
-pub begins : (by : ℕ) (v : View) (c : List (ℕ × Unit {0})) (slots : ℕ) (past : Past) → v.fresh ≡ true → AreLegalLogs past.image past.logs
+pub begins : (by : ℕ) (v : View) (c : List (ℕ × Unit {0})) (slots : ℕ) (past : Past) → v.fresh ≡ true → AreOpeningLogs past.image past.logs
     → Allows IsKept slots by (v, c) 0 (λ _. 0) (λ _ m. m ≡ (began v past, c))
+unfolding opening_legal
 begins by v c slots past fresh k s h long here small =
     let only = h.alone by v here fresh in
     let u = h.views by v here in
-    let P = IsView past k.world h.owner in (
+    let owner : Owners = record { log = h.owner.log; worker = λ _. by; named = 0 } in
+    let P = IsView past k.world owner in (
       began v past,
       keeps,
       tt,
       record {
         past = past;
         world = k.world;
-        owner = h.owner;
+        owner = owner;
         legal = k.legal;
+        numbered = k.makers;
         counts = counts_none s.words past h.past k.world h.world k.logs only.1 h.counts;
         views = each_changed P s.views by (began v past)
             (λ seat u apart there. absurd (apart ((only_one v seat u (subst (λ l. get_elem? l seat ≡ some u) only.0 there)).0
             ∙ sym (only_one v by v (subst (λ l. get_elem? l by ≡ some v) only.0 here)).0)))
             (record {
-              mine = whole_part past past.logs k h.owner by v.mine.owned (λ author has. (u.mine.owns author has).0);
-              heard = nothing_part past k.world h.owner by;
+              mine = whole_part past past.logs (opening_legal past.image past.logs k) owner by v.mine.owned [] (Some 0)
+                  (λ author has. (u.mine.owns author has).0)
+                  (record {
+                    each = λ m has. absurd (let none = has.1 in omega arith);
+                    next = λ n is. sym (same_Some 0 n is);
+                    unnamed = λ n worker is low few. (refl, k.none worker few);
+                  });
+              heard = nothing_part past k.world owner by;
             });
         alone = λ seat u there fresh. absurd (stale_changed s h by v (began v past) here refl seat u there fresh);
       },

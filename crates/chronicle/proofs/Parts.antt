@@ -1,5 +1,5 @@
 -- What a seat owns and knows, after each kind of step.
-use Rattle.std.proofs.Common.{◌≡◌, ◌≢◌, ◌⊎◌, ⊎_elim, ℕ, ◌<◌, ◌≤◌, Some, List, [], ◌∷◌, ◌++◌, length, refl, sym, ap, ◌∙◌, subst, arith, length-append, length-set}
+use Rattle.std.proofs.Common.{◌≡◌, ◌≢◌, ◌⊎◌, ⊎_elim, ℕ, ◌<◌, ◌≤◌, false, Some, Option, List, [], ◌∷◌, ◌++◌, length, refl, sym, ap, ◌∙◌, subst, arith, length-append, length-set}
 use Rattle.std.specs.Prelude.{slice_get}
 use Rattle.std.specs.List.{Contains}
 use Rattle.std.proofs.lemmas.Bool.{cases_eq}
@@ -7,15 +7,17 @@ use Rattle.std.proofs.lemmas.List.Elements.{Contains-append_cases}
 use mathlib.Core.List.{IsPrefix}
 use base.Growing.{prefix_refl, prefix_trans}
 use Rattle.pblk_model.proofs.Parts.{get_below, get_first}
-use Rattle.pblk_world.specs.Events.{Event, Logged, Step}
+use Rattle.pblk_world.specs.Events.{Maker, Event, Logged, Step}
+use Rattle.pblk_world.specs.Makers.{is_made_by}
 use Rattle.pblk_world.specs.World.{World, log_of, known}
 use Rattle.pblk_world.proofs.Growing.{grows, at_end}
 use Rattle.pblk_world.proofs.WorldLemmas.{log_here, log_elsewhere}
 use Rattle.world_laws.specs.KnownCut.{IsClosedCut}
 use Rattle.chronicle.specs.Views.{Part, Past}
-use Rattle.chronicle.specs.Prefixes.{Prefixes, logs_of, longer, longer_of, naming, with_event}
-use Rattle.chronicle.specs.Rule.{IsPart}
+use Rattle.chronicle.specs.Prefixes.{Prefixes, IsNext, logs_of, longer, longer_of, naming, next_after, with_event}
+use Rattle.chronicle.specs.Rule.{HasRights, IsPart, Owners}
 use Rattle.chronicle.specs.Steps.{joined, nothing}
+use Rattle.chronicle.proofs.Rights.{joined_rights, later_rights, next_rights, no_rights}
 use Rattle.chronicle.proofs.PrefixLemmas.{nothing_begins, begins_length, by_longer, longer_left, longer_right, longer_begins, longer_length, longer_at, longer_count, named_length, own_more, others_same}
 
 -- so many events of each log are known
@@ -41,7 +43,7 @@ closed_later s w n within closed author other number l below there =
     let long = within author in
     closed author other number l below (stood s w author number l (omega arith) there)
 
-module _ (start : Past) (w : World) (owner : ℕ → ℕ) (seat : ℕ) where
+module _ (start : Past) (w : World) (owner : Owners) (seat : ℕ) where
   pub nothing_part : IsPart start w owner seat nothing
   nothing_part = record {
     begins = λ author. nothing_begins (log_of w author);
@@ -49,28 +51,34 @@ module _ (start : Past) (w : World) (owner : ℕ → ℕ) (seat : ℕ) where
     owns = λ author has. absurd (let none = has.1 in omega arith);
     past = λ some. absurd (omega arith);
     authors = λ some. absurd (omega arith);
+    rights = no_rights w owner seat;
   }
 
-  -- another seat appends
-  pub later_part : (s : Step) (p : Part) → owner s.author ≢ seat → IsPart start w owner seat p → IsPart start (s ∷ w) owner seat p
-  later_part s p apart h = record {
+  -- another seat appends, a command of none of this seat's workers
+  pub later_part : (s : Step) (p : Part) → owner.log s.author ≢ seat
+      → ((worker : ℕ) → owner.worker worker ≡ seat → is_made_by worker s.logged.event ≡ false) → IsPart start w owner seat p
+      → IsPart start (s ∷ w) owner seat p
+  later_part s p apart other h = record {
     begins = λ author. prefix_trans (logs_of p.known author) (log_of w author) (log_of (s ∷ w) author) (h.begins author) (log_grows s w author);
     closed = closed_later s w (lengths p.known) (λ author. begins_length (logs_of p.known author) (log_of w author) (h.begins author)) h.closed;
-    owns = λ author has. let o = h.owns author has in (o.0, o.1 ∙ sym (log_elsewhere s w author (λ e. apart (ap owner e ∙ o.0))));
+    owns = λ author has. let o = h.owns author has in (o.0, o.1 ∙ sym (log_elsewhere s w author (λ e. apart (ap owner.log e ∙ o.0))));
     past = h.past;
     authors = h.authors;
+    rights = later_rights w owner seat s p.makers p.spare other h.rights;
   }
 
-  -- a part with other logs, of a seat that perhaps is another one
-  pub moved_part : (owner' : ℕ → ℕ) (seat' : ℕ) (p : Part) (owned : List ℕ)
-      → ((author : ℕ) → Contains owned author → Contains p.owned author × (owner author ≡ seat → owner' author ≡ seat'))
-      → IsPart start w owner seat p → IsPart start w owner' seat' (record p { owned = owned })
-  moved_part owner' seat' p owned fewer h = record {
+  -- a part with other logs and other workers, of a seat that perhaps is another one
+  pub moved_part : (owner' : Owners) (seat' : ℕ) (p : Part) (owned : List ℕ) (makers : List Maker) (spare : Option ℕ)
+      → ((author : ℕ) → Contains owned author → Contains p.owned author × (owner.log author ≡ seat → owner'.log author ≡ seat'))
+      → HasRights w owner' seat' makers spare
+      → IsPart start w owner seat p → IsPart start w owner' seat' (record p { owned = owned; makers = makers; spare = spare })
+  moved_part owner' seat' p owned makers spare fewer rights h = record {
     begins = h.begins;
     closed = h.closed;
     owns = λ author has. let f = fewer author has in let o = h.owns author f.0 in (f.1 o.0, o.1);
     past = h.past;
     authors = h.authors;
+    rights = rights;
   }
 
   -- ---- an event more
@@ -132,13 +140,15 @@ module _ (start : Past) (w : World) (owner : ℕ → ℕ) (seat : ℕ) where
             (λ (new : (number ≡ length (log_of w author)) × (step.logged ≡ l)). subst (λ x. known x other ≤ lengths more other) new.1 (new_named other))
             (at_end (log_of w author) step.logged l number (ap (λ xs. slice_get xs number) (sym (log_here step w author refl)) ∙ at))
 
-    pub appended_part : IsPart start (next_step p.known author e ∷ w) owner seat (record p { known = with_event p.known author e })
-    appended_part = record {
+    pub appended_part : IsNext e p.makers
+        → IsPart start (next_step p.known author e ∷ w) owner seat (record p { known = with_event p.known author e; makers = next_after e p.makers })
+    appended_part next = record {
       begins = begins_more;
       closed = closed_more;
       owns = λ other owned. let o = h.owns other owned in (o.0, whole other o.1);
       past = λ some. h.past (omega arith);
       authors = λ some. length-set p.known author _ ∙ h.authors (omega arith);
+      rights = next_rights w owner seat step p.makers p.spare h.rights e refl next;
     }
 
   -- ---- another part taken in
@@ -167,7 +177,7 @@ module _ (start : Past) (w : World) (owner : ℕ → ℕ) (seat : ℕ) where
     pub heard_own_begins : (author : ℕ) → Contains q.owned author → IsPrefix (logs_of p.known author) (logs_of q.known author)
     heard_own_begins author has = subst (λ xs. IsPrefix (logs_of p.known author) xs) (sym (k.owns author has).1) (h.begins author)
 
-    owned_whole : (author : ℕ) → Contains p.owned author ⊎ Contains q.owned author → (owner author ≡ seat) × (logs_of both author ≡ log_of w author)
+    owned_whole : (author : ℕ) → Contains p.owned author ⊎ Contains q.owned author → (owner.log author ≡ seat) × (logs_of both author ≡ log_of w author)
     owned_whole author = ⊎_elim
         (λ has. let o = h.owns author has in
         (o.0, both_at author ∙ longer_left (logs_of p.known author) (logs_of q.known author) (own_begins author has) ∙ o.1))
@@ -182,4 +192,5 @@ module _ (start : Past) (w : World) (owner : ℕ → ℕ) (seat : ℕ) where
       owns = λ author has. owned_whole author (Contains-append_cases p.owned q.owned author has);
       past = λ _. h.past some;
       authors = λ _. longer_count p.known q.known (h.authors some ∙ sym (k.authors other_some)) ∙ h.authors some;
+      rights = joined_rights w owner seat p.makers q.makers p.spare q.spare h.rights k.rights;
     }

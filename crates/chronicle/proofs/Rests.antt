@@ -1,5 +1,5 @@
 -- What an author, a note and a token keep between two calls.
-use Rattle.std.proofs.Common.{◌≡◌, ◌≢◌, ⊎_elim, ℕ, suc, ◌+◌, ◌-◌, ◌%◌, ◌^◌, ◌<◌, ◌≤◌, List, [], ◌∷◌, ◌++◌, length, length-append, refl, sym, ap, ◌∙◌, subst, arith}
+use Rattle.std.proofs.Common.{◌≡◌, ◌≢◌, ⊎_elim, ℕ, suc, ◌+◌, ◌-◌, ◌%◌, ◌^◌, ◌<◌, ◌≤◌, None, Option, List, [], ◌∷◌, ◌++◌, append-nil, length, length-append, refl, sym, ap, ◌∙◌, subst, arith}
 use Rattle.std.specs.List.{range_with_len}
 use Rattle.std.proofs.Math.Nat.{mod-add-mod}
 use Rattle.std.proofs.lemmas.Bool.{cases_eq}
@@ -8,12 +8,12 @@ use mathlib.Core.List.{IsPrefix}
 use base.Growing.{prefix_refl, prefix_trans}
 use Rattle.atomic_table.specs.Seated.{TableId}
 use Rattle.pblk_model.specs.Shape.{units}
-use Rattle.pblk_world.specs.Events.{Event, Logged}
+use Rattle.pblk_world.specs.Events.{Maker, Event, Logged}
 use Rattle.pblk_world.specs.Legal.{IsAllowed}
 use Rattle.chronicle.specs.Views.{Part, Past, View}
 use Rattle.chronicle.specs.Inside.{IsAtRest, IsWriter, IsBystander}
-use Rattle.chronicle.specs.Prefixes.{Prefixes, logs_of, longer_of, ArePrefixes, AreLegalLogs, naming, with_event}
-use Rattle.chronicle.specs.Steps.{seated, joined, noted, appended}
+use Rattle.chronicle.specs.Prefixes.{Prefixes, either, logs_of, longer_of, ArePrefixes, AreLegalLogs, naming, with_event}
+use Rattle.chronicle.specs.Steps.{seated, joined, appended}
 use Rattle.chronicle.proofs.PrefixLemmas.{longer_at, longer_left, longer_right, own_more, others_same, begins_length}
 use Rattle.chronicle.proofs.Worlds.{more_legal}
 
@@ -74,9 +74,35 @@ appended_writer table table' v w number count e same is allowed h =
           (sym (ap length (own_more v.mine.known number e within) ∙ length-append (logs_of v.mine.known number) (naming v.mine.known e ∷ [])));
     })
 
-pub noted_rests : (table table' : TableId) (v w : View) → table' ≡ table → w ≡ noted v → IsAtRest table v → IsAtRest table' w
-noted_rests table table' v w same is h = subst (λ (x : TableId × View). IsAtRest x.0 x.1) (λ i. (sym same i, sym is i))
-    (record { seated = λ i. noted v; words = h.words; known = record { legal = h.known.legal; begun = h.known.begun } })
+-- a seat with other logs and other workers, which knows as much
+pub kept_rests : (table table' : TableId) (v w : View) (owned : List ℕ) (makers : List Maker) (spare : Option ℕ) → table' ≡ table
+    → w ≡ seated (record v.mine { owned = owned; makers = makers; spare = spare }) → IsAtRest table v → IsAtRest table' w
+kept_rests table table' v w owned makers spare same is h = subst (λ (x : TableId × View). IsAtRest x.0 x.1) (λ i. (sym same i, sym is i))
+    (record {
+      seated = λ i. seated (record v.mine { owned = owned; makers = makers; spare = spare });
+      words = h.words;
+      known = record { legal = h.known.legal; begun = h.known.begun };
+    })
+
+pub kept_writer : (table table' : TableId) (v w : View) (makers : List Maker) (spare : Option ℕ) (number count : ℕ) → table' ≡ table
+    → w ≡ seated (record v.mine { makers = makers; spare = spare }) → IsWriter table v number count → IsWriter table' w number count
+kept_writer table table' v w makers spare number count same is h =
+    subst (λ (x : TableId × View). IsWriter x.0 x.1 number count) (λ i. (sym same i, sym is i))
+    (record {
+      rests = kept_rests table table v (seated (record v.mine { makers = makers; spare = spare })) v.mine.owned makers spare refl refl h.rests;
+      owns = h.owns;
+      within = h.within;
+      counted = h.counted;
+    })
+
+-- of a note that is met nothing is gained but knowledge
+pub quietly_joined : (p q : Part) → q.owned ≡ [] → q.makers ≡ [] → q.spare ≡ None → joined p q ≡ record p { known = longer_of p.known q.known }
+quietly_joined p q owned makers spare i = record p {
+  owned = (ap (λ xs. p.owned ++ xs) owned ∙ append-nil p.owned) i;
+  known = longer_of p.known q.known;
+  makers = (ap (λ xs. p.makers ++ xs) makers ∙ append-nil p.makers) i;
+  spare = ap (either p.spare) spare i;
+}
 
 pub joined_rests : (table table' : TableId) (v w : View) (heard : Part) → table' ≡ table → w ≡ seated (joined v.mine heard)
     → AreLegalLogs v.mine.past.image (longer_of v.mine.known heard.known) → ArePrefixes v.mine.known (longer_of v.mine.known heard.known)
@@ -118,12 +144,12 @@ joined_bystander table table' v w heard same is legal keeps none h =
 pub next_range : (number count : ℕ) → number < count → range_with_len number (count - number) ≡ number ∷ range_with_len (number + 1) (count - (number + 1))
 next_range number count below = ap (range_with_len number) (let more : count - number ≡ suc (count - (number + 1)) = omega arith in more)
 
--- the part of a seat that knows what the chronicle began with, and owns these logs
-abbrev pub first_part : Past → List ℕ → Part
-first_part past owned = record { past = past; owned = owned; known = past.logs }
+-- the part of a seat that knows what the chronicle began with, owns these logs, and may name workers
+abbrev pub first_part : Past → List ℕ → Option ℕ → Part
+first_part past owned spare = record { past = past; owned = owned; known = past.logs; makers = []; spare = spare }
 
 pub first_writer : (table : TableId) (past : Past) (number : ℕ) → table.words ≡ units past.image.shape + 1 → number ≤ units past.image.shape
-    → AreLegalLogs past.image past.logs → IsWriter table (seated (first_part past (number ∷ []))) number 0
+    → AreLegalLogs past.image past.logs → IsWriter table (seated (first_part past (number ∷ []) None)) number 0
 first_writer table past number words within legal = record {
   rests = record { seated = refl; words = words; known = record { legal = legal; begun = record { each = λ author. prefix_refl (logs_of past.logs author) } } };
   owns = (0, omega arith, refl);

@@ -1,5 +1,5 @@
 -- What is known is a legal world, and stays one with an event more.
-use Rattle.std.proofs.Common.{◌≡◌, ℕ, ◌+◌, ◌<◌, ◌≤◌, List, [], ◌∷◌, length, map, take, refl, sym, ap, ◌∙◌, subst, arith, length-set}
+use Rattle.std.proofs.Common.{◌≡◌, ◌⊎◌, ⊎_elim, ℕ, ◌+◌, ◌<◌, ◌≤◌, None, Option, List, [], ◌∷◌, length, map, take, refl, sym, ap, ◌∙◌, subst, arith, length-set}
 use Rattle.std.proofs.lemmas.List.{ext_get_or, length-map}
 use Rattle.std.proofs.lemmas.List.FromFn.{get_or-map-range_with_len, length-map-range_with_len}
 use Rattle.std.specs.List.{Contains, range_with_len}
@@ -10,35 +10,58 @@ use Rattle.pblk_model.proofs.Numbers.{fun_same}
 use Rattle.pblk_model.proofs.Parts.{get_below, is_in}
 use Rattle.pblk_model.specs.Image.{Image}
 use Rattle.pblk_model.specs.Shape.{units}
-use Rattle.pblk_world.specs.Events.{Event, Logged}
+use Rattle.pblk_world.specs.Events.{Maker, Event, Logged}
+use Rattle.pblk_world.specs.Makers.{HasMakers}
 use Rattle.pblk_world.specs.World.{World, Logs, log_of, known, prefixes}
 use Rattle.pblk_world.specs.Legal.{IsAllowed, IsLegal, IsLegalStep}
+use Rattle.pblk_world.proofs.WorldLemmas.{log_elsewhere}
 use Rattle.world_laws.specs.KnownCut.{cut}
 use Rattle.world_laws.proofs.KnownCut.{cut_is_legal, log_of_cut}
 use Rattle.world_laws.proofs.Made.{known_within}
 use Rattle.chronicle.specs.Views.{Part, Past}
-use Rattle.chronicle.specs.Prefixes.{Prefixes, logs_of, AreLegalLogs, naming, with_event}
-use Rattle.chronicle.specs.Rule.{IsPart}
+use Rattle.chronicle.specs.Prefixes.{Prefixes, logs_of, AreLegalLogs, AreOpeningLogs, AreWholeLogs, naming, with_event}
+use Rattle.chronicle.specs.Rule.{HasRights, IsPart, IsWhole, Owners}
 use Rattle.chronicle.proofs.PrefixLemmas.{begins_length, begins_take, named_length}
+use Rattle.chronicle.proofs.Rights.{no_rights}
 use Rattle.chronicle.proofs.Parts.{lengths, next_step, whole}
 
 -- the logs of a legal world, as a seat knows them that owns some of them
-pub whole_part : (start : Past) (logs : Prefixes) (k : AreLegalLogs start.image logs) (owner : ℕ → ℕ) (seat : ℕ) (owned : List ℕ)
-    → ((author : ℕ) → Contains owned author → owner author ≡ seat)
-    → IsPart start k.world owner seat (record { past = start; owned = owned; known = logs })
-whole_part start logs k owner seat owned owns = record {
+pub whole_part : (start : Past) (logs : Prefixes) (k : AreLegalLogs start.image logs) (owner : Owners) (seat : ℕ) (owned : List ℕ) (makers : List Maker)
+    (spare : Option ℕ) → ((author : ℕ) → Contains owned author → owner.log author ≡ seat) → HasRights k.world owner seat makers spare
+    → IsPart start k.world owner seat (record { past = start; owned = owned; known = logs; makers = makers; spare = spare })
+whole_part start logs k owner seat owned makers spare owns rights = record {
   begins = λ author. subst (λ xs. IsPrefix (logs_of logs author) xs) (sym (at author)) (prefix_refl (logs_of logs author));
   closed = λ author other number l below there. subst (λ xs. known l other ≤ length xs) (at other)
       (known_within start.image k.world author other l k.legal (is_in (log_of k.world author) number l there));
   owns = λ author has. (owns author has, sym (at author));
   past = λ _. refl;
   authors = λ _. k.authors;
+  rights = rights;
 }
   where
     at : (author : ℕ) → log_of k.world author ≡ logs_of logs author
     at author = ap (λ (l : Logs). l author) k.logs
 
-module _ (start : Past) (w : World) (owner : ℕ → ℕ) (seat : ℕ) (p : Part) (h : IsPart start w owner seat p) (some : 0 < length p.known) where
+-- of an empty list nothing is a part but itself
+nothing_more : (xs : List Logged) → IsPrefix xs [] → xs ≡ []
+nothing_more [] h = refl
+nothing_more (x ∷ xs) h = absurd (let long = begins_length (x ∷ xs) [] h in omega arith)
+
+le_or : (a b : ℕ) → (a ≤ b) ⊎ (b < a)
+le_or a b = grind arith
+
+-- logs as a mount begins
+unfoldable pub opening_legal : (i : Image) (logs : Prefixes) → AreOpeningLogs i logs → AreLegalLogs i logs
+opening_legal i logs k = record { authors = k.authors; world = k.world; legal = k.legal; logs = k.logs }
+
+-- there are no authors but these
+no_author : (i : Image) (w : World) (author : ℕ) → units i.shape < author → IsLegal i w → log_of w author ≡ []
+unfolding IsLegal
+no_author i [] author past legal = refl
+no_author i (step ∷ w) author past legal =
+    log_elsewhere step w author (λ is. let low = legal.0.author in absurd (omega arith)) ∙ no_author i w author past legal.1
+
+module _ (start : Past) (w : World) (owner : Owners) (seat : ℕ) (p : Part) (h : IsPart start w owner seat p) (some : 0 < length p.known) where
   pub known_legal : IsLegal start.image w → AreLegalLogs p.past.image p.known
   known_legal legal = subst (λ (i : Image). AreLegalLogs i p.known) (ap (λ (s : Past). s.image) (sym (h.past some))) (record {
     authors = h.authors some;
@@ -47,6 +70,29 @@ module _ (start : Past) (w : World) (owner : ℕ → ℕ) (seat : ℕ) (p : Part
     logs = fun_same (log_of (cut (lengths p.known) w)) (logs_of p.known)
         (λ author. log_of_cut w (lengths p.known) author ∙ begins_take (logs_of p.known author) (log_of w author) (h.begins author));
   })
+
+  -- a seat that owns all logs knows the world whole
+  pub known_whole : IsLegal start.image w → HasMakers w → IsWhole p
+  known_whole legal numbered all = subst (λ (i : Image). AreWholeLogs i p.known p.makers p.spare) (ap (λ (s : Past). s.image) (sym past)) (record {
+    world = w;
+    legal = legal;
+    logs = fun_same (log_of w) (logs_of p.known) each;
+    numbered = numbered;
+    next = λ m has. (h.rights.each m has).2;
+    none = λ n worker is low small. (h.rights.unnamed n worker is low small).1;
+  })
+    where
+      past : p.past ≡ start
+      past = h.past some
+
+      each : (author : ℕ) → log_of w author ≡ logs_of p.known author
+      each author = ⊎_elim
+          (λ (low : author ≤ units start.image.shape).
+          sym (h.owns author (all author (subst (λ (s : Past). author ≤ units s.image.shape) (sym past) low))).1)
+          (λ (high : units start.image.shape < author).
+          let none : log_of w author ≡ [] = no_author start.image w author high legal in
+          none ∙ sym (nothing_more (logs_of p.known author) (subst (λ xs. IsPrefix (logs_of p.known author) xs) none (h.begins author))))
+          (le_or author (units start.image.shape))
 
   -- what an event names that its author appends is all that the author knows
   named : (e : Event) → prefixes (naming p.known e) (log_of w) ≡ logs_of p.known
@@ -78,19 +124,22 @@ unfolding IsLegal
 more_legal i logs author e within allowed k = record {
   authors = length-set logs author _ ∙ k.authors;
   world = next_step logs author e ∷ k.world;
-  legal = (step_legal start k.world (λ _. 0) 0 own part (omega arith) author e has within allowed, k.legal);
+  legal = (step_legal start k.world alone 0 own part (omega arith) author e has within allowed, k.legal);
   logs = fun_same (log_of (next_step logs author e ∷ k.world)) (logs_of (with_event logs author e))
-      (λ other. sym (whole start k.world (λ _. 0) 0 own author e has within part other (ap (λ (l : Logs). l other) (sym k.logs))));
+      (λ other. sym (whole start k.world alone 0 own author e has within part other (ap (λ (l : Logs). l other) (sym k.logs))));
 }
   where
     start : Past
     start = record { image = i; logs = logs }
 
     own : Part
-    own = record { past = start; owned = author ∷ []; known = logs }
+    own = record { past = start; owned = author ∷ []; known = logs; makers = []; spare = None }
 
-    part : IsPart start k.world (λ _. 0) 0 own
-    part = whole_part start logs k (λ _. 0) 0 (author ∷ []) (λ _ _. refl)
+    alone : Owners
+    alone = record { log = λ _. 0; worker = λ _. 0; named = 0 }
+
+    part : IsPart start k.world alone 0 own
+    part = whole_part start logs k alone 0 (author ∷ []) [] None (λ _ _. refl) (no_rights k.world alone 0)
 
     has : Contains (author ∷ []) author
     has = (0, omega arith, refl)

@@ -1,14 +1,15 @@
 -- What authors, notes and tokens keep.
-use Rattle.std.specs.Prelude.{◌≡◌, ℕ, ◌+◌, ◌-◌, ◌%◌, ◌^◌, ◌≤◌, [], length}
+use Rattle.std.specs.Prelude.{◌≡◌, ℕ, ◌+◌, ◌-◌, ◌%◌, ◌^◌, ◌≤◌, [], length, None}
 use Rattle.std.specs.List.{Contains}
 use Rattle.atomic_table.specs.Seated.{TableId}
 use Rattle.pblk_model.specs.Shape.{units}
 use Rattle.chronicle.specs.declared.authors.Author.TheInside as author
 use Rattle.chronicle.specs.declared.tokens.Note.TheInside as note
+use Rattle.chronicle.specs.declared.tokens.Lent.TheInside as lent
 use Rattle.chronicle.specs.declared.tokens.Token.TheInside as token
 use Rattle.chronicle.specs.Views.{Part, View}
 use Rattle.chronicle.specs.Prefixes.{logs_of, ArePrefixes, AreLegalLogs}
-use Rattle.chronicle.specs.Handles.{AuthorView, TokenView}
+use Rattle.chronicle.specs.Handles.{AuthorView, NoteView, TokenView}
 use Rattle.chronicle.specs.Steps.{seated}
 
 -- What is known is a legal world, which begins with what the chronicle began with.
@@ -29,13 +30,18 @@ author_view a = record {
   owned = a.seat.me.0.mine.owned;
   past = a.seat.me.0.mine.past;
   known = a.seat.me.0.mine.known;
+  makers = a.seat.me.0.mine.makers;
+  spare = a.seat.me.0.mine.spare;
 }
 
 abbrev pub token_of : TableId → View → TokenView
-token_of table v = record { chronicle = table; past = v.mine.past; known = v.mine.known }
+token_of table v = record { chronicle = table; past = v.mine.past; known = v.mine.known; makers = v.mine.makers; spare = v.mine.spare }
 
-abbrev pub note_view : note.Inside → TokenView
-note_view n = token_of n.seat.table_id n.seat.me.0
+abbrev pub note_view : note.Inside → NoteView
+note_view n = record { chronicle = n.seat.table_id; past = n.seat.me.0.mine.past; known = n.seat.me.0.mine.known }
+
+abbrev pub lent_view : lent.Inside → TokenView
+lent_view l = token_of l.seat.table_id l.seat.me.0
 
 abbrev pub token_view : token.Inside → TokenView
 token_view t = token_of t.seat.table_id t.seat.me.0
@@ -56,9 +62,16 @@ pub record IsBystander (table : TableId) (v : View) : Type 0 where
   pub rests : IsAtRest table v
   pub owns_none : v.mine.owned ≡ []
 
+-- nor does a note number commands
 pub record IsNote (n : note.Inside) : Type 0 where
   pub empty : n.seat.me.1 ≡ []
   pub bystander : IsBystander n.seat.table_id n.seat.me.0
+  pub makes_none : n.seat.me.0.mine.makers ≡ []
+  pub names_none : n.seat.me.0.mine.spare ≡ None
+
+pub record IsLent (l : lent.Inside) : Type 0 where
+  pub empty : l.seat.me.1 ≡ []
+  pub bystander : IsBystander l.seat.table_id l.seat.me.0
 
 pub record IsToken (t : token.Inside) : Type 0 where
   pub empty : t.seat.me.1 ≡ []

@@ -1,9 +1,11 @@
 -- What is known of the logs of a mount: a prefix of each.
-use Rattle.std.specs.Prelude.{◌≡◌, ℕ, ◌+◌, nat_lt, if◌then◌else◌, List, [], ◌∷◌, ◌++◌, length, map, slice_index_or, slice_set}
+use Rattle.std.specs.Prelude.{◌≡◌, ℕ, ◌+◌, ◌^◌, ◌<◌, ◌≤◌, ◌==◌, ⊤, nat_lt, if◌then◌else◌, List, [], ◌∷◌, ◌++◌, length, map, slice_index_or, slice_set, Option, Some, None}
+use Rattle.std.specs.List.{Contains}
 use mathlib.Core.List.{IsPrefix}
 use Rattle.pblk_model.specs.Image.{Image}
 use Rattle.pblk_model.specs.Shape.{units}
-use Rattle.pblk_world.specs.Events.{Event, Logged}
+use Rattle.pblk_world.specs.Events.{Maker, Event, Decides, Does, Logged}
+use Rattle.pblk_world.specs.Makers.{HasMakers, commands_of}
 use Rattle.pblk_world.specs.World.{World, Logs, log_of}
 use Rattle.pblk_world.specs.Legal.{IsLegal}
 
@@ -25,6 +27,27 @@ pub record AreLegalLogs (i : Image) (known : Prefixes) : Type 0 where
   pub legal : IsLegal i world
   pub logs : log_of world ≡ logs_of known
 
+-- The same as a mount begins: each command says how many its worker had made before it, and none was
+-- made by a worker that has a number of 64 bits.
+pub record AreOpeningLogs (i : Image) (known : Prefixes) : Type 0 where
+  pub authors : length known ≡ units i.shape + 1
+  pub world : World
+  pub legal : IsLegal i world
+  pub logs : log_of world ≡ logs_of known
+  pub makers : HasMakers world
+  pub none : (worker : ℕ) → worker < 2 ^ 64 → commands_of worker world ≡ 0
+
+-- These are all logs of a legal world, in which each command says how many its worker had made before
+-- it. Each of these makers is that of its worker's next command, and from the spare number on no worker
+-- has made any.
+pub record AreWholeLogs (i : Image) (known : Prefixes) (makers : List Maker) (spare : Option ℕ) : Type 0 where
+  pub world : World
+  pub legal : IsLegal i world
+  pub logs : log_of world ≡ logs_of known
+  pub numbered : HasMakers world
+  pub next : (m : Maker) → Contains makers m → m.made ≡ commands_of m.worker world
+  pub none : (n worker : ℕ) → spare ≡ Some n → n ≤ worker → worker < 2 ^ 64 → commands_of worker world ≡ 0
+
 -- the longer of two prefixes of one log
 abbrev pub longer : List Logged → List Logged → List Logged
 longer xs ys = if nat_lt (length xs) (length ys) then ys else xs
@@ -42,3 +65,19 @@ naming known e = record { event = e; knows = map length known }
 -- what is known once the event stands at the end of its author's log
 abbrev pub with_event : Prefixes → ℕ → Event → Prefixes
 with_event known author e = slice_set known author (logs_of known author ++ naming known e ∷ [])
+
+-- Its maker is among these, if it is a command.
+abbrev pub IsNext : Event → List Maker → Type 0
+IsNext (Decides e) makers = ⊤
+IsNext (Does e maker) makers = Contains makers maker
+
+-- the makers of the next commands, once the event is noted
+abbrev pub next_after : Event → List Maker → List Maker
+next_after (Decides e) makers = makers
+next_after (Does e maker) makers =
+    map (λ (m : Maker). if m.worker == maker.worker then record m { made = m.made + 1 } else m) makers
+
+-- the second of these, or else the first
+abbrev pub either : Option ℕ → Option ℕ → Option ℕ
+either one None = one
+either one (Some n) = Some n

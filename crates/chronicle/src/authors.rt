@@ -1,15 +1,15 @@
 //! Authors: each appends to one log.
-ghost use Rattle.std.specs.Prelude.{◌≡◌, ◌≢◌, ◌++◌, ◌∷◌, [], ℕ};
+ghost use Rattle.std.specs.Prelude.{◌≡◌, ◌≢◌, ◌++◌, ◌∷◌, [], ℕ, None};
 ghost use Rattle.std.specs.List.{Contains};
 ghost use mathlib.Core.List.{IsPrefix};
 ghost use Rattle.pblk_world.specs.Legal.{IsAllowed};
-ghost use Rattle.chronicle.specs.Prefixes.{AreLegalLogs, ArePrefixes, logs_of, longer_of};
-ghost use Rattle.chronicle.specs.Prefixes.{naming, with_event};
+ghost use Rattle.chronicle.specs.Prefixes.{AreLegalLogs, ArePrefixes, IsNext, either, logs_of};
+ghost use Rattle.chronicle.specs.Prefixes.{longer_of, naming, next_after, with_event};
 
 use crate::rows::Event;
 use crate::rule::{Append, Row};
 use crate::table::Chronicle;
-use crate::tokens::Note;
+use crate::tokens::{Lent, Note};
 use crate::view::View;
 use atomic_table::Seat;
 use pblk_model::Shows;
@@ -44,13 +44,17 @@ impl Model for Author {
 
 impl Author {
     /// Appends the event that the value shows to the author's own log. The event names all that the
-    /// author knows, and has to be legal by that. It is one store, and takes no memory.
+    /// author knows, and has to be legal by that. A command is the next one of a worker whose
+    /// commands the author numbers. It is one store, and takes no memory.
     pub fn append<S: Shows<Event = Event>>(&mut self, chronicle: &Chronicle, shown: &S)
         requires of { self.old.chronicle ≡ chronicle.now }
         requires allowed { IsAllowed self.old.past.image self.old.number (S.shown shown.now)
             (logs_of self.old.known) }
-        ensures appended { let old = self.old in self.new
-            ≡ record old { known = with_event old.known old.number (S.shown shown.now) } }
+        requires next { IsNext (S.shown shown.now) self.old.makers }
+        ensures appended { let old = self.old in self.new ≡ record old {
+          known = with_event old.known old.number (S.shown shown.now);
+          makers = next_after (S.shown shown.now) old.makers;
+        } }
         ensures own { logs_of self.new.known self.old.number
             ≡ logs_of self.old.known self.old.number
             ++ naming self.old.known (S.shown shown.now) ∷ [] }
@@ -67,8 +71,11 @@ impl Author {
         requires of { self.old.chronicle ≡ chronicle.now }
         requires allowed { IsAllowed self.old.past.image self.old.number R.event
             (logs_of self.old.known) }
-        ensures appended { let old = self.old in self.new
-            ≡ record old { known = with_event old.known old.number R.event } }
+        requires next { IsNext R.event self.old.makers }
+        ensures appended { let old = self.old in self.new ≡ record old {
+          known = with_event old.known old.number R.event;
+          makers = next_after R.event old.makers;
+        } }
         ensures own { logs_of self.new.known self.old.number
             ≡ logs_of self.old.known self.old.number ++ naming self.old.known R.event ∷ [] }
         ensures others { (author : ℕ) → author ≢ self.old.number
@@ -119,6 +126,47 @@ impl Author {
         chronicle.hear(&mut self.seat, seat);
     }
 
+    /// Takes in what a token lent, as a note, with the right to number its workers' commands.
+    pub fn take_over(&mut self, chronicle: &Chronicle, lent: Lent)
+        requires of { self.old.chronicle ≡ chronicle.now }
+        requires lent_of { lent.chronicle ≡ chronicle.now }
+        ensures met { let old = self.old in self.new ≡ record old {
+          known = longer_of old.known lent.known;
+          makers = old.makers ++ lent.makers;
+          spare = either old.spare lent.spare;
+        } }
+        ensures past { lent.past ≡ self.old.past }
+        ensures own { (author : ℕ) → Contains self.old.owned author
+            → logs_of self.new.known author ≡ logs_of self.old.known author }
+        ensures own_noted { (author : ℕ) → Contains self.old.owned author
+            → IsPrefix (logs_of lent.known author) (logs_of self.old.known author) }
+        ensures keeps { ArePrefixes self.old.known self.new.known }
+        ensures learns { ArePrefixes lent.known self.new.known }
+        ensures legal { AreLegalLogs self.new.past.image self.new.known }
+        ensures begun { ArePrefixes self.new.past.logs self.new.known }
+    {
+        let Lent { seat } = lent;
+        chronicle.hear(&mut self.seat, seat);
+    }
+
+    /// Gives back what was lent, with all that the author knows. It numbers no commands from then
+    /// on.
+    pub fn give_back(&mut self, chronicle: &Chronicle) -> Lent
+        requires of { self.old.chronicle ≡ chronicle.now }
+        ensures kept { self.new ≡ record self.old { makers = []; spare = None } }
+        ensures lent_of { result.chronicle ≡ self.old.chronicle }
+        ensures lent_past { result.past ≡ self.old.past }
+        ensures lent_known { result.known ≡ self.old.known }
+        ensures makers { result.makers ≡ self.old.makers }
+        ensures spare { result.spare ≡ self.old.spare }
+        ensures legal { AreLegalLogs self.old.past.image self.old.known }
+        ensures begun { ArePrefixes self.old.past.logs self.old.known }
+    {
+        Lent {
+            seat: chronicle.lend(&mut self.seat),
+        }
+    }
+
     /// Takes another author in, with the logs that it owns and what it knows.
     pub fn join(&mut self, chronicle: &Chronicle, other: Author)
         requires of { self.old.chronicle ≡ chronicle.now }
@@ -126,6 +174,8 @@ impl Author {
         ensures joined { let old = self.old in self.new ≡ record old {
           owned = old.owned ++ other.owned;
           known = longer_of old.known other.known;
+          makers = old.makers ++ other.makers;
+          spare = either old.spare other.spare;
         } }
         ensures past { other.past ≡ self.old.past }
         ensures own { (author : ℕ) → Contains self.old.owned author

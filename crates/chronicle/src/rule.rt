@@ -3,9 +3,10 @@
 ghost use Rattle.std.specs.Prelude.{◌≡◌};
 ghost use Rattle.pblk_world.specs.Events.{Decides, Event as EventOf, Free};
 ghost use Rattle.chronicle.specs.Views.{Past as PastOf};
-ghost use Rattle.chronicle.specs.Rule.{IsKept, IsHeard};
+ghost use Rattle.chronicle.specs.Rule.{IsKept, IsHeard, IsWhole};
 ghost use Rattle.chronicle.specs.Steps.{appended, began, but_first, first_of, merged, no_past};
-ghost use Rattle.chronicle.specs.Steps.{noted, spent, starting, with_heard};
+ghost use Rattle.chronicle.specs.Steps.{lent, named, naming_next, noted, spent, starting};
+ghost use Rattle.chronicle.specs.Steps.{with_heard, without_makers};
 
 use crate::view::View;
 use atomic_table::{Join, Play, Split, TableRule};
@@ -64,6 +65,13 @@ impl Play<(), View> for Hear {
     ghost then = { λ s m n w. (w ≡ (merged m.0, m.1)) × IsHeard m.0.mine m.0.heard };
 }
 
+/// A load of any word, by a seat that may own all logs.
+pub(crate) struct Look;
+
+impl Play<(), View> for Look {
+    ghost then = { λ s m n w. (w ≡ m) × IsWhole m.0.mine };
+}
+
 /// A seat for the author of the first log that the seat owns.
 pub(crate) struct FirstLog;
 
@@ -73,13 +81,31 @@ impl Split<View> for FirstLog {
     ghost right = { first_of };
 }
 
-/// A seat that owns no log, and knows as much.
+/// A seat that owns no log, numbers no commands, and knows as much.
 pub(crate) struct Notes;
 
 impl Split<View> for Notes {
     ghost left = { λ v. v };
 
     ghost right = { noted };
+}
+
+/// A seat that numbers the commands which the seat numbered.
+pub(crate) struct Lends;
+
+impl Split<View> for Lends {
+    ghost left = { without_makers };
+
+    ghost right = { lent };
+}
+
+/// A seat that numbers the commands of the next new worker.
+pub(crate) struct Names;
+
+impl Split<View> for Names {
+    ghost left = { naming_next };
+
+    ghost right = { named };
 }
 
 /// Another seat is taken in, with what it owns and knows.

@@ -1,16 +1,18 @@
 //! The words that the authors of a chronicle share.
-ghost use Rattle.std.specs.Prelude.{◌≡◌, ◌+◌, ◌<◌, ◌≤◌, [], ℕ, IfOk, false, length, map, replicate};
+ghost use Rattle.std.specs.Prelude.{◌≡◌, ◌+◌, ◌^◌, ◌<◌, ◌≤◌, [], ℕ, IfOk, Some, false, length, map, replicate};
 ghost use Rattle.std.specs.List.{Contains, range_with_len};
 ghost use mathlib.Core.List.{IsPrefix};
 ghost use Rattle.pblk_model.specs.Shape.{units as units_of};
 ghost use Rattle.chronicle.specs.Handles.{first_author, first_token};
-ghost use Rattle.chronicle.specs.Prefixes.{AreLegalLogs, ArePrefixes, logs_of, longer_of};
-ghost use Rattle.chronicle.specs.Steps.{began, but_first, first_of, joined, noted};
-ghost use Rattle.chronicle.specs.Steps.{seated, starting};
+ghost use Rattle.chronicle.specs.Prefixes.{AreLegalLogs, AreOpeningLogs, ArePrefixes, AreWholeLogs};
+ghost use Rattle.chronicle.specs.Prefixes.{logs_of, longer_of};
+ghost use Rattle.chronicle.specs.Rule.{IsWhole};
+ghost use Rattle.chronicle.specs.Steps.{began, but_first, first_of, joined, lent, named};
+ghost use Rattle.chronicle.specs.Steps.{naming_next, noted, seated, starting, without_makers};
 
 use crate::authors::Author;
 use crate::rows::Past;
-use crate::rule::{Begin, FirstLog, Hear, Meets, Notes, Order, Start};
+use crate::rule::{Begin, FirstLog, Hear, Lends, Look, Meets, Names, Notes, Order, Start};
 use crate::tokens::Token;
 use crate::view::View;
 use atomic_table::{Seat, Table};
@@ -46,8 +48,10 @@ fn first_words(alloc: Global, count: usize) -> Result<Vec<u64>, AllocError>
 
 impl Chronicle {
     /// A chronicle for so many units. The value shows the image and the logs so far, and these are
-    /// the logs of a legal world over that image. The authors stand in the order of their numbers,
-    /// the engine's first. Each author knows all of these logs, and so does the token.
+    /// the logs of a legal world over that image. Each command in them says how many its worker had
+    /// made before it, and was made by the opening. The authors stand in the order of their
+    /// numbers, the engine's first. Each author knows all of these logs, and so does the token,
+    /// which alone names workers, from 0 on.
     ///
     /// Fails only where there isn't as much memory. No later call takes any.
     pub fn new<S: Shows<Event = Past>>(
@@ -56,7 +60,7 @@ impl Chronicle {
         begun: &S,
     ) -> Result<(Chronicle, Vec<Author>, Token), AllocError>
         requires units { units ≡ units_of (S.shown begun.now).image.shape }
-        requires legal { AreLegalLogs (S.shown begun.now).image (S.shown begun.now).logs }
+        requires opening { AreOpeningLogs (S.shown begun.now).image (S.shown begun.now).logs }
         ensures words { IfOk result (λ r. r.0.words ≡ units + 1) }
         ensures authors { IfOk result (λ r. r.1.items
             ≡ map (first_author r.0 (S.shown begun.now)) (range_with_len 0 (units + 1))) }
@@ -83,7 +87,7 @@ impl Chronicle {
     ) -> Result<(Chronicle, Seat<(), View>), AllocError>
         requires some { 0 < count }
         requires count { count ≡ units_of B.past.image.shape + 1 }
-        requires legal { AreLegalLogs B.past.image B.past.logs }
+        requires opening { AreOpeningLogs B.past.image B.past.logs }
         ensures of { IfOk result (λ r. r.1.table_id ≡ r.0) }
         ensures words { IfOk result (λ r. r.0.words ≡ count) }
         ensures seat { IfOk result (λ r. r.1.me ≡ (began (starting count) B.past, [])) }
@@ -108,7 +112,7 @@ impl Chronicle {
         self.table.shared.split_seat::<FirstLog>(seat)
     }
 
-    // A seat that owns no log, and knows as much.
+    // A seat that owns no log, numbers no commands, and knows as much.
     pub(crate) fn note(&self, seat: &mut Seat<(), View>) -> Seat<(), View>
         requires of { seat.old.table_id ≡ self.now }
         requires words { 0 < self.now.words }
@@ -119,6 +123,33 @@ impl Chronicle {
         ensures new { result.me ≡ (noted seat.old.me.0, []) }
     {
         self.table.shared.split_seat::<Notes>(seat)
+    }
+
+    // A seat that numbers the commands which the seat numbered, and knows as much.
+    pub(crate) fn lend(&self, seat: &mut Seat<(), View>) -> Seat<(), View>
+        requires of { seat.old.table_id ≡ self.now }
+        requires words { 0 < self.now.words }
+        requires begun { seat.old.me.0.fresh ≡ false }
+        ensures of { seat.new.table_id ≡ seat.old.table_id }
+        ensures kept { seat.new.me ≡ (without_makers seat.old.me.0, seat.old.me.1) }
+        ensures new_of { result.table_id ≡ seat.old.table_id }
+        ensures new { result.me ≡ (lent seat.old.me.0, []) }
+    {
+        self.table.shared.split_seat::<Lends>(seat)
+    }
+
+    // A seat that numbers the commands of the next new worker, and knows as much.
+    pub(crate) fn name(&self, seat: &mut Seat<(), View>) -> Seat<(), View>
+        requires of { seat.old.table_id ≡ self.now }
+        requires words { 0 < self.now.words }
+        requires begun { seat.old.me.0.fresh ≡ false }
+        requires spare { (n : ℕ) × (seat.old.me.0.mine.spare ≡ Some n) × (n < 2 ^ 64) }
+        ensures of { seat.new.table_id ≡ seat.old.table_id }
+        ensures kept { seat.new.me ≡ (naming_next seat.old.me.0, seat.old.me.1) }
+        ensures new_of { result.table_id ≡ seat.old.table_id }
+        ensures new { result.me ≡ (named seat.old.me.0, []) }
+    {
+        self.table.shared.split_seat::<Names>(seat)
     }
 
     // Takes another seat in, with what it owns and knows.
@@ -151,19 +182,34 @@ impl Chronicle {
         shared.load::<Hear>(seat, 0);
     }
 
+    // What a seat is told that owns all logs.
+    fn look(&self, seat: &mut Seat<(), View>)
+        requires of { seat.old.table_id ≡ self.now }
+        requires words { 0 < self.now.words }
+        requires begun { seat.old.me.0.fresh ≡ false }
+        requires known { 0 < length seat.old.me.0.mine.known }
+        ensures whole { IsWhole seat.old.me.0.mine }
+    {
+        self.table.shared.load::<Look>(seat, 0);
+    }
+
     /// Ends the chronicle, with an author that has joined all the others. What it knows are all
-    /// logs whole, and they are those of a legal world.
+    /// logs whole, and they are those of a legal world, in which each command says how many its
+    /// worker had made before it. A worker whose commands the author numbers then made just as many
+    /// as the maker of its next command tells, and none was made by one that could still be named.
     pub fn close(self, author: Author)
         requires of { author.chronicle ≡ self }
         requires all { (number : ℕ) → number ≤ units_of author.past.image.shape
             → Contains author.owned number }
         ensures legal { AreLegalLogs author.past.image author.known }
         ensures begun { ArePrefixes author.past.logs author.known }
+        ensures whole { AreWholeLogs author.past.image author.known author.makers author.spare }
     {
         let Author {
-            seat: _,
+            mut seat,
             number: _,
             appended: _,
         } = author;
+        self.look(&mut seat);
     }
 }

@@ -8,6 +8,7 @@ use Rattle.pblk_model.specs.ChunkStep.{Read}
 use Rattle.pblk_model.specs.Image.{blank}
 use Rattle.pblk_model.specs.UnitLog.{after_log}
 use Rattle.pblk_laws.proofs.UnitChunks.{log_count}
+use Rattle.pblk_world.specs.Events.{Maker}
 use Rattle.pblk_world.specs.World.{Logs, unit_events}
 use Rattle.pblk_world.specs.EngineLog.{Begun, begun}
 use Rattle.pblk_world.specs.Commanding.{IsCommand}
@@ -25,9 +26,10 @@ commanded : (logs : Logs) (unit : ℕ) (c : Chunk) (o : Option Begun) → IsComm
 commanded logs unit c None = tt
 commanded logs unit c (Some beginning) = tt
 
-pub fetch_allowed : (number : ℕ) (logs : Logs) → 0 < number → number ≤ 8 → IsAllowed (blank eight_units) number stopped_fetch logs
-fetch_allowed zero logs some within = absurd (omega arith)
-fetch_allowed (suc unit) logs some within =
+pub fetch_allowed : (maker : Maker) (number : ℕ) (logs : Logs) → 0 < number → number ≤ 8
+    → IsAllowed (blank eight_units) number (stopped_fetch maker) logs
+fetch_allowed maker zero logs some within = absurd (omega arith)
+fetch_allowed maker (suc unit) logs some within =
     let free : List Chunk = replicate 8 free_chunk in
     let chunks : List Chunk = after_log eight_units free (unit_events logs unit) in
     let first = got_within chunks 0 (omega (arith, log_count eight_units free (unit_events logs unit))) in

@@ -9,9 +9,10 @@ use Rattle.pblk_model.proofs.Maps.{row_at}
 use Rattle.pblk_model.proofs.Numbers.{fun_same}
 use Rattle.pblk_model.proofs.Parts.{get_whole}
 use Rattle.pblk_world.specs.Legal.{IsLegal}
+use Rattle.pblk_world.specs.Makers.{HasMakers}
 use Rattle.pblk_world.specs.World.{log_of}
 use Rattle.chronicle.specs.Handles.{AuthorView, first_author}
-use Rattle.chronicle.specs.Prefixes.{AreLegalLogs, logs_of}
+use Rattle.chronicle.specs.Prefixes.{AreOpeningLogs, logs_of}
 use Rattle.chronicle_crew.specs.declared.hand.Hand.{Hand}
 use Rattle.chronicle_crew.specs.Ready.{AreFirst, HaveAppended, IsHand, blank_past}
 
@@ -37,13 +38,15 @@ joined chronicle number a b h old hand at of past owned own other_own = record {
     its n is = subst (λ xs. Contains xs n) (sym hand.owned) (0, omega arith, at ∙ sym is)
 
 -- nothing was done yet
-pub blank_legal : AreLegalLogs blank_past.image blank_past.logs
-unfolding IsLegal
-blank_legal = record {
+pub blank_opening : AreOpeningLogs blank_past.image blank_past.logs
+unfolding IsLegal HasMakers
+blank_opening = record {
   authors = refl;
   world = [];
   legal = tt;
   logs = fun_same (log_of []) (logs_of blank_past.logs) (none 9);
+  makers = tt;
+  none = λ worker small. refl;
 }
   where
     none : (n author : ℕ) → log_of [] author ≡ logs_of (replicate n []) author

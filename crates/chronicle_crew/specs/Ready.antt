@@ -6,7 +6,7 @@ use Rattle.pblk_model.specs.declared.shape.Shape.{Shape}
 use Rattle.pblk_model.specs.ChunkStep.{Read}
 use Rattle.pblk_model.specs.Image.{blank}
 use Rattle.pblk_model.specs.UnitLog.{Stopped}
-use Rattle.pblk_world.specs.Events.{Event, Does}
+use Rattle.pblk_world.specs.Events.{Maker, Event, Does}
 use Rattle.chronicle.specs.Views.{Past}
 use Rattle.chronicle.specs.Handles.{AuthorView, first_author}
 use Rattle.chronicle.specs.Prefixes.{logs_of}
@@ -32,15 +32,16 @@ abbrev pub blank_past : Past
 blank_past = record { image = blank eight_units; logs = replicate 9 [] }
 
 -- a fetch that was stopped before it began
-abbrev pub stopped_fetch : Event
-stopped_fetch = Does (record { chunk = 0; command = Read 0; outcome = Stopped 0 }) (record { worker = 0; made = 0 })
+abbrev pub stopped_fetch : Maker → Event
+stopped_fetch maker = Does (record { chunk = 0; command = Read 0; outcome = Stopped 0 }) maker
 
 -- no chronicle at all
 abbrev pub no_table : TableId
 no_table = record { words = 0; slots = 0; views_name = 0; atom = 0; block = 0; offset = 0; slot_names = [] }
 
 -- The author is that of a unit, and owns no other log. Its log has as many events as it has
--- appended. The token beside it is of the same chronicle.
+-- appended. All of these are commands of one worker, which made no others. The token beside it is of
+-- the same chronicle.
 pub record IsHand (chronicle : TableId) (h : Hand) : Type 0 where
   pub of : h.author.chronicle ≡ chronicle
   pub units : 0 < h.author.number
@@ -48,6 +49,7 @@ pub record IsHand (chronicle : TableId) (h : Hand) : Type 0 where
   pub owned : h.author.owned ≡ h.author.number ∷ []
   pub past : h.author.past ≡ blank_past
   pub counted : length (logs_of h.author.known h.author.number) ≡ h.count
+  pub makers : h.author.makers ≡ record { worker = h.worker; made = h.count } ∷ []
   pub beside : h.token.chronicle ≡ chronicle
 
 -- the authors with which the chronicle began, in the order of their numbers, as far as there are

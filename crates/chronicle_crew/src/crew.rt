@@ -1,5 +1,5 @@
 //! Authors of one chronicle at once, and what they have appended together.
-ghost use Rattle.std.specs.Prelude.{◌≡◌, ◌+◌, ◌<◌, ◌≤◌, length};
+ghost use Rattle.std.specs.Prelude.{◌≡◌, ◌+◌, ◌<◌, ◌≤◌, ◌∷◌, [], length, Some};
 ghost use Rattle.std.specs.Thread.{IsSync};
 ghost use Rattle.chronicle.specs.Handles.{first_author};
 ghost use Rattle.chronicle_crew.specs.Ready.{AreFirst, HaveAppended, IsHand, blank_past};
@@ -63,19 +63,26 @@ fn alone(chronicle: &Chronicle, author: Author, turns: u32) -> Joined
     Joined { author, count: 0 }
 }
 
-// The author of a unit, which has appended nothing yet.
-fn idle(chronicle: &Chronicle, author: Author, token: Token, number: usize) -> Hand
+// The author of a unit, which has appended nothing yet, and the worker that the token has the right to
+// number commands of.
+fn idle(chronicle: &Chronicle, author: Author, token: Token, worker: u64, number: usize) -> Hand
     requires author { author ≡ first_author chronicle.now blank_past number }
     requires token { token.chronicle ≡ chronicle.now }
+    requires makers { token.makers ≡ record { worker = worker; made = 0 } ∷ [] }
     requires unit { 0 < number }
     requires within { number ≤ 8 }
     ensures hand { IsHand chronicle.now result }
     ensures number { result.author.number ≡ number }
     ensures count { result.count ≡ 0 }
 {
+    let mut author = author;
+    let mut token = token;
+    let lent = token.lend(chronicle);
+    author.take_over(chronicle, lent);
     Hand {
         author,
         token,
+        worker,
         count: 0,
     }
 }
@@ -90,6 +97,7 @@ fn join_next(chronicle: &Chronicle, others: Joined, hand: Hand, number: usize) -
     let Hand {
         author: next,
         token: _,
+        worker: _,
         count: more,
     } = hand;
     let Joined { author, count } = others;
@@ -109,10 +117,13 @@ fn crew<M: Which + Send + Sync, R: Threads + Wait + Sync>(
     board: &Mutex<Board<M>>,
     authors: Vec<Author>,
     token: Token,
+    worker: u64,
     job: Job,
 ) -> Joined
     requires of { chronicle.now ≡ M.chronicle }
     requires token { token.chronicle ≡ chronicle.now }
+    requires spare { token.spare ≡ Some worker }
+    requires named { worker + length authors.items ≤ 9 }
     requires some { 0 < length authors.items }
     requires few { length authors.items ≤ 9 }
     requires authors { AreFirst chronicle.now authors.items }
@@ -125,8 +136,8 @@ fn crew<M: Which + Send + Sync, R: Threads + Wait + Sync>(
         return alone(chronicle, author, job.turns);
     }
     let mut token = token;
-    let own = token.split(chronicle);
-    let mut hand = idle(chronicle, author, own, number);
+    let own = token.name_worker(chronicle);
+    let mut hand = idle(chronicle, author, own, worker, number);
     let (hand, others) = join(
         rt,
         || -> Hand
@@ -140,11 +151,12 @@ fn crew<M: Which + Send + Sync, R: Threads + Wait + Sync>(
         },
         || -> Joined
             requires { IsSync R.row × (chronicle.now ≡ M.chronicle)
-                × (token.chronicle ≡ chronicle.now) × (0 < length authors.items)
+                × (token.chronicle ≡ chronicle.now) × (token.spare ≡ Some (worker + 1))
+                × (worker + 1 + length authors.items ≤ 9) × (0 < length authors.items)
                 × (length authors.items ≤ 9) × AreFirst chronicle.now authors.items }
             ensures { HaveAppended chronicle.entry.now (length authors.items) job.turns
                 result.author }
-        { crew(rt, chronicle, board, authors, token, job) },
+        { crew(rt, chronicle, board, authors, token, worker + 1, job) },
     );
     join_next(chronicle, others, hand, number)
 }
@@ -166,6 +178,7 @@ fn run_with<M: Which + Send + Sync, R: Threads + Wait + Sync>(
 ) -> u64
     requires of { chronicle ≡ M.chronicle }
     requires token { token.chronicle ≡ chronicle }
+    requires spare { token.spare ≡ Some 0 }
     requires all { length authors.items ≡ 9 }
     requires authors { AreFirst chronicle authors.items }
     requires few { job.authors ≤ 8 }
@@ -174,7 +187,7 @@ fn run_with<M: Which + Send + Sync, R: Threads + Wait + Sync>(
     let shared = token.split(&chronicle);
     let board = Mutex::new(Board::<M>::new(shared));
     let authors = few(&chronicle, authors, job.authors as usize + 1);
-    let Joined { author, count } = crew(rt, &chronicle, &board, authors, token, job);
+    let Joined { author, count } = crew(rt, &chronicle, &board, authors, token, 0, job);
     if job.authors == UNITS {
         close(chronicle, author, job.turns);
     }

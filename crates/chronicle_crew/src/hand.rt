@@ -7,13 +7,16 @@ use crate::shown::StoppedFetch;
 use chronicle::{Author, Chronicle, Token};
 use std::sync::{Mutex, Wait};
 
-/// The author of a unit's log, and how many events it has appended; and a token beside it.
+/// The author of a unit's log, and how many events it has appended; the worker that makes the unit's
+/// commands; and a token beside it.
 #[derive(Drop)]
 pub(crate) struct Hand {
     /// The author.
     pub(crate) author: Author,
     /// The token.
     pub(crate) token: Token,
+    /// The number of the worker.
+    pub(crate) worker: u64,
     /// How many events it has appended.
     pub(crate) count: u32,
 }
@@ -38,7 +41,10 @@ fn append(chronicle: &Chronicle, hand: &mut Hand)
     ensures number { hand.new.author.number ≡ hand.old.author.number }
     ensures count { hand.new.count ≡ hand.old.count + 1 }
 {
-    hand.author.append(chronicle, &StoppedFetch);
+    let made = u64::from(hand.count);
+    let worker = hand.worker;
+    hand.author
+        .append(chronicle, &StoppedFetch { worker, made });
     hand.count += 1;
 }
 

@@ -17,13 +17,17 @@ impl Shows for Blank {
     ghost shown = { λ _. blank_past };
 }
 
-/// Shows a fetch of the first block of a unit that was stopped. A stop may come at any time, so
-/// this is allowed after whatever else was done.
+/// Shows a fetch of the first block of a unit that was stopped, with the worker that made it and
+/// how many commands that had made before. A stop may come at any time, so this is allowed after
+/// whatever else was done.
 #[derive(Clone, Copy, Debug, Drop)]
-pub(crate) struct StoppedFetch;
+pub(crate) struct StoppedFetch {
+    pub(crate) worker: u64,
+    pub(crate) made: u64,
+}
 
 impl Shows for StoppedFetch {
     type Event = Event;
 
-    ghost shown = { λ _. stopped_fetch };
+    ghost shown = { λ f. stopped_fetch (record { worker = f.worker; made = f.made }) };
 }

@@ -1,5 +1,5 @@
-use Rattle.chronicle_crew.proofs.Joining.{blank_legal}
+use Rattle.chronicle_crew.proofs.Joining.{blank_opening}
 use Rattle.chronicle_crew.proofs.crew.run.Goals as goal
 
-pub new-requires-clause-legal : goal.new-requires-clause-legal
-new-requires-clause-legal g c = blank_legal
+pub new-requires-clause-opening : goal.new-requires-clause-opening
+new-requires-clause-opening g c = blank_opening

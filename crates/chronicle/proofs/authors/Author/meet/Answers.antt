@@ -1,7 +1,7 @@
 use Rattle.std.proofs.Common.{◌≡◌, ℕ, ◌∙◌, ap, subst}
 use Rattle.std.specs.List.{Contains}
 use mathlib.Core.List.{IsPrefix}
-use Rattle.chronicle.specs.Handles.{AuthorView, TokenView}
+use Rattle.chronicle.specs.Handles.{AuthorView, NoteView}
 use Rattle.chronicle.specs.Prefixes.{logs_of}
 use Rattle.chronicle.proofs.Rests.{left_stays, joined_writer}
 use Rattle.chronicle.proofs.authors.Author.meet.Goals as goal
@@ -26,7 +26,7 @@ returns-clause-own c =
 
 pub returns-clause-own_noted : goal.returns-clause-own_noted
 returns-clause-own_noted c =
-    subst (λ (p : AuthorView × TokenView). (author : ℕ) → Contains p.0.owned author → IsPrefix (logs_of p.1.known author) (logs_of p.0.known author))
+    subst (λ (p : AuthorView × NoteView). (author : ℕ) → Contains p.0.owned author → IsPrefix (logs_of p.1.known author) (logs_of p.0.known author))
     (λ i. (c.self.view_is i, c.note.view_is i)) c.hear.ensures.own
 
 pub returns-clause-begun : goal.returns-clause-begun

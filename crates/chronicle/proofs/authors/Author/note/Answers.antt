@@ -1,5 +1,5 @@
 use Rattle.std.proofs.Common.{ap}
-use Rattle.chronicle.proofs.Rests.{noted_rests}
+use Rattle.chronicle.proofs.Rests.{kept_rests}
 use Rattle.chronicle.proofs.authors.Author.note.Goals as goal
 
 pub invariant_of-result : goal.invariant_of-result
@@ -8,7 +8,9 @@ invariant_of-result c =
     record {
       empty = ap (λ m. m.1) new.new;
       bystander = record {
-        rests = noted_rests _ _ c.self.inside.seat.me.0 _ new.new_of (ap (λ m. m.0) new.new) c.self.invariant.writer.rests;
+        rests = kept_rests _ _ c.self.inside.seat.me.0 _ _ _ _ new.new_of (ap (λ m. m.0) new.new) c.self.invariant.writer.rests;
         owns_none = ap (λ m. m.0.mine.owned) new.new;
       };
+      makes_none = ap (λ m. m.0.mine.makers) new.new;
+      names_none = ap (λ m. m.0.mine.spare) new.new;
     }

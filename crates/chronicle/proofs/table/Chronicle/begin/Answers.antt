@@ -15,5 +15,5 @@ store-requires g c =
     let made = c.in_ok-table.ensures in (
       made.2,
       subst (λ n. 0 < n) (sym (made.0 ∙ ap length (c.as_slice.ensures.value ∙ c.in_ok-words.ensures) ∙ length-replicate c.args.count 0)) c.requires.some,
-      begins _ _ _ _ _ (ap (λ m. m.0.fresh) made.4) c.requires.legal,
+      begins _ _ _ _ _ (ap (λ m. m.0.fresh) made.4) c.requires.opening,
     )

@@ -1,4 +1,4 @@
-use Rattle.std.proofs.Common.{◌≡◌, ◌-◌, ◌+◌, ◌<◌, List, ℕ, [], ◌∷◌, ◌++◌, map, drop, take, ap, sym, ◌∙◌, subst, arith}
+use Rattle.std.proofs.Common.{◌≡◌, ◌-◌, ◌+◌, ◌<◌, None, Some, List, ℕ, [], ◌∷◌, ◌++◌, map, drop, take, ap, sym, ◌∙◌, subst, arith}
 use Rattle.std.specs.List.{range_with_len}
 use Rattle.std.proofs.lemmas.List.FromFn.{map-range_with_len_more}
 use Rattle.atomic_table.specs.Seated.{TableId}
@@ -6,6 +6,7 @@ use Rattle.chronicle.specs.Views.{Past, View}
 use Rattle.chronicle.specs.Handles.{AuthorView, first_author}
 use Rattle.chronicle.specs.Inside.{IsWriter}
 use Rattle.chronicle.specs.Steps.{but_first, first_of, seated}
+use Rattle.chronicle.proofs.Worlds.{opening_legal}
 use Rattle.chronicle.proofs.Rests.{first_part, first_writer, next_range}
 use Rattle.chronicle.proofs.table.Chronicle.new.Goals as goal
 
@@ -14,11 +15,11 @@ abbrev Me : Type 0
 Me = View × List (ℕ × Unit {0})
 
 -- the seat that is split off owns one log
-first_seat : (past : Past) (number count : ℕ) (rest new : Me) → number < count → rest ≡ (seated (first_part past (range_with_len number (count - number))), [])
-    → new ≡ (first_of rest.0, []) → new ≡ (seated (first_part past (number ∷ [])), [])
+first_seat : (past : Past) (number count : ℕ) (rest new : Me) → number < count → rest ≡ (seated (first_part past (range_with_len number (count - number)) (Some 0)), [])
+    → new ≡ (first_of rest.0, []) → new ≡ (seated (first_part past (number ∷ []) None), [])
 first_seat past number count rest new below left is =
     is ∙ ap (λ (m : Me). (first_of m.0, [])) left
-    ∙ ap (λ (owned : List ℕ). (seated (first_part past (take 1 owned)), [])) (next_range number count below)
+    ∙ ap (λ (owned : List ℕ). (seated (first_part past (take 1 owned) None), [])) (next_range number count below)
 
 -- a seat as its author is seen
 abbrev seen : ℕ → TableId × Me → AuthorView
@@ -28,6 +29,8 @@ seen number x = record {
   owned = x.1.0.mine.owned;
   past = x.1.0.mine.past;
   known = x.1.0.mine.known;
+  makers = x.1.0.mine.makers;
+  spare = x.1.0.mine.spare;
 }
 
 pub invariant_of-push : goal.invariant_of-push
@@ -44,7 +47,7 @@ invariant_of-push g c =
     record {
       empty = ap (λ m. m.1) me;
       writer = subst (λ (x : TableId × View). IsWriter x.0 x.1 number 0) (λ j. (sym table j, (sym me j).0))
-          (first_writer c.chronicle.inside.table.shared.table_id past number (omega arith) (omega arith) c.requires.legal);
+          (first_writer c.chronicle.inside.table.shared.table_id past number (omega arith) (omega arith) (opening_legal past.image past.logs c.requires.opening));
     }
 
 pub loop-number-preserved : goal.loop-number-preserved
@@ -57,7 +60,7 @@ loop-number-preserved g c =
       same = part.of ∙ i.same;
       words = i.words;
       left = part.kept ∙ ap (λ (m : Me). (but_first m.0, m.1)) i.left
-          ∙ ap (λ (owned : List ℕ). (seated (first_part past (drop 1 owned)), [])) (next_range number (c.args.units + 1) c.loop-number-test.true);
+          ∙ ap (λ (owned : List ℕ). (seated (first_part past (drop 1 owned) (Some 0)), [])) (next_range number (c.args.units + 1) c.loop-number-test.true);
       authors =
           let table = part.new_of ∙ i.same in
           let me = first_seat past number (c.args.units + 1) c.loop-number.seat.me c.part.result.me c.loop-number-test.true i.left part.new in

@@ -1,4 +1,4 @@
-use Rattle.std.proofs.Common.{◌≡◌, ◌-◌, [], map}
+use Rattle.std.proofs.Common.{◌≡◌, ◌-◌, Some, [], map}
 use Rattle.std.specs.List.{range_with_len}
 use Rattle.chronicle.specs.Handles.{first_author}
 use Rattle.chronicle.specs.Steps.{seated}
@@ -16,6 +16,8 @@ invariant-loop-number g l = record {
       past = g.S.Shows.shown l.begun;
       owned = range_with_len l.number (l.count - l.number);
       known = (g.S.Shows.shown l.begun).logs;
+      makers = [];
+      spare = Some 0;
     }),
     [],
   );
