@@ -1,6 +1,7 @@
 //! Scripts that are read, and what is told of them.
 
-use pblk_model::{Command, Script, ScriptErr};
+use load_maker::make;
+use pblk_model::{Command, Commands, Script, ScriptErr};
 use run_script::read_script;
 use std::alloc::{AllocError, Global};
 
@@ -27,6 +28,25 @@ pub fn counted(alloc: Global, bytes: &[u8], capacity: u64) -> Result<String, All
     }
 }
 
+/// The commands of a thread of a load, parted by `|`; nothing where there is no such load.
+pub fn made(
+    alloc: Global,
+    number: u64,
+    rounds: u32,
+    capacity: u64,
+    thread: usize,
+) -> Result<String, AllocError> {
+    let mut text = String::new(alloc);
+    if rounds == 0 || rounds > 3125 || capacity < 32 {
+        return Ok(text);
+    }
+    let load = make(alloc, number, rounds, capacity)?;
+    if let Some(commands) = load.as_slice().get(thread) {
+        spell_all(&mut text, commands)?;
+    }
+    Ok(text)
+}
+
 /// Adds a line as often as told, each time with its newline.
 pub fn add_lines(bytes: &mut Vec<u8>, line: &[u8], times: u32) -> Result<(), AllocError> {
     for _ in 0..times {
@@ -51,15 +71,20 @@ fn spelled(alloc: Global, script: &Script) -> Result<String, AllocError> {
     let mut text = String::new(alloc);
     for thread in script.as_slice() {
         text.push('[')?;
-        for (number, command) in thread.as_slice().iter().enumerate() {
-            if number > 0 {
-                text.push('|')?;
-            }
-            spell(&mut text, command)?;
-        }
+        spell_all(&mut text, thread)?;
         text.push(']')?;
     }
     Ok(text)
+}
+
+fn spell_all(text: &mut String, thread: &Commands) -> Result<(), AllocError> {
+    for (number, command) in thread.as_slice().iter().enumerate() {
+        if number > 0 {
+            text.push('|')?;
+        }
+        spell(text, command)?;
+    }
+    Ok(())
 }
 
 fn spell(text: &mut String, command: &Command) -> Result<(), AllocError> {
