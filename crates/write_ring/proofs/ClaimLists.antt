@@ -37,5 +37,8 @@ pub copy_rows_both : (x : ℕ) (rs ss : List Row) → copies_at x (rs ++ ss) ≡
 copy_rows_both x [] ss = omega arith
 copy_rows_both x (r ∷ rs) ss = let later = copy_rows_both x rs ss in omega arith
 
+pub at_most_one : (x low high : ℕ) → between low high x ≤ 1
+at_most_one x low high = grind (arith, nat_tests)
+
 pub inside : (x low high : ℕ) → low ≤ x → x < high → between low high x ≡ 1
 inside x low high le lt = grind (arith, nat_tests)

@@ -1,31 +1,20 @@
 -- What the seat that copies is told of the copies, and of what is granted.
-use Rattle.std.proofs.Common.{◌≡◌, ◌≢◌, ℕ, zero, suc, ◌+◌, ◌<◌, ◌≤◌, List, [], ◌∷◌, true, IsTrue, if◌then◌else◌, sym, ap, ◌∙◌, subst, arith}
-use mathlib.Core.Option.{some, some-ne-none, some-injective}
+use Rattle.std.proofs.Common.{◌≡◌, ◌≢◌, ℕ, ◌<◌, ◌≤◌, List, true, IsTrue, ap, ◌∙◌, subst, arith}
+use mathlib.Core.Option.{some}
 use mathlib.Core.Logic.{dite}
 use native.Mathlib.Decide.{ℕ_discrete}
 use lib.ListN.{get_elem?}
-use Rattle.pblk_model.specs.RingState.{between, covers_copy}
+use Rattle.pblk_model.specs.RingState.{covers_copy}
 use Rattle.write_ring.specs.declared.view.Key.{Key}
 use Rattle.write_ring.specs.declared.view.Row.{Row}
 use Rattle.write_ring.specs.declared.view.View.{View}
 use Rattle.write_ring.specs.Rule.{AllViews, Seats, one_if}
-use Rattle.write_ring.specs.Stock.{copies_at, Entered, HasPut, IsPut}
+use Rattle.write_ring.specs.Stock.{Entered, HasPut, IsPut}
 use Rattle.write_ring.proofs.Views.{sum_two, sum_some}
 use Rattle.write_ring.proofs.ClaimLists.{inside}
 use Rattle.write_ring.proofs.SeatMoves.{copier, has, none_counted}
 use Rattle.write_ring.proofs.SomeViews.{same_place}
-use Rattle.write_ring.proofs.Users.{user_below}
-
-pub copy_counted : (rs : List Row) (i : ℕ) (r : Row) → get_elem? rs i ≡ some r → r.copy ≡ true → 1 ≤ copies_at r.position rs
-copy_counted [] i r there copy = absurd (some-ne-none r (sym there))
-copy_counted (s ∷ rs) zero r there copy =
-    let same = some-injective s r there in
-    let one : between s.position (s.position + 1) r.position ≡ 1 =
-    ap (λ k. between k (k + 1) r.position) (ap (λ k. k.position) same) ∙ inside r.position r.position (r.position + 1) (omega arith) (omega arith) in
-    let here : (if s.copy then between s.position (s.position + 1) r.position else 0) ≡ between s.position (s.position + 1) r.position =
-    ap (λ b. if b then between s.position (s.position + 1) r.position else 0) (ap (λ k. k.copy) same ∙ copy) in
-    omega arith
-copy_counted (s ∷ rs) (suc i) r there copy = let later = copy_counted rs i r there copy in omega arith
+use Rattle.write_ring.proofs.Users.{copy_counted, user_below}
 
 module _ (key : Key) (c f g : ℕ) (views : List View) (by : ℕ) (v : View) (h : Seats key c f g views) (there : get_elem? views by ≡ some v)
     (copies : IsTrue v.pass.copier) where

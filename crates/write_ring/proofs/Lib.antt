@@ -18,6 +18,7 @@ pub mod Stocks
 pub mod Desks
 pub mod Takings
 pub mod Users
+pub mod TakenOut
 pub mod Plays
 pub mod Puts
 pub mod Draws

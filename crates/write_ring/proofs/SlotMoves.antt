@@ -29,7 +29,7 @@ use Rattle.write_ring.proofs.SeatMoves.{never, looked, own_below, claimed_more, 
 use Rattle.write_ring.proofs.Stocks.{open_claimed, stock_words, stock_changed, stock_claimed}
 use Rattle.write_ring.proofs.Desks.{stock_filled}
 use Rattle.write_ring.proofs.Takings.{stock_taken}
-use Rattle.write_ring.proofs.Users.{user_granted}
+use Rattle.write_ring.proofs.Users.{user_apart, user_granted}
 use Rattle.write_ring.proofs.Slots.{named_fits}
 use Rattle.write_ring.proofs.Chain.{taking}
 use Rattle.write_ring.proofs.Copies.{granted_or_copied, own_copy}
@@ -330,6 +330,8 @@ module _ {S : Type 0} (key : Key) (FreeOf : Key → S → Type 0) (Blank : S →
             omega arith,
             (λ copies copy. own_copy key h.claimed h.freed h.granted s.views by v h.seats there copies key.size key.first s.words h.took h.taken 0 r
                 stock.entered cell.2.4 copy),
+            (λ user other put copy same. user_apart key s.words h.took h.claimed h.freed h.granted h.taken 0 s.views by v r h.seats stock.entered there
+                cell.2.4 user other put copy (same ∙ taken_is ∙ sym cell.2.2)),
           )),
           (λ no. absurd (no names)),
         ),

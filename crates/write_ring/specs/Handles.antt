@@ -91,6 +91,8 @@ pub record HasTaken (v : View) (e : Entry) (w : View) : Type 0 where
   pub room : e.position < v.intake.freed + v.key.size
   -- a copy is the one that the intake put there
   pub copy : e.class ≡ class.Copy → HasPut (entry_row e) v.pass
+  -- no copy that it put there has a user's position
+  pub apart : e.class ≡ class.User → (r : Row) → HasPut r v.pass → r.position ≢ e.position
 
 -- the turn word of the next position's slot named another, and nobody had claimed the position when `claimed` was loaded next
 abbrev pub WasEmpty : ℕ → View → View → Type 0

@@ -36,5 +36,6 @@ module _ {S : Type 0} (CarriesOf : Key → S → Row → Type 0) (FitsOf : Key �
   Finds v slots n m = (n + v.key.first ≡ v.intake.taken + 1
       → (c : S) × (r : Row) × (m ≡ (took_row v n r, (slot slots v.intake.taken, c) ∷ [])) × CarriesOf v.key c r × (r.position ≡ v.intake.taken) × FitsOf v.key r
       × (v.intake.taken < 2 ^ 62) × (r.copy ≡ false → v.intake.taken < v.intake.granted) × (v.intake.taken < v.intake.freed + v.key.size)
-      × (IsTrue v.pass.copier → r.copy ≡ true → HasPut r v.pass))
+      × (IsTrue v.pass.copier → r.copy ≡ true → HasPut r v.pass)
+      × (r.copy ≡ false → (s : Row) → HasPut s v.pass → s.copy ≡ true → s.position ≢ v.intake.taken))
       × (n + v.key.first ≢ v.intake.taken + 1 → m ≡ (saw_turn v n, []))

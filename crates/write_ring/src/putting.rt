@@ -126,6 +126,7 @@ impl Ring {
         ensures same_desk { seat.new.me.0.intake ≡ seat.old.me.0.intake }
         ensures region { batch.new.region ≡ batch.old.region }
         ensures rises { seat.old.me.0.found.claimed ≤ seat.new.me.0.found.claimed }
+        ensures most { seat.new.me.0.found.claimed ≤ 2 ^ 62 }
         ensures freed { class ≡ kind.Copy
             → seat.new.me.0.found.freed ≡ seat.old.me.0.intake.freed }
 

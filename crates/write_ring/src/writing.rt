@@ -1,5 +1,5 @@
 // Users' entries go into the ring.
-ghost use Rattle.std.specs.Prelude.{◌≡◌, ◌+◌, ◌<◌, ◌≤◌, ℕ, IfOk, IfErr, OnOk, Err, [], length};
+ghost use Rattle.std.specs.Prelude.{◌^◌, ◌≡◌, ◌+◌, ◌<◌, ◌≤◌, ℕ, IfOk, IfErr, OnOk, Err, [], length};
 ghost use Rattle.std.specs.List.{AllByRecursion};
 ghost use Rattle.sector_pool.specs.declared.entry.Class.TheVariants as kind;
 ghost use Rattle.write_ring.specs.declared.seats.TryPut.TheVariants as Refused;
@@ -30,6 +30,7 @@ impl Ring {
         ensures ring { IsPassOf self.now pass.new }
         ensures same_shares { (pass_view pass.new).pass.shares ≡ (pass_view pass.old).pass.shares }
         ensures rises { (pass_view pass.old).found.claimed ≤ (pass_view pass.new).found.claimed }
+        ensures most { (pass_view pass.new).found.claimed ≤ 2 ^ 62 }
         ensures region { batch.new.region ≡ batch.old.region }
 
         // The place, and the entries there.
@@ -73,6 +74,7 @@ impl Ring {
         ensures ring { IsPassOf self.now pass.new }
         ensures same_shares { (pass_view pass.new).pass.shares ≡ (pass_view pass.old).pass.shares }
         ensures rises { (pass_view pass.old).found.claimed ≤ (pass_view pass.new).found.claimed }
+        ensures most { (pass_view pass.new).found.claimed ≤ 2 ^ 62 }
         ensures region { batch.new.region ≡ batch.old.region }
         ensures place { IfOk result (λ p. HasPlace kind.User batch.old.drafts p
             (pass_view pass.old) (pass_view pass.new)) }

@@ -1,0 +1,151 @@
+-- What a pump answers, by what its worker made and learned.
+use Rattle.std.proofs.Common.{◌≡◌, ◌≢◌, inl, inr, ℕ, suc, ◌≤◌, true, false, Result, Ok, Err, List, [], ◌∷◌, length, refl, sym, subst, ap, ◌∙◌}
+use Rattle.pblk_model.specs.ChunkStep.{Gave, Read}
+use Rattle.pblk_model.specs.Image.{Image}
+use Rattle.pblk_model.specs.UnitLog.{UnitEvent, UnitOutcome, Answered, Failed, Stopped}
+use Rattle.pblk_world.specs.AtRest.{IsAtRest}
+use Rattle.scan_recovery.specs.DriveFaults.{is_drive_fault, is_fetch}
+use Rattle.unit_port.specs.Armed.{is_fail, is_stop}
+use Rattle.unit_port.specs.Did.{failed_or_stopped}
+use Rattle.unit_port.specs.Unit.{ModelUnit}
+use Rattle.pblk_core.specs.declared.work.Why.{Why}
+use Rattle.pblk_core.specs.declared.work.Why.TheVariants as whys
+use Rattle.pblk_core.specs.declared.work.Work.{Work}
+use Rattle.pblk_core.specs.declared.work.Work.TheVariants as works
+use Rattle.chronicle.specs.Prefixes.{Prefixes, ArePrefixes, logs_of}
+use Rattle.pblk_engine.specs.Arms.{ArmView, number_told}
+use Rattle.pblk_engine.specs.ChunkResets.{HasReset}
+use Rattle.pblk_engine.specs.Deeds.{HasDone}
+use Rattle.pblk_engine.specs.Fetches.{TellsFetch}
+use Rattle.pblk_engine.specs.Opens.{HasOpened}
+use Rattle.pblk_engine.specs.Pumps.{GoesOn, HasFetched, HasPumped, IsFetch, IsNothing, IsOnly, NoFaults, TellsPump}
+use Rattle.pblk_engine.specs.Workers.{Made, WorkerView}
+use Rattle.pblk_engine.specs.declared.errors.DriveErr.{DriveErr}
+use Rattle.pblk_engine.specs.declared.outcomes.Did.{Did}
+use Rattle.pblk_engine.specs.declared.outcomes.Did.TheVariants as dids
+use Rattle.pblk_engine.proofs.GoingOn.{answer_kept, fault_one, fetch_lost, goes_still, goes_then, reset_kept, stop_lost}
+use Rattle.pblk_engine.proofs.OpenedLines.{opened_since}
+
+-- ---- fetches
+
+-- a fetch that wasn't answered is lost
+pub unanswered_lost : (e : UnitEvent) → IsFetch e.command → failed_or_stopped e.outcome ≡ true → is_drive_fault e ≡ true
+unanswered_lost e fetch is = go e.outcome refl is
+  where
+    go : (o : UnitOutcome) → e.outcome ≡ o → failed_or_stopped o ≡ true → is_drive_fault e ≡ true
+    go (Answered answer) same is = absurd (no is)
+      where
+        no : false ≡ true → ⊥
+        no x = cc
+    go (Failed k) same is = fetch_lost e (ap is_fetch fetch.1) (ap is_fail same)
+    go (Stopped k) same is = stop_lost e (ap is_stop same)
+
+pub has_fetched : (handed : List ModelUnit) (old new : ArmView) (was now : WorkerView) (before : Prefixes) (line block unit : ℕ) (result : Result (Unit {0}) ℕ)
+    → old.number ≡ unit
+    → HasDone old new was now before line (Read block) (TellsFetch (number_told handed old.number (length (logs_of before (suc old.number)))) result)
+    → HasFetched handed unit was now result
+has_fetched handed old new was now before line block unit result on done = record {
+  made = record { unit = old.number; number = length (logs_of before (suc old.number)); event = _ };
+  on = record { number = done.worker; keeps = done.keeps; made = done.made; asked = done.asked };
+  of = on;
+  asked = (block, refl);
+  tells = subst (λ n. TellsFetch (number_told handed n (length (logs_of before (suc old.number)))) result done.outcome) on done.told;
+}
+
+module _ (i : Image) (handed : List ModelUnit) (old new : WorkerView) (unit : ℕ) where
+  -- a fetch that was lost
+  pub pumped_lost : (event : ℕ) → HasFetched handed unit old new (Err event) → HasPumped i handed old new (Err (record { unit = unit; event = event }))
+  pumped_lost event is = record {
+    more = is.made ∷ [];
+    on = is.on;
+    tells = (
+      fault_one handed is.made (record { unit = unit; event = event }) (unanswered_lost is.made.event is.asked is.tells.0) (sym is.of)
+          (is.tells.1 ∙ ap (λ n. number_told handed n is.made.number) (sym is.of)),
+      refl,
+    );
+  }
+
+  only_fetch : (result : Result (Unit {0}) ℕ) → (is : HasFetched handed unit old new (Ok tt))
+      → NoFaults (is.made ∷ []) × IsOnly (is.made ∷ []) IsFetch (λ outcome. (b : _) × (outcome ≡ Answered (Gave b)))
+  only_fetch result is = (
+    (answer_kept is.made.event (ap is_stop is.tells.1) (ap is_fail is.tells.1), tt),
+    record { made = is.made; only = refl; asked = is.asked; told = is.tells },
+  )
+
+  pub pumped_copied : HasFetched handed unit old new (Ok tt) → HasPumped i handed old new (Ok dids.Copied)
+  pumped_copied is = record { more = is.made ∷ []; on = is.on; tells = only_fetch (Ok tt) is }
+
+  pub pumped_refused : HasFetched handed unit old new (Ok tt) → HasPumped i handed old new (Ok dids.NotCopied)
+  pumped_refused is = let it = only_fetch (Ok tt) is in record { more = is.made ∷ []; on = is.on; tells = (it.0, inr it.1) }
+
+  -- ---- resets
+
+  pub pumped_reset : (line : ℕ) → HasReset handed unit line old new (Ok tt) → HasPumped i handed old new (Ok dids.Reset)
+  pumped_reset line is = record {
+    more = is.made ∷ [];
+    on = is.on;
+    tells = (
+      (reset_kept is.made.event is.asked is.tells, tt),
+      record { made = is.made; only = refl; asked = is.asked; told = is.tells },
+    );
+  }
+
+  pub pumped_stopped : (line event : ℕ) → HasReset handed unit line old new (Err event)
+      → HasPumped i handed old new (Err (record { unit = unit; event = event }))
+  pumped_stopped line event is = record {
+    more = is.made ∷ [];
+    on = is.on;
+    tells = (
+      fault_one handed is.made (record { unit = unit; event = event }) (stop_lost is.made.event is.tells.0) (sym is.of)
+          (is.tells.1 ∙ ap (λ n. number_told handed n is.made.number) (sym is.of)),
+      refl,
+    );
+  }
+
+-- ---- no command
+
+module _ (i : Image) (handed : List ModelUnit) (w : WorkerView) where
+  pub pumped_other : HasPumped i handed w w (Ok dids.Other)
+  pumped_other = record { more = []; on = goes_still w; tells = (tt, refl) }
+
+  pub pumped_full : HasPumped i handed w w (Ok dids.NotCopied)
+  pumped_full = record { more = []; on = goes_still w; tells = (tt, inl refl) }
+
+  pub pumped_nothing : (why : Why) → IsNothing i w.known why → HasPumped i handed w w (Ok (dids.Nothing why))
+  pumped_nothing why is = record { more = []; on = goes_still w; tells = (tt, (refl, is)) }
+
+pub pumped_opened : (i : Image) (handed : List ModelUnit) (old new : WorkerView) → GoesOn old new [] → HasOpened old.known new.known
+    → HasPumped i handed old new (Ok dids.Opened)
+pumped_opened i handed old new on is = record { more = []; on = on; tells = (tt, (refl, is)) }
+
+-- ---- a worker that learned before
+
+pub tells_since : (i : Image) (handed : List ModelUnit) (early old new : Prefixes) (more : List Made) (result : Result Did DriveErr) → ArePrefixes early old
+    → TellsPump i handed old new more result → TellsPump i handed early new more result
+tells_since i handed early old new more (Err e) keeps is = is
+tells_since i handed early old new more (Ok dids.Opened) keeps is = (is.0, (is.1.0, opened_since early old new keeps is.1.1))
+tells_since i handed early old new more (Ok dids.Programmed) keeps is = is
+tells_since i handed early old new more (Ok (dids.Lost unit)) keeps is = is
+tells_since i handed early old new more (Ok dids.Reset) keeps is = is
+tells_since i handed early old new more (Ok dids.Copied) keeps is = is
+tells_since i handed early old new more (Ok dids.NotCopied) keeps is = is
+tells_since i handed early old new more (Ok dids.Other) keeps is = is
+tells_since i handed early old new more (Ok (dids.Nothing why)) keeps is = is
+
+pub pumped_since : (i : Image) (handed : List ModelUnit) (early old new : WorkerView) (result : Result Did DriveErr) → GoesOn early old []
+    → HasPumped i handed old new result → HasPumped i handed early new result
+pumped_since i handed early old new result first is = record {
+  more = is.more;
+  on = goes_then early old new [] is.more first is.on;
+  tells = tells_since i handed early.known old.known new.known is.more result first.keeps is.tells;
+}
+
+-- ---- rest
+
+pub is_nothing : (i : Image) (known : Prefixes) (work : Work) (pad : ℕ)
+    → ((why : Why) → work ≡ works.Nothing why → why ≢ whys.Busy → (asked : ℕ) → asked ≤ pad
+    → IsAtRest i (logs_of known) asked (length (logs_of known 0)))
+    → 0 ≤ pad → (why : Why) → work ≡ works.Nothing why → IsNothing i known why
+is_nothing i known work pad rest low whys.Busy is = tt
+is_nothing i known work pad rest low whys.NoLine is = rest whys.NoLine is (λ same. cc) 0 low
+is_nothing i known work pad rest low whys.Rest is = rest whys.Rest is (λ same. cc) 0 low

@@ -1,0 +1,165 @@
+-- Entries that are taken one after another.
+use Rattle.std.proofs.Common.{◌≡◌, ◌≢◌, ℕ, ◌+◌, ◌-◌, ◌*◌, ◌^◌, ◌<◌, ◌≤◌, max, Bool, true, [], ◌∷◌, length, refl, sym, subst, ap, ◌∙◌, arith, le_refl, le_trans}
+use Rattle.std.specs.Prelude.{slice_index}
+use mathlib.Core.List.{IsPrefix}
+use base.Growing.{prefix_refl, prefix_trans}
+use Rattle.pblk_model.specs.Image.{Image}
+use Rattle.pblk_model.specs.Shape.{units}
+use Rattle.pblk_world.specs.Events.{Decides, EngineEvent, Take}
+use Rattle.pblk_world.specs.Fronts.{first_position}
+use Rattle.pblk_world.specs.Orders.{NoneToFree}
+use Rattle.pblk_world.specs.Reasons.{WasRoom}
+use Rattle.pblk_world.specs.Space.{room}
+use Rattle.pblk_world.specs.World.{Logs}
+use Rattle.sector_pool.specs.declared.entry.Class.{Class}
+use Rattle.sector_pool.specs.declared.entry.Class.TheVariants.{User, Copy}
+use Rattle.sector_pool.specs.declared.entry.Entry.{Entry as FramedEntry}
+use Rattle.write_ring.specs.Frames.{entry_row}
+use Rattle.write_ring.specs.Handles.{HasTaken}
+use Rattle.write_ring.specs.declared.view.Desk.{Desk}
+use Rattle.write_ring.specs.declared.view.View.{View}
+use Rattle.pblk_core.specs.Copies.{is_copying}
+use Rattle.pblk_core.specs.Keeping.{KeepsStripesTaking, still_copying}
+use Rattle.pblk_core.specs.Mounts.{CollectsAfter, StandsAfter}
+use Rattle.pblk_core.specs.Named.{pad_of}
+use Rattle.pblk_core.specs.Taken.{entry_of, mark_of}
+use Rattle.pblk_core.specs.Taking.{with_waiting}
+use Rattle.pblk_core.specs.declared.target_core.Core.{Core}
+use Rattle.chronicle.specs.Handles.{AuthorView}
+use Rattle.chronicle.specs.Prefixes.{logs_of, with_event}
+use Rattle.pblk_engine.specs.Asks.{IsRaisedByVictims}
+use Rattle.pblk_engine.specs.Hearts.{HasDecided, IsBeating, IsHeart, IsRingFor, IsSettled, KeepsWork, Parts, parts}
+use Rattle.pblk_engine.specs.Takes.{TakesOn}
+use Rattle.pblk_engine.proofs.Asks.{raised_appended, raised_next, raised_none}
+use Rattle.pblk_engine.proofs.HeartSteps.{IsAfter}
+use Rattle.pblk_engine.proofs.Knowledge.{known_next}
+use Rattle.pblk_engine.proofs.Settles.{beating_appended, decided_none, decided_one, decided_then, heart_moved, is_zero}
+use Rattle.pblk_engine.proofs.Takes.{after_take, may_append, none_later}
+
+-- only loads were made
+pub takes_none : (a b : Parts) → b.core ≡ a.core → b.author ≡ a.author → b.intake.intake ≡ a.intake.intake → b.intake.pass ≡ a.intake.pass
+    → a.intake.found.claimed ≤ b.intake.found.claimed → TakesOn a b
+takes_none a b core author desk pass claimed = record {
+  decided = subst (λ (x : AuthorView). HasDecided a.author x) (sym author) (decided_none a.author);
+  took = subst (λ (d : Desk). IsPrefix a.intake.intake.took d.took) (sym desk) (prefix_refl a.intake.intake.took);
+  rises = subst (λ (d : Desk). a.intake.intake.taken ≤ d.taken) (sym desk) (le_refl a.intake.intake.taken);
+  claimed = claimed;
+  granted = subst (λ (d : Desk). a.intake.intake.granted ≤ d.granted) (sym desk) (le_refl a.intake.intake.granted);
+  pass = pass;
+  copying = λ is. subst (λ (x : Core). is_copying x ≡ true) core is;
+  pad = subst (λ (x : Core). pad_of a.core ≤ pad_of x) (sym core) (le_refl (pad_of a.core));
+  pads = raised_none b.author.past.image (logs_of b.author.known) (pad_of a.core) (pad_of b.core) (ap (λ (x : Core). pad_of x) core);
+  none = λ same. (core, author, desk);
+}
+
+pub takes_then : (a b c : Parts) → TakesOn a b → TakesOn b c → TakesOn a c
+takes_then a b c x y = record {
+  decided = decided_then a.author b.author c.author x.decided y.decided;
+  took = prefix_trans a.intake.intake.took b.intake.intake.took c.intake.intake.took x.took y.took;
+  rises = le_trans x.rises y.rises;
+  claimed = le_trans x.claimed y.claimed;
+  granted = le_trans x.granted y.granted;
+  pass = y.pass ∙ x.pass;
+  copying = λ is. x.copying (y.copying is);
+  pad = le_trans x.pad y.pad;
+  pads = raised_next b.author c.author (pad_of a.core) (pad_of b.core) (pad_of c.core) y.decided x.pads y.pads;
+  none = λ same.
+      let first : b.intake.intake.taken ≡ a.intake.intake.taken =
+      between a.intake.intake.taken b.intake.intake.taken c.intake.intake.taken x.rises y.rises same in
+      let one = x.none first in
+      let two = y.none (same ∙ sym first) in
+      (two.0 ∙ one.0, two.1 ∙ one.1, two.2 ∙ one.2);
+}
+  where
+    between : (k m n : ℕ) → k ≤ m → m ≤ n → n ≡ k → m ≡ k
+    between k m n low high same = omega arith
+
+-- ---- an entry
+
+-- a copy that is under way then was so before
+still : (class : Class) (u : Bool) → still_copying class u ≡ true → u ≡ true
+still User u is = is
+still Copy u is = absurd cc
+
+module _ (h : Parts) (b : IsBeating h) (e : FramedEntry) (v : View) (t : HasTaken h.intake e v)
+    (fit : (k : ℕ) → slice_index e.frame.bytes k < 256)
+    (none : NoneToFree h.author.past.image (logs_of h.author.known)) (new : Core)
+    (stands : StandsAfter h.core (Take (entry_of e) (mark_of h.core.map e)) new)
+    (collects : CollectsAfter h.core (Take (entry_of e) (mark_of h.core.map e)) new) (pushed : new.window ≡ with_waiting h.core.window e)
+    (kept : KeepsStripesTaking e.class h.core new) (key : v.key ≡ h.intake.key) (pass : v.pass ≡ h.intake.pass) (a : AuthorView)
+    (appended : a ≡ record h.author { known = with_event h.author.known h.author.number (Decides (Take (entry_of e) (mark_of h.core.map e))) }) where
+  abbrev event : EngineEvent
+  event = Take (entry_of e) (mark_of h.core.map e)
+
+  after_it : IsAfter h.author.past.image b.legal.world event h.core new h.intake v
+  after_it = after_take h b e v t fit new none stands collects pushed kept key pass
+
+  pub beating_taken : IsBeating (parts new a v)
+  beating_taken = beating_appended h b event a appended new v (may_append h b e v t fit) key after_it
+
+  pub none_taken : NoneToFree a.past.image (logs_of a.known)
+  none_taken =
+      subst (λ (x : AuthorView). NoneToFree x.past.image (logs_of x.known)) (sym (is_zero h b event a appended))
+      (subst (NoneToFree h.author.past.image) (sym (known_next h.author.past.image h.author.known b.legal event))
+      (none_later h b e v t fit none))
+
+  pub takes_one : h.intake.found.claimed ≤ v.found.claimed → TakesOn h (parts new a v)
+  takes_one claimed = record {
+    decided = decided_one h b event a appended;
+    took = (entry_row e ∷ [], sym t.took);
+    rises = let one : v.intake.taken ≡ h.intake.intake.taken + 1 = t.next in omega arith;
+    claimed = claimed;
+    granted = subst (λ n. h.intake.intake.granted ≤ n) (sym t.granted) (le_refl h.intake.intake.granted);
+    pass = pass;
+    copying = λ is. still e.class (is_copying h.core) (sym kept.copying ∙ is);
+    pad = kept.pad.least;
+    pads = raised_appended h b event a appended new v (may_append h b e v t fit) after_it;
+    none = λ same. let one : v.intake.taken ≡ h.intake.intake.taken + 1 = t.next in absurd (omega (arith, same));
+  }
+
+-- ---- what loads found changes nothing
+
+module _ (i : Image) (logs : Logs) (c : Core) (v w : View) (key : w.key ≡ v.key) (pass : w.pass ≡ v.pass) (desk : w.intake ≡ v.intake) where
+  pub heart_seen : IsHeart i logs c v → IsHeart i logs c w
+  heart_seen is = heart_moved i logs c c v w is is.stands is.collects is.own key pass (ap (λ (d : Desk). d.took) desk) (ap (λ (d : Desk). d.taken) desk) refl
+      (ap (λ (d : Desk). d.freed) desk ∙ is.freed)
+      (subst (λ (d : Desk). d.granted + units i.shape * i.shape.ws_opt ≤ d.freed + i.shape.ring) (sym desk) is.within)
+      (subst (λ (d : Desk). d.granted ≤ max (2 ^ 61 - 2) (first_position (logs 0))) (sym desk) is.last)
+      (subst (λ (d : Desk). WasRoom i logs (length (logs 0)) d.granted) (sym desk) is.once) refl refl
+
+  pub settled_seen : IsSettled i logs c v → IsSettled i logs c w
+  settled_seen is = record {
+    heart = heart_seen is.heart;
+    none_to_free = is.none_to_free;
+    drained = is.drained;
+    room = subst (λ (d : Desk). room i logs ≤ d.granted) (sym desk) is.room;
+  }
+
+pub beating_seen : (h : Parts) (b : IsBeating h) (w : View) → w.key ≡ h.intake.key → w.pass ≡ h.intake.pass → w.intake ≡ h.intake.intake
+    → IsBeating (parts h.core h.author w)
+beating_seen h b w key pass desk = record {
+  engine = b.engine;
+  legal = b.legal;
+  fits = subst (IsRingFor h.author.past.image) (sym key) b.fits;
+  heart = heart_seen h.author.past.image (logs_of h.author.known) h.core h.intake w key pass desk b.heart;
+}
+
+-- ---- once it settled
+
+-- where an entry was taken, and then lines were freed, frames given back and positions granted
+pub takes_settled : (a b c : Parts) → TakesOn a b → b.intake.intake.taken ≢ a.intake.intake.taken → HasDecided b.author c.author → KeepsWork b.core c.core
+    → IsRaisedByVictims c.author.past.image (logs_of c.author.known) (pad_of b.core) (pad_of c.core) → c.intake.pass ≡ b.intake.pass
+    → c.intake.intake.taken ≡ b.intake.intake.taken → c.intake.intake.took ≡ b.intake.intake.took → c.intake.found.claimed ≡ b.intake.found.claimed
+    → b.intake.intake.granted ≤ c.intake.intake.granted → TakesOn a c
+takes_settled a b c x some decided kept pads pass taken took claimed granted = record {
+  decided = decided_then a.author b.author c.author x.decided decided;
+  took = subst (IsPrefix a.intake.intake.took) (sym took) x.took;
+  rises = subst (λ n. a.intake.intake.taken ≤ n) (sym taken) x.rises;
+  claimed = subst (λ n. a.intake.found.claimed ≤ n) (sym claimed) x.claimed;
+  granted = le_trans x.granted granted;
+  pass = pass ∙ x.pass;
+  copying = λ is. x.copying (sym kept.copying ∙ is);
+  pad = le_trans x.pad kept.pad;
+  pads = raised_next b.author c.author (pad_of a.core) (pad_of b.core) (pad_of c.core) decided x.pads pads;
+  none = λ same. absurd (some (sym taken ∙ same));
+}

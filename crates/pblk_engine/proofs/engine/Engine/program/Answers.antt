@@ -1,0 +1,42 @@
+use Rattle.std.proofs.Common.{◌≡◌, subst, ap, ◌∙◌}
+use Rattle.pblk_core.specs.Filling.{Filling}
+use Rattle.pblk_engine.specs.Pumps.{HasPumped}
+use Rattle.pblk_engine.specs.Workers.{WorkerView}
+use Rattle.pblk_engine.specs.declared.commands.Ended.{Ended}
+use Rattle.pblk_engine.proofs.MadePrograms.{answer_of, pumped_made}
+use Rattle.pblk_engine.proofs.engine.Engine.program.Goals.{After-unit-unit}
+use Rattle.pblk_engine.proofs.engine.Engine.program.Given.{Over}
+use Rattle.pblk_engine.proofs.engine.Engine.program.Goals as goal
+
+module _ (g : Over) (c : After-unit-unit g) where
+  -- the stripe's unit, as the worker has it still
+  on : c.unit-unit.result ≡ c.program_stripe-note.new.worker.stripe.stripe.unit
+  on = c.unit-unit.ensures ∙ ap (λ (f : Filling). f.stripe.unit) c.stripe.ensures.stripe
+      ∙ ap (λ (w : WorkerView). w.stripe.stripe.unit) c.answer_program.ensures.worker
+
+  answered : HasPumped g.M.Mount.past.image g.M.Mount.handed c.args.worker.now c.answer_program.new.worker
+      (answer_of c.program_stripe-note.result.1 c.unit-unit.result c.program_stripe-note.result.2)
+  answered = pumped_made g.M.Mount.past.image g.M.Mount.handed c.args.worker.now c.place_stripe-note.new.worker c.program_stripe-note.new.worker
+      c.answer_program.new.worker c.place_stripe-note.ensures.worker c.program_stripe-note.result.2 c.unit-unit.result c.answer_program.ensures.worker
+      c.answer_program.ensures.keeps on c.program_stripe-note.result.1 c.program_stripe-note.ensures.made
+
+  told : (how : Ended) → c.program_stripe-note.result.1 ≡ how
+      → HasPumped g.M.Mount.past.image g.M.Mount.handed c.args.worker.now c.answer_program.new.worker
+      (answer_of how c.unit-unit.result c.program_stripe-note.result.2)
+  told how is = subst (λ (h : Ended). HasPumped g.M.Mount.past.image g.M.Mount.handed c.args.worker.now c.answer_program.new.worker
+      (answer_of h c.unit-unit.result c.program_stripe-note.result.2)) is answered
+
+pub returns-in-Done : goal.returns-in-Done
+returns-in-Done g c = record {
+  pumped = told g (goal.at.returns-in-Done g c).After-unit-unit _ c.in-Done.is;
+  worked = (λ same. cc, λ same. cc, λ same. cc);
+}
+
+pub returns-in-Failed : goal.returns-in-Failed
+returns-in-Failed g c = record {
+  pumped = told g (goal.at.returns-in-Failed g c).After-unit-unit _ c.in-Failed.is;
+  worked = (λ same. cc, λ same. cc, λ same. cc);
+}
+
+pub returns-in-Stopped : goal.returns-in-Stopped
+returns-in-Stopped g c = record { pumped = told g (goal.at.returns-in-Stopped g c).After-unit-unit _ c.in-Stopped.is; worked = tt }

@@ -1,0 +1,11 @@
+use Rattle.std.proofs.Common.{subst}
+use Rattle.pblk_engine.specs.ChunkResets.{HasReset}
+use Rattle.pblk_engine.proofs.PumpSteps.{pumped_stopped}
+use Rattle.pblk_engine.proofs.engine.Engine.reset.Goals as goal
+
+pub returns-clause-pumped : goal.returns-clause-pumped
+returns-clause-pumped g c =
+    let old = c.args.worker.now in
+    let new = c.reset_chunk-arm.new.worker in
+    pumped_stopped g.M.Mount.past.image g.M.Mount.handed old new c.args.unit c.args.line c.in-Err.event
+    (subst (HasReset g.M.Mount.handed c.args.unit c.args.line old new) c.in-Err.is c.reset_chunk-arm.ensures.worker)

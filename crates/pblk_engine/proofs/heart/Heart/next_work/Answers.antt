@@ -1,0 +1,43 @@
+use Rattle.std.proofs.Common.{◌≤◌, length, sym, subst, ◌∙◌}
+use Rattle.pblk_world.specs.AtRest.{IsAtRest}
+use Rattle.pblk_world.specs.Orders.{NoneToFree}
+use Rattle.pblk_world.specs.World.{Logs}
+use Rattle.pblk_core.specs.Resets.{IsToReset}
+use Rattle.chronicle.specs.Prefixes.{logs_of}
+use Rattle.pblk_engine.specs.Hearts.{HeartView, parts}
+use Rattle.pblk_engine.proofs.Decisions.{collecting}
+use Rattle.pblk_engine.proofs.Held.{beating_of, held_heart, held_mount}
+use Rattle.pblk_engine.proofs.RestingHearts.{collects_then, rests, stands_then}
+use Rattle.pblk_engine.proofs.heart.Heart.next_work.Goals as goal
+
+pub next_work-requires : goal.next_work-requires
+next_work-requires g c =
+    let h = parts c.self.inside.core c.self.inside.author c.self.inside.intake.seat.me.0 in
+    collecting h (beating_of g.M.Mount.chronicle g.M.Mount.ring g.M.Mount.past g.M.Mount.key c.self.inside.intake.seat.table_id h c.self.invariant.0)
+
+pub returns-clause-reset : goal.returns-clause-reset
+returns-clause-reset g c = λ line unit is.
+    let k = c.self.invariant.0 in
+    let i = g.M.Mount.past.image in
+    let w = k.legal.world in
+    let h = parts c.self.inside.core c.self.inside.author c.self.inside.intake.seat.me.0 in
+    let mount = held_mount g.M.Mount.chronicle g.M.Mount.ring g.M.Mount.past g.M.Mount.key c.self.inside.intake.seat.table_id h k in
+    let heart = held_heart g.M.Mount.chronicle g.M.Mount.ring g.M.Mount.past g.M.Mount.key c.self.inside.intake.seat.table_id h k in
+    subst (λ (v : HeartView). IsToReset i (logs_of v.author.known) line unit) c.self.view_is
+    (subst (λ (logs : Logs). IsToReset i logs line unit) k.legal.logs (c.next_work.ensures.reset i w line unit heart.stands is))
+
+pub returns-clause-rest : goal.returns-clause-rest
+returns-clause-rest g c = λ why is other asked within.
+    let k = c.self.invariant.0 in
+    let i = g.M.Mount.past.image in
+    let w = k.legal.world in
+    let h = parts c.self.inside.core c.self.inside.author c.self.inside.intake.seat.me.0 in
+    let mount = held_mount g.M.Mount.chronicle g.M.Mount.ring g.M.Mount.past g.M.Mount.key c.self.inside.intake.seat.table_id h k in
+    let heart = held_heart g.M.Mount.chronicle g.M.Mount.ring g.M.Mount.past g.M.Mount.key c.self.inside.intake.seat.table_id h k in
+    let v = c.self.inside.intake.seat.me.0 in
+    let none = subst (NoneToFree i) (sym k.legal.logs) k.settled.none_to_free in
+    subst (λ (x : HeartView). IsAtRest i (logs_of x.author.known) asked (length (logs_of x.author.known 0))) c.self.view_is
+    (subst (λ (logs : Logs). IsAtRest i logs asked (length (logs 0))) k.legal.logs
+    (rests i w c.self.inside.core v mount heart none why other
+    (sym (c.next_work.ensures.work i heart.left.left heart.left.legal (stands_then i w c.self.inside.core v mount heart none)
+    (collects_then i w c.self.inside.core v mount heart none)) ∙ is) asked (subst (λ (x : HeartView). asked ≤ x.pad) (sym c.self.view_is) within)))

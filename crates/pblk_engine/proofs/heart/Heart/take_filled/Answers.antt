@@ -1,0 +1,49 @@
+use Rattle.std.proofs.Common.{◌≡◌, true, sym, subst, ap, ◌∙◌}
+use Rattle.pblk_world.specs.Fronts.{taken}
+use Rattle.pblk_world.specs.World.{Logs}
+use Rattle.write_ring.specs.declared.view.View.{View}
+use Rattle.pblk_core.specs.Named.{pad_of}
+use Rattle.pblk_core.specs.Stands.{Stands}
+use Rattle.pblk_core.proofs.StandsFacts.{window_taken_is}
+use Rattle.pblk_engine.specs.Hearts.{HeartView, heart_view, parts}
+use Rattle.pblk_engine.proofs.Asks.{raised_since, raised_then}
+use Rattle.pblk_engine.proofs.Held.{held_then}
+use Rattle.pblk_engine.proofs.heart.Heart.take_filled.Goals as goal
+
+pub invariant_of-self : goal.invariant_of-self
+invariant_of-self g c =
+    let k = c.self.invariant.0 in
+    let h = parts c.self.inside.core c.self.inside.author c.self.inside.intake.seat.me.0 in
+    let new = parts c.take_and_settle.new.core c.take_and_settle.new.author c.take_and_settle.new.intake.seat.me.0 in
+    let s = c.take_and_settle.ensures in (
+      held_then g.M.Mount.chronicle g.M.Mount.ring g.M.Mount.past g.M.Mount.key c.self.inside.intake.seat.table_id h k
+          c.take_and_settle.new.intake.seat.table_id new s.takes.decided s.legal (s.ring.0 ∙ c.requires.ring.0) (s.ring.1 ∙ c.requires.ring.1) s.settled,
+      c.self.invariant.1,
+      raised_then g.M.Mount.past.image c.self.inside.author c.take_and_settle.new.author c.self.inside.asked (pad_of c.self.inside.core)
+          (pad_of c.take_and_settle.new.core) s.takes.decided c.self.invariant.2
+          (raised_since g.M.Mount.past c.self.inside.author c.take_and_settle.new.author (pad_of c.self.inside.core) (pad_of c.take_and_settle.new.core)
+          k.since s.takes.decided s.takes.pads),
+    )
+
+pub returns-clause-taken : goal.returns-clause-taken
+returns-clause-taken g c =
+    let s = c.take_and_settle.ensures in
+    let i = c.take_and_settle.new.author.past.image in
+    let core = c.take_and_settle.new.core in
+    s.settled.heart.taken
+    ∙ window_taken_is i s.legal.world core (subst (λ (logs : Logs). Stands i logs core) (sym s.legal.logs) s.settled.heart.stands)
+    ∙ ap (λ (logs : Logs). taken (logs 0)) s.legal.logs
+
+pub returns-clause-none : goal.returns-clause-none
+returns-clause-none g c = λ same.
+    let s = c.take_and_settle.ensures in
+    let old : View = c.self.inside.intake.seat.me.0 in
+    let new : View = c.take_and_settle.new.intake.seat.me.0 in
+    let none = s.takes.none (same ∙ ap (λ (v : HeartView). v.intake.intake.taken) (sym c.self.view_is)) in
+    let key : new.key ≡ old.key = s.ring.1 ∙ c.requires.ring.1 ∙ sym c.self.invariant.0.its_key in
+    (λ j. heart_view (none.0 j) (none.1 j) (record { found = new.found; pass = s.takes.pass j; intake = none.2 j; key = key j }) c.self.inside.asked
+    c.self.inside.sector.items)
+    ∙ ap (λ (v : HeartView). record v { intake = record v.intake { found = new.found } }) c.self.view_is
+
+pub returns-clause-copying : goal.returns-clause-copying
+returns-clause-copying g c = λ is. subst (λ (v : HeartView). v.copying ≡ true) c.self.view_is (c.take_and_settle.ensures.takes.copying is)

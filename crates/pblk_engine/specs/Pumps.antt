@@ -1,0 +1,118 @@
+-- What a worker's calls of an engine did, by what the worker knows and the commands that it made.
+use Rattle.std.specs.Prelude.{ℕ, ◌≡◌, ◌≢◌, ◌⊎◌, ⊤, false, true, List, [], ◌∷◌, ◌++◌, length, Result, Ok, Err}
+use Rattle.std.specs.List.{AllByRecursion}
+use Rattle.pblk_model.specs.Chunk.{Block}
+use Rattle.pblk_model.specs.ChunkStep.{ChunkCommand, Done, Gave, Read, Reset, Write}
+use Rattle.pblk_model.specs.Image.{Image}
+use Rattle.pblk_model.specs.UnitLog.{UnitOutcome, Answered, Failed}
+use Rattle.pblk_world.specs.AtRest.{IsAtRest}
+use Rattle.scan_recovery.specs.DriveFaults.{is_drive_fault}
+use Rattle.unit_port.specs.Armed.{is_stop}
+use Rattle.unit_port.specs.Unit.{ModelUnit}
+use Rattle.pblk_core.specs.declared.work.Why.{Why}
+use Rattle.pblk_core.specs.declared.work.Why.TheVariants as whys
+use Rattle.chronicle.specs.Prefixes.{Prefixes, logs_of, ArePrefixes}
+use Rattle.pblk_engine.specs.Arms.{number_told}
+use Rattle.pblk_engine.specs.Fetches.{TellsFetch}
+use Rattle.pblk_engine.specs.Opens.{HasOpened}
+use Rattle.pblk_engine.specs.Workers.{Made, WorkerView}
+use Rattle.pblk_engine.specs.declared.errors.DriveErr.{DriveErr}
+use Rattle.pblk_engine.specs.declared.outcomes.Did.{Did}
+use Rattle.pblk_engine.specs.declared.outcomes.Did.TheVariants as dids
+use Rattle.pblk_engine.specs.declared.outcomes.Role.{Role}
+use Rattle.pblk_engine.specs.declared.outcomes.Role.TheVariants as roles
+
+-- A worker went on: it learned, and made these commands.
+pub record GoesOn (old new : WorkerView) (more : List Made) : Type 0 where
+  pub number : new.number ≡ old.number
+  pub keeps : ArePrefixes old.known new.known
+  pub made : new.made ≡ old.made ++ more
+  pub asked : new.asked ≡ old.asked
+
+-- none of these commands was stopped, and no fetch among them failed
+abbrev pub NoFaults : List Made → Type 0
+NoFaults more = AllByRecursion (λ m. is_drive_fault m.event ≡ false) more
+
+-- The last of these commands was stopped, or is a fetch that failed, and the error names it. None
+-- of the others was.
+pub record IsFaultOf (handed : List ModelUnit) (more : List Made) (e : DriveErr) : Type 0 where
+  pub others : List Made
+  pub last : Made
+  pub all : more ≡ others ++ last ∷ []
+  pub none : NoFaults others
+  pub lost : is_drive_fault last.event ≡ true
+  pub unit : e.unit ≡ last.unit
+  pub number : e.event ≡ number_told handed last.unit last.number
+
+-- the only command was this one, with this outcome
+pub record IsOnly (more : List Made) (IsAsked : ChunkCommand → Type 0) (IsTold : UnitOutcome → Type 0) : Type 0 where
+  pub made : Made
+  pub only : more ≡ made ∷ []
+  pub asked : IsAsked made.event.command
+  pub told : IsTold made.event.outcome
+
+abbrev pub IsWrite : ChunkCommand → Type 0
+IsWrite command = (at : ℕ) × (blocks : List Block) × (command ≡ Write at blocks)
+
+abbrev pub IsFetch : ChunkCommand → Type 0
+IsFetch command = (block : ℕ) × (command ≡ Read block)
+
+abbrev pub HasFailed : UnitOutcome → Type 0
+HasFailed outcome = (k : ℕ) × (outcome ≡ Failed k)
+
+abbrev pub HasGiven : UnitOutcome → Type 0
+HasGiven outcome = (b : Block) × (outcome ≡ Answered (Gave b))
+
+-- where nothing is in flight, the engine's log is at rest, at the length that is known
+abbrev pub IsNothing : Image → Prefixes → Why → Type 0
+IsNothing i known whys.Busy = ⊤
+IsNothing i known whys.NoLine = IsAtRest i (logs_of known) 0 (length (logs_of known 0))
+IsNothing i known whys.Rest = IsAtRest i (logs_of known) 0 (length (logs_of known 0))
+
+-- The worker had the unit fetch a block. It was given; or the fetch failed or was stopped, and its
+-- number in the unit's log is told.
+pub record HasFetched (handed : List ModelUnit) (unit : ℕ) (old new : WorkerView) (result : Result (Unit {0}) ℕ) : Type 0 where
+  pub made : Made
+  pub on : GoesOn old new (made ∷ [])
+  pub of : made.unit ≡ unit
+  pub asked : IsFetch made.event.command
+  pub tells : TellsFetch (number_told handed unit made.number) result made.event.outcome
+
+-- What a pump did, by the commands that its worker made in it, and by what the worker knows of the
+-- logs before it and after it.
+abbrev pub TellsDid : Image → Prefixes → Prefixes → List Made → Did → Type 0
+TellsDid i old new more dids.Programmed = IsOnly more IsWrite (λ outcome. outcome ≡ Answered Done)
+TellsDid i old new more (dids.Lost unit) =
+    (is : IsOnly more IsWrite HasFailed) × (is.made.unit ≡ unit)
+TellsDid i old new more dids.Reset = IsOnly more (λ command. command ≡ Reset) (λ outcome. is_stop outcome ≡ false)
+TellsDid i old new more dids.Copied = IsOnly more IsFetch HasGiven
+TellsDid i old new more dids.NotCopied = (more ≡ []) ⊎ IsOnly more IsFetch HasGiven
+TellsDid i old new more dids.Opened = (more ≡ []) × HasOpened old new
+TellsDid i old new more dids.Other = more ≡ []
+TellsDid i old new more (dids.Nothing why) = (more ≡ []) × IsNothing i new why
+
+-- What a pump answers, with the commands that its worker made in it. Where it is an error, just one
+-- was made.
+abbrev pub TellsPump : Image → List ModelUnit → Prefixes → Prefixes → List Made → Result Did DriveErr → Type 0
+TellsPump i handed old new more (Ok did) = NoFaults more × TellsDid i old new more did
+TellsPump i handed old new more (Err e) = IsFaultOf handed more e × (length more ≡ 1)
+
+-- what a role does
+abbrev pub IsOfRole : Role → Did → Type 0
+IsOfRole roles.All did = did ≢ dids.Other
+IsOfRole roles.Lane did = (did ≢ dids.Copied) × (did ≢ dids.NotCopied)
+IsOfRole roles.Collector dids.Copied = ⊤
+IsOfRole roles.Collector dids.NotCopied = ⊤
+IsOfRole roles.Collector dids.Other = ⊤
+IsOfRole roles.Collector (dids.Nothing why) = ⊤
+IsOfRole roles.Collector did = ⊥
+
+-- what is done of that which isn't a copy
+abbrev pub IsOfWorker : Did → Type 0
+IsOfWorker did = (did ≢ dids.Other) × (did ≢ dids.Copied) × (did ≢ dids.NotCopied)
+
+-- A pump, with its answer.
+pub record HasPumped (i : Image) (handed : List ModelUnit) (old new : WorkerView) (result : Result Did DriveErr) : Type 0 where
+  pub more : List Made
+  pub on : GoesOn old new more
+  pub tells : TellsPump i handed old.known new.known more result

@@ -1,0 +1,52 @@
+//! A chunk of a line that was given up is reset, and the engine notes that, in one hold of both
+//! locks.
+ghost use Rattle.std.specs.Prelude.{◌≡◌, ◌<◌, IfOk};
+ghost use Rattle.std.specs.Sync.Mutex.{mutex_guard_value};
+ghost use Rattle.pblk_model.specs.Shape.{units};
+ghost use Rattle.pblk_core.specs.declared.work.Work.TheVariants as works;
+ghost use Rattle.pblk_engine.specs.Pumps.{HasPumped};
+ghost use Rattle.pblk_engine.specs.declared.outcomes.Did.TheVariants as dids;
+
+use crate::engine::Engine;
+use crate::errors::DriveErr;
+use crate::heart::Heart;
+use crate::mount::Mount;
+use crate::outcomes::Did;
+use crate::reset_chunks::reset_chunk;
+use crate::worker::Worker;
+use std::sync::{MutexGuard, Wait};
+use unit_port::Unit;
+
+impl<M: Mount, U: Unit> Engine<M, U> {
+    // Has the unit reset its chunk of the line that the core names. The engine notes that, unless
+    // the reset was stopped.
+    pub(crate) fn reset<R: Wait>(
+        &self,
+        rt: &R,
+        mut heart: MutexGuard<'_, Heart<M>>,
+        worker: &mut Worker<M>,
+        line: u32,
+        unit: u32,
+    ) -> Result<Did, DriveErr>
+        requires named { (mutex_guard_value heart).work ≡ works.Reset line unit }
+        requires unit { unit < units M.past.image.shape }
+        ensures pumped { HasPumped M.past.image M.handed worker.old worker.new result }
+        ensures reset { IfOk result (λ did. did ≡ dids.Reset) }
+    {
+        let (held, arm) = self.arms.lock(rt, unit);
+        let (arm, answer) = reset_chunk(
+            &self.chronicle,
+            &self.ring,
+            &mut heart,
+            arm,
+            worker,
+            unit,
+            line,
+        );
+        self.arms.unlock(held, arm);
+        match answer {
+            Ok(()) => Ok(Did::Reset),
+            Err(event) => Err(DriveErr { unit, event }),
+        }
+    }
+}

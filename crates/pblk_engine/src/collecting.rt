@@ -1,0 +1,96 @@
+//! A sector of the victim at work is copied, in one hold of the engine's lock.
+ghost use Rattle.std.specs.Prelude.{◌≡◌, ◌≢◌, ◌⊎◌, ◌<◌, ◌≤◌, Some, IfOk, IsOk};
+ghost use Rattle.std.specs.Sync.Mutex.{mutex_guard_value};
+ghost use Rattle.pblk_model.specs.Shape.{units};
+ghost use Rattle.pblk_core.specs.declared.work.Work.TheVariants as works;
+ghost use Rattle.chronicle.specs.Prefixes.{logs_of};
+ghost use Rattle.pblk_engine.specs.Copying.{IsFetched};
+ghost use Rattle.pblk_engine.specs.Pumps.{HasFetched, HasPumped, IsOfRole};
+ghost use Rattle.pblk_engine.specs.declared.outcomes.Did.TheVariants as dids;
+ghost use Rattle.pblk_engine.specs.declared.outcomes.Role.TheVariants as roles;
+
+use crate::copying::{CopyPlace, NextCopy};
+use crate::engine::Engine;
+use crate::errors::DriveErr;
+use crate::heart::Heart;
+use crate::mount::Mount;
+use crate::outcomes::Did;
+use crate::worker::Worker;
+use pblk_core::Work;
+use std::sync::{MutexGuard, Wait};
+use unit_port::Unit;
+
+impl<M: Mount, U: Unit> Engine<M, U> {
+    // Has the block of a sector fetched, which is copied next, into the heart's buffer.
+    fn fetch_copy<R: Wait>(
+        &self,
+        rt: &R,
+        heart: &mut Heart<M>,
+        worker: &mut Worker<M>,
+        of: &CopyPlace,
+    ) -> Result<(), u64>
+        requires copy { heart.old.copy ≡ Some of.now }
+        requires unit { of.now.unit < units M.past.image.shape }
+        requires known { worker.old.known ≡ heart.old.author.known }
+        ensures met { let old = heart.old in heart.new ≡ record old {
+          author = record old.author { known = heart.new.author.known };
+          sector = heart.new.sector;
+        } }
+        ensures fetched { IsOk result → IsFetched M.past.image (logs_of heart.new.author.known)
+            of.now heart.new.sector }
+        ensures made { HasFetched M.handed of.now.unit worker.old worker.new result }
+    {
+        let (held, mut arm) = self.arms.lock(rt, of.unit);
+        let fetched = heart.fetch_copy(&self.chronicle, &mut arm, worker, of);
+        self.arms.unlock(held, arm);
+        fetched
+    }
+
+    // Has the block of a sector fetched, and claims a position for its copy. Tells whether that
+    // claim succeeded.
+    fn copy_sector<R: Wait>(
+        &self,
+        rt: &R,
+        heart: &mut Heart<M>,
+        worker: &mut Worker<M>,
+        of: &CopyPlace,
+    ) -> Result<Did, DriveErr>
+        requires copy { heart.old.copy ≡ Some of.now }
+        requires unit { of.now.unit < units M.past.image.shape }
+        requires known { worker.old.known ≡ heart.old.author.known }
+        requires reached { heart.old.intake.intake.taken ≤ heart.old.intake.found.claimed }
+        ensures pumped { HasPumped M.past.image M.handed worker.old worker.new result }
+        ensures copied { IfOk result (λ did. (did ≡ dids.Copied) ⊎ (did ≡ dids.NotCopied)) }
+    {
+        match self.fetch_copy(rt, heart, worker, of) {
+            Err(event) => Err(DriveErr {
+                unit: of.unit,
+                event,
+            }),
+            Ok(()) if heart.put_copy(&self.ring, of) => Ok(Did::Copied),
+            Ok(()) => Ok(Did::NotCopied),
+        }
+    }
+
+    // Copies the sector that the core names next. It answers `Other` where it names none. The
+    // worker knows what the heart does.
+    pub(crate) fn copy<R: Wait>(
+        &self,
+        rt: &R,
+        mut heart: MutexGuard<'_, Heart<M>>,
+        work: Work,
+        worker: &mut Worker<M>,
+    ) -> Result<Did, DriveErr>
+        requires named { work ≡ (mutex_guard_value heart).work }
+        requires known { worker.old.known ≡ (mutex_guard_value heart).author.known }
+        ensures pumped { HasPumped M.past.image M.handed worker.old worker.new result }
+        ensures copied { IfOk result (IsOfRole roles.Collector) }
+        ensures named { work ≡ works.Copy → IfOk result (λ did. did ≢ dids.Other) }
+    {
+        match heart.next_copy(&self.ring) {
+            NextCopy::At(of) => self.copy_sector(rt, &mut heart, worker, &of),
+            NextCopy::Full => Ok(Did::NotCopied),
+            NextCopy::Nothing => Ok(Did::Other),
+        }
+    }
+}

@@ -1,0 +1,58 @@
+//! The engine of a target: what lies under its locks, for any number of threads.
+//!
+//! The heart lies under the engine's lock, and each unit with its author, which is an arm, under a
+//! lock of its own. Nothing is known of what lies under a lock but what its type keeps. So each of
+//! these types keeps that it is of one mount, which the trait [`Mount`] names.
+#![tactic(auto)]
+
+mod answering;
+mod arm;
+mod beginning;
+mod begun;
+mod chunk_resetting;
+mod closing;
+mod collecting;
+mod commands;
+mod copying;
+mod ending;
+mod engine;
+mod engine_author;
+mod errors;
+mod fetching;
+mod heart;
+mod laws;
+mod line_opening;
+mod looking;
+mod made;
+mod mount;
+mod outcomes;
+mod places;
+mod placing;
+mod programming;
+mod pumping;
+mod reading;
+mod reset_chunks;
+mod reset_notes;
+mod resetting;
+mod sector_looks;
+mod settling;
+mod shown;
+mod taking;
+mod waiting;
+mod winding_down;
+mod worker;
+
+pub use arm::{Arm, Programmed};
+pub use beginning::HeartParts;
+pub use closing::{Closing, IsSet, LaneEnd};
+pub use commands::Ended;
+pub use engine::Engine;
+pub use errors::{DriveErr, SettleErr};
+pub use laws::{
+    an_opening_is_a_past, each_command_stands_in_its_list, what_has_just_begun_is_mounted,
+};
+pub use made::Made;
+pub use mount::Mount;
+pub use outcomes::{Did, Flushed, Role, Roomed};
+pub use places::ArmPlaces;
+pub use worker::Worker;

@@ -1,0 +1,33 @@
+//! A line is opened.
+ghost use Rattle.std.specs.Prelude.{◌≡◌, Ok};
+ghost use Rattle.std.specs.Sync.Mutex.{mutex_guard_value};
+ghost use Rattle.pblk_core.specs.declared.work.Work.TheVariants as works;
+ghost use Rattle.pblk_engine.specs.Pumps.{HasPumped};
+ghost use Rattle.pblk_engine.specs.declared.outcomes.Did.TheVariants as dids;
+
+use crate::engine::Engine;
+use crate::heart::Heart;
+use crate::mount::Mount;
+use crate::outcomes::Did;
+use crate::worker::Worker;
+use std::sync::MutexGuard;
+use unit_port::Unit;
+
+impl<M: Mount, U: Unit> Engine<M, U> {
+    // Opens the line that the core names. The worker knows what the heart does.
+    pub(crate) fn open_line(
+        &self,
+        mut heart: MutexGuard<'_, Heart<M>>,
+        worker: &mut Worker<M>,
+    ) -> Did
+        requires named { (mutex_guard_value heart).work ≡ works.Open }
+        requires known { worker.old.known ≡ (mutex_guard_value heart).author.known }
+        ensures pumped { HasPumped M.past.image M.handed worker.old worker.new (Ok result) }
+        ensures opened { result ≡ dids.Opened }
+    {
+        let beating = &mut *heart;
+        beating.open_line(&self.chronicle, &self.ring);
+        self.tell(beating, worker);
+        Did::Opened
+    }
+}

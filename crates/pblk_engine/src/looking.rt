@@ -1,0 +1,132 @@
+//! What a look under the engine's lock gives.
+
+ghost use Rattle.std.specs.Prelude.{◌≡◌, ◌≢◌, ◌≤◌, ◌<◌, ◌^◌, ℕ, length, slice_get, Some, IfSome, IsSome};
+ghost use Rattle.pblk_model.specs.Bytes.{zeros};
+ghost use Rattle.pblk_world.specs.AtRest.{IsAtRest, logs_at};
+ghost use Rattle.pblk_world.specs.Reasons.{WasRoom};
+ghost use Rattle.pblk_world.specs.Space.{is_due, room};
+ghost use Rattle.chronicle.specs.Prefixes.{logs_of};
+ghost use Rattle.core_laws.specs.SlotOf.{slot_of};
+ghost use Rattle.l2p_map.specs.declared.slot.Slot.TheVariants as slots;
+ghost use Rattle.pblk_core.specs.Resets.{IsToReset};
+ghost use Rattle.pblk_core.specs.declared.work.Why.{Why as WhyOf};
+ghost use Rattle.pblk_core.specs.declared.work.Why.TheVariants as whys;
+ghost use Rattle.pblk_core.specs.declared.work.Work.TheVariants as works;
+ghost use Rattle.step_laws.specs.SlotBlocks.{IsBlockOfSlot};
+ghost use Rattle.pblk_engine.specs.Hearts.{IsRingOf};
+ghost use Rattle.pblk_engine.specs.Looks.{front_synced, front_taken, latest_by};
+
+use crate::heart::Heart;
+use crate::mount::Mount;
+use l2p_map::Slot;
+use pblk_core::Work;
+use pblk_model::Front;
+use write_ring::Ring;
+
+impl<M: Mount> Heart<M> {
+    /// What comes next. Where that is nothing, and nothing is in flight, the target is at rest for
+    /// each pad target up to that which it has.
+    pub(crate) fn next_work(&self) -> Work
+        ensures named { result ≡ self.now.work }
+        ensures reset { (line unit : ℕ) → result ≡ works.Reset line unit
+            → IsToReset M.past.image (logs_of self.now.author.known) line unit }
+        ensures rest { (why : WhyOf) → result ≡ works.Nothing why → why ≢ whys.Busy
+            → (asked : ℕ) → asked ≤ self.now.pad
+            → IsAtRest M.past.image (logs_of self.now.author.known) asked
+            (length (logs_of self.now.author.known 0)) }
+    {
+        self.core.next_work()
+    }
+
+    /// The front taken: all that was taken so far.
+    pub(crate) fn front(&self) -> Front
+        ensures front { result ≡ front_taken (logs_of self.now.author.known 0) }
+        ensures taken { result.position ≡ self.now.intake.intake.taken }
+        ensures small { result.position ≤ 2 ^ 62 }
+    {
+        self.core.front()
+    }
+
+    /// The front synced: all below it is on the drive.
+    pub(crate) fn synced(&self) -> Front
+        ensures { result
+            ≡ front_synced M.past.image.shape (logs_of self.now.author.known 0) }
+    {
+        self.core.synced()
+    }
+
+    /// Below which position users may claim, by one load. There is no room beyond it.
+    pub(crate) fn granted(&mut self, ring: &Ring) -> u64
+        requires ring { IsRingOf M.ring M.key ring.now }
+        ensures granted { result ≡ self.old.intake.intake.granted }
+        ensures room { room M.past.image (logs_of self.old.author.known) ≤ result }
+        ensures room_then { let known = logs_of self.old.author.known
+            in room M.past.image (logs_at (length (known 0)) known) ≤ result }
+        ensures once { let known = logs_of self.old.author.known
+            in WasRoom M.past.image known (length (known 0)) result }
+        ensures same { self.new ≡ record self.old {
+          intake = record self.old.intake { found = self.new.intake.found };
+        } }
+        ensures claimed { self.new.intake.found.claimed ≡ self.old.intake.found.claimed }
+    {
+        ring.granted(&mut self.intake)
+    }
+
+    /// The pad target.
+    pub(crate) fn pad_target(&self) -> u64
+        ensures { result ≡ self.now.pad }
+    {
+        self.core.pad_target()
+    }
+
+    /// Whether collection is due.
+    pub(crate) fn is_due(&self) -> bool
+        ensures { result ≡ is_due M.past.image (logs_of self.now.author.known) }
+    {
+        self.core.is_due()
+    }
+
+    /// Where the latest content of a sector is. The sector is below the capacity. A slot on the
+    /// drive leads to a block that can be read, and has that content. A sector that was never
+    /// written holds zeros.
+    pub(crate) fn look(&self, lba: u64) -> Slot
+        requires lba { lba < M.past.image.shape.capacity }
+        ensures slot { result ≡ slot_of M.past.image (logs_of self.now.author.known) lba }
+        ensures unwritten { result ≡ slots.Unwritten
+            → slice_get (latest_by M.past.image (logs_of self.now.author.known)) lba
+            ≡ Some (zeros M.past.image.shape.sector) }
+        ensures on_drive { (line at position : ℕ) → result ≡ slots.Media line at position
+            → (is : IsBlockOfSlot M.past.image (logs_of self.now.author.known) lba line at position)
+            × (slice_get (latest_by M.past.image (logs_of self.now.author.known)) lba
+            ≡ Some is.block.sector) }
+    {
+        self.core.look(lba)
+    }
+
+    /// The sector of an entry that the window holds. It does where a slot names the entry, and then
+    /// that is the latest content of the slot's sector.
+    pub(crate) fn bytes(&self, position: u64) -> Option<&[u8]>
+        ensures there { (lba : ℕ) → lba < M.past.image.shape.capacity
+            → slot_of M.past.image (logs_of self.now.author.known) lba ≡ slots.Cached position
+            → IsSome result }
+        ensures latest { (lba : ℕ) → lba < M.past.image.shape.capacity
+            → slot_of M.past.image (logs_of self.now.author.known) lba ≡ slots.Cached position
+            → IfSome result (λ sector.
+            slice_get (latest_by M.past.image (logs_of self.now.author.known)) lba
+            ≡ Some sector.now) }
+        ensures size { IfSome result (λ sector. length sector.now ≡ M.past.image.shape.sector) }
+    {
+        self.core.bytes(position)
+    }
+
+    /// The unit and the block of a line address, to which a sector's slot leads.
+    pub(crate) fn place_of(&self, line: u32, at: u32) -> (u32, u32)
+        requires there { (lba : ℕ) × (position : ℕ)
+            × IsBlockOfSlot M.past.image (logs_of self.now.author.known) lba line at position }
+        ensures place { (lba position : ℕ)
+            → (is : IsBlockOfSlot M.past.image (logs_of self.now.author.known) lba line at position)
+            → (is.unit ≡ result.0) × (is.number ≡ result.1) }
+    {
+        self.core.address(line, at)
+    }
+}

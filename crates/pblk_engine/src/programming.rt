@@ -1,0 +1,156 @@
+//! A stripe on its way: it is placed under the engine's lock, programmed under its unit's lock
+//! alone, and answered under the engine's lock again.
+ghost use Rattle.std.specs.Prelude.{◌≡◌, ◌<◌, ◌≤◌, IfOk};
+ghost use Rattle.std.specs.Sync.Mutex.{mutex_guard_value};
+ghost use Rattle.chronicle.specs.Prefixes.{ArePrefixes, logs_of};
+ghost use Rattle.pblk_core.specs.declared.work.Work.TheVariants as works;
+ghost use Rattle.pblk_model.specs.Shape.{units};
+ghost use Rattle.pblk_engine.specs.Answers.{IsLastProgram};
+ghost use Rattle.pblk_engine.specs.Notes.{IsNoteOf};
+ghost use Rattle.pblk_engine.specs.Placements.{IsPlacedAs};
+ghost use Rattle.pblk_engine.specs.Programs.{HasMade, HasTried};
+ghost use Rattle.pblk_engine.specs.Pumps.{HasPumped, IsOfWorker};
+ghost use Rattle.pblk_engine.specs.Stops.{stop_count};
+
+use crate::arm::Programmed;
+use crate::commands::Ended;
+use crate::engine::Engine;
+use crate::errors::DriveErr;
+use crate::heart::Heart;
+use crate::mount::Mount;
+use crate::outcomes::Did;
+use crate::worker::Worker;
+use chronicle::Note;
+use crossbeam_utils::Backoff;
+use std::sync::{MutexGuard, Wait};
+use unit_port::Unit;
+
+impl<M: Mount, U: Unit> Engine<M, U> {
+    // Places the stripe that the core names, and fills the worker's with it. Tells how many stops
+    // of its unit's programs the engine had noted.
+    fn place_stripe(&self, heart: &mut Heart<M>, worker: &mut Worker<M>) -> (Note, u64)
+        requires named { heart.old.work ≡ works.Program }
+        requires known { worker.old.known ≡ heart.old.author.known }
+        ensures note { IsNoteOf M.chronicle M.past result.0 }
+        ensures told { ArePrefixes worker.new.known result.0.known }
+        ensures placed { IsPlacedAs (logs_of result.0.known 0) worker.new.stripe }
+        ensures inside { worker.new.stripe.stripe.unit < units M.past.image.shape }
+        ensures stops { result.1
+            ≤ stop_count (logs_of result.0.known 0) worker.new.stripe.stripe.unit }
+        ensures worker { let old = worker.old in worker.new
+            ≡ record old { stripe = worker.new.stripe } }
+    {
+        let stops = heart.place(&self.chronicle, &self.ring, &mut worker.stripe);
+        (heart.note(&self.chronicle), stops)
+    }
+
+    // Has the worker's stripe programmed, unless it has to wait.
+    fn try_program<R: Wait>(
+        &self,
+        rt: &R,
+        note: Note,
+        worker: &mut Worker<M>,
+        stops: u64,
+    ) -> (Note, Programmed)
+        requires note { IsNoteOf M.chronicle M.past note }
+        requires told { ArePrefixes worker.old.known note.known }
+        requires inside { worker.old.stripe.stripe.unit < units M.past.image.shape }
+        requires placed { IsPlacedAs (logs_of note.known 0) worker.old.stripe }
+        requires stops { stops ≤ stop_count (logs_of note.known 0) worker.old.stripe.stripe.unit }
+        ensures note { IsNoteOf M.chronicle M.past result.0 }
+        ensures learns { ArePrefixes note.known result.0.known }
+        ensures tried { HasTried M.handed worker.old worker.new result.0.known stops result.1 }
+    {
+        let (held, mut arm) = self.arms.lock(rt, worker.stripe().unit());
+        let (note, how) = arm.program(&self.chronicle, note, worker);
+        self.arms.unlock(held, arm);
+        (note, how)
+    }
+
+    // Has the worker's stripe programmed at its turn. Tells how that ended, and the number of the
+    // event in the unit's log, from 1.
+    fn program_stripe<R: Wait>(
+        &self,
+        rt: &R,
+        note: Note,
+        worker: &mut Worker<M>,
+        stops: u64,
+    ) -> (Note, Ended, u64)
+        requires note { IsNoteOf M.chronicle M.past note }
+        requires told { ArePrefixes worker.old.known note.known }
+        requires inside { worker.old.stripe.stripe.unit < units M.past.image.shape }
+        requires placed { IsPlacedAs (logs_of note.known 0) worker.old.stripe }
+        requires stops { stops ≤ stop_count (logs_of note.known 0) worker.old.stripe.stripe.unit }
+        ensures note { IsNoteOf M.chronicle M.past result.0 }
+        ensures last { IsLastProgram result.0.known worker.old.stripe result.1 stops }
+        ensures made { HasMade M.handed worker.old worker.new result.1 result.2 }
+    {
+        let mut note = note;
+        let backoff = Backoff::new();
+        for _ in rt.forever() {
+            let (told, how) = self.try_program(rt, note, worker, stops);
+            match how {
+                Programmed::Made { how, event } => return (told, how, event),
+                // stripes of the unit that were placed before it haven't ended yet
+                Programmed::Waits => {
+                    note = told;
+                    backoff.snooze();
+                }
+            }
+        }
+        unreachable!()
+    }
+
+    // Tells the engine how the program of the worker's stripe ended. The worker knows all that the
+    // heart does then.
+    fn answer_program<R: Wait>(
+        &self,
+        rt: &R,
+        note: Note,
+        worker: &mut Worker<M>,
+        how: Ended,
+        stops: u64,
+    )
+        requires note { IsNoteOf M.chronicle M.past note }
+        requires last { IsLastProgram note.known worker.old.stripe how stops }
+        ensures worker { let old = worker.old in worker.new
+            ≡ record old { known = worker.new.known } }
+        ensures keeps { ArePrefixes worker.old.known worker.new.known }
+    {
+        let mut heart = self.heart.lock(rt);
+        heart.answer(
+            &self.chronicle,
+            &self.ring,
+            note,
+            worker.stripe(),
+            how,
+            stops,
+        );
+        self.tell(&mut heart, worker);
+    }
+
+    // Places the stripe that the core names, has its unit program it, and tells the engine how that
+    // ended. The engine's lock is free while the unit works.
+    pub(crate) fn program<R: Wait>(
+        &self,
+        rt: &R,
+        mut heart: MutexGuard<'_, Heart<M>>,
+        worker: &mut Worker<M>,
+    ) -> Result<Did, DriveErr>
+        requires named { (mutex_guard_value heart).work ≡ works.Program }
+        requires known { worker.old.known ≡ (mutex_guard_value heart).author.known }
+        ensures pumped { HasPumped M.past.image M.handed worker.old worker.new result }
+        ensures worked { IfOk result IsOfWorker }
+    {
+        let (note, stops) = self.place_stripe(&mut heart, worker);
+        drop(heart);
+        let (note, how, event) = self.program_stripe(rt, note, worker, stops);
+        self.answer_program(rt, note, worker, how, stops);
+        let unit = worker.stripe().unit();
+        match how {
+            Ended::Done => Ok(Did::Programmed),
+            Ended::Failed { kept: _ } => Ok(Did::Lost(unit)),
+            Ended::Stopped => Err(DriveErr { unit, event }),
+        }
+    }
+}

@@ -1,0 +1,68 @@
+//! One piece of an engine's work.
+ghost use Rattle.std.specs.Prelude.{◌≡◌, ◌<◌, ℕ, IfOk};
+ghost use Rattle.std.specs.Sync.Mutex.{mutex_guard_value};
+ghost use Rattle.pblk_model.specs.Shape.{units};
+ghost use Rattle.pblk_core.specs.declared.work.Why.{Why as WhyOf};
+ghost use Rattle.pblk_core.specs.declared.work.Work.TheVariants as works;
+ghost use Rattle.pblk_engine.specs.Pumps.{HasPumped, IsNothing, IsOfRole};
+
+use crate::engine::Engine;
+use crate::errors::DriveErr;
+use crate::heart::Heart;
+use crate::mount::Mount;
+use crate::outcomes::{Did, Role};
+use crate::worker::Worker;
+use pblk_core::Work;
+use std::sync::{MutexGuard, Wait};
+use unit_port::Unit;
+
+impl<M: Mount, U: Unit> Engine<M, U> {
+    /// Takes what is filled, and does one piece of work, if there is one for this role. It tells
+    /// what that was, by the commands that the worker made in this call. `Lost` comes exactly where
+    /// it had a stripe programmed and the program failed. `Nothing` comes where there was nothing
+    /// to do at its look. Where nothing was in flight then, the engine's log is at rest at the
+    /// length that the worker knows.
+    ///
+    /// `Err` comes where the command that it gave a unit was stopped, or where it fetched a block
+    /// to copy it and the fetch failed. It names that event.
+    pub fn pump<R: Wait>(&self, rt: &R, worker: &mut Worker<M>, role: Role) -> Result<Did, DriveErr>
+        ensures pumped { HasPumped M.past.image M.handed worker.old worker.new result }
+        ensures role { IfOk result (IsOfRole role) }
+    {
+        let mut heart = self.heart.lock(rt);
+        let beating = &mut *heart;
+        beating.take_filled(&self.chronicle, &self.ring);
+        self.tell(beating, worker);
+        let work = beating.next_work();
+        self.pump_held(rt, heart, work, worker, role)
+    }
+
+    // Does the work that the core names, in this hold of the engine's lock, which ends with it. The
+    // worker knows what the heart does.
+    pub(crate) fn pump_held<R: Wait>(
+        &self,
+        rt: &R,
+        heart: MutexGuard<'_, Heart<M>>,
+        work: Work,
+        worker: &mut Worker<M>,
+        role: Role,
+    ) -> Result<Did, DriveErr>
+        requires named { work ≡ (mutex_guard_value heart).work }
+        requires known { worker.old.known ≡ (mutex_guard_value heart).author.known }
+        requires reset { (line unit : ℕ) → work ≡ works.Reset line unit
+            → unit < units M.past.image.shape }
+        requires rest { (why : WhyOf) → work ≡ works.Nothing why
+            → IsNothing M.past.image worker.old.known why }
+        ensures pumped { HasPumped M.past.image M.handed worker.old worker.new result }
+        ensures role { IfOk result (IsOfRole role) }
+    {
+        match (role, work) {
+            (_, Work::Nothing(why)) => Ok(Did::Nothing(why)),
+            (Role::Collector, _) | (Role::All, Work::Copy) => self.copy(rt, heart, work, worker),
+            (Role::Lane, Work::Copy) => Ok(Did::Other),
+            (_, Work::Program) => self.program(rt, heart, worker),
+            (_, Work::Open) => Ok(self.open_line(heart, worker)),
+            (_, Work::Reset { line, unit }) => self.reset(rt, heart, worker, line, unit),
+        }
+    }
+}
