@@ -19,19 +19,19 @@ use Rattle.pblk_world.specs.World.{World, Logs, log_of}
 use Rattle.pblk_world.specs.Legal.{IsAllowed, IsLegal}
 use Rattle.pblk_world.proofs.WorldLemmas.{log_here, log_elsewhere}
 use Rattle.chronicle.specs.Views.{Part, Past, View}
-use Rattle.chronicle.specs.Prefixes.{logs_of, longer_of, AreLegalLogs, AreOpeningLogs, IsNext, naming}
+use Rattle.chronicle.specs.Prefixes.{logs_of, longer_of, AreOpeningLogs, IsNext, naming}
 use Rattle.chronicle.specs.Rule.{HasRights, IsPart, IsView, IsKept, IsHeard, IsWhole, Owners}
 use Rattle.chronicle.specs.Steps.{no_past, starting, spent, began, appended, but_first, first_of, lent, makers_from, named, naming_next, noted, with_heard, without_makers, joined, merged}
 use Rattle.chronicle.proofs.PrefixLemmas.{nothing_begins, begins_longer, longer_at, longer_some}
 use Rattle.chronicle.proofs.Parts.{next_step, nothing_part, later_part, moved_part, appended_part, own_begins, heard_own_begins, joined_part}
-use Rattle.chronicle.proofs.Rights.{moved_rights, next_is_own, next_numbered, no_rights}
-use Rattle.chronicle.proofs.Worlds.{whole_part, known_legal, known_whole, opening_legal, step_legal}
+use Rattle.chronicle.proofs.Rights.{moved_rights, next_is_named, next_is_own, next_numbered, no_rights}
+use Rattle.chronicle.proofs.Worlds.{whole_part, all_open, known_legal, known_whole, none_opened, opening_legal, step_legal}
 use Rattle.chronicle.proofs.Views.{each_changed, each_more, only_one, IsStale, stale, stale_changed}
 
 -- ---- where the world stays
 
 -- the rule for other seats over the same world
-module _ (s : State (Unit {0}) View) (h : IsKept s) (owner : Owners) (views : List View)
+module _ (s : State (Unit {0}) View) (h : IsKept s) (owner : Owners) (few : owner.named ≤ 2 ^ 64) (views : List View)
     (each : (seat : ℕ) (u : View) → get_elem? views seat ≡ some u → IsView h.past h.world owner seat u)
     (old : (seat : ℕ) (u : View) → get_elem? views seat ≡ some u → IsStale seat u) where
   same_world : IsKept (record { words = s.words; homes = s.homes; views = views })
@@ -41,6 +41,8 @@ module _ (s : State (Unit {0}) View) (h : IsKept s) (owner : Owners) (views : Li
     owner = owner;
     legal = h.legal;
     numbered = h.numbered;
+    few = few;
+    opened = h.opened;
     counts = h.counts;
     views = each;
     alone = λ seat u there fresh. absurd (old seat u there fresh);
@@ -55,6 +57,8 @@ module _ (s : State (Unit {0}) View) (h : IsKept s) (owner : Owners) (views : Li
     owner = owner;
     legal = h.legal;
     numbered = h.numbered;
+    few = few;
+    opened = h.opened;
     counts = subst (λ (words : List ℕ). (author : ℕ) → author < length words
         → slice_index words author ≡ (length (log_of h.world author) - length (logs_of h.past.logs author)) % 2 ^ 64)
         (sym (set-get_or s.words word 0)) h.counts;
@@ -74,7 +78,7 @@ notes by v is s h here =
     let P = IsView h.past h.world h.owner in
     let mine = h.views by v here in
     let views = set s.views by v in
-    same_world s h h.owner (views ++ noted v ∷ [])
+    same_world s h h.owner h.few (views ++ noted v ∷ [])
     (each_more P views (noted v) (each_changed P s.views by v (λ seat u _ there. h.views seat u there) mine)
     (record { mine = bystander h.past h.world h.owner by (length views) v.mine mine.mine; heard = nothing_part h.past h.world h.owner (length views) }))
     (each_more IsStale views (noted v) (stale_changed s h by v v here is) (stale (length views) (noted v) refl))
@@ -135,7 +139,7 @@ parts_first by v log rest owned apart s h here =
           (no_rights h.world owner (length views)) mine.mine;
       heard = nothing_part h.past h.world owner (length views);
     } in
-    same_world s h owner (views ++ first_of v ∷ [])
+    same_world s h owner h.few (views ++ first_of v ∷ [])
     (each_more P views (first_of v)
     (each_changed P s.views by (but_first v)
     (λ seat u not_by there. let each =
@@ -188,7 +192,7 @@ meets by v other w s h here apart there =
     (λ seat u _ at not_other. let one =
     h.views seat u at in record { mine = stays seat u.mine not_other one.mine; heard = stays seat u.heard not_other one.heard })
     (λ _. both) seat u at not_other in
-    same_world s h owner (set views other spent)
+    same_world s h owner h.few (set views other spent)
     (each_changed P views other spent each (record { mine = none; heard = none }))
     (each_changed IsStale views other spent (λ seat u _ at. stale_changed s h by v (with_heard v w) here refl seat u at) (stale other spent refl))
 
@@ -207,7 +211,7 @@ hears by v c slots word some_mine some_heard s h long here small =
       merged v,
       keeps,
       tt,
-      after_load s h h.owner (set s.views by (merged v))
+      after_load s h h.owner h.few (set s.views by (merged v))
           (each_changed P s.views by (merged v) (λ seat u _ there. h.views seat u there)
           (record { mine = part; heard = nothing_part h.past h.world h.owner by }))
           (stale_changed s h by v (merged v) here refl) s.homes word,
@@ -249,7 +253,7 @@ lends by v s h here =
           (λ worker. handed h.owner.worker by (length views) worker) mine.mine.rights) mine.mine;
       heard = nothing_part h.past h.world owner (length views);
     } in
-    same_world s h owner (views ++ lent v ∷ [])
+    same_world s h owner h.few (views ++ lent v ∷ [])
     (each_more P views (lent v)
     (each_changed P s.views by (without_makers v)
     (λ seat u not_by there. let each =
@@ -309,7 +313,7 @@ names by v n spare small s h here =
           })) mine.mine;
       heard = nothing_part h.past h.world owner (length views);
     } in
-    same_world s h owner (views ++ named v ∷ [])
+    same_world s h owner (omega arith) (views ++ named v ∷ [])
     (each_more P views (named v)
     (each_changed P s.views by (naming_next v)
     (λ seat u not_by there. let each =
@@ -330,9 +334,9 @@ looks by v c slots word begun any s h long here small =
       v,
       keeps,
       tt,
-      after_load s h h.owner (set s.views by v) (each_changed P s.views by v (λ seat u _ there. h.views seat u there) u)
+      after_load s h h.owner h.few (set s.views by v) (each_changed P s.views by v (λ seat u _ there. h.views seat u there) u)
           (stale_changed s h by v v here begun) s.homes word,
-      (refl, known_whole h.past h.world h.owner by v.mine u.mine any h.legal h.numbered),
+      (refl, known_whole h.past h.world h.owner by v.mine u.mine any h.legal h.numbered h.opened),
     )
 
 -- ---- an author appends
@@ -386,6 +390,11 @@ appends by v c slots author n e has within allowed next count s h long here smal
           h.legal,
         );
         numbered = (next_numbered h.world h.owner by step v.mine.makers v.mine.spare u.mine.rights e next, h.numbered);
+        few = h.few;
+        opened = none_opened h.past.logs h.world step
+            (λ does m is.
+            let low = next_is_named h.world h.owner by step v.mine.makers v.mine.spare u.mine.rights e does m next is in
+            omega (arith, h.few)) h.opened;
         counts = counts_more s.words h.past h.world author (naming v.mine.known e) n
             (count ∙ ap (λ (x : List Logged × Past). (length x.0 + 1 - length (logs_of x.1.logs author)) % 2 ^ 64) (λ i. (own.1 i, past i))) h.counts;
         views = each_changed P s.views by (appended v author e)
@@ -415,6 +424,8 @@ opens count = record {
   owner = first_owners;
   legal = tt;
   numbered = tt;
+  few = omega arith;
+  opened = record { each = λ unit number l e m there. absurd (none-some l there) };
   counts = λ author within. zeros count author;
   views = λ seat u there. let one = only_one (starting count) seat u there in
       subst (λ (x : ℕ × View). IsView no_past [] first_owners x.0 x.1) (λ i. (sym one.0 i, one.1 i)) first;
@@ -467,6 +478,8 @@ begins by v c slots past fresh k s h long here small =
         owner = owner;
         legal = k.legal;
         numbered = k.makers;
+        few = omega arith;
+        opened = all_open past.logs k.world k.logs;
         counts = counts_none s.words past h.past k.world h.world k.logs only.1 h.counts;
         views = each_changed P s.views by (began v past)
             (λ seat u apart there. absurd (apart ((only_one v seat u (subst (λ l. get_elem? l seat ≡ some u) only.0 there)).0

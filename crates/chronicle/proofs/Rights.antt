@@ -3,7 +3,8 @@ use Rattle.std.proofs.Common.{◌≡◌, ◌≢◌, ⊎_elim, ℕ, zero, suc, �
 use Rattle.std.specs.List.{Contains, filter}
 use Rattle.std.proofs.lemmas.Bool.{cases_eq}
 use Rattle.std.proofs.lemmas.List.Elements.{Contains-append_cases}
-use Rattle.std.proofs.lemmas.Option.{none-some, same_Some}
+use Rattle.std.proofs.lemmas.Option.{none-some}
+use Rattle.pblk_model.specs.UnitLog.{UnitEvent}
 use Rattle.pblk_model.proofs.Tests.{same_number, other_number}
 use Rattle.pblk_world.specs.Events.{Maker, Event, Decides, Does, Step}
 use Rattle.pblk_world.specs.Makers.{IsNumbered, commands_of, is_made_by}
@@ -137,6 +138,10 @@ module _ (w : World) (owner : Owners) (seat : ℕ) (s : Step) (makers : List Mak
   pub next_numbered : (e : Event) → IsNext e makers → IsNumbered e w
   next_numbered (Decides e) next = tt
   next_numbered (Does e by) next = (h.each by next).2
+
+  -- its worker was named
+  pub next_is_named : (e : Event) (does : UnitEvent) (by : Maker) → IsNext e makers → e ≡ Does does by → by.worker < owner.named
+  next_is_named e does by next is = (h.each by (subst (λ (x : Event). IsNext x makers) is next)).1
 
   -- its worker's commands are numbered by this seat
   pub next_is_own : (e : Event) (worker : ℕ) → IsNext e makers → owner.worker worker ≢ seat → is_made_by worker e ≡ false

@@ -1,8 +1,10 @@
 -- What is known is a legal world, and stays one with an event more.
-use Rattle.std.proofs.Common.{◌≡◌, ◌⊎◌, ⊎_elim, ℕ, ◌+◌, ◌<◌, ◌≤◌, None, Option, List, [], ◌∷◌, length, map, take, refl, sym, ap, ◌∙◌, subst, arith, length-set}
+use Rattle.std.proofs.Common.{◌≡◌, ◌≢◌, ◌⊎◌, ⊎_elim, ℕ, suc, ◌+◌, ◌<◌, ◌≤◌, None, Some, Option, List, [], ◌∷◌, length, map, take, refl, sym, ap, ◌∙◌, subst, arith, length-set}
 use Rattle.std.proofs.lemmas.List.{ext_get_or, length-map}
 use Rattle.std.proofs.lemmas.List.FromFn.{get_or-map-range_with_len, length-map-range_with_len}
+use Rattle.std.specs.Prelude.{slice_get}
 use Rattle.std.specs.List.{Contains, range_with_len}
+use Rattle.std.proofs.lemmas.Bool.{cases_eq}
 use mathlib.Core.List.{IsPrefix}
 use base.Growing.{prefix_refl}
 use Rattle.pblk_model.proofs.Lists.{among_contained}
@@ -10,16 +12,18 @@ use Rattle.pblk_model.proofs.Numbers.{fun_same}
 use Rattle.pblk_model.proofs.Parts.{get_below, is_in}
 use Rattle.pblk_model.specs.Image.{Image}
 use Rattle.pblk_model.specs.Shape.{units}
-use Rattle.pblk_world.specs.Events.{Maker, Event, Logged}
-use Rattle.pblk_world.specs.Makers.{HasMakers}
+use Rattle.pblk_model.specs.UnitLog.{UnitEvent}
+use Rattle.pblk_world.specs.Events.{Maker, Event, Does, Logged, Step}
+use Rattle.pblk_world.specs.Makers.{HasMakers, opening_worker}
 use Rattle.pblk_world.specs.World.{World, Logs, log_of, known, prefixes}
 use Rattle.pblk_world.specs.Legal.{IsAllowed, IsLegal, IsLegalStep}
-use Rattle.pblk_world.proofs.WorldLemmas.{log_elsewhere}
+use Rattle.pblk_world.proofs.Growing.{at_end}
+use Rattle.pblk_world.proofs.WorldLemmas.{log_here, log_elsewhere}
 use Rattle.world_laws.specs.KnownCut.{cut}
 use Rattle.world_laws.proofs.KnownCut.{cut_is_legal, log_of_cut}
 use Rattle.world_laws.proofs.Made.{known_within}
 use Rattle.chronicle.specs.Views.{Part, Past}
-use Rattle.chronicle.specs.Prefixes.{Prefixes, logs_of, AreLegalLogs, AreOpeningLogs, AreWholeLogs, naming, with_event}
+use Rattle.chronicle.specs.Prefixes.{Prefixes, logs_of, AreLegalLogs, AreOpeningLogs, AreWholeLogs, NoOpeningAfter, naming, with_event}
 use Rattle.chronicle.specs.Rule.{HasRights, IsPart, IsWhole, Owners}
 use Rattle.chronicle.proofs.PrefixLemmas.{begins_length, begins_take, named_length}
 use Rattle.chronicle.proofs.Rights.{no_rights}
@@ -54,6 +58,29 @@ le_or a b = grind arith
 unfoldable pub opening_legal : (i : Image) (logs : Prefixes) → AreOpeningLogs i logs → AreLegalLogs i logs
 opening_legal i logs k = record { authors = k.authors; world = k.world; legal = k.legal; logs = k.logs }
 
+-- no event comes after these logs
+pub all_open : (early : Prefixes) (w : World) → log_of w ≡ logs_of early → NoOpeningAfter early (log_of w)
+all_open early w is = record {
+  each = λ unit number l e m there _ _. get_below (logs_of early (suc unit)) number l
+      (ap (λ (logs : Logs). slice_get (logs (suc unit)) number) (sym is) ∙ there);
+}
+
+-- nor an event more, if it is no command of the opening
+pub none_opened : (early : Prefixes) (w : World) (step : Step)
+    → ((e : UnitEvent) (m : Maker) → step.logged.event ≡ Does e m → m.worker < opening_worker)
+    → NoOpeningAfter early (log_of w) → NoOpeningAfter early (log_of (step ∷ w))
+none_opened early w step small h = record {
+  each = λ unit number l e m there is from. ⊎_elim
+      (λ (own : step.author ≡ suc unit). ⊎_elim
+      (λ (was : slice_get (log_of w (suc unit)) number ≡ Some l). h.each unit number l e m was is from)
+      (λ (new : (number ≡ length (log_of w (suc unit))) × (step.logged ≡ l)).
+      absurd (let low = small e m (ap (λ (x : Logged). x.event) new.1 ∙ is) in omega arith))
+      (at_end (log_of w (suc unit)) step.logged l number (ap (λ xs. slice_get xs number) (sym (log_here step w (suc unit) own)) ∙ there)))
+      (λ (apart : step.author ≢ suc unit).
+      h.each unit number l e m (ap (λ xs. slice_get xs number) (sym (log_elsewhere step w (suc unit) apart)) ∙ there) is from)
+      (cases_eq step.author (suc unit));
+}
+
 -- there are no authors but these
 no_author : (i : Image) (w : World) (author : ℕ) → units i.shape < author → IsLegal i w → log_of w author ≡ []
 unfolding IsLegal
@@ -72,14 +99,15 @@ module _ (start : Past) (w : World) (owner : Owners) (seat : ℕ) (p : Part) (h 
   })
 
   -- a seat that owns all logs knows the world whole
-  pub known_whole : IsLegal start.image w → HasMakers w → IsWhole p
-  known_whole legal numbered all = subst (λ (i : Image). AreWholeLogs i p.known p.makers p.spare) (ap (λ (s : Past). s.image) (sym past)) (record {
+  pub known_whole : IsLegal start.image w → HasMakers w → NoOpeningAfter start.logs (log_of w) → IsWhole p
+  known_whole legal numbered opened all = subst (λ (s : Past). AreWholeLogs s p.known p.makers p.spare) (sym past) (record {
     world = w;
     legal = legal;
     logs = fun_same (log_of w) (logs_of p.known) each;
     numbered = numbered;
     next = λ m has. (h.rights.each m has).2;
     none = λ n worker is low small. (h.rights.unnamed n worker is low small).1;
+    opened = opened;
   })
     where
       past : p.past ≡ start

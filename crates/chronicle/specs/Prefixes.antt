@@ -1,13 +1,15 @@
 -- What is known of the logs of a mount: a prefix of each.
-use Rattle.std.specs.Prelude.{◌≡◌, ℕ, ◌+◌, ◌^◌, ◌<◌, ◌≤◌, ◌==◌, ⊤, nat_lt, if◌then◌else◌, List, [], ◌∷◌, ◌++◌, length, map, slice_index_or, slice_set, Option, Some, None}
+use Rattle.std.specs.Prelude.{◌≡◌, ℕ, suc, ◌+◌, ◌^◌, ◌<◌, ◌≤◌, ◌==◌, ⊤, nat_lt, if◌then◌else◌, List, [], ◌∷◌, ◌++◌, length, map, slice_get, slice_index_or, slice_set, Option, Some, None}
 use Rattle.std.specs.List.{Contains}
 use mathlib.Core.List.{IsPrefix}
 use Rattle.pblk_model.specs.Image.{Image}
 use Rattle.pblk_model.specs.Shape.{units}
+use Rattle.pblk_model.specs.UnitLog.{UnitEvent}
 use Rattle.pblk_world.specs.Events.{Maker, Event, Decides, Does, Logged}
-use Rattle.pblk_world.specs.Makers.{HasMakers, commands_of}
+use Rattle.pblk_world.specs.Makers.{HasMakers, commands_of, opening_worker}
 use Rattle.pblk_world.specs.World.{World, Logs, log_of}
 use Rattle.pblk_world.specs.Legal.{IsLegal}
+use Rattle.chronicle.specs.Views.{Past}
 
 -- for each author's number a prefix of its log, oldest event first
 abbrev pub Prefixes : Type 0
@@ -37,16 +39,22 @@ pub record AreOpeningLogs (i : Image) (known : Prefixes) : Type 0 where
   pub makers : HasMakers world
   pub none : (worker : ℕ) → worker < 2 ^ 64 → commands_of worker world ≡ 0
 
+-- Each command of the opening, or of a worker with a number above its, stands in the earlier logs.
+pub record NoOpeningAfter (early : Prefixes) (logs : Logs) : Type 0 where
+  pub each : (unit number : ℕ) (l : Logged) (e : UnitEvent) (m : Maker) → slice_get (logs (suc unit)) number ≡ Some l
+      → l.event ≡ Does e m → opening_worker ≤ m.worker → number < length (logs_of early (suc unit))
+
 -- These are all logs of a legal world, in which each command says how many its worker had made before
 -- it. Each of these makers is that of its worker's next command, and from the spare number on no worker
--- has made any.
-pub record AreWholeLogs (i : Image) (known : Prefixes) (makers : List Maker) (spare : Option ℕ) : Type 0 where
+-- has made any. The opening made none after what the chronicle began with.
+pub record AreWholeLogs (past : Past) (known : Prefixes) (makers : List Maker) (spare : Option ℕ) : Type 0 where
   pub world : World
-  pub legal : IsLegal i world
+  pub legal : IsLegal past.image world
   pub logs : log_of world ≡ logs_of known
   pub numbered : HasMakers world
   pub next : (m : Maker) → Contains makers m → m.made ≡ commands_of m.worker world
   pub none : (n worker : ℕ) → spare ≡ Some n → n ≤ worker → worker < 2 ^ 64 → commands_of worker world ≡ 0
+  pub opened : NoOpeningAfter past.logs (log_of world)
 
 -- the longer of two prefixes of one log
 abbrev pub longer : List Logged → List Logged → List Logged

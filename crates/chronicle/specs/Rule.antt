@@ -14,7 +14,7 @@ use Rattle.pblk_world.specs.World.{World, log_of}
 use Rattle.pblk_world.specs.Legal.{IsLegal}
 use Rattle.world_laws.specs.KnownCut.{IsClosedCut}
 use Rattle.chronicle.specs.Views.{Part, Past, View}
-use Rattle.chronicle.specs.Prefixes.{logs_of, longer_of, ArePrefixes, AreLegalLogs, AreWholeLogs}
+use Rattle.chronicle.specs.Prefixes.{logs_of, longer_of, ArePrefixes, AreLegalLogs, AreWholeLogs, NoOpeningAfter}
 
 -- Which seat owns each log, which numbers the commands of each worker, and how many workers were named.
 pub record Owners : Type 0 where
@@ -46,13 +46,16 @@ pub record IsView (start : Past) (w : World) (owner : Owners) (seat : ℕ) (u : 
   pub heard : IsPart start w owner seat u.heard
 
 -- The world is known to the rule alone. A word counts, modulo 2^64, the events that were appended
--- to its log since the chronicle began.
+-- to its log since the chronicle began. All workers that were named have numbers of 64 bits, so
+-- none of these events is a command of the opening.
 pub record IsKept (s : State (Unit {0}) View) : Type 0 where
   pub past : Past
   pub world : World
   pub owner : Owners
   pub legal : IsLegal past.image world
   pub numbered : HasMakers world
+  pub few : owner.named ≤ 2 ^ 64
+  pub opened : NoOpeningAfter past.logs (log_of world)
   pub counts : (author : ℕ) → author < length s.words
       → slice_index s.words author ≡ (length (log_of world author) - length (logs_of past.logs author)) % 2 ^ 64
   pub views : (seat : ℕ) (u : View) → get_elem? s.views seat ≡ some u → IsView past world owner seat u
@@ -70,4 +73,4 @@ pub record IsHeard (mine heard : Part) : Type 0 where
 -- What a seat is told that owns all logs.
 abbrev pub IsWhole : Part → Type 0
 IsWhole p = ((author : ℕ) → author ≤ units p.past.image.shape → Contains p.owned author)
-    → AreWholeLogs p.past.image p.known p.makers p.spare
+    → AreWholeLogs p.past p.known p.makers p.spare

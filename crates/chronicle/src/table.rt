@@ -197,13 +197,14 @@ impl Chronicle {
     /// logs whole, and they are those of a legal world, in which each command says how many its
     /// worker had made before it. A worker whose commands the author numbers then made just as many
     /// as the maker of its next command tells, and none was made by one that could still be named.
+    /// The opening made none but those with which the chronicle began.
     pub fn close(self, author: Author)
         requires of { author.chronicle ≡ self }
         requires all { (number : ℕ) → number ≤ units_of author.past.image.shape
             → Contains author.owned number }
         ensures legal { AreLegalLogs author.past.image author.known }
         ensures begun { ArePrefixes author.past.logs author.known }
-        ensures whole { AreWholeLogs author.past.image author.known author.makers author.spare }
+        ensures whole { AreWholeLogs author.past author.known author.makers author.spare }
     {
         let Author {
             mut seat,

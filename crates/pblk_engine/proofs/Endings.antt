@@ -54,7 +54,7 @@ module _ (chronicle table place : TableId) (past : Past) (key : Key) (handed : L
     (core : Core) (engine taken author : AuthorView) (intake : View)
     (held : IsHeartOf chronicle table past key place (parts core engine intake)) (over : HasTakenOver past engine workers taken)
     (joined : HasJoined chronicle past handed wear taken arms author left worn) (many : length arms ≡ units past.image.shape)
-    (whole : AreWholeLogs past.image author.known author.makers author.spare) where
+    (whole : AreWholeLogs past author.known author.makers author.spare) where
   abbrev i : Image
   i = past.image
 
@@ -97,6 +97,7 @@ module _ (chronicle table place : TableId) (past : Past) (key : Key) (handed : L
     knew = λ k v there x. subst (λ (l : Logs). IsPrefix (logs_of v.known x) (l x)) (sym same)
         ((still_begun v.known taken.known author.known (over.knows k v there) joined.learns).each x);
     others = λ n worker is from low. whole.none n worker (joined.spare ∙ spare n is) from low;
+    opening = whole.opened;
     noted = settled.heart.noted;
     in_order = settled.heart.in_order;
     reasons = settled.heart.reasons;

@@ -22,7 +22,7 @@ use Rattle.pblk_core.specs.Copies.{is_copying}
 use Rattle.pblk_core.specs.Named.{named, pad_of}
 use Rattle.pblk_core.specs.declared.target_core.Core.{Core}
 use Rattle.chronicle.specs.Handles.{AuthorView}
-use Rattle.chronicle.specs.Prefixes.{AreLegalLogs, ArePrefixes, logs_of}
+use Rattle.chronicle.specs.Prefixes.{AreLegalLogs, ArePrefixes, NoOpeningAfter, logs_of}
 use Rattle.chronicle.specs.Views.{Past}
 use Rattle.pblk_engine.specs.Arms.{ArmView, IsArm}
 use Rattle.pblk_engine.specs.Hearts.{HeartView, IsHeartOf, parts, ring_row}
@@ -107,6 +107,8 @@ pub record HasEnded (past : Past) (key : Key) (handed : List ModelUnit) (wear : 
   -- what a worker knew stands there
   pub knew : (k : ℕ) (v : WorkerView) → slice_get workers k ≡ Some v → (author : ℕ) → IsPrefix (logs_of v.known author) (log_of world author)
   pub others : (n worker : ℕ) → named ≡ Some n → n ≤ worker → worker < 2 ^ 64 → commands_of worker world ≡ 0
+  -- each command of the opening stands in the mount's past
+  pub opening : NoOpeningAfter past.logs (log_of world)
   -- the engine did its work in its order, all of it had its reason, and nothing is left to be noted
   -- or freed
   pub noted : AreResetsNoted (log_of world)

@@ -27,7 +27,7 @@ returns g c =
     has_ended g.M.Mount.chronicle g.M.Mount.ring c.end-core.result.2.seat.table_id g.M.Mount.past g.M.Mount.key g.M.Mount.handed g.M.Mount.wear
     c.args.workers.items c.args.names.spare c.args.arms.items pass _ _ c.requires.mounted c.end-core.result.0 c.end-core.result.1 c.take_over.new.author
     c.join_arms.new.author intake e.heart c.take_over.ensures.taken_over c.join_arms.ensures c.requires.count
-    (subst (λ (p : Past). AreWholeLogs p.image c.join_arms.new.author.known c.join_arms.new.author.makers c.join_arms.new.author.spare)
+    (subst (λ (p : Past). AreWholeLogs p c.join_arms.new.author.known c.join_arms.new.author.makers c.join_arms.new.author.spare)
     c.join_arms.ensures.over c.close.ensures.whole) c.take_over.ensures.spare
     (subst (λ n. IsAsPut n intake.intake.took pass intake.pass) first ring.taken)
     (subst (λ n. IsTiled n pass intake.pass) first ring.tiled) ring.filled ring.copies_filled

@@ -9,4 +9,4 @@ pub returns-clause-whole : goal.returns-clause-whole
 returns-clause-whole c =
     let all = subst (λ (a : AuthorView). (author : ℕ) → author ≤ units a.past.image.shape → Contains a.owned author) (sym c.author.view_is)
     c.requires.all in
-    subst (λ (a : AuthorView). AreWholeLogs a.past.image a.known a.makers a.spare) c.author.view_is (c.look.ensures.whole all)
+    subst (λ (a : AuthorView). AreWholeLogs a.past a.known a.makers a.spare) c.author.view_is (c.look.ensures.whole all)
