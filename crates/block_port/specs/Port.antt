@@ -23,6 +23,8 @@ pub record Footing : Type 0 where
   pub handed : List ModelUnit
   pub image : Image
   pub wear : List (List ℕ)
+  -- which session of its target it is
+  pub seat : ℕ
 
 -- A port to a block device, at one moment.
 pub record ModelPort : Type 0 where

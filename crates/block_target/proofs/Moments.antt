@@ -15,7 +15,7 @@ use Rattle.pblk_world.proofs.EngineLogLemmas.{begun_taken}
 use Rattle.pblk_world.proofs.Growing.{grows}
 use Rattle.pblk_world.specs.LegalMounts.{IsLegalMount}
 use Rattle.block_target.specs.Moments.{IsMoment}
-use Rattle.block_target.proofs.EngineLengths.{mount_earlier}
+use Rattle.pblk_engine.proofs.HeartSteps.{mount_tail}
 
 one_more : (s : Step) (w : World) → length (log_of (s ∷ w) 0) ≤ length (log_of w 0) + 1
 one_more s w = go (s.author == 0)
@@ -36,6 +36,11 @@ moment (s ∷ w) n few = go (λ within. moment w n within) (cases_order n (lengt
         let m = earlier (omega (arith, one_more s w)) in
         (m.0, record { later = s ∷ m.1.later; whole = ap (λ v. s ∷ v) m.1.whole; length_is = m.1.length_is })
     go earlier (inr (inr more)) = absurd (omega arith)
+
+-- an earlier mount is as legal
+mount_earlier : (i : Image) (later w : World) → IsLegalMount i (later ++ w) → IsLegalMount i w
+mount_earlier i [] w mount = mount
+mount_earlier i (step ∷ later) w mount = mount_earlier i later w (mount_tail i step (later ++ w) mount)
 
 -- its engine's log is what the engine's log past was
 pub log_then : (w : World) (n : ℕ) (past : World) → IsMoment w n past → take n (log_of w 0) ≡ log_of past 0

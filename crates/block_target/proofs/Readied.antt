@@ -1,20 +1,52 @@
--- The lists of a drive that was made ready.
-use Rattle.std.proofs.Common.{◌≡◌, List, [], ◌∷◌, ◌++◌, ap, ap₂, ◌∙◌}
-use Rattle.pblk_model.specs.declared.found.Found.{Found}
-use Rattle.pblk_world.specs.Events.{Begin}
+-- What units did while their drive was made ready is of a legal world.
+use Rattle.std.proofs.Common.{◌≡◌, ◌⊎◌, ℕ, ◌≤◌, Some, List, [], length, subst, sym, ap, ◌∙◌}
+use Rattle.std.specs.Prelude.{slice_get}
+use Rattle.std.specs.Option.{option_map}
+use Rattle.std.proofs.lemmas.Option.{slice_get-map}
+use Rattle.pblk_model.specs.declared.shape.Shape.{Shape}
+use Rattle.pblk_model.specs.Accepted.{IsAccepted}
+use Rattle.pblk_model.specs.Image.{Image}
+use Rattle.unit_port.specs.Armed.{Armed, IsUnarmed}
+use Rattle.unit_port.specs.Commands.{IsKept}
 use Rattle.unit_port.specs.Unit.{ModelUnit}
-use Rattle.world_laws.specs.MountBeginnings.{beginning_of}
-use Rattle.step_laws.specs.Opened.{new_events}
-use Rattle.block_target.specs.Deeds.{Deed, Readies, Decides, drive_before}
-use Rattle.block_target.specs.Opened.{first_deeds}
+use Rattle.scan_recovery.specs.Readying.{AreHandedBack}
+use Rattle.scan_recovery.specs.Units.{AreFit, IsUnitOf, image_of}
+use Rattle.scan_recovery.proofs.PadLoops.{fit_kept}
+use Rattle.pblk_world.specs.World.{log_of}
+use Rattle.step_laws.specs.Opened.{AreArmed, IsArmed, new_events}
+use Rattle.step_laws.proofs.Worlds.{legal_mount, logs_are, media_are, stops_there, units_quiet}
+use Rattle.pblk_engine.specs.Arms.{IsArm}
+use Rattle.block_target.specs.Opened.{AreReadied, readied_world}
 
-pub ready_lists : (old new : List ModelUnit) (found : Found) (rows one two : List (List ModelUnit)) (none first second : List Deed) → rows ≡ [] → none ≡ []
-    → one ≡ rows ++ old ∷ []
-    → first ≡ none ++ Readies (new_events (drive_before one) new) ∷ [] → two ≡ one ++ new ∷ [] → second ≡ first ++ Decides (Begin (beginning_of found)) ∷ []
-    → (two ≡ old ∷ new ∷ []) × (second ≡ first_deeds old new found)
-ready_lists old new found rows one two none first second a b c d e f =
-    let at : one ≡ old ∷ [] = c ∙ ap (λ (ds : List (List ModelUnit)). ds ++ old ∷ []) a in (
-      e ∙ ap (λ (ds : List (List ModelUnit)). ds ++ new ∷ []) at,
-      f ∙ ap (λ (es : List Deed). es ++ Decides (Begin (beginning_of found)) ∷ [])
-          (d ∙ ap₂ (λ (es : List Deed) (ds : List (List ModelUnit)). es ++ Readies (new_events (drive_before ds) new) ∷ []) b at),
-    )
+-- a unit with more in its log is armed as it was
+armed_still : (old new : ModelUnit) → new.armed ≡ old.armed → IsArmed old → IsUnarmed new.armed ⊎ (new.armed.since ≤ length old.log)
+armed_still old new same = subst (λ (a : Armed). IsUnarmed a ⊎ (a.since ≤ length old.log)) (sym same)
+
+module _ (s : Shape) (us new : List ModelUnit) (accepted : IsAccepted s) (fit : AreFit s us) (armed : AreArmed us) (back : AreHandedBack s us new) where
+  -- each unit is as that world leaves it
+  unit_readied : (number : ℕ) (u : ModelUnit) → slice_get new number ≡ Some u
+      → (was : ModelUnit) × (slice_get us number ≡ Some was) × IsArm (image_of s us) (log_of (readied_world s us new)) number was u
+  unit_readied number u there =
+      let of : IsUnitOf s u = (fit_kept s us new fit back.kept).each number u there in
+      let was : (o : ModelUnit) × (slice_get us number ≡ Some o) × IsKept o u = back.kept.each number u there in (
+        was.0,
+        was.1,
+        record {
+          shape = of.shape;
+          media = ap (λ (j : Image). slice_get j.units number) (media_are s us new back.readied fit)
+              ∙ slice_get-map (λ (x : ModelUnit). x.media) new number ∙ ap (option_map (λ (x : ModelUnit). x.media)) there;
+          fit = of.fits;
+          log = logs_are s us new back.readied number was.0 u was.1 there;
+          arms = was.2.armed;
+          armed = armed_still was.0 u was.2.armed (armed number was.0 was.1);
+          stopped = stops_there s us new accepted fit armed back.readied number u there;
+        },
+      )
+
+  -- what they did is of a legal world
+  pub are_readied : AreReadied s us new
+  are_readied = record {
+    legal = legal_mount s us new accepted fit armed back.readied;
+    none = units_quiet s 0 [] (new_events us new);
+    each = unit_readied;
+  }

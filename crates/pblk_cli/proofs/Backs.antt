@@ -9,7 +9,7 @@ use Rattle.unit_port.specs.Unit.{ModelUnit, IsFitUnit}
 use Rattle.ocssd_drive.specs.Drive.{AreArmedTogether, DriveView, IsArmedWith, IsWhole, fitting_fuse, shape_of, with_units}
 use Rattle.ocssd_drive.specs.Units.{IsUnitOf, WornUnit}
 use Rattle.pblk_world.specs.World.{Logs}
-use Rattle.block_target.specs.Arm.{IsArm}
+use Rattle.pblk_engine.specs.Arms.{IsArm}
 use Rattle.pblk_cli.specs.Serving.{AreBack, IsLeftBy, units_of, wear_of}
 use Rattle.pblk_model.proofs.Maps.{get_mapped}
 use Rattle.pblk_model.proofs.Parts.{got_within}

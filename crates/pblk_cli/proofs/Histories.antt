@@ -1,32 +1,76 @@
--- The lines of a mount, the history of its world, and where they stand.
-use Rattle.std.proofs.Common.{◌≡◌, ◌<◌, List, [], ◌∷◌, map, refl, sym, ap}
-use Rattle.std.specs.List.{AllByRecursion}
+-- The lines of an engine's log, the history, and where they stand.
+use Rattle.std.proofs.Common.{◌≡◌, ℕ, ◌<◌, ◌≤◌, List, [], ◌∷◌, ◌++◌, map, Some, refl, sym, ap, ◌∙◌, arith, le_trans}
+use Rattle.std.specs.List.{AllByRecursion, cons_option, filter}
+use Rattle.std.proofs.lemmas.Option.{none-some}
+use mathlib.Core.List.{IsPrefix}
 use Rattle.pblk_model.specs.History.{SectorWrite}
-use Rattle.pblk_world.specs.EngineLog.{Taken, takes}
-use Rattle.pblk_world.specs.Fronts.{history, is_users, user_takes}
+use Rattle.pblk_model.specs.Image.{Image}
 use Rattle.pblk_model.proofs.Maps.{all_filter, all_mapped}
 use Rattle.pblk_model.proofs.Parts.{all_by_get}
+use Rattle.pblk_world.specs.EngineLog.{Begun, Taken, begun, begun_by, taken_by, takes}
+use Rattle.pblk_world.specs.Events.{Begin, Decides, Event, Logged}
+use Rattle.pblk_world.specs.Fronts.{history, is_users, taken, user_positions, user_takes}
+use Rattle.pblk_world.specs.Legal.{IsLegal}
+use Rattle.pblk_world.specs.World.{World, log_of}
+use Rattle.core_laws.specs.Positions.{AreNumbered}
 use Rattle.world_laws.proofs.Positions.{position_below}
 use Rattle.block_port.specs.Own.{PlacedSector}
-use Rattle.block_target.specs.Mount.{IsSound, MountView, engine_log, taken_in, world_in}
-use Rattle.block_target.specs.Serial.{lines_in}
+use Rattle.block_port.specs.Port.{Rise, positions}
+use Rattle.block_target.specs.Sessions.{history_lines, line_of}
+use Rattle.block_target.proofs.LogLines.{IsMore, more_lines}
 
--- a line is an entry with its position
-abbrev pub line_of : Taken → PlacedSector
-line_of t = record { position = t.entry.position; write = record { lba = t.entry.lba; sector = t.entry.sector } }
+-- ---- a log
 
 writes_placed : (ts : List Taken) → map (λ (x : PlacedSector). x.write) (map line_of ts) ≡ map (λ t. record { lba = t.entry.lba; sector = t.entry.sector }) ts
 writes_placed [] = refl
 writes_placed (t ∷ ts) = ap (λ (ws : List SectorWrite). record { lba = t.entry.lba; sector = t.entry.sector } ∷ ws) (writes_placed ts)
 
 -- the history are the lines
-pub history_lines : (v : MountView) → history (engine_log v) ≡ map (λ (x : PlacedSector). x.write) (lines_in v)
-history_lines v = sym (writes_placed (user_takes (engine_log v)))
+pub writes_are : (log : List Logged) → history log ≡ map (λ (x : PlacedSector). x.write) (history_lines log)
+writes_are log = sym (writes_placed (user_takes log))
+
+positions_placed : (ts : List Taken) → positions (map line_of ts) ≡ map (λ t. t.entry.position) ts
+positions_placed [] = refl
+positions_placed (t ∷ ts) = ap (λ ps. t.entry.position ∷ ps) (positions_placed ts)
+
+-- where they stand
+pub positions_are : (log : List Logged) → positions (history_lines log) ≡ user_positions log
+positions_are log = positions_placed (user_takes log)
 
 -- each line is below the front taken
-pub lines_taken : (v : MountView) → IsSound v → AllByRecursion (λ (x : PlacedSector). x.position < taken_in v) (lines_in v)
-lines_taken v sound =
-    all_mapped (λ (x : PlacedSector). x.position < taken_in v) line_of (user_takes (engine_log v))
-    (all_filter (λ (t : Taken). t.entry.position < taken_in v) (λ t. is_users t.entry.source) (takes (engine_log v))
-    (all_by_get (λ (t : Taken). t.entry.position < taken_in v) (takes (engine_log v)) (λ k t there.
-    position_below v.image (world_in v) k t sound.legal.legal there)))
+pub lines_taken : (i : Image) (w : World) → IsLegal i w
+    → AllByRecursion (λ (x : PlacedSector). x.position < taken (log_of w 0)) (history_lines (log_of w 0))
+lines_taken i w legal =
+    all_mapped (λ (x : PlacedSector). x.position < taken (log_of w 0)) line_of (user_takes (log_of w 0))
+    (all_filter (λ (t : Taken). t.entry.position < taken (log_of w 0)) (λ t. is_users t.entry.source) (takes (log_of w 0))
+    (all_by_get (λ (t : Taken). t.entry.position < taken (log_of w 0)) (takes (log_of w 0)) (λ k t there. position_below i w k t legal there)))
+
+-- ---- a longer log, of which nothing may have been known
+
+-- a beginning takes nothing
+none_at_first : (l : Logged) (b : Begun) → begun (l ∷ []) ≡ Some b → takes (l ∷ []) ≡ []
+none_at_first l b begins = by l.event begins
+  where
+    by : (e : Event) → begun_by l.knows e ≡ Some b → cons_option (taken_by e) [] ≡ []
+    by (Decides (Begin first)) is = refl
+    by e is = absurd (none-some b is)
+
+raised : (a b to : ℕ) (xs : List PlacedSector) → a ≤ b → Rise b to xs → Rise a to xs
+raised a b to [] low rise = le_trans low rise
+raised a b to (x ∷ xs) low rise = (le_trans low rise.0, rise.1)
+
+pub later_lines : (early late : List Logged) (b : Begun) → IsPrefix early late → begun late ≡ Some b → AreNumbered late → IsMore early late
+later_lines [] [] b prefix begins numbered = absurd (none-some b begins)
+later_lines [] (l ∷ log) b prefix begins numbered =
+    let more = more_lines (l ∷ []) (l ∷ log) b (log, refl) begins numbered in
+    let none : takes (l ∷ []) ≡ [] = none_at_first l b begins in
+    record {
+      before = omega arith;
+      more = more.more;
+      lines = more.lines ∙ ap (λ (ts : List Taken). map line_of (filter (λ t. is_users t.entry.source) ts) ++ more.more) none;
+      rise = raised (taken []) (taken (l ∷ [])) (taken (l ∷ log)) more.more (omega arith) more.rise;
+    }
+later_lines (e ∷ early) late b prefix begins numbered = more_lines (e ∷ early) late b prefix (first_of late prefix.0 prefix.1 ∙ begins) numbered
+  where
+    first_of : (xs more : List Logged) → (e ∷ early) ++ more ≡ xs → begun (e ∷ early) ≡ begun xs
+    first_of xs more same = ap begun same

@@ -9,8 +9,12 @@ pub mod Sessions
 pub mod Histories
 pub mod WornCauses
 pub mod Names
+pub mod LostPlaces
+pub mod NewMounts
 pub mod ToldLosses
 pub mod Backs
+pub mod RefusedLines
+pub mod Overs
 pub mod Servings
 pub mod Disarmed
 pub mod ArmedDrives
@@ -22,7 +26,6 @@ pub mod CalmRuns
 pub mod TidyRuns
 pub mod OldHeads
 pub mod WornLines
-pub mod RefusedLines
 pub mod EventLines
 pub mod Contents
 pub mod CreatedDrives

@@ -1,6 +1,6 @@
 -- A run that leaves the head that it found keeps no line.
 use Rattle.std.proofs.Common.{◌≡◌, ◌+◌, ◌≤◌, Some, List, [], ◌∷◌, refl, sym, ap, ◌∙◌, arith}
-use Rattle.std.specs.List.{AllByRecursion, filter}
+use Rattle.std.specs.List.{AllByRecursion}
 use Rattle.pblk_model.specs.Image.{Image}
 use Rattle.pblk_model.specs.Contents.{end, head}
 use Rattle.pblk_model.specs.History.{users}

@@ -1,5 +1,5 @@
 -- Where a thread's answers for want of room were given, and the close's.
-use Rattle.std.proofs.Common.{◌≡◌, ℕ, ◌≤◌, zero, suc, List, [], ◌∷◌, ◌++◌, length, le_refl, le_trans, arith}
+use Rattle.std.proofs.Common.{ℕ, ◌≤◌, zero, suc, List, [], ◌∷◌, ◌++◌, length, le_refl, le_trans, arith}
 use Rattle.std.specs.List.{AllByRecursion}
 use Rattle.pblk_model.specs.declared.script.Command.{Command}
 use Rattle.pblk_model.specs.Image.{Image}

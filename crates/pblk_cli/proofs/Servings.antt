@@ -3,7 +3,7 @@ use Rattle.std.proofs.Common.{◌≡◌, ◌⊎◌, ℕ, ◌^◌, ◌<◌, ◌�
 use Rattle.std.specs.Prelude.{IfOk}
 use Rattle.std.specs.List.{AllByRecursion, filter, flat_map}
 use Rattle.std.specs.Option.{unwrap_or}
-use Rattle.std.proofs.lemmas.List.{append-nil, length-map, map-append}
+use Rattle.std.proofs.lemmas.List.{length-map, map-append}
 use Rattle.std.proofs.lemmas.Option.{none-some}
 use Rattle.std.proofs.lemmas.Result.{IfOk-weaker}
 use Rattle.std.proofs.Math.Nat.{le_refl}
@@ -16,297 +16,288 @@ use Rattle.pblk_model.specs.History.{SectorWrite, after, users}
 use Rattle.pblk_model.specs.Image.{Image}
 use Rattle.pblk_model.specs.Script.{ScriptFits}
 use Rattle.pblk_model.specs.Sealed.{IsSealed}
-use Rattle.pblk_model.specs.Shape as shapes
 use Rattle.pblk_model.specs.Text.{Closed, HistoryLine, Transcript}
 use Rattle.pblk_model.specs.Transcript.{IsDistinct, IsRun, IsTranscript, closing_event, events, is_of_one, outcome_event, sector_writes}
 use Rattle.pblk_world.specs.AtRest.{IsAtRest}
 use Rattle.pblk_world.specs.Events.{Logged}
 use Rattle.pblk_world.specs.EngineLog.{Begun, begun}
-use Rattle.pblk_world.specs.Fronts.{history, user_positions}
+use Rattle.pblk_world.specs.Fronts.{history, synced, taken, user_positions}
 use Rattle.pblk_world.specs.Lines.{found_image}
 use Rattle.pblk_world.specs.Space.{is_due}
-use Rattle.pblk_world.specs.World.{World, log_of, media}
+use Rattle.pblk_world.specs.World.{Logs, World, log_of, media}
 use Rattle.unit_port.specs.Unit.{ModelUnit}
 use Rattle.ocssd_drive.specs.Units.{WornUnit}
 use Rattle.prefix_law.proofs.Prefix.{prefix_above}
-use Rattle.scan_recovery.specs.DriveFaults.{IsDriveFaultAt}
+use Rattle.scan_recovery.specs.DriveFaults.{IsDriveFaultAt, NoDriveFaults, drive_faults_of}
 use Rattle.scan_recovery.specs.Readying.{AreHandedBack}
 use Rattle.scan_recovery.specs.Units.{AreFit, image_of, log_length}
 use Rattle.block_port.specs.declared.rows.DriveAnswer.{DriveAnswer}
-use Rattle.block_port.specs.declared.rows.WornAnswer.{WornAnswer}
 use Rattle.block_port.specs.Own.{PlacedSector, lines_of}
-use Rattle.block_port.specs.Port.{Footing, IsSameTarget, ModelPort, positions}
-use Rattle.block_target.specs.Arm.{IsArm}
+use Rattle.block_port.specs.Port.{Learns, ModelPort, positions}
+use Rattle.pblk_engine.specs.Arms.{IsArm}
+use Rattle.pblk_engine.specs.Beginnings.{opened_past}
+use Rattle.chronicle.specs.Prefixes.{logs_of}
+use Rattle.chronicle.specs.Views.{Past}
+use Rattle.write_ring.specs.declared.view.Key.{Key}
 use Rattle.pblk_world.specs.LegalMounts.{IsLegalMount}
-use Rattle.pblk_world.specs.Orders.{AreAfterResets, AreOpenedFull, NoneToFree, NoneWasLeft}
-use Rattle.pblk_world.specs.Reasons.{AreBegun, AreGranted, AreUrgent}
-use Rattle.block_target.specs.Mount.{IsCollectionOver, MountView, synced_in, taken_in, world_in}
+use Rattle.block_target.specs.Closes.{IsTold, TellsClosed, close_faults, close_worns}
 use Rattle.block_target.specs.Refusals.{AreRefusals}
-use Rattle.block_target.specs.Opened.{AreReadied, IsOpened, OpenCause, readied_world}
-use Rattle.block_target.specs.Serial.{SerialView, Settles, device, lines_in, settle_faults, settle_worns}
+use Rattle.block_target.specs.Sessions.{SessionView, device, history_lines}
+use Rattle.block_target.specs.Targets.{first_session}
+use Rattle.block_target.specs.Opened.{AreReadied, OpenCause, readied_world}
 use Rattle.block_target.specs.declared.opening.OpenErr.{OpenErr}
 use Rattle.block_target.specs.declared.opening.OpenErr.TheVariants as errors
-use Rattle.block_target.specs.declared.opening.SettleErr.{SettleErr}
-use Rattle.block_target.specs.declared.opening.SettleErr.TheVariants as settle
+use Rattle.pblk_engine.specs.declared.errors.SettleErr.{SettleErr}
+use Rattle.pblk_engine.specs.declared.errors.SettleErr.TheVariants as settle
 use Rattle.run_threads.specs.declared.records.Answer.{Answer}
 use Rattle.run_threads.specs.declared.records.Records.{Records}
 use Rattle.run_threads.specs.declared.records.Trouble.TheVariants.{Drive}
-use Rattle.run_threads.specs.Run.{IsEvent, Runs, faults_in}
+use Rattle.run_threads.specs.Run.{IsEvent, Runs}
 use Rattle.run_report.specs.OnePort.{AreKeptBelow, IsRunOfOnePort, IsTrouble, event_of}
 use Rattle.run_report.specs.Report.{closing_of, opening_of, outcome_of, transcript_of}
 use Rattle.run_report.proofs.OnePort.{answer_events, no_more, no_port, one_events, one_history, one_kept, one_port, one_told, unopened}
 use Rattle.run_report.proofs.Recorded.{recorded}
-use Rattle.pblk_cli.specs.Serving.{AreBack, AreNewDriveFaults, Closes, HasRun, IsBroughtBack, IsNewTarget, IsServed, IsServedOn, IsServing, IsSessionOf, transcript_by, trouble_of, units_of, wear_of, with_closing}
+use Rattle.pblk_cli.specs.Serving.{AreBack, AreNewDriveFaults, AreNotServed, Closes, HasRun, HasServed, IsBroughtBack, IsNewMount, IsServed, IsServedOn, IsServing, transcript_by, trouble_of, units_of, wear_of, with_closing}
 use Rattle.pblk_cli.specs.Stops.{AreAllTold, HasBegun, thread_events}
-use Rattle.pblk_cli.specs.Synced.{AreFlushesSynced, IsAllSynced, synced_lines}
-use Rattle.pblk_cli.specs.Worn.{worns_of}
+use Rattle.pblk_cli.specs.Synced.{AreFlushesSynced, synced_lines}
+use Rattle.pblk_cli.specs.Worn.{AreRefusedIn, worns_of}
 use Rattle.pblk_cli.proofs.Backs.{back_of, left_by}
-use Rattle.pblk_cli.proofs.Histories.{history_lines, lines_taken}
-use Rattle.pblk_cli.proofs.Names.{loss_at, losses_distinct, losses_named}
+use Rattle.pblk_cli.proofs.Histories.{later_lines, lines_taken, positions_are, writes_are}
+use Rattle.pblk_cli.proofs.LostPlaces.{lost_new}
+use Rattle.pblk_cli.proofs.Names.{loss_at, losses_distinct}
+use Rattle.pblk_cli.proofs.NewMounts.{beginning, begun_still, found_opened, found_still, none_lost}
+use Rattle.pblk_cli.proofs.Overs.{history_own, its, no_others}
 use Rattle.pblk_cli.proofs.Sessions.{answered}
-use Rattle.pblk_cli.proofs.ToldLosses.{all_told, opening_told}
+use Rattle.pblk_cli.proofs.ToldLosses.{all_told, first_names, opening_told}
 use Rattle.pblk_cli.proofs.RefusedLines.{refused_in}
 use Rattle.pblk_cli.proofs.WornCauses.{no_worns, one_worns}
 use Rattle.pblk_model.proofs.Parts.{take_nothing}
-use Rattle.block_target.proofs.AllAnswered.{none_of_others, opening_answered}
-use Rattle.block_target.proofs.DeviceFronts.{positions_in}
-use Rattle.block_target.proofs.NamedAnswers.{answer_of}
+use Rattle.block_target.proofs.LogLines.{synced_prefix}
+use Rattle.block_target.proofs.OpeningLosses.{answer_of, none_of_others, opening_answered}
+use Rattle.core_laws.specs.Positions.{AreNumbered}
+use Rattle.core_laws.proofs.UsersEntries.{in_order}
+use Rattle.pblk_model.proofs.MarksLemmas.{accepted_small}
+use Rattle.step_laws.specs.Opened.{AreArmed}
+use Rattle.scan_recovery.specs.Readying.{IsFoundAfter}
+use Rattle.pblk_model.specs.declared.found.Found.{Found}
 use Rattle.run_threads.proofs.RunLemmas.{run_faults}
-use Rattle.block_target.proofs.Written.{lines_kept}
 
--- what no call changes of a target
-footing_is : (s t : Footing) → Some s ≡ Some t → s ≡ t
-footing_is s t e = cc
+-- a run by another beginning that is the same
+run_by : (size : ℕ) (script : List (List Command)) (start begin : List (List ℕ)) (t : Transcript) → start ≡ begin
+    → IsRun size script start t (after start (sector_writes size (take t.kept t.history)))
+    → IsRun size script begin t (after begin (sector_writes size (take t.kept t.history)))
+run_by size script start begin t start_is run =
+    subst (λ (c : List (List ℕ)). IsRun size script c t (after c (sector_writes size (take t.kept t.history)))) start_is run
 
-abbrev footing_of : SerialView → Footing
-footing_of s = record { handed = s.mount.handed; image = s.mount.image; wear = s.mount.wear }
-
-same_footing : (a b : SerialView) → IsSameTarget (device a) (device b) → footing_of b ≡ footing_of a
-same_footing a b same = footing_is (footing_of b) (footing_of a) same.footing
-
-same_image : (a b : SerialView) → IsSameTarget (device a) (device b) → b.mount.image ≡ a.mount.image
-same_image a b same = ap (λ (f : Footing). f.image) (same_footing a b same)
-
-same_wear : (a b : SerialView) → IsSameTarget (device a) (device b) → b.mount.wear ≡ a.mount.wear
-same_wear a b same = ap (λ (f : Footing). f.wear) (same_footing a b same)
-
-same_handed : (a b : SerialView) → IsSameTarget (device a) (device b) → b.mount.handed ≡ a.mount.handed
-same_handed a b same = ap (λ (f : Footing). f.handed) (same_footing a b same)
+told_by : (size : ℕ) (script : List (List Command)) (start begin : List (List ℕ)) (t : Transcript) → start ≡ begin
+    → IsTranscript size script start t → IsTranscript size script begin t
+told_by size script start begin t start_is told = subst (λ (c : List (List ℕ)). IsTranscript size script c t) start_is told
 
 all_below : (n m : ℕ) (lines : List PlacedSector) → n ≤ m → AllByRecursion (λ (x : PlacedSector). x.position < n) lines
     → AllByRecursion (λ (x : PlacedSector). x.position < m) lines
 all_below n m [] h all = tt
 all_below n m (x ∷ lines) h all = (let low : x.position < n = all.0 in omega arith, all_below n m lines h all.1)
 
--- a run by another size and from other contents that are the same
-run_by : (size other : ℕ) (script : List (List Command)) (start begin : List (List ℕ)) (t : Transcript) → size ≡ other → start ≡ begin
-    → IsRun size script start t (after start (sector_writes size (take t.kept t.history)))
-    → IsRun other script begin t (after begin (sector_writes other (take t.kept t.history)))
-run_by size other script start begin t size_is start_is run =
-    subst (λ n. IsRun n script begin t (after begin (sector_writes n (take t.kept t.history)))) size_is
-    (subst (λ (c : List (List ℕ)). IsRun size script c t (after c (sector_writes size (take t.kept t.history)))) start_is run)
-
-told_by : (size other : ℕ) (script : List (List Command)) (start begin : List (List ℕ)) (t : Transcript) → size ≡ other → start ≡ begin
-    → IsTranscript size script start t → IsTranscript other script begin t
-told_by size other script start begin t size_is start_is told =
-    subst (λ n. IsTranscript n script begin t) size_is (subst (λ (c : List (List ℕ)). IsTranscript size script c t) start_is told)
-
 has_begun_with : (o : Option (ℕ × ℕ)) (g : Option Begun) (b : Begun) → o ≡ None → g ≡ Some b → HasBegun o g
 has_begun_with o g b none some = rw (none, some) tt
 
 -- What a close answered.
 
-pub troubles : (settled : Result Unit SettleErr) (old v : MountView) → Settles old settled v
+pub troubles : (settled : Result Unit SettleErr) (i : Image) (logs : Logs) → TellsClosed i logs settled
     → ((wanted have : ℕ) → settled ≡ Err (settle.Worn wanted have) → wanted < 2 ^ 64)
     → ((unit event : ℕ) → settled ≡ Err (settle.Drive unit event) → IsEvent unit event) → IsTrouble (trouble_of settled)
-troubles (Ok x) old v settles number named = tt
-troubles (Err (settle.Worn wanted have)) old v settles number named = (settles.3.above, number wanted have refl)
-troubles (Err (settle.Drive unit event)) old v settles number named = named unit event refl
+troubles (Ok x) i logs tells number named = tt
+troubles (Err (settle.Worn wanted have)) i logs tells number named = (tells.1.above, number wanted have refl)
+troubles (Err (settle.Drive unit event)) i logs tells number named = named unit event refl
 
-settled_events : (settled : Result Unit SettleErr) → closing_event (closing_of (trouble_of settled)) ≡ map event_of (settle_faults settled)
+settled_events : (settled : Result Unit SettleErr) → closing_event (closing_of (trouble_of settled)) ≡ map event_of (close_faults settled)
 settled_events (Ok x) = refl
 settled_events (Err (settle.Worn wanted have)) = refl
 settled_events (Err (settle.Drive unit event)) = refl
 
-all_settled : (settled : Result Unit SettleErr) (old v : MountView) → Settles old settled v → closing_of (trouble_of settled) ≡ Closed
-    → synced_in v ≡ taken_in v
-all_settled (Ok x) old v settles none = settles.1
-all_settled (Err (settle.Worn wanted have)) old v settles none = absurd (cc)
-all_settled (Err (settle.Drive unit event)) old v settles none = absurd (cc)
+all_settled : (settled : Result Unit SettleErr) (i : Image) (logs : Logs) → TellsClosed i logs settled → closing_of (trouble_of settled) ≡ Closed
+    → synced i.shape (logs 0) ≡ taken (logs 0)
+all_settled (Ok x) i logs tells none = tells.0
+all_settled (Err (settle.Worn wanted have)) i logs tells none = absurd (cc)
+all_settled (Err (settle.Drive unit event)) i logs tells none = absurd (cc)
 
-collection_over : (settled : Result Unit SettleErr) (old v : MountView) → Settles old settled v → closing_of (trouble_of settled) ≡ Closed
-    → IsCollectionOver v
-collection_over (Ok x) old v settles none = settles.2
-collection_over (Err (settle.Worn wanted have)) old v settles none = absurd (cc)
-collection_over (Err (settle.Drive unit event)) old v settles none = absurd (cc)
+collection_over : (settled : Result Unit SettleErr) (i : Image) (logs : Logs) → TellsClosed i logs settled → closing_of (trouble_of settled) ≡ Closed
+    → (is_due i logs ≡ false) ⊎ IsAtRest i logs 0 (length (logs 0))
+collection_over (Ok x) i logs tells none = tells.1
+collection_over (Err (settle.Worn wanted have)) i logs tells none = absurd (cc)
+collection_over (Err (settle.Drive unit event)) i logs tells none = absurd (cc)
 
--- A target that was opened on the units of a drive, before and after a session, and closed.
-module _ (s : Shape) (us : List ModelUnit) (first last : SerialView) (units : List WornUnit) (opened : IsOpened s us first.mount)
-    (target : IsSameTarget (device first) (device last)) (closed : IsBroughtBack last units) where
+-- A mount that began on the units of a drive, and its session when its target was closed.
+module _ (s : Shape) (old : List WornUnit) (ready : List ModelUnit) (f : Found) (is : IsFoundAfter s (units_of old) ready f)
+    (done : NoDriveFaults (units_of old) ready) (accepted : IsAccepted s) (fit : AreFit s (units_of old)) (armed : AreArmed (units_of old)) (key : Key)
+    (last : SessionView) (units : List WornUnit)
+    (closed : IsBroughtBack (opened_past s (units_of old) ready f) key (units_of old) (wear_of old) last units) where
+  abbrev us : List ModelUnit
+  us = units_of old
+
   abbrev i : Image
-  i = image_of s us
+  i = image_of s (units_of old)
+
+  abbrev past : Past
+  past = opened_past s (units_of old) ready f
 
   abbrev w : World
-  w = world_in closed.mount
+  w = closed.closed.world
 
-  mount_image : closed.mount.image ≡ image_of s us
-  mount_image = closed.closed.same.image ∙ same_image first last target ∙ opened.image
+  abbrev port : SessionView → ModelPort
+  port t = device past us (wear_of old) t
 
-  mount_handed : closed.mount.handed ≡ us
-  mount_handed = closed.closed.same.handed ∙ same_handed first last target ∙ opened.handed
+  abbrev first : SessionView
+  first = first_session past key 0
 
-  unit_at : (number : ℕ) (u : ModelUnit) → slice_get (units_of units) number ≡ Some u
-      → (was : ModelUnit) × (slice_get closed.mount.handed number ≡ Some was) × IsArm closed.mount.image (log_of w) number was u
-  unit_at number u there = closed.closed.sound.each number u (ap (λ (xs : List ModelUnit). slice_get xs number) (sym closed.units_are) ∙ there)
+  -- what the session did
+  session : IsTold i us w closed.settled 0 last
+  session = its past key us (wear_of old) last closed.settled (units_of units) (wear_of units) closed.closed
+
+  history_is_own : history_lines (log_of w 0) ≡ flat_map lines_of last.own
+  history_is_own = history_own past key us (wear_of old) last closed.settled (units_of units) (wear_of units) closed.closed
+
+  nobody : (worker : ℕ) → 0 < worker → drive_faults_of worker w ≡ []
+  nobody = no_others past key us (wear_of old) last closed.settled (units_of units) (wear_of units) closed.closed
+      (none_lost s us ready f accepted fit armed is done)
 
   -- the units come back
-  closed_back : (old : List WornUnit) → us ≡ units_of old → AreFit s us → first.mount.wear ≡ wear_of old → AreBack s old units
-  closed_back old handed fit wear =
-      back_of s closed.mount.image (log_of w) old units closed.mount.handed (ap (λ (j : Image). j.shape) mount_image) (mount_handed ∙ handed)
-      (ap length closed.units_are ∙ closed.closed.sound.count ∙ ap (λ (j : Image). shapes.units j.shape) mount_image ∙ sym fit.count ∙ ap length handed)
-      (closed.wear ∙ closed.closed.same.wear ∙ same_wear first last target ∙ wear) unit_at
+  closed_back : AreBack s old units
+  closed_back = back_of s i (log_of w) old units us refl refl closed.closed.count closed.closed.as_worn closed.closed.each
 
-  legal_is : IsLegalMount (image_of s us) w
-  legal_is = subst (λ (j : Image). IsLegalMount j w) mount_image closed.closed.sound.legal
+  legal_is : IsLegalMount i w
+  legal_is = closed.closed.legal
 
-  -- where the close answered nothing, collection is over
-  over_is : closing_of (trouble_of closed.settled) ≡ Closed → (is_due (image_of s us) (log_of w) ≡ false)
-      ⊎ IsAtRest (image_of s us) (log_of w) 0 (length (log_of w 0))
-  over_is none = subst (λ (j : Image). (is_due j (log_of w) ≡ false) ⊎ IsAtRest j (log_of w) 0 (length (log_of w 0))) mount_image
-      (collection_over closed.settled last.mount closed.mount closed.closed.settles none)
+  has_begun : begun (log_of w 0) ≡ Some (beginning s us ready f accepted fit armed is)
+  has_begun = begun_still s us ready f accepted fit armed is w closed.closed.begun
+
+  numbered : AreNumbered (log_of w 0)
+  numbered = (in_order i w (accepted_small s accepted) legal_is.legal).numbered
 
   -- the contents that the mount found
-  start_found : contents first.mount.found ≡ contents (found_image (image_of s us) (log_of w))
-  start_found =
-      sym target.start
-      ∙ ap contents (sym closed.closed.same.found ∙ sym closed.closed.sound.found_is ∙ ap (λ (j : Image). found_image j (log_of w)) mount_image)
+  abbrev start : List (List ℕ)
+  start = contents (found_image i (logs_of past.logs))
 
-  -- no line was taken since the session
-  lines_are : lines_in closed.mount ≡ lines_in last.mount
-  lines_are = lines_kept last.mount closed.mount closed.closed.same
+  start_found : start ≡ contents (found_image i (log_of w))
+  start_found = ap contents (sym (found_still s us ready f accepted fit armed is w closed.closed.begun))
 
-  positions_are : positions (lines_in last.mount) ≡ user_positions (log_of w 0)
-  positions_are = ap positions (sym lines_are) ∙ positions_in closed.mount
+  start_count : length start ≡ s.capacity
+  start_count = contents_count (found_image i (logs_of past.logs)) ∙ ap (λ (j : Image). j.shape.capacity) (found_opened s us ready f accepted fit armed is)
+
+  start_is : IsSealed i → start ≡ contents i
+  start_is sealed = ap contents (found_opened s us ready f accepted fit armed is) ∙ is.units.holds.contents_are sealed
+
+  -- what is known once all is over
+  abbrev at_end : ModelPort
+  at_end = record (port last) {
+    known = history_lines (log_of w 0);
+    taken = taken (log_of w 0);
+    flushed = synced s (log_of w 0);
+  }
+
+  learned : Learns (port last) at_end
+  learned =
+      let more = later_lines (logs_of last.worker.known 0) (log_of w 0) (beginning s us ready f accepted fit armed is) (session.knew 0) has_begun numbered in
+      record {
+        more = more.more;
+        known = more.lines;
+        rise = more.rise;
+        flushed = synced_prefix s (logs_of last.worker.known 0) (log_of w 0) (session.knew 0);
+      }
 
   -- on a sealed drive all that is synced is below the end
-  above : IsSealed (image_of s us) → synced_in closed.mount ≤ end (media i (log_of w))
-  above sealed = subst (λ (j : Image). synced_in closed.mount ≤ end (media j (log_of w))) mount_image
-      (prefix_above closed.mount.image (world_in closed.mount)
-      closed.closed.sound.legal (subst IsSealed (sym mount_image) sealed))
+  above : IsSealed i → synced s (log_of w 0) ≤ end (media i (log_of w))
+  above sealed = prefix_above i w legal_is sealed
 
-  all_synced : closing_of (trouble_of closed.settled) ≡ Closed → synced_in closed.mount ≡ taken_in closed.mount
-  all_synced none = all_settled closed.settled last.mount closed.mount closed.closed.settles none
-
-  all_synced_is : closing_of (trouble_of closed.settled) ≡ Closed → IsAllSynced (image_of s us).shape (log_of w 0)
-  all_synced_is none = subst (λ (j : Image). IsAllSynced j.shape (log_of w 0)) mount_image (all_synced none)
-
-  none_is_to_free : NoneToFree (image_of s us) (log_of w)
-  none_is_to_free = subst (λ (j : Image). NoneToFree j (log_of w)) mount_image closed.closed.none_to_free
+  all_synced : closing_of (trouble_of closed.settled) ≡ Closed → synced s (log_of w 0) ≡ taken (log_of w 0)
+  all_synced none = all_settled closed.settled i (log_of w) closed.closed.tells none
 
   -- the position below which all is kept
   abbrev front : ℕ
   front = end (media i (log_of w))
 
-  size_is : first.mount.image.shape.sector ≡ s.sector
-  size_is = ap (λ (j : Image). j.shape.sector) opened.image
-
-  -- as many sectors are at the beginning
-  start_count : length (contents first.mount.found) ≡ s.capacity
-  start_count = contents_count first.mount.found ∙ ap (λ (j : Image). j.shape.capacity) opened.found_is
-
-  start_is : IsSealed (image_of s us) → contents first.mount.found ≡ contents (image_of s us)
-  start_is sealed = ap contents opened.found_is ∙ opened.is.units.holds.contents_are sealed
-
   -- the events that were answered
   abbrev answers : List DriveAnswer
-  answers = last.faults ++ settle_faults closed.settled
+  answers = last.faults ++ close_faults closed.settled
 
   their_events : map event_of last.faults ++ closing_event (closing_of (trouble_of closed.settled)) ≡ map event_of answers
   their_events = ap (λ xs. map event_of last.faults ++ xs) (settled_events closed.settled)
-      ∙ sym (map-append event_of last.faults (settle_faults closed.settled))
+      ∙ sym (map-append event_of last.faults (close_faults closed.settled))
 
   losses : AreNewDriveFaults us (units_of units) (map event_of answers)
-  losses = subst (λ (xs : List ModelUnit). AreNewDriveFaults us xs (map event_of answers)) (sym closed.units_are)
-      (subst (λ (xs : List ModelUnit). AreNewDriveFaults xs closed.mount.units (map event_of answers)) mount_handed
-      (losses_named closed.mount answers closed.closed.faults))
+  losses = subst (AreNewDriveFaults us (units_of units)) (first_names us w answers session.faults)
+      (lost_new us (units_of units) i w legal_is.legal (closed.closed.count ∙ fit.count)
+      (λ number u there. let at = closed.closed.each number u there in (at.0, at.1, at.2.log)) 0)
 
   distinct : IsDistinct (filter is_of_one (map event_of last.faults ++ closing_event (closing_of (trouble_of closed.settled))))
   distinct = subst (λ xs. IsDistinct (filter is_of_one xs)) (sym their_events) (losses_distinct us (units_of units) (map event_of answers) losses)
 
-  -- Of a target that had answered nothing before, with the session's records.
-  module _ (before : Records) (unwritten : first.own ≡ []) (faultless : first.faults ≡ []) (calm : first.worns ≡ []) (accepted : IsAccepted s)
-      (unopened_is : before.opening ≡ None) where
+  -- where the answers for want of room were given
+  refused : (script : List (List Command)) (t : Transcript)
+      → last.worns ++ close_worns (length (flat_map lines_of last.own)) closed.settled ≡ worns_of script t → AreRefusedIn i (log_of w) script t
+  refused script t same = refused_in i (log_of w) script t (subst (AreRefusals i (log_of w) 0) same (closed.closed.alone last refl))
+
+  -- With the session's records.
+  module _ (before : Records) (unopened_is : before.opening ≡ None) where
     abbrev records : Records
     records = with_closing before closed.settled
 
     -- all that is synced is kept below each position that isn't lower
-    kept_below : (n : ℕ) → synced_in closed.mount ≤ n → AreKeptBelow records (device last) (lines_in last.mount) n
+    kept_below : (n : ℕ) → synced s (log_of w 0) ≤ n → AreKeptBelow records (port last) (history_lines (log_of w 0)) n
     kept_below n high = record {
-      flushed = (let rises : synced_in last.mount ≤ synced_in closed.mount = closed.closed.same.synced in omega arith);
+      flushed = (let rises : synced s (logs_of last.worker.known 0) ≤ synced s (log_of w 0) = learned.flushed in omega arith);
       all = λ none.
-          let whole : synced_in closed.mount ≡ taken_in closed.mount = all_synced (ap closing_of none) in
-          all_below (taken_in closed.mount) n (lines_in last.mount) (omega arith)
-          (subst (λ (ls : List PlacedSector). AllByRecursion (λ (line : PlacedSector). line.position < taken_in closed.mount) ls) lines_are
-          (lines_taken closed.mount closed.closed.sound));
+          let whole : synced s (log_of w 0) ≡ taken (log_of w 0) = all_synced (ap closing_of none) in
+          all_below (taken (log_of w 0)) n (history_lines (log_of w 0)) (omega arith) (lines_taken i w legal_is.legal);
     }
 
     -- One thread.
     module _ (commands : List Command) (rows : List Answer) (threads : before.threads ≡ rows ∷ []) (told : List ℕ
-        → ℕ) (ran : Runs told (device first) commands rows (device last)) where
-      one : IsRunOfOnePort commands records (device first) (device last)
+        → ℕ) (ran : Runs told (port first) commands rows (port last)) where
+      one : IsRunOfOnePort commands records (port first) (port last)
       one = record {
         opened = unopened_is;
         answers = rows;
         threads = threads;
         told = told;
         ran = ran;
-        unwritten = unwritten;
-        faultless = faultless;
-        last = device last;
-        learned = record {
-          more = [];
-          known = sym (append-nil (lines_in last.mount));
-          rise = le_refl (taken_in last.mount);
-          flushed = le_refl (synced_in last.mount);
-        };
-        alone = closed.alone;
+        unwritten = refl;
+        faultless = refl;
+        last = at_end;
+        learned = learned;
+        alone = history_is_own;
         trouble = closed.trouble;
         distinct = distinct;
       }
-
-      abbrev t : Transcript
-      t = transcript_by (commands ∷ []) records i (log_of w)
 
       -- as many lines as sectors were written
       as_many : length (transcript_by (commands ∷ []) records i (log_of w)).history ≡ length (flat_map lines_of last.own)
       unfolding one
       as_many =
           sym (length-map (transcript_by (commands ∷ []) records i (log_of w)).history _)
-          ∙ ap (λ (ws : List SectorWrite). length ws) (one_history commands records (device first) (device last) front one)
-          ∙ length-map (lines_in last.mount) _ ∙ ap (λ (xs : List PlacedSector). length xs) closed.alone
+          ∙ ap (λ (ws : List SectorWrite). length ws) (one_history commands records (port first) (port last) front one)
+          ∙ length-map (history_lines (log_of w 0)) _ ∙ ap (λ (xs : List PlacedSector). length xs) history_is_own
 
-      worns_are : last.worns ++ settle_worns (length (flat_map lines_of last.own)) closed.settled ≡ worns_of (commands ∷ [])
+      worns_are : last.worns ++ close_worns (length (flat_map lines_of last.own)) closed.settled ≡ worns_of (commands ∷ [])
           (transcript_by (commands ∷ []) records i (log_of w))
       worns_are =
-          one_worns told commands rows (device first) (device last) closed.settled
-          (length (transcript_by (commands ∷ []) records i (log_of w)).history) ran calm unwritten as_many
+          one_worns told commands rows (port first) (port last) closed.settled
+          (length (transcript_by (commands ∷ []) records i (log_of w)).history) ran refl refl as_many
           ∙ rw threads refl
 
       -- the lines of the history that are synced
-      lines_synced : (transcript_of (commands ∷ []) records (synced_in closed.mount)).kept ≡ synced_lines (image_of s us).shape (log_of w 0)
+      lines_synced : (transcript_of (commands ∷ []) records (synced s (log_of w 0))).kept ≡ synced_lines s (log_of w 0)
       unfolding one
       lines_synced =
-          one_kept commands records (device first) (device last) (synced_in closed.mount) one
-          ∙ ap (λ ps. users ps (synced_in closed.mount)) positions_are
-          ∙ ap (λ (j : Image). synced_lines j.shape (log_of w 0)) mount_image
+          one_kept commands records (port first) (port last) (synced s (log_of w 0)) one
+          ∙ ap (λ ps. users ps (synced s (log_of w 0))) (positions_are (log_of w 0))
 
-      flushes_synced : AreFlushesSynced (image_of s us).shape (log_of w 0) (commands ∷ [])
-          (transcript_by (commands ∷ []) records i (log_of w))
+      flushes_synced : AreFlushesSynced s (log_of w 0) (commands ∷ []) (transcript_by (commands ∷ []) records i (log_of w))
       unfolding one
       flushes_synced = λ i c front at.
           subst (λ n. front ≤ n) lines_synced
-          ((one_port commands records (device first) (device last) (synced_in closed.mount) one
-          (kept_below (synced_in closed.mount) (le_refl (synced_in closed.mount)))).flushed i c front at)
+          ((one_port commands records (port first) (port last) (synced s (log_of w 0)) one
+          (kept_below (synced s (log_of w 0)) (le_refl (synced s (log_of w 0))))).flushed i c front at)
 
       -- the thread's lines, and the close's
       lines_named : thread_events (transcript_by (commands ∷ []) records i (log_of w)) 0 ++ closing_event (closing_of (trouble_of closed.settled))
@@ -315,66 +306,56 @@ module _ (s : Shape) (us : List ModelUnit) (first last : SerialView) (units : Li
           ap (λ (rs : List (List Answer)). flat_map outcome_event (unwrap_or (slice_get (map (map outcome_of) rs) 0) [])
           ++ closing_event (closing_of (trouble_of closed.settled))) threads
           ∙ ap (λ (es : List (ℕ × ℕ)). es ++ closing_event (closing_of (trouble_of closed.settled)))
-          (answer_events rows ∙ ap (map event_of) (sym (run_faults told commands rows (device first) (device last) ran
-          ∙ ap (λ (fs : List DriveAnswer). fs ++ faults_in rows) faultless)))
+          (answer_events rows ∙ ap (map event_of) (sym (run_faults told commands rows (port first) (port last) ran)))
           ∙ their_events
 
-      one_serving : ScriptFits s.capacity (commands ∷ []) → IsServing (image_of s us) us (units_of units) (commands ∷ []) records w
+      one_serving : ScriptFits s.capacity (commands ∷ []) → IsServing i us (units_of units) (commands ∷ []) records w
       unfolding one
       one_serving fits = record {
         legal = legal_is;
-        has_begun = has_begun_with (opening_of records.opening) (begun (log_of w 0)) closed.closed.sound.beginning (ap opening_of unopened_is)
-            closed.closed.sound.has_begun;
-        each = λ number u there. left_by closed.mount.image (image_of s us) (log_of w) closed.mount.handed us number u mount_image mount_handed
-            (unit_at number u there);
-        recorded = recorded told s.capacity (commands ∷ []) records (device first ∷ []) (device last ∷ [])
+        has_begun = has_begun_with (opening_of records.opening) (begun (log_of w 0)) (beginning s us ready f accepted fit armed is)
+            (ap opening_of unopened_is) has_begun;
+        each = λ number u there. left_by i i (log_of w) us us number u refl refl (closed.closed.each number u there);
+        recorded = recorded told s.capacity (commands ∷ []) records (port first ∷ []) (port last ∷ [])
             (let small : s.capacity < 2 ^ 40 = accepted.target.capacity_number in omega arith) fits
-            ((let count : length (contents first.mount.found) ≡ s.capacity = start_count in omega arith), tt)
+            ((let count : length start ≡ s.capacity = start_count in omega arith), tt)
             unopened_is (rw threads (ran, tt));
         named = subst (AreNewDriveFaults us (units_of units))
-            (sym (one_events commands records (device first) (device last) front one ∙ their_events)) losses;
-        lost = all_told us closed.mount answers mount_handed closed.closed.answered 1 (transcript_by (commands ∷ []) records i (log_of w)) (omega arith)
+            (sym (one_events commands records (port first) (port last) front one ∙ their_events)) losses;
+        lost = all_told us w answers session.faults 1 (transcript_by (commands ∷ []) records i (log_of w)) nobody (omega arith)
             (ap opening_of unopened_is) lines_named;
-        history_is =
-            history_lines closed.mount ∙ ap (map (λ (x : PlacedSector). x.write)) lines_are
-            ∙ sym (one_history commands records (device first) (device last) front one)
-            ∙ ap (λ n. sector_writes n (transcript_by (commands ∷ []) records i (log_of w)).history) size_is;
-        worn = refused_in (image_of s us) (log_of w) (commands ∷ []) (transcript_by (commands ∷ []) records i (log_of w))
-            (subst (λ (ws : List WornAnswer). AreRefusals (image_of s us) (log_of w) 0 ws) worns_are
-            (subst (λ (j : Image). AreRefusals j (log_of w) 0
-            (last.worns ++ settle_worns (length (flat_map lines_of last.own)) closed.settled)) mount_image closed.closed.refusals));
-        granted = subst (λ (j : Image). AreGranted j (log_of w)) mount_image closed.closed.granted;
-        begun = subst (λ (j : Image). AreBegun j (log_of w)) mount_image closed.closed.begun;
-        urgent = subst (λ (j : Image). AreUrgent j (log_of w)) mount_image closed.closed.urgent;
-        after_resets = subst (λ (j : Image). AreAfterResets j (log_of w)) mount_image closed.closed.after_resets;
-        opened_full = subst (λ (j : Image). AreOpenedFull j (log_of w)) mount_image closed.closed.opened_full;
-        none_was_left = subst (λ (j : Image). NoneWasLeft j (log_of w)) mount_image closed.closed.none_was_left;
-        none_to_free = λ none. none_is_to_free;
+        history_is = writes_are (log_of w 0) ∙ sym (one_history commands records (port first) (port last) front one);
+        worn = refused (commands ∷ []) (transcript_by (commands ∷ []) records i (log_of w)) worns_are;
+        granted = closed.closed.reasons.granted;
+        begun = closed.closed.reasons.begun;
+        urgent = closed.closed.reasons.urgent;
+        after_resets = closed.closed.after_resets;
+        opened_full = closed.closed.opened_full;
+        none_was_left = closed.closed.none_was_left;
+        none_to_free = λ none. closed.closed.none_to_free;
         flushed = flushes_synced;
-        all_synced = λ none. all_synced_is;
-        over = λ none. over_is;
-        kept = one_kept commands records (device first) (device last) front one ∙ ap (λ ps. users ps front) positions_are;
-        told = told_by first.mount.image.shape.sector s.sector (commands ∷ []) (contents first.mount.found)
-            (contents (found_image (image_of s us) (log_of w))) (transcript_by (commands ∷ []) records i (log_of w)) size_is start_found
-            (one_told commands records (device first) (device last) front one);
-        run = λ sealed. run_by first.mount.image.shape.sector s.sector (commands ∷ []) (contents first.mount.found) (contents (image_of s us))
-            (transcript_by (commands ∷ []) records i (log_of w)) size_is (start_is sealed)
-            (one_port commands records (device first) (device last) front one (kept_below front (above sealed)));
+        all_synced = λ none. all_synced;
+        over = λ none. collection_over closed.settled i (log_of w) closed.closed.tells;
+        kept = one_kept commands records (port first) (port last) front one ∙ ap (λ ps. users ps front) (positions_are (log_of w 0));
+        told = told_by s.sector (commands ∷ []) start (contents (found_image i (log_of w))) (transcript_by (commands ∷ []) records i (log_of w)) start_found
+            (one_told commands records (port first) (port last) front one);
+        run = λ sealed. run_by s.sector (commands ∷ []) start (contents i) (transcript_by (commands ∷ []) records i (log_of w)) (start_is sealed)
+            (one_port commands records (port first) (port last) front one (kept_below front (above sealed)));
       }
 
     -- No thread.
-    module _ (threads : before.threads ≡ []) (same : device last ≡ device first) where
-      no_lines : lines_in last.mount ≡ []
-      no_lines = closed.alone ∙ ap (flat_map lines_of) (ap (λ (p : ModelPort). p.own) same ∙ unwritten)
+    module _ (threads : before.threads ≡ []) (same : port last ≡ port first) where
+      unwritten : last.own ≡ []
+      unwritten = ap (λ (p : ModelPort). p.own) same
 
-      none_left : lines_in closed.mount ≡ []
-      none_left = lines_are ∙ no_lines
+      no_lines : history_lines (log_of w 0) ≡ []
+      no_lines = history_is_own ∙ ap (flat_map lines_of) unwritten
 
       no_positions : user_positions (log_of w 0) ≡ []
-      no_positions = sym positions_are ∙ ap positions no_lines
+      no_positions = sym (positions_are (log_of w 0)) ∙ ap positions no_lines
 
       no_faults : last.faults ≡ []
-      no_faults = ap (λ (p : ModelPort). p.faults) same ∙ faultless
+      no_faults = ap (λ (p : ModelPort). p.faults) same
 
       events_are : events (transcript_by [] records i (log_of w)) ≡ map event_of answers
       events_are = rw (threads, unopened_is) (sym (ap (λ xs. map event_of xs ++ closing_event (closing_of records.closing)) no_faults) ∙ their_events)
@@ -385,81 +366,100 @@ module _ (s : Shape) (us : List ModelUnit) (first last : SerialView) (units : Li
           ++ closing_event (closing_of (trouble_of closed.settled))) threads
           ∙ ap (λ (fs : List DriveAnswer). map event_of fs ++ closing_event (closing_of (trouble_of closed.settled))) (sym no_faults) ∙ their_events
 
-      no_serving : ScriptFits s.capacity [] → IsServing (image_of s us) us (units_of units) [] records w
+      no_serving : ScriptFits s.capacity [] → IsServing i us (units_of units) [] records w
       no_serving fits = record {
         legal = legal_is;
-        has_begun = has_begun_with (opening_of records.opening) (begun (log_of w 0)) closed.closed.sound.beginning (ap opening_of unopened_is)
-            closed.closed.sound.has_begun;
-        each = λ number u there. left_by closed.mount.image (image_of s us) (log_of w) closed.mount.handed us number u mount_image mount_handed
-            (unit_at number u there);
+        has_begun = has_begun_with (opening_of records.opening) (begun (log_of w 0)) (beginning s us ready f accepted fit armed is)
+            (ap opening_of unopened_is) has_begun;
+        each = λ number u there. left_by i i (log_of w) us us number u refl refl (closed.closed.each number u there);
         recorded = recorded (λ name. 0) s.capacity [] records [] []
             (let small : s.capacity < 2 ^ 40 = accepted.target.capacity_number in omega arith) fits tt
             unopened_is (rw threads tt);
         named = subst (AreNewDriveFaults us (units_of units)) (sym events_are) losses;
-        lost = all_told us closed.mount answers mount_handed closed.closed.answered 0 (transcript_by [] records i (log_of w)) (omega arith)
+        lost = all_told us w answers session.faults 0 (transcript_by [] records i (log_of w)) nobody (omega arith)
             (ap opening_of unopened_is) no_lines_named;
-        history_is = history_lines closed.mount ∙ ap (map (λ (x : PlacedSector). x.write)) none_left;
-        worn = refused_in (image_of s us) (log_of w) [] (transcript_by [] records i (log_of w))
-            (subst (λ (ws : List WornAnswer). AreRefusals (image_of s us) (log_of w) 0 ws)
-            (no_worns last.worns last.own closed.settled (ap (λ (p : ModelPort). p.worns) same ∙ calm) (ap (λ (p : ModelPort). p.own) same ∙ unwritten)
-            ∙ rw threads refl)
-            (subst (λ (j : Image). AreRefusals j (log_of w) 0
-            (last.worns ++ settle_worns (length (flat_map lines_of last.own)) closed.settled)) mount_image closed.closed.refusals));
-        granted = subst (λ (j : Image). AreGranted j (log_of w)) mount_image closed.closed.granted;
-        begun = subst (λ (j : Image). AreBegun j (log_of w)) mount_image closed.closed.begun;
-        urgent = subst (λ (j : Image). AreUrgent j (log_of w)) mount_image closed.closed.urgent;
-        after_resets = subst (λ (j : Image). AreAfterResets j (log_of w)) mount_image closed.closed.after_resets;
-        opened_full = subst (λ (j : Image). AreOpenedFull j (log_of w)) mount_image closed.closed.opened_full;
-        none_was_left = subst (λ (j : Image). NoneWasLeft j (log_of w)) mount_image closed.closed.none_was_left;
-        none_to_free = λ none. none_is_to_free;
+        history_is = writes_are (log_of w 0) ∙ ap (map (λ (x : PlacedSector). x.write)) no_lines;
+        worn = refused [] (transcript_by [] records i (log_of w))
+            (no_worns last.worns last.own closed.settled (ap (λ (p : ModelPort). p.worns) same) unwritten ∙ rw threads refl);
+        granted = closed.closed.reasons.granted;
+        begun = closed.closed.reasons.begun;
+        urgent = closed.closed.reasons.urgent;
+        after_resets = closed.closed.after_resets;
+        opened_full = closed.closed.opened_full;
+        none_was_left = closed.closed.none_was_left;
+        none_to_free = λ none. closed.closed.none_to_free;
         flushed = λ i c most at.
             let low : most ≤ 0 =
-            (no_port s.sector records (contents (image_of s us)) front threads unopened_is closed.trouble).flushed i c most at in
+            (no_port s.sector records start front threads unopened_is closed.trouble).flushed i c most at in
             omega arith;
-        all_synced = λ none. all_synced_is;
-        over = λ none. over_is;
+        all_synced = λ none. all_synced;
+        over = λ none. collection_over closed.settled i (log_of w) closed.closed.tells;
         kept = sym (ap (λ ps. users ps front) no_positions);
-        told = (no_port s.sector records (contents (found_image (image_of s us) (log_of w))) front threads unopened_is closed.trouble).told;
-        run = λ sealed. no_port s.sector records (contents (image_of s us)) front threads unopened_is closed.trouble;
+        told = (no_port s.sector records (contents (found_image i (log_of w))) front threads unopened_is closed.trouble).told;
+        run = λ sealed. no_port s.sector records (contents i) front threads unopened_is closed.trouble;
       }
 
-    serving_of : (script : List (List Command)) → length script ≤ 1 → ScriptFits s.capacity script → HasRun script before.threads (device first) (device last)
-        → IsServing (image_of s us) us (units_of units) script records w
+    serving_of : (script : List (List Command)) → length script ≤ 1 → ScriptFits s.capacity script → HasRun script before.threads (port first) (port last)
+        → IsServing i us (units_of units) script records w
     serving_of [] one fits h = no_serving h.0 h.1 fits
     serving_of (commands ∷ []) one fits h = one_serving commands h.0 h.1 h.2 h.3 fits
     serving_of (commands ∷ (more ∷ script)) one fits h = absurd (omega arith)
 
-module _ {E : Type 0} (s : Shape) (script : List (List Command)) (old new : List WornUnit) (target : SerialView) (fit : AreFit s (units_of old))
-    (fresh : IsNewTarget s old target) where
-  -- the units of a target come back, whether its session was run or not
-  pub served_back : (result : Result Records E) → IsServedOn script target new result → AreBack s old new
-  served_back result served = closed_back s (units_of old) target served.last new fresh.opened served.same served.closed old refl fit fresh.wear
-
-  session_served : (before : Result Records E) (records : Records) (last : SerialView) (closed : IsBroughtBack last new) → IsAccepted s → length script ≤ 1
-      → ScriptFits s.capacity script → IsSameTarget (device target) (device last) → IsSessionOf script target before last
+-- A mount that has begun was served.
+module _ {E : Type 0} (s : Shape) (script : List (List Command)) (old new : List WornUnit) (ready : List ModelUnit) (f : Found)
+    (is : IsFoundAfter s (units_of old) ready f) (done : NoDriveFaults (units_of old) ready) (accepted : IsAccepted s) (fit : AreFit s (units_of old))
+    (armed : AreArmed (units_of old)) (key : Key) where
+  session_served : (before : Result Records E) (records : Records) (last : SessionView)
+      (closed : IsBroughtBack (opened_past s (units_of old) ready f) key (units_of old) (wear_of old) last new) → length script ≤ 1
+      → ScriptFits s.capacity script
+      → HasServed script
+      (device (opened_past s (units_of old) ready f) (units_of old) (wear_of old) (first_session (opened_past s (units_of old) ready f) key 0)) before
+      (device (opened_past s (units_of old) ready f) (units_of old) (wear_of old) last)
       → Closes before closed.settled (answered E records) → IsServed s script old new records
-  session_served (Err e) left last closed accepted few fits same session closes = absurd closes
-  session_served (Ok before) left last closed accepted few fits same session closes = record {
-    world = world_in closed.mount;
-    serving = subst (λ (r : Records). IsServing (image_of s (units_of old)) (units_of old) (units_of new) script r (world_in closed.mount)) (sym closes)
-        (serving_of s (units_of old) target last new fresh.opened same closed before fresh.unwritten fresh.faultless fresh.unworn accepted session.opened
-        script few fits session.run);
+  session_served (Err e) left last closed few fits served closes = absurd closes
+  session_served (Ok before) left last closed few fits served closes = record {
+    world = closed.closed.world;
+    serving = subst (λ (r : Records). IsServing (image_of s (units_of old)) (units_of old) (units_of new) script r closed.closed.world) (sym closes)
+        (serving_of s old ready f is done accepted fit armed key last new closed before served.session.opened script few fits served.session.run);
   }
 
-  pub served_on : (records : Records) → IsAccepted s → length script ≤ 1 → ScriptFits s.capacity script → IsServedOn script target new (answered E records)
-      → IsServed s script old new records
-  served_on left accepted few fits served =
-      session_served served.before left served.last served.closed accepted few fits served.same served.session served.closes
+  served_at : (result : Result Records E) → length script ≤ 1 → ScriptFits s.capacity script
+      → IsServedOn (opened_past s (units_of old) ready f) key (units_of old) (wear_of old) script new result → IfOk result (IsServed s script old new)
+  served_at (Ok left) few fits served = session_served served.before left served.last served.closed few fits served.served served.closes
+  served_at (Err e) few fits served = tt
 
-  pub served_if : (result : Result Records E) → IsAccepted s → length script ≤ 1 → ScriptFits s.capacity script → IsServedOn script target new result
-      → IfOk result (IsServed s script old new)
-  served_if (Ok left) accepted few fits served = served_on left accepted few fits served
-  served_if (Err e) accepted few fits served = tt
+  back_at : (result : Result Records E) → IsServedOn (opened_past s (units_of old) ready f) key (units_of old) (wear_of old) script new result
+      → AreBack s old new
+  back_at result served = closed_back s old ready f is done accepted fit armed key served.last new served.closed
 
--- the script fits the capacity of a target that was opened
-pub fits_target : (s : Shape) (units : List WornUnit) (target : SerialView) (script : List (List Command)) → IsNewTarget s units target
-    → ScriptFits s.capacity script → ScriptFits target.mount.image.shape.capacity script
-fits_target s units target script fresh fits = subst (λ (j : Image). ScriptFits j.shape.capacity script) (sym fresh.opened.image) fits
+-- the same of the mount by its name
+module _ {E : Type 0} (s : Shape) (script : List (List Command)) (old new : List WornUnit) (past : Past) (key : Key) (handed : List ModelUnit)
+    (wear : List (List ℕ)) (mount : IsNewMount s old past handed wear) (accepted : IsAccepted s) (fit : AreFit s (units_of old))
+    (armed : AreArmed (units_of old)) (result : Result Records E) (served : IsServedOn past key handed wear script new result) where
+  named_so : IsServedOn (opened_past s (units_of old) mount.ready mount.found) key (units_of old) (wear_of old) script new result
+  named_so =
+      subst (λ (p : Past). IsServedOn p key (units_of old) (wear_of old) script new result) mount.past_is
+      (subst (λ (hs : List ModelUnit). IsServedOn past key hs (wear_of old) script new result) mount.handed_are
+      (subst (λ (ws : List (List ℕ)). IsServedOn past key handed ws script new result) mount.wear_is served))
+
+  pub served_back : AreBack s old new
+  served_back = back_at s script old new mount.ready mount.found mount.is mount.done accepted fit armed key result named_so
+
+  pub served_if : length script ≤ 1 → ScriptFits s.capacity script → IfOk result (IsServed s script old new)
+  served_if few fits = served_at s script old new mount.ready mount.found mount.is mount.done accepted fit armed key result few fits named_so
+
+-- Units that came back without their target.
+module _ {E : Type 0} (s : Shape) (script : List (List Command)) (old new : List WornUnit) (ready : List ModelUnit) (wear : List (List ℕ)) (f : Found)
+    (is : IsFoundAfter s (units_of old) ready f) (result : Result Records E) (none : AreNotServed ready wear new result) where
+  pub not_served_back : AreHandedBack s (units_of old) (units_of new)
+  not_served_back = subst (AreHandedBack s (units_of old)) (sym none.units_are) is.units
+
+  pub not_served_if : IfOk result (IsServed s script old new)
+  not_served_if = go result none.none
+    where
+      go : (r : Result Records E) → ((x : Records) → r ≡ Ok x → ⊥) → IfOk r (IsServed s script old new)
+      go (Ok x) never = absurd (never x refl)
+      go (Err e) never = tt
 
 -- An opening that was refused.
 
@@ -471,8 +471,12 @@ module _ (s : Shape) (old new : List WornUnit) (refused : AreHandedBack s (units
   abbrev as_it_was : Image
   as_it_was = image_of s (units_of old)
 
+  left : (number : ℕ) (u : ModelUnit) → slice_get (units_of new) number ≡ Some u
+      → (was : ModelUnit) × (slice_get (units_of old) number ≡ Some was) × IsArm as_it_was (log_of still) number was u
+  left number u there = readied.each number u there
+
   pub refused_back : wear_of new ≡ wear_of old → AreBack s old new
-  refused_back wear = back_of s as_it_was (log_of still) old new (units_of old) refl refl refused.kept.count wear readied.each
+  refused_back wear = back_of s as_it_was (log_of still) old new (units_of old) refl refl refused.kept.count wear left
 
   -- it answered an event
   module _ (script : List (List Command)) (records : Records) (unit event : ℕ) (lost : IsDriveFaultAt (units_of old) (units_of new) unit event)
@@ -516,7 +520,7 @@ module _ (s : Shape) (old new : List WornUnit) (refused : AreHandedBack s (units
       serving = record {
         legal = readied.legal;
         has_begun = rw (opening, readied.none) tt;
-        each = λ k u there. left_by as_it_was as_it_was (log_of still) (units_of old) (units_of old) k u refl refl (readied.each k u there);
+        each = λ k u there. left_by as_it_was as_it_was (log_of still) (units_of old) (units_of old) k u refl refl (left k u there);
         recorded = record {
           capacity = s.capacity;
           number = (let small : s.capacity < 2 ^ 40 = accepted.target.capacity_number in omega arith);

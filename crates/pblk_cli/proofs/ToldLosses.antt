@@ -1,5 +1,5 @@
--- All commands that were lost are told, by what a target answered.
-use Rattle.std.proofs.Common.{◌≡◌, ◌≢◌, ℕ, ◌+◌, ◌<◌, ◌≤◌, List, [], ◌∷◌, ◌++◌, None, Some, map, refl, sym, ap, ap₂, ◌∙◌, arith}
+-- All commands that were lost are told, by what a session answered.
+use Rattle.std.proofs.Common.{◌≡◌, ◌≢◌, ℕ, ◌+◌, ◌<◌, ◌≤◌, List, [], ◌∷◌, ◌++◌, None, Some, map, refl, sym, ap, ap₂, ◌∙◌, arith, lit<}
 use Rattle.pblk_model.specs.Text.{Transcript}
 use Rattle.pblk_model.specs.Transcript.{closing_event, opening_event}
 use Rattle.pblk_world.specs.Makers.{opening_worker}
@@ -8,9 +8,8 @@ use Rattle.unit_port.specs.Unit.{ModelUnit}
 use Rattle.scan_recovery.specs.DriveFaults.{drive_faults_of}
 use Rattle.scan_recovery.specs.Units.{log_length}
 use Rattle.block_port.specs.declared.rows.DriveAnswer.{DriveAnswer}
-use Rattle.block_target.specs.Mount.{MountView, world_in}
-use Rattle.block_target.specs.Serial.{AreAllAnswered, answer_at}
-use Rattle.block_target.proofs.AllAnswered.{first_is_other}
+use Rattle.block_target.specs.Closes.{answer_at}
+use Rattle.block_target.proofs.OpeningLosses.{first_is_other}
 use Rattle.run_report.specs.OnePort.{event_of}
 use Rattle.pblk_cli.specs.Stops.{AreAllTold, name_at, names_after, thread_events}
 
@@ -25,19 +24,17 @@ no_others threads thread few some low = absurd (omega arith)
 
 -- ---- a target that was closed, with these answers
 
-module _ (us : List ModelUnit) (v : MountView) (answers : List DriveAnswer) (handed : v.handed ≡ us) (answered : AreAllAnswered v answers) where
-  first_names : names_after (log_length us) (drive_faults_of 0 (world_in v)) ≡ map event_of answers
-  first_names =
-      ap (λ (hs : List ModelUnit). names_after (log_length hs) (drive_faults_of 0 (world_in v))) (sym handed)
-      ∙ sym (ap (map event_of) answered.session ∙ names_are v.handed (drive_faults_of 0 (world_in v)))
+module _ (handed : List ModelUnit) (w : World) (answers : List DriveAnswer) (session : map (answer_at handed) (drive_faults_of 0 w) ≡ answers) where
+  pub first_names : names_after (log_length handed) (drive_faults_of 0 w) ≡ map event_of answers
+  first_names = sym (names_are handed (drive_faults_of 0 w)) ∙ ap (map event_of) session
 
-  pub all_told : (threads : ℕ) (t : Transcript) → threads ≤ 1 → t.opening ≡ None → thread_events t 0 ++ closing_event t.closing ≡ map event_of answers
-      → AreAllTold threads (log_length us) (world_in v) t
-  all_told threads t few opened lines = record {
-    opening = ap (names_after (log_length us)) answered.opening ∙ ap opening_event (sym opened);
+  pub all_told : (threads : ℕ) (t : Transcript) → ((worker : ℕ) → 0 < worker → drive_faults_of worker w ≡ []) → threads ≤ 1 → t.opening ≡ None
+      → thread_events t 0 ++ closing_event t.closing ≡ map event_of answers → AreAllTold threads (log_length handed) w t
+  all_told threads t nobody few opened lines = record {
+    opening = ap (names_after (log_length handed)) (nobody opening_worker (lit< tt)) ∙ ap opening_event (sym opened);
     first = first_names ∙ sym lines;
     others = λ thread some low. no_others threads thread few some low;
-    alone = λ worker high apart. answered.others worker (omega arith) apart;
+    alone = λ worker high apart. nobody worker (omega arith);
   }
 
 -- ---- an opening that answered an event

@@ -1,6 +1,7 @@
 -- What running a script on a target over the units of a drive comes to.
 use Rattle.std.specs.Prelude.{ℕ, ◌<◌, ◌≤◌, ◌≡◌, ◌⊎◌, ⊤, true, false, List, [], ◌∷◌, ◌++◌, map, take, length, slice_get, Option, Some, None, Result, Ok, Err}
-use Rattle.std.specs.List.{AllByRecursion, flat_map}
+use Rattle.std.specs.List.{AllByRecursion}
+use Rattle.pblk_model.specs.declared.found.Found.{Found}
 use Rattle.pblk_model.specs.declared.shape.Shape.{Shape}
 use Rattle.pblk_model.specs.declared.script.Command.{Command}
 use Rattle.pblk_model.specs.Contents.{contents, end}
@@ -24,19 +25,22 @@ use Rattle.ocssd_drive.specs.Drive.{DriveView, IsWhole, stored, with_units}
 use Rattle.ocssd_drive.specs.Faults.{changes_of}
 use Rattle.ocssd_drive.specs.Outcomes.{AreEventsBy}
 use Rattle.ocssd_drive.specs.Units.{WornUnit, disarmed}
-use Rattle.scan_recovery.specs.DriveFaults.{is_drive_fault}
+use Rattle.scan_recovery.specs.DriveFaults.{NoDriveFaults, is_drive_fault}
 use Rattle.scan_recovery.specs.Units.{image_of, log_length}
-use Rattle.block_port.specs.Own.{lines_of}
 use Rattle.block_port.specs.Port.{IsSameTarget, ModelPort}
 use Rattle.pblk_world.specs.LegalMounts.{IsLegalMount}
 use Rattle.pblk_world.specs.Orders.{AreAfterResets, AreOpenedFull, NoneToFree, NoneWasLeft}
 use Rattle.pblk_world.specs.Reasons.{AreBegun, AreGranted, AreUrgent}
-use Rattle.block_target.specs.Mount.{MountView}
-use Rattle.block_target.specs.Opened.{IsOpened}
-use Rattle.block_target.specs.Serial as target_port
-use Rattle.block_target.specs.Serial.{SerialView, device, lines_in}
-use Rattle.block_target.specs.declared.opening.SettleErr.{SettleErr}
-use Rattle.block_target.specs.declared.opening.SettleErr.TheVariants as settle
+use Rattle.scan_recovery.specs.Readying.{IsFoundAfter}
+use Rattle.write_ring.specs.declared.view.Key.{Key}
+use Rattle.chronicle.specs.Views.{Past}
+use Rattle.pblk_engine.specs.Beginnings.{opened_past}
+use Rattle.pblk_engine.specs.Workers.{WorkerView}
+use Rattle.pblk_engine.specs.declared.errors.SettleErr.{SettleErr}
+use Rattle.pblk_engine.specs.declared.errors.SettleErr.TheVariants as settle
+use Rattle.block_target.specs.Closes.{IsClosed}
+use Rattle.block_target.specs.Sessions.{SessionView, device}
+use Rattle.block_target.specs.Targets.{TargetView, first_session, first_target, first_worker}
 use Rattle.run_threads.specs.declared.records.Answer.{Answer}
 use Rattle.run_threads.specs.declared.records.Records.{Records}
 use Rattle.run_threads.specs.declared.records.Trouble.{Trouble}
@@ -65,16 +69,28 @@ pub record AreBack (s : Shape) (old new : List WornUnit) : Type 0 where
   pub arms : (number : ℕ) (u v : ModelUnit) → slice_get (units_of old) number ≡ Some u → slice_get (units_of new) number ≡ Some v
       → v.armed ≡ u.armed
 
--- Sessions.
+-- The target.
 
--- a target that has begun on these units, where each line that might be freed was freed, and that
--- has done nothing else
-pub record IsNewTarget (s : Shape) (units : List WornUnit) (target : SerialView) : Type 0 where
-  pub opened : IsOpened s (units_of units) target.mount
-  pub wear : target.mount.wear ≡ wear_of units
-  pub unwritten : target.own ≡ []
-  pub faultless : target.faults ≡ []
-  pub unworn : target.worns ≡ []
+-- A mount has begun on these units, and this is what it is by name: what its logs began with, and
+-- the units with their wear as they were handed in.
+pub record IsNewMount (s : Shape) (units : List WornUnit) (past : Past) (handed : List ModelUnit) (wear : List (List ℕ)) : Type 0 where
+  pub handed_are : handed ≡ units_of units
+  pub wear_is : wear ≡ wear_of units
+  -- its drive was made ready, where no command was lost, and this was found
+  pub ready : List ModelUnit
+  pub found : Found
+  pub is : IsFoundAfter s (units_of units) ready found
+  pub done : NoDriveFaults (units_of units) ready
+  pub past_is : past ≡ opened_past s (units_of units) ready found
+
+-- It has no lane and one session, which has done nothing yet. That has a share of the ring, and
+-- there is a worker for a collector.
+pub record AreHandedOut (past : Past) (key : Key) (target : TargetView) (tickets : List SessionView) (workers : List WorkerView) : Type 0 where
+  pub target_is : target ≡ first_target key 1 1
+  pub tickets_are : tickets ≡ first_session past key 0 ∷ []
+  pub workers_are : workers ≡ first_worker past 1 ∷ []
+
+-- Sessions.
 
 -- The thread of a script was run through a port; where the script has none the port is as it was.
 abbrev pub HasRun : List (List Command) → List (List Answer) → ModelPort → ModelPort → Type 0
@@ -82,10 +98,19 @@ HasRun [] threads old new = (threads ≡ []) × (new ≡ old)
 HasRun (commands ∷ script) threads old new = (answers : List Answer) × (threads ≡ answers ∷ [])
     × (told : List ℕ → ℕ) × Runs told old commands answers new
 
-pub record IsSession (script : List (List Command)) (old : SerialView) (records : Records) (new : SerialView) : Type 0 where
-  pub run : HasRun script records.threads (device old) (device new)
+pub record IsSession (script : List (List Command)) (old : ModelPort) (records : Records) (new : ModelPort) : Type 0 where
+  pub run : HasRun script records.threads old new
   pub opened : records.opening ≡ None
-  pub target : IsSameTarget (device old) (device new)
+
+-- the session's records, unless there was no memory for it
+abbrev pub IsSessionOf : {E : Type 0} → List (List Command) → ModelPort → Result Records E → ModelPort → Type 0
+IsSessionOf script old (Ok records) new = IsSession script old records new
+IsSessionOf script old (Err e) new = ⊤
+
+-- A session was run, or there was no memory for it; either way it is of the same target as before.
+pub record HasServed {E : Type 0} (script : List (List Command)) (old : ModelPort) (records : Result Records E) (new : ModelPort) : Type 0 where
+  pub session : IsSessionOf script old records new
+  pub same : IsSameTarget old new
 
 -- the trouble that a close met, by its answer
 abbrev pub trouble_of : Result Unit SettleErr → Option Trouble
@@ -93,15 +118,11 @@ trouble_of (Ok x) = None
 trouble_of (Err (settle.Worn wanted have)) = Some (Worn wanted have)
 trouble_of (Err (settle.Drive unit event)) = Some (Drive unit event)
 
--- A target was closed, and these units came back.
-pub record IsBroughtBack (target : SerialView) (units : List WornUnit) : Type 0 where
-  pub mount : MountView
+-- The target of a session was closed, and these units came back. Nobody had the other worker that
+-- was handed out.
+pub record IsBroughtBack (past : Past) (key : Key) (handed : List ModelUnit) (wear : List (List ℕ)) (last : SessionView) (units : List WornUnit) : Type 0 where
   pub settled : Result Unit SettleErr
-  pub closed : target_port.IsClosed target settled mount
-  pub units_are : units_of units ≡ mount.units
-  pub wear : wear_of units ≡ mount.wear
-  -- the port knew of its own writes alone
-  pub alone : lines_in target.mount ≡ flat_map lines_of target.own
+  pub closed : IsClosed past key handed wear (last ∷ []) (first_worker past 1 ∷ []) settled (units_of units) (wear_of units)
   pub trouble : IsTrouble (trouble_of settled)
 
 -- these records, with what the close met
@@ -115,19 +136,21 @@ Closes (Ok before) settled (Err e) = ⊥
 Closes (Err e) settled (Ok after) = ⊥
 Closes (Err e) settled (Err f) = ⊤
 
--- the session's records, unless there was no memory for it
-abbrev pub IsSessionOf : {E : Type 0} → List (List Command) → SerialView → Result Records E → SerialView → Type 0
-IsSessionOf script old (Ok records) new = IsSession script old records new
-IsSessionOf script old (Err e) new = ⊤
-
--- A session was run on a target, or there was no memory for it; and the target was closed.
-pub record IsServedOn {E : Type 0} (script : List (List Command)) (target : SerialView) (units : List WornUnit) (records : Result Records E) : Type 0 where
-  pub last : SerialView
-  pub same : IsSameTarget (device target) (device last)
+-- A session was run on a target from its beginning on, or there was no memory for it; and the
+-- target was closed.
+pub record IsServedOn {E : Type 0} (past : Past) (key : Key) (handed : List ModelUnit) (wear : List (List ℕ))
+    (script : List (List Command)) (units : List WornUnit) (records : Result Records E) : Type 0 where
+  pub last : SessionView
   pub before : Result Records E
-  pub session : IsSessionOf script target before last
-  pub closed : IsBroughtBack last units
+  pub served : HasServed script (device past handed wear (first_session past key 0)) before (device past handed wear last)
+  pub closed : IsBroughtBack past key handed wear last units
   pub closes : Closes before closed.settled records
+
+-- Units came back as opening left them, without their target: there was no memory for it.
+pub record AreNotServed {E : Type 0} (left : List ModelUnit) (wear : List (List ℕ)) (units : List WornUnit) (records : Result Records E) : Type 0 where
+  pub units_are : units_of units ≡ left
+  pub wear_is : wear_of units ≡ wear
+  pub none : (r : Records) → records ≡ Ok r → ⊥
 
 -- What was done.
 

@@ -1,18 +1,23 @@
 //! Runs a script on a target over the units of a drive.
 
-ghost use Rattle.std.specs.Prelude.{ℕ, ◌≡◌, ◌≤◌, ◌<◌, ◌^◌, ◌∷◌, [], length, map, Ok, Err, None, Some, IfOk};
+ghost use Rattle.std.specs.Prelude.{ℕ, ◌≡◌, ◌≤◌, ◌<◌, ◌^◌, ◌⊎◌, ◌∷◌, [], length, map, vec_capacity, Ok, Err, None, Some, IfOk};
 ghost use Rattle.pblk_model.specs.Script.{NeverStuck, ScriptFits};
 ghost use Rattle.block_target.specs.Opened.{CanOpen};
-ghost use Rattle.block_target.specs.Serial.{SerialView};
+ghost use Rattle.block_target.specs.Sessions.{SessionView, device};
+ghost use Rattle.block_target.specs.Targets.{Names, first_target, first_worker};
 ghost use Rattle.run_threads.specs.declared.records.Records.{Records};
 ghost use Rattle.run_threads.specs.Run.{IsEvent};
-ghost use Rattle.pblk_cli.specs.Serving.{AreBack, Closes, IsBroughtBack, IsServed, IsServedOn, trouble_of, units_of, with_closing};
+ghost use Rattle.pblk_cli.specs.Serving.{AreBack, AreHandedOut, AreNotServed, Closes, HasServed, IsBroughtBack, IsServed, IsServedOn, trouble_of, units_of, with_closing};
 
-use block_target::{OpenErr, Refused, Serial, SettleErr, a_refused_opening_is_of_a_legal_world};
+use block_target::{
+    OpenErr, Opened, Refused, Session, Target, Ticket, a_refused_opening_is_of_a_legal_world, open,
+};
 use ocssd_drive::MemoryUnit;
+use pblk_engine::{Mount, SettleErr, Worker};
 use pblk_model::{Script, Shape};
 use run_threads::{Records, ThreadRows, Trouble, run};
 use std::alloc::{AllocError, Global};
+use std::marker::Brand;
 use std::sync::Wait;
 
 /// What a run leaves: the units, and what the script was answered, unless there was no memory to
@@ -43,15 +48,13 @@ pub(crate) fn serve<R: Wait>(
     ensures served { IfOk result.records
         (IsServed shape.now script.now units.items result.units.items) }
 {
-    match Serial::open(alloc, units, shape) {
-        Ok(target) => serve_on(rt, alloc, target, script),
-        Err(Refused { units, cause }) => {
-            a_refused_opening_is_of_a_legal_world();
-            Served {
-                units,
-                records: not_opened(alloc, cause),
-            }
-        }
+    a_refused_opening_is_of_a_legal_world();
+    match open(alloc, units, shape, 1, 0) {
+        Ok(opened) => serve_opened::<Brand, R>(rt, alloc, opened, script),
+        Err(Refused { units, cause }) => Served {
+            units,
+            records: not_opened(alloc, cause),
+        },
     }
 }
 
@@ -82,58 +85,108 @@ fn no_records(alloc: Global, opening: Option<Trouble>) -> Records
     }
 }
 
-// Runs the thread of a script, if it has one, on a target, and closes that.
-fn serve_on<R: Wait>(rt: &R, alloc: Global, target: Serial<MemoryUnit>, script: &Script) -> Served
-    requires one { length script.now ≤ 1 }
-    requires fits { ScriptFits target.mount.image.shape.capacity script.now }
-    requires flows { NeverStuck script.now }
-    ensures { IsServedOn script.now target result.units.items result.records }
-{
-    if script.as_slice().is_empty() {
-        return close(rt, target, Ok(no_records(alloc, None)));
-    }
-    match Vec::from_array(alloc, [target]) {
-        Ok(ports) => serve_through(rt, alloc, ports, script),
-        Err(e) => {
-            let target = only_target(e.value);
-            close(rt, target, Err(AllocError))
-        }
-    }
-}
-
-// The target of an array of one.
-fn only_target(targets: [Serial<MemoryUnit>; 1]) -> Serial<MemoryUnit>
-    ensures { targets ≡ result ∷ [] }
-{
-    let [target] = targets;
-    target
-}
-
-// Runs the thread of a script through its port, and closes the target.
-fn serve_through<R: Wait>(
+// Runs the thread of a script, if it has one, on the drive that was opened, and closes its target.
+// Without memory for the target the units come back.
+fn serve_opened<M: Mount, R: Wait>(
     rt: &R,
     alloc: Global,
-    ports: Vec<Serial<MemoryUnit>>,
+    opened: Opened<MemoryUnit>,
     script: &Script,
 ) -> Served
+    requires named { Names M.chronicle M.past M.ring M.key M.handed M.wear opened }
+    requires session { opened.sessions ≡ 1 }
+    requires lanes { opened.lanes ≡ 0 }
+    requires one { length script.now ≤ 1 }
+    requires fits { ScriptFits M.past.image.shape.capacity script.now }
+    requires flows { NeverStuck script.now }
+    ensures { IsServedOn M.past M.key M.handed M.wear script.now result.units.items result.records
+        ⊎ AreNotServed opened.units opened.wear result.units.items result.records }
+{
+    match opened.target::<M>(alloc) {
+        Ok((target, tickets, workers)) => {
+            serve_target(rt, alloc, target, tickets, workers, script)
+        }
+        Err(Refused { units, cause: _ }) => Served {
+            units,
+            records: Err(AllocError),
+        },
+    }
+}
+
+// Runs the thread of a script, if it has one, on a new target, and closes that.
+fn serve_target<M: Mount, R: Wait>(
+    rt: &R,
+    alloc: Global,
+    target: Target<M, MemoryUnit>,
+    tickets: Vec<Ticket<M>>,
+    workers: Vec<Worker<M>>,
+    script: &Script,
+) -> Served
+    requires out { AreHandedOut M.past M.key target tickets.items workers.items }
+    requires tickets_room { 1 ≤ vec_capacity tickets }
+    requires one { length script.now ≤ 1 }
+    requires fits { ScriptFits M.past.image.shape.capacity script.now }
+    requires flows { NeverStuck script.now }
+    ensures { IsServedOn M.past M.key M.handed M.wear script.now result.units.items
+        result.records }
+{
+    let mut tickets = tickets;
+    let ticket = tickets.pop().unwrap();
+    let (ticket, records) = run_session(rt, alloc, &target, ticket, script);
+    close(rt, target, ticket, tickets, workers, records)
+}
+
+// Runs the thread of a script, if it has one, as a session of a target.
+fn run_session<M: Mount, R: Wait>(
+    rt: &R,
+    alloc: Global,
+    target: &Target<M, MemoryUnit>,
+    ticket: Ticket<M>,
+    script: &Script,
+) -> (Ticket<M>, Result<Records, AllocError>)
+    requires one { length script.now ≤ 1 }
+    requires fits { ScriptFits M.past.image.shape.capacity script.now }
+    requires flows { NeverStuck script.now }
+    ensures { HasServed script.now (device M.past M.handed M.wear ticket) result.1
+        (device M.past M.handed M.wear result.0) }
+{
+    if script.as_slice().is_empty() {
+        return (ticket, Ok(no_records(alloc, None)));
+    }
+    match Vec::with_capacity(alloc, 1) {
+        Ok(mut ports) => {
+            ports.push(target.session(ticket)).unwrap();
+            run_port(rt, alloc, ports, script)
+        }
+        Err(e) => (ticket, Err(e)),
+    }
+}
+
+// Runs the thread of a script through its port.
+fn run_port<M: Mount, R: Wait>(
+    rt: &R,
+    alloc: Global,
+    ports: Vec<Session<'_, M, MemoryUnit>>,
+    script: &Script,
+) -> (Ticket<M>, Result<Records, AllocError>)
     requires script { length script.now ≡ 1 }
     requires port { length ports.items ≡ 1 }
-    requires fits { (target : SerialView) → ports.items ≡ target ∷ []
-        → ScriptFits target.mount.image.shape.capacity script.now }
+    requires fits { ScriptFits M.past.image.shape.capacity script.now }
     requires flows { NeverStuck script.now }
-    ensures { (target : SerialView) → ports.items ≡ target ∷ []
-        → IsServedOn script.now target result.units.items result.records }
+    ensures { (first : SessionView) → ports.entry.items ≡ first ∷ []
+        → HasServed script.now (device M.past M.handed M.wear first) result.1
+        (device M.past M.handed M.wear result.0) }
 {
     match run(rt, alloc, script, ports) {
-        Ok((records, ports)) => close(rt, only_port(ports), Ok(records)),
-        Err((e, ports)) => close(rt, only_port(ports), Err(e)),
+        Ok((records, ports)) => (only_port(ports).end(), Ok(records)),
+        Err((e, ports)) => (only_port(ports).end(), Err(e)),
     }
 }
 
 // The port of a script of one thread.
-fn only_port(mut ports: Vec<Serial<MemoryUnit>>) -> Serial<MemoryUnit>
+fn only_port<'t, M: Mount>(mut ports: Vec<Session<'t, M, MemoryUnit>>) -> Session<'t, M, MemoryUnit>
     requires { length ports.items ≡ 1 }
-    ensures { ports.items ≡ result ∷ [] }
+    ensures { ports.entry.items ≡ result ∷ [] }
 {
     let port = ports.pop().unwrap();
     ports.destroy_empty();
@@ -141,15 +194,25 @@ fn only_port(mut ports: Vec<Serial<MemoryUnit>>) -> Serial<MemoryUnit>
 }
 
 // Closes a target after a run, and records what that met.
-fn close<R: Wait>(
+fn close<M: Mount, R: Wait>(
     rt: &R,
-    target: Serial<MemoryUnit>,
+    target: Target<M, MemoryUnit>,
+    ticket: Ticket<M>,
+    tickets: Vec<Ticket<M>>,
+    workers: Vec<Worker<M>>,
     records: Result<Records, AllocError>,
 ) -> Served
-    ensures { (closed : IsBroughtBack target result.units.items)
+    requires target { target ≡ first_target M.key 1 1 }
+    requires number { ticket.worker.number ≡ 0 }
+    requires workers { workers.items ≡ first_worker M.past 1 ∷ [] }
+    requires empty { tickets.items ≡ [] }
+    requires tickets_room { 1 ≤ vec_capacity tickets }
+    ensures { (closed : IsBroughtBack M.past M.key M.handed M.wear ticket result.units.items)
         × Closes records closed.settled result.records }
 {
-    let (units, settled) = target.close(rt);
+    let mut tickets = tickets;
+    tickets.push(ticket).unwrap();
+    let (units, settled) = target.close(rt, tickets, workers);
     let closing = trouble_of(settled);
     let records = match records {
         Ok(records) => Ok(closed_records(records, closing)),

@@ -11,24 +11,27 @@ use Rattle.pblk_model.specs.Image.{Image, IsFit}
 use Rattle.pblk_model.specs.Shape.{units}
 use Rattle.pblk_model.proofs.Parts.{get_past, got_within, same_lists}
 use Rattle.pblk_world.specs.AtRest.{AreResetsNoted}
-use Rattle.pblk_world.specs.Events.{Maker}
+use Rattle.pblk_world.specs.Events.{Logged, Maker}
+use Rattle.pblk_world.specs.Fronts.{taken as taken_of}
 use Rattle.pblk_world.specs.World.{World, Logs, log_of}
 use Rattle.unit_port.specs.Unit.{ModelUnit}
 use Rattle.write_ring.specs.declared.view.Key.{Key}
 use Rattle.write_ring.specs.declared.view.Part.{Part}
 use Rattle.write_ring.specs.declared.view.View.{View}
-use Rattle.write_ring.specs.Handles.{IsAsPut, IsFilled, IsTiled}
+use Rattle.write_ring.specs.Handles.{AreAllClaims, IsAsPut, IsFilled, IsTiled}
 use Rattle.chronicle.specs.Handles.{AuthorView}
 use Rattle.chronicle.specs.Prefixes.{AreLegalLogs, ArePrefixes, AreWholeLogs, Prefixes, logs_of}
 use Rattle.chronicle.specs.Views.{Past}
 use Rattle.chronicle.proofs.Rests.{still_begun}
 use Rattle.pblk_core.specs.declared.target_core.Core.{Core}
 use Rattle.pblk_engine.specs.Arms.{ArmView, IsArm}
-use Rattle.pblk_engine.specs.Endings.{HasEnded, HasJoined, HasMadeAll, HasTakenOver}
-use Rattle.pblk_engine.specs.Hearts.{IsHeartOf, IsSettled, parts}
+use Rattle.pblk_engine.specs.Endings.{HasEnded, HasEndedOf, HasJoined, HasKept, HasMadeAll, HasTakenOver}
+use Rattle.pblk_engine.specs.Hearts.{HeartView, IsHeartOf, IsSettled, parts}
 use Rattle.pblk_engine.specs.Mounts.{IsMounted}
+use Rattle.pblk_engine.specs.Settlings.{IsWorkedOff, IsWornAt}
 use Rattle.pblk_engine.specs.Workers.{WasMade, WorkerView}
 use Rattle.pblk_engine.proofs.Growth.{settled_met}
+use Rattle.pblk_engine.proofs.LaterRests.{off_later, worn_later}
 use Rattle.pblk_engine.proofs.NotedCommands.{still_made}
 
 -- the same levels of wear in each place
@@ -81,10 +84,27 @@ module _ (chronicle table place : TableId) (past : Past) (key : Key) (handed : L
         (still_made taken.known author.known v.number j m joined.learns (over.each k v there j m at));
   }
 
-  pub has_ended : ((n : ℕ) → named ≡ Some n → taken.spare ≡ Some n) → IsAsPut key.first intake.intake.took pass intake.pass
-      → IsTiled key.first pass intake.pass → IsFilled pass
-      → IsFilled intake.pass → HasEnded past key handed wear workers named pass left worn
-  has_ended spare as_put tiled filled copies = record {
+  own_log : log_of w 0 ≡ logs_of engine.known 0
+  own_log = ap (λ (l : Logs). l 0) same ∙ joined.engine_log ∙ over.engine_log
+
+  learned : ArePrefixes engine.known author.known
+  learned = still_begun engine.known taken.known author.known over.learns joined.learns
+
+  same_own : logs_of author.known 0 ≡ logs_of engine.known 0
+  same_own = joined.engine_log ∙ over.engine_log
+
+  has_kept : HasKept i engine.known w
+  has_kept = record {
+    worked_off = λ claimed is. subst (λ (l : Logs). IsWorkedOff i l claimed) (sym same)
+        (off_later i engine.known author.known held.legal learned same_own claimed is);
+    worn = λ claimed have is. subst (λ (l : Logs). IsWornAt i l claimed have) (sym same)
+        (worn_later i engine.known author.known held.legal learned same_own claimed have is);
+  }
+
+  has_ended : AreAllClaims key.first (taken_of (logs_of engine.known 0)) pass intake.pass → ((n : ℕ) → named ≡ Some n → taken.spare ≡ Some n)
+      → IsAsPut key.first intake.intake.took pass intake.pass → IsTiled key.first pass intake.pass → IsFilled pass → IsFilled intake.pass
+      → HasEnded past key handed wear workers named pass left worn
+  has_ended all spare as_put tiled filled copies = record {
     world = w;
     legal = record { accepted = held.fits.accepted; fit = held.fits.fit; legal = whole.legal };
     begun = λ x. subst (λ (l : Logs). IsPrefix (logs_of past.logs x) (l x)) (sym same) (joined.begun.each x);
@@ -107,6 +127,17 @@ module _ (chronicle table place : TableId) (past : Past) (key : Key) (handed : L
     copies = intake.pass;
     as_put = as_put;
     tiled = tiled;
+    all_taken = subst (λ (log : List Logged). AreAllClaims key.first (taken_of log) pass intake.pass) (sym own_log) all;
     filled = filled;
     copies_filled = copies;
+  }
+
+  pub has_ended_of : (heart : HeartView) → engine ≡ heart.author → AreAllClaims key.first (taken_of (logs_of heart.author.known 0)) pass intake.pass
+      → ((n : ℕ) → named ≡ Some n → taken.spare ≡ Some n) → IsAsPut key.first intake.intake.took pass intake.pass → IsTiled key.first pass intake.pass
+      → IsFilled pass → IsFilled intake.pass → HasEndedOf heart past key handed wear workers named pass left worn
+  unfolding has_ended
+  has_ended_of heart its all spare as_put tiled filled copies = record {
+    ended = has_ended (subst (λ (a : AuthorView). AreAllClaims key.first (taken_of (logs_of a.known 0)) pass intake.pass) (sym its) all) spare as_put
+        tiled filled copies;
+    kept = subst (λ (a : AuthorView). HasKept i a.known w) its has_kept;
   }

@@ -1,5 +1,5 @@
--- A stripe whose turn is how many stripes of its unit have ended, by logs that know that it was placed:
--- it isn't answered, and all before it are.
+-- A stripe whose turn is how many stripes of its unit have ended, by logs that know that it was
+-- placed: it isn't answered, and all before it are.
 use Rattle.std.proofs.Common.{◌≡◌, ℕ, zero, suc, ◌+◌, ◌-◌, ◌^◌, ◌<◌, ◌≤◌, Some, List, length, min, take, true, refl, sym, ap, ap₂, ◌∙◌, arith}
 use Rattle.std.specs.Prelude.{is_some, slice_get}
 use Rattle.std.proofs.Math.Seq.{take-length}

@@ -72,3 +72,5 @@ pub mod HeldFetches
 pub mod RunFetches
 pub mod ReadLooks
 pub mod ReadAnswers
+mod WorkedOff
+mod LaterRests

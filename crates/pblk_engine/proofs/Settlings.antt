@@ -124,7 +124,7 @@ module _ (old told new : WorkerView) (first claims heart : HeartView) (asks : Bo
 
 -- ---- one after another
 
-none_of_both : (one two : List Made) → NoFaults one → NoFaults two → NoFaults (one ++ two)
+pub none_of_both : (one two : List Made) → NoFaults one → NoFaults two → NoFaults (one ++ two)
 none_of_both [] two a b = b
 none_of_both (m ∷ one) two a b = (a.0, none_of_both one two a.1 b)
 
@@ -151,7 +151,7 @@ worked_pump old new more is = record {
   asked_before = let same : new.asked ≡ old.asked = is.asked in omega arith;
 }
 
-fault_then : (handed : List ModelUnit) (one two : List Made) (e : DriveErr) → NoFaults one → IsFaultOf handed two e → IsFaultOf handed (one ++ two) e
+pub fault_then : (handed : List ModelUnit) (one two : List Made) (e : DriveErr) → NoFaults one → IsFaultOf handed two e → IsFaultOf handed (one ++ two) e
 fault_then handed one two e none is = record {
   others = one ++ is.others;
   last = is.last;

@@ -3,8 +3,10 @@ use Rattle.std.specs.Prelude.{ℕ, suc, ◌^◌, ◌≡◌, ◌<◌, ◌≤◌, 
 use Rattle.std.specs.List.{Contains}
 use mathlib.Core.List.{IsPrefix}
 use Rattle.atomic_table.specs.Seated.{TableId}
+use Rattle.pblk_model.specs.Image.{Image}
 use Rattle.pblk_world.specs.AtRest.{AreResetsNoted}
 use Rattle.pblk_world.specs.EngineLog.{takes}
+use Rattle.pblk_world.specs.Fronts.{taken}
 use Rattle.pblk_world.specs.LegalMounts.{IsLegalMount}
 use Rattle.pblk_world.specs.Makers.{HasMakers, commands_of}
 use Rattle.pblk_world.specs.Orders.{AreInOrder, NoneToFree}
@@ -17,15 +19,16 @@ use Rattle.write_ring.specs.declared.view.Row.{Row}
 use Rattle.write_ring.specs.declared.view.View.{View}
 use Rattle.write_ring.specs.Batches.{BatchView}
 use Rattle.write_ring.specs.declared.seats.Pass.{Pass}
-use Rattle.write_ring.specs.Handles.{IsAsPut, IsFilled, IsTiled, pass_view}
+use Rattle.write_ring.specs.Handles.{AreAllClaims, IsAsPut, IsFilled, IsTiled, pass_view}
 use Rattle.pblk_core.specs.Copies.{is_copying}
 use Rattle.pblk_core.specs.Named.{named, pad_of}
 use Rattle.pblk_core.specs.declared.target_core.Core.{Core}
 use Rattle.chronicle.specs.Handles.{AuthorView}
-use Rattle.chronicle.specs.Prefixes.{AreLegalLogs, ArePrefixes, NoOpeningAfter, logs_of}
+use Rattle.chronicle.specs.Prefixes.{AreLegalLogs, ArePrefixes, NoOpeningAfter, Prefixes, logs_of}
 use Rattle.chronicle.specs.Views.{Past}
 use Rattle.pblk_engine.specs.Arms.{ArmView, IsArm}
 use Rattle.pblk_engine.specs.Hearts.{HeartView, IsHeartOf, parts, ring_row}
+use Rattle.pblk_engine.specs.Settlings.{IsWorkedOff, IsWornAt}
 use Rattle.pblk_engine.specs.Workers.{Made, WasMade, WorkerView}
 
 -- What is left of a heart: all is as it was between two holds of its lock.
@@ -123,5 +126,18 @@ pub record HasEnded (past : Past) (key : Key) (handed : List ModelUnit) (wear : 
   pub copies : Part
   pub as_put : IsAsPut key.first took pass copies
   pub tiled : IsTiled key.first pass copies
+  -- all that was claimed was taken
+  pub all_taken : AreAllClaims key.first (taken (log_of world 0)) pass copies
   pub filled : IsFilled pass
   pub copies_filled : IsFilled copies
+
+-- What held of the logs at the heart's end, of how far the engine is, holds of the world.
+pub record HasKept (i : Image) (known : Prefixes) (world : World) : Type 0 where
+  pub worked_off : (claimed : ℕ) → IsWorkedOff i (logs_of known) claimed → IsWorkedOff i (log_of world) claimed
+  pub worn : (claimed have : ℕ) → IsWornAt i (logs_of known) claimed have → IsWornAt i (log_of world) claimed have
+
+-- The engine with this heart has ended.
+pub record HasEndedOf (heart : HeartView) (past : Past) (key : Key) (handed : List ModelUnit) (wear : List (List ℕ))
+    (workers : List WorkerView) (named : Option ℕ) (pass : Part) (units : List ModelUnit) (worn : List (List ℕ)) : Type 0 where
+  pub ended : HasEnded past key handed wear workers named pass units worn
+  pub kept : HasKept past.image heart.author.known ended.world

@@ -83,8 +83,8 @@ ring_row t = record {
   sector = t.entry.sector;
 }
 
--- No slot names this position in the buffer: it is below the mount's first, or a block of it that has
--- landed can be read.
+-- No slot names this position in the buffer: it is below the mount's first, or a block of it that
+-- has landed can be read.
 abbrev pub IsOut : Shape → List Logged → ℕ → Type 0
 IsOut s log position = (position < first_position log) ⊎ (is_given_back s log position ≡ true)
 

@@ -28,3 +28,4 @@ pub mod Copying
 pub mod Waits
 pub mod Takes
 pub mod Settlings
+pub mod Closed

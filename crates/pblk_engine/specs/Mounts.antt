@@ -14,8 +14,8 @@ use Rattle.chronicle.specs.Prefixes.{logs_of, AreLegalLogs}
 use Rattle.write_ring.specs.declared.view.Key.{Key}
 
 -- The mount stands over the units that were handed in, of a drive of an accepted shape. They are
--- armed with nothing, or were armed no later than they were handed in. The logs so far are legal and
--- have the mount's beginning. The ring begins with the mount's first position, has the drive's
+-- armed with nothing, or were armed no later than they were handed in. The logs so far are legal
+-- and have the mount's beginning. The ring begins with the mount's first position, has the drive's
 -- number of entries, keeps a stripe of each unit for copies, and takes sectors of the drive's size
 -- below its capacity.
 pub record IsMounted (past : Past) (key : Key) (handed : List ModelUnit) (wear : List (List ℕ)) : Type 0 where

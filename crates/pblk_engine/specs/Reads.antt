@@ -119,7 +119,8 @@ pub record IsLostOfRun (past : Past) (handed : List ModelUnit) (looked : Prefixe
   pub lost : IsLostFetch handed place.unit place.sought.line place.sought.block more e
 
 -- What became of the fetches of a run, by a look at these logs, with the commands that the worker
--- made: none was lost; or one was, which fetched a block to which the look led for one of the sectors.
+-- made: none was lost; or one was, which fetched a block to which the look led for one of the
+-- sectors.
 abbrev pub TellsRun : {A : Type 0} → Past → List ModelUnit → Prefixes → ℕ → RunLook → (A → Type 0) → List Made → Result A DriveErr → Type 0
 TellsRun past handed looked lba look Tells more (Ok is) = NoFaults more × Tells is
 TellsRun past handed looked lba look Tells more (Err e) = IsLostOfRun past handed looked lba look more e

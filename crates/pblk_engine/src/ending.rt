@@ -1,21 +1,25 @@
 //! How an engine ends: its ring, its chronicle, its heart and its arms.
 
-ghost use Rattle.std.specs.Prelude.{◌≡◌, ◌<◌, ◌≤◌, ◌+◌, ◌++◌, [], ◌∷◌, ℕ, length, map, Some, vec_capacity};
+ghost use Rattle.std.specs.Prelude.{◌≡◌, ◌<◌, ◌≤◌, ◌+◌, ◌++◌, ◌^◌, [], ◌∷◌, ℕ, length, map, Some, vec_capacity};
 ghost use Rattle.pblk_model.specs.Frames.{count_out};
 ghost use Rattle.pblk_model.specs.Shape.{units as units_of};
 ghost use Rattle.pblk_world.specs.AtRest.{AreResetsNoted};
 ghost use Rattle.chronicle.specs.Handles.{note_of};
 ghost use Rattle.chronicle.specs.Prefixes.{AreLegalLogs, ArePrefixes, logs_of};
 ghost use Rattle.write_ring.specs.Handles.{AreAllClaims, IsPassOf, IsSamePart, pass_view};
-ghost use Rattle.pblk_engine.specs.Endings.{AreArmsInOrder, IsHeartEnd, HasEnded, HasJoined, HasTakenOver, IsPassIn};
+ghost use Rattle.pblk_world.specs.Fronts.{taken};
+ghost use Rattle.pblk_engine.specs.Closed.{HasClosed};
+ghost use Rattle.pblk_engine.specs.Endings.{AreArmsInOrder, IsHeartEnd, HasEndedOf, HasJoined, HasTakenOver, IsPassIn};
 ghost use Rattle.pblk_engine.specs.Hearts.{IsEngine, IsRingOf};
 ghost use Rattle.pblk_engine.specs.Mounts.{IsMounted};
 ghost use Rattle.pblk_engine.specs.Notes.{IsNoteOf};
 
 use crate::arm::Arm;
 use crate::engine::Engine;
+use crate::errors::SettleErr;
 use crate::heart::Heart;
 use crate::mount::Mount;
+use crate::winding_down::Apart;
 use crate::worker::Worker;
 use chronicle::{Author, Chronicle, Token};
 use pblk_core::Core;
@@ -43,16 +47,20 @@ impl<M: Mount> Heart<M> {
         (core, author.end(), intake, batch)
     }
 
-    /// Loads `claimed` once, where the pass has all shares of the ring but the intake's. So what
-    /// users claimed, the pass claimed. Where the answer is how far the heart has taken, no entry
-    /// is left to be taken, and only the two can claim more.
+    /// Loads `claimed` once, for the heart and the pass together: all that the heart has taken was
+    /// claimed. Where the pass has all shares of the ring but the intake's, what users claimed, the
+    /// pass claimed. Where the answer is how far the heart has taken, no entry is left to be taken
+    /// then, and only the two can claim more.
     pub(crate) fn all_claimed(&mut self, ring: &Ring, pass: &mut Pass) -> u64
         requires ring { IsRingOf M.ring M.key ring.now }
         requires pass_ring { IsPassOf ring.now pass.old }
-        requires shares { (pass_view pass.old).pass.shares ≡ 127 }
-        ensures all { AreAllClaims M.key.first result (pass_view pass.new).pass
-            self.new.intake.pass }
+        ensures all { (pass_view pass.old).pass.shares ≡ 127 → AreAllClaims M.key.first result
+            (pass_view pass.new).pass self.new.intake.pass }
         ensures taken { self.old.intake.intake.taken ≤ result }
+        ensures log { taken (logs_of self.old.author.known 0) ≤ result }
+        ensures found { (pass_view pass.new).found.claimed ≡ result }
+        ensures rises { (pass_view pass.old).found.claimed ≤ result }
+        ensures most { result ≤ 2 ^ 62 }
         ensures same { self.new ≡ record self.old { intake = self.new.intake } }
         ensures same_desk { self.new.intake.intake ≡ self.old.intake.intake }
         ensures same_copies { IsSamePart self.old.intake.pass self.new.intake.pass }
@@ -158,8 +166,10 @@ pub(crate) fn close<M: Mount, U: Unit>(
     requires out { count_out pool.left ≡ M.key.size + 1 }
     requires empty { units.items ≡ [] }
     requires room { length arms.items ≤ vec_capacity units }
-    ensures { HasEnded M.past M.key M.handed M.wear workers.items names.spare (pass_view pass).pass
-        (map U.model result.items) (map U.wear result.items) }
+    requires all { AreAllClaims M.key.first (taken (logs_of heart.author.known 0))
+        (pass_view pass).pass heart.intake.pass }
+    ensures { HasEndedOf heart M.past M.key M.handed M.wear workers.items names.spare
+        (pass_view pass).pass (map U.model result.items) (map U.wear result.items) }
 {
     let (core, mut author, intake, batch) = heart.end();
     take_over(&chronicle, &mut author, workers, names);
@@ -185,21 +195,29 @@ fn end_pool(pool: Pool)
 }
 
 impl<M: Mount, U: Unit> Engine<M, U> {
-    /// Ends the engine. The workers are all that the mount had but those that made no command, and
-    /// `names` is the token that named them. The pass has all shares of the ring but the intake's.
-    /// All frames of the pool that are out are the ring's and the engine's. The units are put into
-    /// `units`, which has room for them and is empty, in the order of their numbers.
+    /// Works the engine off by the first worker, as `settle` does, and ends it. Nobody goes on
+    /// after that. So at its end all that was claimed is on the drive, and collection isn't due or
+    /// the engine is at rest, or the answer tells why not. `Worn` comes where the engine is at rest
+    /// and can't bring all of it to the drive. `Drive` names the command that the first worker
+    /// lost.
+    ///
+    /// The workers, with the first one, are all that the mount had but those that made no command,
+    /// and `names` is the token that named them. The workers' vector has room for one more. The
+    /// pass has all shares of the ring but the intake's. All frames of the pool that are out are
+    /// the ring's and the engine's. The units are put into `units`, which has room for them and is
+    /// empty, in the order of their numbers.
     ///
     /// No lock is held then, since each guard borrows the engine.
     pub fn close<R: Wait>(
         self,
         rt: &R,
+        first: Worker<M>,
         workers: Vec<Worker<M>>,
         names: Token,
         pass: Pass,
         pool: Pool,
         units: Vec<U>,
-    ) -> Vec<U>
+    ) -> (Vec<U>, Result<(), SettleErr>)
         requires mounted { IsMounted M.past M.key M.handed M.wear }
         requires names { IsNoteOf M.chronicle M.past (note_of names) }
         requires pass_of { IsPassIn M.ring M.key pass }
@@ -208,19 +226,25 @@ impl<M: Mount, U: Unit> Engine<M, U> {
         requires out { count_out pool.left ≡ M.key.size + 1 }
         requires empty { units.items ≡ [] }
         requires room { units_of M.past.image.shape ≤ vec_capacity units }
-        ensures { HasEnded M.past M.key M.handed M.wear workers.items names.spare
-            (pass_view pass).pass (map U.model result.items) (map U.wear result.items) }
+        requires workers_room { length workers.items < vec_capacity workers }
+        ensures { HasClosed M.past M.key M.handed M.wear first workers.items names.spare
+            (pass_view pass).pass result.1 (map U.model result.0.items) (map U.wear result.0.items) }
     {
-        let Engine {
+        let mut first = first;
+        let mut pass = pass;
+        let (apart, settled) = self.work_off(rt, &mut first, &mut pass);
+        let Apart {
             ring,
             chronicle,
             heart,
             arms,
-        } = self;
-        let heart = heart.into_inner();
+        } = apart;
+        let mut workers = workers;
+        put(&mut workers, first);
         let arms = arms.close(rt);
-        close(
+        let units = close(
             ring, chronicle, heart, arms, workers, names, pass, pool, units,
-        )
+        );
+        (units, settled)
     }
 }

@@ -1,8 +1,12 @@
 //! What a session waits for: that its entries are on the drive, and room to claim.
-ghost use Rattle.std.specs.Prelude.{ℕ, ◌≡◌, ◌≢◌, ◌↔◌, ◌≤◌, IsTrue};
+ghost use Rattle.std.specs.Prelude.{ℕ, ◌≡◌, ◌≢◌, ◌↔◌, ◌≤◌, ◌^◌, IsTrue};
+ghost use Rattle.chronicle.specs.Prefixes.{logs_of};
 ghost use Rattle.pblk_core.specs.declared.work.Why.{Why as WhyOf};
 ghost use Rattle.pblk_core.specs.declared.work.Why.TheVariants as whys;
 ghost use Rattle.pblk_core.specs.declared.work.Work.TheVariants as works;
+ghost use Rattle.pblk_world.specs.Fronts.{taken};
+ghost use Rattle.write_ring.specs.Handles.{pass_view};
+ghost use Rattle.pblk_engine.specs.Endings.{IsPassIn};
 ghost use Rattle.pblk_engine.specs.Waits.{AsksUpTo, HasFlushed, HasRoomed};
 ghost use Rattle.pblk_engine.specs.declared.taking.Filled.TheVariants as fills;
 
@@ -15,6 +19,7 @@ use crate::worker::Worker;
 use pblk_core::{Why, Work};
 use std::sync::Wait;
 use unit_port::Unit;
+use write_ring::Pass;
 
 // Whether there is nothing to do, and nothing is in flight.
 pub(crate) fn is_stuck(work: Work) -> bool
@@ -97,6 +102,24 @@ impl<M: Mount, U: Unit> Engine<M, U> {
         }
         let did = self.pump_held(rt, heart, work, worker, Role::All)?;
         Ok(Roomed::Pumped(did))
+    }
+
+    /// How far positions are claimed, as loaded under the engine's lock for the pass too: all that
+    /// the worker knows as taken was claimed by then. It does no work.
+    pub fn claimed<R: Wait>(&self, rt: &R, worker: &mut Worker<M>, pass: &mut Pass) -> u64
+        requires pass_of { IsPassIn M.ring M.key pass.old }
+        ensures pass_of { IsPassIn M.ring M.key pass.new }
+        ensures same_pass { (pass_view pass.new).pass ≡ (pass_view pass.old).pass }
+        ensures found { (pass_view pass.new).found.claimed ≡ result }
+        ensures rises { (pass_view pass.old).found.claimed ≤ result }
+        ensures most { result ≤ 2 ^ 62 }
+        ensures taken { taken (logs_of worker.old.known 0) ≤ result }
+        ensures same_worker { worker.new ≡ worker.old }
+    {
+        let mut heart = self.heart.lock(rt);
+        let known = worker.note(&self.chronicle);
+        heart.meet(&self.chronicle, known);
+        heart.all_claimed(&self.ring, pass)
     }
 }
 

@@ -5,23 +5,32 @@ ghost use Rattle.chronicle.specs.Prefixes.{logs_of};
 ghost use Rattle.pblk_core.specs.declared.work.Why.{Why as WhyOf};
 ghost use Rattle.pblk_core.specs.declared.work.Why.TheVariants as whys;
 ghost use Rattle.pblk_core.specs.declared.work.Work.TheVariants as works;
-ghost use Rattle.write_ring.specs.Handles.{pass_view};
+ghost use Rattle.write_ring.specs.Handles.{AreAllClaims, pass_view};
 ghost use Rattle.pblk_engine.specs.Endings.{IsPassIn};
 ghost use Rattle.pblk_engine.specs.Settlings.{HasLooked, HasSettled, IsWorkedOff, IsWornAt};
+ghost use Rattle.pblk_engine.specs.Closed.{HasWorkedOff, answer_of};
+ghost use Rattle.pblk_engine.specs.Hearts.{IsRingOf};
+ghost use Rattle.pblk_world.specs.Fronts.{taken};
+ghost use Rattle.numbered_locks.specs.Handles.{places};
+ghost use Rattle.pblk_model.specs.Shape.{units as units_of};
 ghost use Rattle.pblk_engine.specs.declared.winding_down.Settlement.TheVariants as settlements;
 
+use crate::arm::Arm;
 use crate::engine::Engine;
 use crate::errors::SettleErr;
 use crate::heart::Heart;
 use crate::mount::Mount;
 use crate::outcomes::{Did, Role};
+use crate::places::ArmPlaces;
 use crate::waiting::is_stuck;
 use crate::worker::Worker;
+use chronicle::Chronicle;
 use crossbeam_utils::Backoff;
+use numbered_locks::NumberedLocks;
 use pblk_core::{Why, Work};
-use std::sync::Wait;
+use std::sync::{Mutex, Wait};
 use unit_port::Unit;
-use write_ring::Pass;
+use write_ring::{Pass, Ring};
 
 impl<M: Mount, U: Unit> Engine<M, U> {
     /// Works until all that was claimed is on the drive, and collection isn't due or the engine is
@@ -128,5 +137,123 @@ impl<M: Mount> Heart<M> {
             return Settlement::Worn { have };
         }
         Settlement::Behind
+    }
+}
+
+// Takes all that was claimed, and tells how far the engine is then. Nobody else has the heart, so
+// that stays so.
+fn finish<M: Mount, R: Wait>(
+    rt: &R,
+    chronicle: &Chronicle,
+    ring: &Ring,
+    heart: &mut Heart<M>,
+    pass: &mut Pass,
+) -> Settlement
+    requires of { chronicle.now ≡ M.chronicle }
+    requires ring { IsRingOf M.ring M.key ring.now }
+    requires pass_of { IsPassIn M.ring M.key pass.old }
+    requires shares { (pass_view pass.old).pass.shares ≡ 127 }
+    ensures pass_of { IsPassIn M.ring M.key pass.new }
+    ensures same_pass { (pass_view pass.new).pass ≡ (pass_view pass.old).pass }
+    ensures all { AreAllClaims M.key.first (taken (logs_of heart.new.author.known 0))
+        (pass_view pass.old).pass heart.new.intake.pass }
+    ensures settled { result ≡ settlements.Settled
+        → IsWorkedOff M.past.image (logs_of heart.new.author.known)
+        (taken (logs_of heart.new.author.known 0)) }
+    ensures worn { (have : ℕ) → result ≡ settlements.Worn have
+        → IsWornAt M.past.image (logs_of heart.new.author.known)
+        (taken (logs_of heart.new.author.known 0)) have }
+{
+    for _ in rt.forever() {
+        heart.take_filled(chronicle, ring);
+        let claimed = heart.all_claimed(ring, pass);
+        if heart.front().position == claimed {
+            let work = heart.next_work();
+            return heart.settlement(work, claimed);
+        }
+    }
+    unreachable!()
+}
+
+// What a close answers, by what settling told, by how far the engine is then, and by its front
+// taken. `None` comes where there is more to do.
+fn answer(
+    settled: Result<(), SettleErr>,
+    settlement: Settlement,
+    front: u64,
+) -> Option<Result<(), SettleErr>>
+    ensures { result ≡ answer_of settled settlement front }
+{
+    match settled {
+        Err(SettleErr::Drive { unit, event }) => Some(Err(SettleErr::Drive { unit, event })),
+        Err(SettleErr::Worn { wanted: _, have: _ }) | Ok(()) => match settlement {
+            Settlement::Settled => Some(Ok(())),
+            Settlement::Worn { have } => Some(Err(SettleErr::Worn {
+                wanted: front,
+                have,
+            })),
+            Settlement::Behind => None,
+        },
+    }
+}
+
+// An engine that was taken apart.
+pub(crate) struct Apart<M: Mount, U: Unit> {
+    pub(crate) ring: Ring,
+    pub(crate) chronicle: Chronicle,
+    pub(crate) heart: Heart<M>,
+    pub(crate) arms: NumberedLocks<Arm<M, U>, ArmPlaces<M, U>>,
+}
+
+impl<M: Mount, U: Unit> Engine<M, U> {
+    // Settles it, and takes it apart. Where others have gone on since, it is put together and
+    // settled again.
+    pub(crate) fn work_off<R: Wait>(
+        self,
+        rt: &R,
+        worker: &mut Worker<M>,
+        pass: &mut Pass,
+    ) -> (Apart<M, U>, Result<(), SettleErr>)
+        requires pass_of { IsPassIn M.ring M.key pass.old }
+        requires shares { (pass_view pass.old).pass.shares ≡ 127 }
+        ensures chronicle { result.0.chronicle ≡ M.chronicle }
+        ensures ring { IsRingOf M.ring M.key result.0.ring }
+        ensures places { places result.0.arms ≡ units_of M.past.image.shape }
+        ensures pass_of { IsPassIn M.ring M.key pass.new }
+        ensures same_pass { (pass_view pass.new).pass ≡ (pass_view pass.old).pass }
+        ensures all { AreAllClaims M.key.first (taken (logs_of result.0.heart.author.known 0))
+            (pass_view pass.old).pass result.0.heart.intake.pass }
+        ensures worked { HasWorkedOff M.past.image M.handed worker.old worker.new
+            (logs_of result.0.heart.author.known) result.1 }
+    {
+        let mut engine = self;
+        for _ in rt.forever() {
+            let settled = engine.settle(rt, worker, pass);
+            let Engine {
+                ring,
+                chronicle,
+                heart,
+                arms,
+            } = engine;
+            let mut heart = heart.into_inner();
+            let settlement = finish(rt, &chronicle, &ring, &mut heart, pass);
+            let front = heart.front().position;
+            if let Some(answer) = answer(settled, settlement, front) {
+                let apart = Apart {
+                    ring,
+                    chronicle,
+                    heart,
+                    arms,
+                };
+                return (apart, answer);
+            }
+            engine = Engine {
+                ring,
+                chronicle,
+                heart: Mutex::new(heart),
+                arms,
+            };
+        }
+        unreachable!()
     }
 }

@@ -1,8 +1,16 @@
 //! Single calls of the port of a target.
 
-use crate::harness::open;
+ghost use Rattle.std.specs.Prelude.{◌≡◌};
+ghost use Rattle.block_port.specs.Port.{IsSameTarget};
+ghost use Rattle.block_target.specs.Targets.{Names};
+
+use crate::harness::{close, open};
 use crate::shapes::EIGHT_UNITS;
-use block_target::{FlushErr, Note, Port, ReadErr, WriteErr};
+use block_target::{FlushErr, Note, Opened, Port, ReadErr, Refused, SettleErr, WriteErr};
+use ocssd_drive::MemoryUnit;
+use pblk_engine::Mount;
+use std::alloc::{AllocError, Global};
+use std::marker::Brand;
 use std::sync::Wait;
 use std::test::Fail;
 
@@ -36,7 +44,9 @@ enum Told {
     Worn(u64, u64),
 }
 
-fn ask<R: Wait, P: Port>(rt: &R, port: &mut P, asked: Asked) -> Told {
+fn ask<R: Wait, P: Port>(rt: &R, port: &mut P, asked: Asked) -> Told
+    ensures { IsSameTarget (P.model port.old) (P.model port.new) }
+{
     match asked {
         Asked::Write(lba, byte) => write(rt, port, lba, byte),
         Asked::Read(lba) => read(rt, port, lba),
@@ -56,7 +66,9 @@ fn ask<R: Wait, P: Port>(rt: &R, port: &mut P, asked: Asked) -> Told {
     }
 }
 
-fn write<R: Wait, P: Port>(rt: &R, port: &mut P, lba: u64, byte: u8) -> Told {
+fn write<R: Wait, P: Port>(rt: &R, port: &mut P, lba: u64, byte: u8) -> Told
+    ensures { IsSameTarget (P.model port.old) (P.model port.new) }
+{
     let size = port.sector();
     if size != 512 {
         return Told::Size(size);
@@ -69,7 +81,9 @@ fn write<R: Wait, P: Port>(rt: &R, port: &mut P, lba: u64, byte: u8) -> Told {
     }
 }
 
-fn read<R: Wait, P: Port>(rt: &R, port: &mut P, lba: u64) -> Told {
+fn read<R: Wait, P: Port>(rt: &R, port: &mut P, lba: u64) -> Told
+    ensures { IsSameTarget (P.model port.old) (P.model port.new) }
+{
     let size = port.sector();
     if size != 512 {
         return Told::Size(size);
@@ -105,19 +119,58 @@ static ROWS: [(Asked, Told); 19] = [
     (Asked::Read(404), Told::Range),
 ];
 
+// What a target leaves that was asked all rows and closed: the last row that it told otherwise, its
+// units, and how the close ended.
+struct Asking {
+    wrong: Option<usize>,
+    units: Vec<MemoryUnit>,
+    settled: Result<(), SettleErr>,
+}
+
+// Asks a target all rows through its only session, and closes it.
+fn ask_all<M: Mount, R: Wait>(
+    rt: &R,
+    alloc: Global,
+    opened: Opened<MemoryUnit>,
+) -> Result<Asking, AllocError>
+    requires named { Names M.chronicle M.past M.ring M.key M.handed M.wear opened }
+    requires session { opened.sessions ≡ 1 }
+    requires lanes { opened.lanes ≡ 0 }
+{
+    match opened.target::<M>(alloc) {
+        Ok((target, tickets, workers)) => {
+            let mut tickets = tickets;
+            let mut session = target.session(tickets.pop().unwrap());
+            let mut wrong = None;
+            for (row, (asked, told)) in ROWS.iter().enumerate() {
+                if ask(rt, &mut session, *asked) != *told {
+                    wrong = Some(row);
+                }
+            }
+            let ticket = session.end();
+            let (units, settled) = close(rt, target, ticket, tickets, workers);
+            Ok(Asking {
+                wrong,
+                units,
+                settled,
+            })
+        }
+        Err(Refused { units: _, cause: _ }) => Err(AllocError),
+    }
+}
+
 #[test]
 fn a_target_is_asked(rt: HostRuntime) -> Result<(), Fail> {
-    let mut port = match EIGHT_UNITS.refusal() {
+    let alloc = rt.alloc();
+    let opened = match EIGHT_UNITS.refusal() {
         Some(refusal) => return Err(refusal.into()),
-        None => open(rt.alloc(), &EIGHT_UNITS)?,
+        None => open(alloc, &EIGHT_UNITS)?,
     };
-    let mut wrong = None;
-    for (row, (asked, told)) in ROWS.iter().enumerate() {
-        if ask(&rt, &mut port, *asked) != *told {
-            wrong = Some(row);
-        }
-    }
-    let (units, settled) = port.close(&rt);
+    let Asking {
+        wrong,
+        units,
+        settled,
+    } = ask_all::<Brand, HostRuntime>(&rt, alloc, opened)?;
     assert_eq!(rt; wrong, None);
     assert!(rt; settled.is_ok() && units.len() == 8);
     Ok(())

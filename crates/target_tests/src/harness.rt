@@ -1,16 +1,20 @@
 //! Scripts that are run on a target over new units, and what is told of them.
-ghost use Rattle.std.specs.Prelude.{◌≡◌, [], ◌∷◌, map, IfOk};
-ghost use Rattle.pblk_model.specs.Accepted.{IsAccepted};
-ghost use Rattle.block_target.specs.Opened.{CanOpen};
-ghost use Rattle.block_target.specs.Serial.{SerialView};
 
-use block_target::{Refused, Serial, SettleErr};
+ghost use Rattle.std.specs.Prelude.{◌≡◌, ◌≤◌, [], ◌∷◌, length, map, vec_capacity, IfOk};
+ghost use Rattle.pblk_model.specs.Accepted.{IsAccepted};
+ghost use Rattle.pblk_model.specs.Script.{NeverStuck, ScriptFits};
+ghost use Rattle.block_target.specs.Opened.{CanOpen};
+ghost use Rattle.block_target.specs.Targets.{Names, first_target, first_worker};
+
+use block_target::{Opened, Refused, Session, SettleErr, Target, Ticket};
 use ocssd_chunks::Chunk;
 use ocssd_drive::MemoryUnit;
-use pblk_model::{ChunkState, Mark, Shape};
+use pblk_engine::{Mount, Worker};
+use pblk_model::{ChunkState, Mark, Script, Shape};
 use run_script::read_script;
 use run_threads::{Answer, Records, Trouble, Word, run};
 use std::alloc::{AllocError, Global};
+use std::marker::Brand;
 use std::sync::Wait;
 use unit_port::Unit;
 
@@ -32,50 +36,110 @@ pub(crate) fn told<R: Wait>(
     if script.as_slice().len() != 1 {
         return String::from_str(alloc, "no script of one thread");
     }
-    let ports = match shape.refusal() {
-        Some(_) => return String::from_str(alloc, "no shape"),
-        None => one_port(rt, alloc, shape)?,
-    };
-    let (answers, ports) = match run(rt, alloc, &script, ports) {
-        Err((e, ports)) => (Err(e), ports),
-        Ok((records, ports)) => (lines(alloc, &records), ports),
-    };
-    let end = closed(rt, alloc, ports, marks);
-    let mut text = answers?;
-    text.push_str(&end?)?;
-    Ok(text)
+    match shape.refusal() {
+        Some(_) => String::from_str(alloc, "no shape"),
+        None => told_of::<Brand, R>(rt, alloc, open(alloc, shape)?, &script, marks),
+    }
 }
 
-// The port of a target over new units.
-fn one_port<R: Wait>(
+// What is told of a script of one thread that is run on a target which was opened for one session,
+// and of its close.
+fn told_of<M: Mount, R: Wait>(
     rt: &R,
     alloc: Global,
-    shape: &Shape,
-) -> Result<Vec<Serial<MemoryUnit>>, AllocError>
-    requires { IsAccepted shape.now }
-    ensures { IfOk result (λ ports. (s : SerialView)
-        × (ports.items ≡ s ∷ []) × (s.mount.image.shape ≡ shape.now)) }
+    opened: Opened<MemoryUnit>,
+    script: &Script,
+    marks: bool,
+) -> Result<String, AllocError>
+    requires named { Names M.chronicle M.past M.ring M.key M.handed M.wear opened }
+    requires session { opened.sessions ≡ 1 }
+    requires lanes { opened.lanes ≡ 0 }
+    requires one { length script.now ≡ 1 }
+    requires fits { ScriptFits M.past.image.shape.capacity script.now }
+    requires flows { NeverStuck script.now }
 {
-    let port = open(alloc, shape)?;
-    match Vec::from_array(alloc, [port]) {
-        Ok(ports) => Ok(ports),
-        Err(e) => {
-            let [port] = e.value;
-            let _ = port.close(rt);
-            Err(AllocError)
+    match opened.target::<M>(alloc) {
+        Ok((target, tickets, workers)) => {
+            let mut tickets = tickets;
+            let ticket = tickets.pop().unwrap();
+            let (ticket, answers) = run_session(rt, alloc, &target, ticket, script);
+            let (units, settled) = close(rt, target, ticket, tickets, workers);
+            let mut text = answers?;
+            put_end(&mut text, &units, settled, marks)?;
+            Ok(text)
         }
+        Err(Refused { units: _, cause: _ }) => Err(AllocError),
     }
 }
 
-/// A target over new units.
-pub(crate) fn open(alloc: Global, shape: &Shape) -> Result<Serial<MemoryUnit>, AllocError>
-    requires { IsAccepted shape.now }
-    ensures { IfOk result (λ s. s.mount.image.shape ≡ shape.now) }
+// The answers to a script of one thread that is run as a session of a target, a line each.
+fn run_session<M: Mount, R: Wait>(
+    rt: &R,
+    alloc: Global,
+    target: &Target<M, MemoryUnit>,
+    ticket: Ticket<M>,
+    script: &Script,
+) -> (Ticket<M>, Result<String, AllocError>)
+    requires one { length script.now ≡ 1 }
+    requires fits { ScriptFits M.past.image.shape.capacity script.now }
+    requires flows { NeverStuck script.now }
+    ensures { result.0.worker.number ≡ ticket.worker.number }
 {
-    match Serial::open(alloc, new_units(alloc, shape)?, shape) {
-        Ok(port) => Ok(port),
+    match Vec::with_capacity(alloc, 1) {
+        Ok(mut ports) => {
+            ports.push(target.session(ticket)).unwrap();
+            match run(rt, alloc, script, ports) {
+                Ok((records, ports)) => (only_port(ports).end(), lines(alloc, &records)),
+                Err((e, ports)) => (only_port(ports).end(), Err(e)),
+            }
+        }
+        Err(e) => (ticket, Err(e)),
+    }
+}
+
+// The port of a script of one thread.
+fn only_port<'t, M: Mount>(mut ports: Vec<Session<'t, M, MemoryUnit>>) -> Session<'t, M, MemoryUnit>
+    requires { length ports.items ≡ 1 }
+    ensures { ports.entry.items ≡ result ∷ [] }
+{
+    let port = ports.pop().unwrap();
+    ports.destroy_empty();
+    port
+}
+
+/// New units on which a target is opened for one session.
+///
+/// Fails only where there isn't the memory.
+pub(crate) fn open(alloc: Global, shape: &Shape) -> Result<Opened<MemoryUnit>, AllocError>
+    requires { IsAccepted shape.now }
+    ensures session { IfOk result (λ o. o.sessions ≡ 1) }
+    ensures lanes { IfOk result (λ o. o.lanes ≡ 0) }
+    ensures shape { IfOk result (λ o. o.past.image.shape ≡ shape.now) }
+{
+    match block_target::open(alloc, new_units(alloc, shape)?, shape, 1, 0) {
+        Ok(opened) => Ok(opened),
         Err(Refused { units: _, cause: _ }) => Err(AllocError),
     }
+}
+
+/// Closes a target that had one session, whose ticket has come back and was taken out of `tickets`.
+/// Gives its units, and how the close ended.
+pub(crate) fn close<M: Mount, R: Wait>(
+    rt: &R,
+    target: Target<M, MemoryUnit>,
+    ticket: Ticket<M>,
+    tickets: Vec<Ticket<M>>,
+    workers: Vec<Worker<M>>,
+) -> (Vec<MemoryUnit>, Result<(), SettleErr>)
+    requires target { target ≡ first_target M.key 1 1 }
+    requires number { ticket.worker.number ≡ 0 }
+    requires empty { tickets.items ≡ [] }
+    requires room { 1 ≤ vec_capacity tickets }
+    requires workers { workers.items ≡ first_worker M.past 1 ∷ [] }
+{
+    let mut tickets = tickets;
+    tickets.push(ticket).unwrap();
+    target.close(rt, tickets, workers)
 }
 
 // The units of a drive of this shape on which nothing was written.
@@ -123,24 +187,7 @@ fn line(text: &mut String, answer: &Answer) -> Result<(), AllocError> {
     }
 }
 
-// Closes ports, and tells how, and what is on their units.
-fn closed<R: Wait>(
-    rt: &R,
-    alloc: Global,
-    mut ports: Vec<Serial<MemoryUnit>>,
-    marks: bool,
-) -> Result<String, AllocError> {
-    let mut text = String::new(alloc);
-    let mut written = Ok(());
-    while let Some(port) = ports.pop() {
-        let (units, settled) = port.close(rt);
-        written = put_end(&mut text, &units, settled, marks);
-    }
-    ports.destroy_empty();
-    written?;
-    Ok(text)
-}
-
+// How a close ended, and what is on the units.
 fn put_end(
     text: &mut String,
     units: &[MemoryUnit],

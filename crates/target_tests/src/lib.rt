@@ -1,5 +1,5 @@
-//! Tests of the target for one session over units in memory, of the stripes of its core, and of the plain
-//! port.
+//! Tests of a target with one session over units in memory, of the stripes of its core, and of the
+//! plain port.
 #![tactic(auto)]
 
 #[cfg(test)]

@@ -31,8 +31,8 @@ pub(crate) const ONE_SECTOR: Shape = Shape {
 /// The small drive with chunks that are written by fours and no less.
 pub(crate) const EQUAL_WRITES: Shape = Shape { ws_min: 4, ..SMALL };
 
-/// Chunks that are written by ones, and at best by 64. Of the 2816 blocks of a line 64 are start record
-/// and 128 end record.
+/// Chunks that are written by ones, and at best by 64. Of the 2816 blocks of a line 64 are start
+/// record and 128 end record.
 pub(crate) const WIDE_STRIPES: Shape = Shape {
     clba: 1408,
     ws_min: 1,
@@ -49,8 +49,8 @@ pub(crate) const LATE_READS: Shape = Shape {
     ..SMALL
 };
 
-/// As many units as there may be, with chunks of a stripe. Of the 256 blocks of a line 4 are start record
-/// and 8 end record.
+/// As many units as there may be, with chunks of a stripe. Of the 256 blocks of a line 4 are start
+/// record and 8 end record.
 pub(crate) const MOST_UNITS: Shape = Shape {
     groups: 8,
     pus: 8,

@@ -137,16 +137,17 @@ impl Ring {
         self.table.shared.join_seat::<Passes>(&mut pass.seat, seat);
     }
 
-    /// Loads `claimed` once, where the pass has all shares that the intake hasn't. Each position
-    /// from the ring's first one to the answer is in one claim of the pass or of the intake, and no
-    /// other position is in any: so their claims are all that there are.
+    /// Loads `claimed` once, for the intake and the pass together: all that the intake has taken was
+    /// claimed. Where the pass has all shares that the intake hasn't, each position from the ring's
+    /// first one to the answer is in one claim of the pass or of the intake, and no other position
+    /// is in any: so their claims are all that there are.
     pub fn all_claimed(&self, intake: &mut Intake, pass: &mut Pass) -> u64
         requires intake_ring { IsIntakeOf self.now intake.old }
         requires ring { IsPassOf self.now pass.old }
-        requires shares { (pass_view pass.old).pass.shares ≡ 127 }
         ensures intake_ring { IsIntakeOf self.now intake.new }
         ensures ring { IsPassOf self.now pass.new }
-        ensures all { AreAllClaims (ring_key self.now).first result (pass_view pass.new).pass
+        ensures all { (pass_view pass.old).pass.shares ≡ 127
+            → AreAllClaims (ring_key self.now).first result (pass_view pass.new).pass
             (intake_view intake.new).pass }
         ensures found { let old = pass_view pass.old in pass_view pass.new ≡ record old {
           found = record old.found { steps = old.found.steps + 1; claimed = result };

@@ -1,12 +1,11 @@
-use Rattle.std.proofs.Common.{◌≡◌, ◌⊎◌, inl, inr, ℕ, ◌<◌, ◌≤◌, false, Some, List, [], ◌∷◌, length, take, refl, subst, ap, arith}
-use Rattle.std.specs.List.{Contains}
+use Rattle.std.proofs.Common.{◌≡◌, ℕ, ◌<◌, ◌≤◌, false, Some, List, [], ◌∷◌, length, take, refl, subst, ap, arith}
 use Rattle.pblk_model.specs.Image.{Image}
 use Rattle.pblk_model.specs.ImageFile.{image_of}
 use Rattle.pblk_world.specs.AtRest.{IsWornFlush}
 use Rattle.pblk_world.specs.EngineLog.{Begun, begun}
 use Rattle.pblk_world.specs.Events.{Logged}
 use Rattle.pblk_world.specs.Legal.{IsLegal}
-use Rattle.pblk_world.specs.World.{Logs, World, log_of}
+use Rattle.pblk_world.specs.World.{World, log_of}
 use Rattle.pblk_world.specs.LegalMounts.{NoStripeLost, decides, is_losing}
 use Rattle.world_laws.proofs.Beginnings.{has_begun}
 use Rattle.prefix_law.proofs.Answered.{unlost_again}

@@ -1,30 +1,72 @@
-use Rattle.pblk_cli.specs.Serving.{IsNewTarget, units_of}
-use Rattle.pblk_cli.proofs.Servings.{refused_back, refused_served, served_back, served_if}
+use Rattle.std.proofs.Common.{refl, sym, subst, ⊎_elim, ◌∙◌}
+use Rattle.chronicle.specs.Views.{Past}
+use Rattle.pblk_model.specs.Script.{ScriptFits}
+use Rattle.pblk_cli.specs.Serving.{IsNewMount, units_of}
+use Rattle.pblk_cli.proofs.Servings.{not_served_back, not_served_if, refused_back, refused_served, served_back, served_if}
 use Rattle.pblk_cli.proofs.serve.serve.Goals as goal
+
+pub serve_opened-requires-clause-named : goal.serve_opened-requires-clause-named
+serve_opened-requires-clause-named g c = record {
+  its_chronicle = refl;
+  its_past = refl;
+  its_ring = refl;
+  its_key = refl;
+  its_units = refl;
+  its_wear = refl;
+}
+
+pub serve_opened-requires-clause-session : goal.serve_opened-requires-clause-session
+serve_opened-requires-clause-session g c = c.in-Ok.ensures.opened.sessions_are
+
+pub serve_opened-requires-clause-lanes : goal.serve_opened-requires-clause-lanes
+serve_opened-requires-clause-lanes g c = c.in-Ok.ensures.opened.lanes_are
+
+pub serve_opened-requires-clause-fits : goal.serve_opened-requires-clause-fits
+serve_opened-requires-clause-fits g c =
+    subst (λ (p : Past). ScriptFits p.image.shape.capacity c.args.script.now) (sym c.in-Ok.ensures.opened.past_is) c.requires.fits
 
 pub returns-in-Ok-clause-back : goal.returns-in-Ok-clause-back
 returns-in-Ok-clause-back g c =
-    let fresh : IsNewTarget c.args.shape.now c.args.units.items c.in-Ok.target = record {
-      opened = c.in-Ok.ensures.opened;
-      wear = c.in-Ok.ensures.wear;
-      unwritten = c.in-Ok.ensures.new_port.1;
-      faultless = c.in-Ok.ensures.new_port.2;
-      unworn = c.in-Ok.ensures.new_port.3;
+    let opened = c.in-Ok.ensures.opened in
+    let mount : IsNewMount c.args.shape.now c.args.units.items c.in-Ok.opened.past c.in-Ok.opened.handed c.in-Ok.opened.wear = record {
+      handed_are = opened.handed_are;
+      wear_is = opened.wear_is;
+      ready = c.in-Ok.opened.units;
+      found = opened.found;
+      is = opened.is;
+      done = c.in-Ok.ensures.done;
+      past_is = opened.past_is;
     } in
-    served_back c.args.shape.now c.args.script.now c.args.units.items c.serve_on.result.units.items c.in-Ok.target c.requires.opens.fit fresh
-    c.serve_on.result.records c.serve_on.ensures
+    ⊎_elim
+    (λ served. served_back c.args.shape.now c.args.script.now c.args.units.items c.serve_opened.result.units.items c.in-Ok.opened.past c.in-Ok.opened.key
+    c.in-Ok.opened.handed c.in-Ok.opened.wear mount c.requires.opens.accepted c.requires.opens.fit c.requires.opens.armed c.serve_opened.result.records served)
+    (λ none. let back = not_served_back c.args.shape.now c.args.script.now c.args.units.items c.serve_opened.result.units.items c.in-Ok.opened.units
+    c.in-Ok.opened.wear opened.found opened.is c.serve_opened.result.records none in
+    refused_back c.args.shape.now c.args.units.items c.serve_opened.result.units.items back
+    (c.a_refused_opening_is_of_a_legal_world.ensures c.args.shape.now (units_of c.args.units.items) (units_of c.serve_opened.result.units.items)
+    c.requires.opens back)
+    (none.wear_is ∙ opened.wear_is))
+    c.serve_opened.ensures
 
 pub returns-in-Ok-clause-served : goal.returns-in-Ok-clause-served
 returns-in-Ok-clause-served g c =
-    let fresh : IsNewTarget c.args.shape.now c.args.units.items c.in-Ok.target = record {
-      opened = c.in-Ok.ensures.opened;
-      wear = c.in-Ok.ensures.wear;
-      unwritten = c.in-Ok.ensures.new_port.1;
-      faultless = c.in-Ok.ensures.new_port.2;
-      unworn = c.in-Ok.ensures.new_port.3;
+    let opened = c.in-Ok.ensures.opened in
+    let mount : IsNewMount c.args.shape.now c.args.units.items c.in-Ok.opened.past c.in-Ok.opened.handed c.in-Ok.opened.wear = record {
+      handed_are = opened.handed_are;
+      wear_is = opened.wear_is;
+      ready = c.in-Ok.opened.units;
+      found = opened.found;
+      is = opened.is;
+      done = c.in-Ok.ensures.done;
+      past_is = opened.past_is;
     } in
-    served_if c.args.shape.now c.args.script.now c.args.units.items c.serve_on.result.units.items c.in-Ok.target c.requires.opens.fit fresh
-    c.serve_on.result.records c.requires.opens.accepted c.requires.one c.requires.fits c.serve_on.ensures
+    ⊎_elim
+    (λ served. served_if c.args.shape.now c.args.script.now c.args.units.items c.serve_opened.result.units.items c.in-Ok.opened.past c.in-Ok.opened.key
+    c.in-Ok.opened.handed c.in-Ok.opened.wear mount c.requires.opens.accepted c.requires.opens.fit c.requires.opens.armed c.serve_opened.result.records served
+    c.requires.one c.requires.fits)
+    (λ none. not_served_if c.args.shape.now c.args.script.now c.args.units.items c.serve_opened.result.units.items c.in-Ok.opened.units c.in-Ok.opened.wear
+    opened.found opened.is c.serve_opened.result.records none)
+    c.serve_opened.ensures
 
 pub returns-in-Err-clause-back : goal.returns-in-Err-clause-back
 returns-in-Err-clause-back g c =

@@ -1,11 +1,13 @@
-use Rattle.std.proofs.Common.{◌≡◌, ◌<◌, ◌≤◌, ℕ, suc, subst, ap}
+use Rattle.std.proofs.Common.{◌≡◌, ◌<◌, ◌≤◌, ℕ, suc, subst, sym, ap}
 use Rattle.std.specs.List.{Contains}
 use Rattle.pblk_model.specs.Shape.{units as units_of}
+use Rattle.pblk_world.specs.Fronts.{taken}
 use Rattle.write_ring.specs.declared.view.Key.{Key}
-use Rattle.write_ring.specs.Handles.{IsAsPut, IsTiled, pass_view}
-use Rattle.chronicle.specs.Prefixes.{AreWholeLogs}
+use Rattle.write_ring.specs.declared.view.View.{View}
+use Rattle.write_ring.specs.Handles.{AreAllClaims, IsAsPut, IsTiled, pass_view}
+use Rattle.chronicle.specs.Prefixes.{AreWholeLogs, logs_of}
 use Rattle.chronicle.specs.Views.{Past}
-use Rattle.pblk_engine.proofs.Endings.{has_ended}
+use Rattle.pblk_engine.proofs.Endings.{has_ended_of}
 use Rattle.pblk_engine.proofs.Joinings.{owns_all}
 use Rattle.pblk_engine.proofs.ending.close.Goals as goal
 
@@ -24,10 +26,11 @@ returns g c =
     let first = ap (λ (k : Key). k.first) c.requires.ring.1 in
     let pass = (pass_view c.args.pass).pass in
     let intake = c.end-core.result.2.seat.me.0 in
-    has_ended g.M.Mount.chronicle g.M.Mount.ring c.end-core.result.2.seat.table_id g.M.Mount.past g.M.Mount.key g.M.Mount.handed g.M.Mount.wear
+    has_ended_of g.M.Mount.chronicle g.M.Mount.ring c.end-core.result.2.seat.table_id g.M.Mount.past g.M.Mount.key g.M.Mount.handed g.M.Mount.wear
     c.args.workers.items c.args.names.spare c.args.arms.items pass _ _ c.requires.mounted c.end-core.result.0 c.end-core.result.1 c.take_over.new.author
     c.join_arms.new.author intake e.heart c.take_over.ensures.taken_over c.join_arms.ensures c.requires.count
     (subst (λ (p : Past). AreWholeLogs p c.join_arms.new.author.known c.join_arms.new.author.makers c.join_arms.new.author.spare)
-    c.join_arms.ensures.over c.close.ensures.whole) c.take_over.ensures.spare
-    (subst (λ n. IsAsPut n intake.intake.took pass intake.pass) first ring.taken)
+    c.join_arms.ensures.over c.close.ensures.whole) c.args.heart e.same_author
+    (subst (λ (v : View). AreAllClaims g.M.Mount.key.first (taken (logs_of c.args.heart.author.known 0)) pass v.pass) (sym e.same_intake) c.requires.all)
+    c.take_over.ensures.spare (subst (λ n. IsAsPut n intake.intake.took pass intake.pass) first ring.taken)
     (subst (λ n. IsTiled n pass intake.pass) first ring.tiled) ring.filled ring.copies_filled

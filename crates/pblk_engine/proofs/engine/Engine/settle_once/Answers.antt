@@ -47,7 +47,7 @@ module _ (g : Over) (c : After-deref-2 g) where
 
   claims : AreAllClaims g.M.Mount.key.first c.all_claimed-claimed.result (pass_view c.args.pass.now).pass c.all_claimed-claimed.new.self.intake.pass
   claims = subst (λ (p : Part). AreAllClaims g.M.Mount.key.first c.all_claimed-claimed.result p c.all_claimed-claimed.new.self.intake.pass)
-      c.all_claimed-claimed.ensures.same_pass c.all_claimed-claimed.ensures.all
+      c.all_claimed-claimed.ensures.same_pass (c.all_claimed-claimed.ensures.all c.requires.shares)
 
 pub settlement-requires : goal.settlement-requires
 settlement-requires g c = record {

@@ -1,4 +1,12 @@
-use Rattle.std.proofs.Common.{sym, ◌∙◌}
+use Rattle.std.proofs.Common.{◌≡◌, ◌≤◌, sym, subst, ap, ◌∙◌}
+use Rattle.pblk_world.specs.Fronts.{taken}
+use Rattle.pblk_world.specs.World.{Logs}
+use Rattle.write_ring.specs.declared.view.Key.{Key}
+use Rattle.write_ring.specs.Handles.{AreAllClaims, pass_view}
+use Rattle.chronicle.specs.Prefixes.{logs_of}
+use Rattle.pblk_core.specs.Stands.{Stands}
+use Rattle.pblk_core.proofs.StandsFacts.{window_taken_is}
+use Rattle.pblk_engine.specs.Hearts.{HeartView}
 use Rattle.pblk_engine.proofs.RingParts.{settled_by}
 use Rattle.pblk_engine.proofs.heart.Heart.all_claimed.Goals as goal
 
@@ -22,3 +30,20 @@ invariant_of-self g c =
       c.self.invariant.1,
       c.self.invariant.2,
     )
+
+pub returns-clause-all : goal.returns-clause-all
+returns-clause-all g c = λ whole.
+    subst (λ n. AreAllClaims n c.all_claimed.result (pass_view c.all_claimed.new.pass).pass c.all_claimed.new.intake.seat.me.0.pass)
+    (ap (λ (k : Key). k.first) c.requires.ring.1) (c.all_claimed.ensures.all whole)
+
+pub returns-clause-log : goal.returns-clause-log
+returns-clause-log g c =
+    let k = c.self.invariant.0 in
+    let core = c.self.inside.core in
+    let is : c.self.inside.intake.seat.me.0.intake.taken ≡ taken (logs_of c.self.inside.author.known 0) =
+    k.settled.heart.taken
+    ∙ window_taken_is g.M.Mount.past.image k.legal.world core
+    (subst (λ (logs : Logs). Stands g.M.Mount.past.image logs core) (sym k.legal.logs) k.settled.heart.stands)
+    ∙ ap (λ (logs : Logs). taken (logs 0)) k.legal.logs in
+    subst (λ (v : HeartView). taken (logs_of v.author.known 0) ≤ c.all_claimed.result) c.self.view_is
+    (subst (λ n. n ≤ c.all_claimed.result) is c.all_claimed.ensures.taken)

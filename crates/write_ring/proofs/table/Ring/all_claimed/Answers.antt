@@ -34,7 +34,7 @@ split_seat-back-requires c =
     let shares = ap (λ m. m.0.pass.shares) is in (
       l.ensures.ring ∙ j.0 ∙ c.requires.ring.0,
       omega (arith, c.args.self.now.words),
-      splits_intake _ IsFree IsBlank Carries Fits _ _ (omega (arith, shares, c.requires.shares, i.one))
+      splits_intake _ IsFree IsBlank Carries Fits _ _ (omega (arith, shares, c.args.pass.now.some, i.one))
           (ap (λ m. m.0.pass.next) is ∙ c.args.pass.now.all_put ∙ sym (ap (λ m. m.0.pass.until) is)),
     )
 
@@ -99,7 +99,7 @@ invariant_of-intake c =
     }
 
 pub returns-clause-all : goal.returns-clause-all
-returns-clause-all c =
+returns-clause-all c whole =
     let p = c.args.pass.now in
     let v = p.seat.me.0 in
     let i = c.args.intake.now in
@@ -114,7 +114,7 @@ returns-clause-all c =
     (ap (λ m. m.0) c.join_seat-2.ensures.2 ∙ ap (λ m. m.0) b.4 ∙ ap (λ m. only_intake m.0) is) in
     let both = ap (λ m. m.0) j.2 ∙ ap (λ m. with_intake v m.0) d.4 in
     subst (λ f. AreAllClaims f n c.split_seat-back.new.seat.me.0.pass c.join_seat-2.new.seat.me.0.pass) (ap (λ k. k.first) c.requires.ring.1)
-    (all_again v i.seat.me.0 n p.users i.copies i.one _ both c.requires.shares l.ensures.sees c.split_seat-back.new.seat.me.0.pass
+    (all_again v i.seat.me.0 n p.users i.copies i.one _ both whole l.ensures.sees c.split_seat-back.new.seat.me.0.pass
     c.join_seat-2.new.seat.me.0.pass (ap (λ q. q.claims) same) copies.claims)
 
 pub returns-clause-found : goal.returns-clause-found

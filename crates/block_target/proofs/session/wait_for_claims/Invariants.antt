@@ -1,0 +1,8 @@
+use Rattle.std.proofs.Common.{◌≡◌, ◌≤◌}
+use Rattle.write_ring.specs.Handles.{pass_view}
+use Rattle.pblk_engine.specs.Endings.{IsPassIn}
+use Rattle.block_target.proofs.session.wait_for_claims.Given as goal
+
+abbrev pub invariant-loop : goal.invariant-loop
+invariant-loop g l = IsPassIn g.M.Mount.ring g.M.Mount.key l.pass × ((pass_view l.pass).pass ≡ (pass_view l.fn.pass).pass)
+    × ((pass_view l.fn.pass).found.claimed ≤ (pass_view l.pass).found.claimed)
