@@ -12,6 +12,7 @@ pub mod WornAnswers
 pub mod Fills
 pub mod SessionSteps
 pub mod Putting
+pub mod Syncing
 pub mod SectorCounts
 pub mod ReadAnswers
 pub mod WriteSteps

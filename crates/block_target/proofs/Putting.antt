@@ -67,6 +67,11 @@ asks_then position a b c (inr more) (inl still) = inr (still ∙ more)
 asks_then position a b c (inr more) (inr again) =
     inr (again ∙ ap (λ n. max n position) more ∙ (let e : max (max a.asked position) position ≡ max a.asked position = omega arith in e))
 
+-- a turn that was answered Worn
+pub asks_worn : (position : ℕ) (a b c : WorkerView) → AsksUpTo position a b → c.asked ≡ max b.asked position → c.asked ≡ max a.asked position
+asks_worn position a b c (inl same) more = more ∙ ap (λ n. max n position) same
+asks_worn position a b c (inr before) more = omega (arith, before, more)
+
 -- ---- a wait
 
 -- so far no command was lost

@@ -4,7 +4,8 @@ ghost use Rattle.std.specs.List.{AllByRecursion};
 ghost use Rattle.block_port.specs.Own.{placed_from, sectors_of};
 ghost use Rattle.block_port.specs.Port.{AreSectors, IsPastEnd, IsSameTarget, IsSectorSize, Learns, IsWritten, IsSeen, AreShort, count_in, sectors_at, written_by};
 ghost use Rattle.block_port.specs.Port.{write_faults, write_worns, read_faults, flush_faults, flush_worns};
-ghost use Rattle.chronicle.specs.Prefixes.{AreLegalLogs};
+ghost use Rattle.pblk_world.specs.Fronts.{taken};
+ghost use Rattle.chronicle.specs.Prefixes.{AreLegalLogs, logs_of};
 ghost use Rattle.pblk_engine.specs.Endings.{IsPassIn};
 ghost use Rattle.pblk_engine.specs.Hearts.{IsRingOf};
 ghost use Rattle.pblk_engine.specs.Waits.{AsksUpTo};
@@ -229,6 +230,8 @@ fn sync<M: Mount, U: Unit, R: Wait>(
     ensures cause { HasCause worker.old worker.new
         (λ more. TellsSync M.past.image M.handed position worker.new more result) }
     ensures asked { AsksUpTo position worker.old worker.new }
+    ensures worn_asked { (wanted have : ℕ) → result ≡ Err (SettleErr.Worn wanted have)
+        → worker.new.asked ≡ max worker.old.asked position }
     ensures legal { AreLegalLogs M.past.image worker.new.known }
 {
     worker.stands();
@@ -242,6 +245,45 @@ fn sync<M: Mount, U: Unit, R: Wait>(
                 Flushed::Pumped(did) => pause(&backoff, did),
             },
             Err(e) => return Err(e),
+        }
+    }
+    unreachable!()
+}
+
+// Waits until all that was seen or claimed is on the drive. It is refused only where all that was
+// claimed was taken: where others have claimed positions meanwhile, it waits for these too.
+fn sync_all<M: Mount, U: Unit, R: Wait>(
+    engine: &Engine<M, U>,
+    rt: &R,
+    worker: &mut Worker<M>,
+    pass: &mut Pass,
+    seen: u64,
+) -> Result<Front, SettleErr>
+    requires pass { IsPassIn M.ring M.key pass.old }
+    ensures pass { IsPassIn M.ring M.key pass.new }
+    ensures part { (pass_view pass.new).pass ≡ (pass_view pass.old).pass }
+    ensures cause { (position claimed : ℕ) × (position ≡ max seen claimed)
+        × ((pass_view pass.old).found.claimed ≤ claimed)
+        × (claimed ≤ (pass_view pass.new).found.claimed)
+        × HasCause worker.old worker.new
+        (λ more. TellsSync M.past.image M.handed position worker.new more result)
+        × AsksUpTo position worker.old worker.new }
+    ensures all_taken { (wanted have : ℕ) → result ≡ Err (SettleErr.Worn wanted have)
+        → (pass_view pass.new).found.claimed ≡ taken (logs_of worker.new.known 0) }
+    ensures legal { AreLegalLogs M.past.image worker.new.known }
+{
+    let mut claimed = engine.ring().claimed(pass);
+    for _ in rt.forever() {
+        let position = seen.max(claimed);
+        match sync(engine, rt, worker, position) {
+            Ok(front) => return Ok(front),
+            Err(SettleErr::Drive { unit, event }) => return Err(SettleErr::Drive { unit, event }),
+            Err(SettleErr::Worn { wanted, have }) => {
+                claimed = engine.claimed(rt, worker, pass);
+                if claimed <= position {
+                    return Err(SettleErr::Worn { wanted, have });
+                }
+            }
         }
     }
     unreachable!()
@@ -326,6 +368,8 @@ impl<M: Mount> Ticket<M> {
             HasCause self.old.worker self.new.worker
             (λ more. TellsWrite M.past.image M.handed count self.new.worker more result) }
         ensures asked { self.new.worker.asked ≡ self.old.worker.asked }
+        ensures all_taken { (wanted have : ℕ) → result ≡ Err (WriteErr.Worn wanted have)
+            → self.new.found.claimed ≡ taken (logs_of self.new.worker.known 0) }
         ensures range { IsErrOf result WriteErr.Range
             ↔ IsPastEnd (device M.past M.handed M.wear self.old) lba (length bytes.now) }
         ensures untouched { IsErrOf result WriteErr.Range
@@ -446,6 +490,8 @@ impl<M: Mount> Ticket<M> {
             × HasCause self.old.worker self.new.worker
             (λ more. TellsFlush M.past.image M.handed position self.new.worker more result)
             × AsksUpTo position self.old.worker self.new.worker }
+        ensures all_taken { (wanted have : ℕ) → result ≡ Err (FlushErr.Worn wanted have)
+            → self.new.found.claimed ≡ taken (logs_of self.new.worker.known 0) }
         ensures front { IfOk result (λ front. IsSeen front (device M.past M.handed M.wear self.old)
             (device M.past M.handed M.wear self.new)) }
         ensures flushed { IfOk result
@@ -461,9 +507,7 @@ impl<M: Mount> Ticket<M> {
             (device M.past M.handed M.wear self.new) }
     {
         self.worker.stands();
-        let claimed = engine.ring().claimed(&mut self.pass);
-        let position = self.seen.max(claimed);
-        match sync(engine, rt, &mut self.worker, position) {
+        match sync_all(engine, rt, &mut self.worker, &mut self.pass, self.seen) {
             Ok(front) => {
                 self.seen = front.position;
                 Ok(front)
@@ -473,8 +517,6 @@ impl<M: Mount> Ticket<M> {
                 Err(FlushErr::Drive { unit, event })
             }
             Err(SettleErr::Worn { wanted, have }) => {
-                // Its later writes lie past all that was claimed by now.
-                engine.claimed(rt, &mut self.worker, &mut self.pass);
                 self.worns.add(&WornAnswer {
                     written: self.written,
                     count: 0,
@@ -562,6 +604,10 @@ impl<'t, M: Mount, U: Unit> Session<'t, M, U> {
 impl<'t, M: Mount, U: Unit> Port for Session<'t, M, U> {
     ghost model = { device M.past M.handed M.wear };
 
+    /// Writes 1 to 16 sectors from `lba` on, and waits for room.
+    ///
+    /// `Worn` comes where the target is at rest without room for them. All that was claimed, as
+    /// loaded in this call, was taken then.
     fn write<R: Wait>(&mut self, rt: &R, lba: u64, bytes: &[u8]) -> Result<Place, WriteErr>
         requires sectors { AreSectors (device M.past M.handed M.wear self.old).sector
             (length bytes.now) }
@@ -570,6 +616,8 @@ impl<'t, M: Mount, U: Unit> Port for Session<'t, M, U> {
             HasCause self.old.worker self.new.worker
             (λ more. TellsWrite M.past.image M.handed count self.new.worker more result) }
         ensures asked { self.new.worker.asked ≡ self.old.worker.asked }
+        ensures all_taken { (wanted have : ℕ) → result ≡ Err (WriteErr.Worn wanted have)
+            → self.new.found.claimed ≡ taken (logs_of self.new.worker.known 0) }
 
         // What each `Port` ensures.
         ensures range { IsErrOf result WriteErr.Range
@@ -632,12 +680,19 @@ impl<'t, M: Mount, U: Unit> Port for Session<'t, M, U> {
         self.ticket.read(self.engine, rt, lba, out)
     }
 
+    /// Brings all that was seen or claimed to the drive.
+    ///
+    /// `Worn` comes where the target is at rest: all that was claimed, as loaded in this call, was
+    /// taken then, and not all of it is on the drive. Where others have claimed positions by then,
+    /// these are waited for too.
     fn flush<R: Wait>(&mut self, rt: &R) -> Result<Front, FlushErr>
         ensures cause { (position claimed : ℕ) × (position ≡ max self.old.seen claimed)
             × (self.old.found.claimed ≤ claimed) × (claimed ≤ self.new.found.claimed)
             × HasCause self.old.worker self.new.worker
             (λ more. TellsFlush M.past.image M.handed position self.new.worker more result)
             × AsksUpTo position self.old.worker self.new.worker }
+        ensures all_taken { (wanted have : ℕ) → result ≡ Err (FlushErr.Worn wanted have)
+            → self.new.found.claimed ≡ taken (logs_of self.new.worker.known 0) }
 
         // What each `Port` ensures.
         ensures front { IfOk result (λ front. IsSeen front (device M.past M.handed M.wear self.old)

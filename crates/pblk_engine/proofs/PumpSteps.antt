@@ -18,7 +18,7 @@ use Rattle.pblk_engine.specs.ChunkResets.{HasReset}
 use Rattle.pblk_engine.specs.Deeds.{HasDone}
 use Rattle.pblk_engine.specs.Fetches.{TellsFetch}
 use Rattle.pblk_engine.specs.Opens.{HasOpened}
-use Rattle.pblk_engine.specs.Pumps.{GoesOn, HasFetched, HasPumped, IsFetch, IsNothing, IsOnly, NoFaults, TellsPump}
+use Rattle.pblk_engine.specs.Pumps.{GoesOn, HasFetched, HasPumped, IsBusy, IsFetch, IsNothing, IsOnly, NoFaults, TellsPump}
 use Rattle.pblk_engine.specs.Workers.{Made, WorkerView}
 use Rattle.pblk_engine.specs.declared.errors.DriveErr.{DriveErr}
 use Rattle.pblk_engine.specs.declared.outcomes.Did.{Did}
@@ -140,12 +140,13 @@ pumped_since i handed early old new result first is = record {
   tells = tells_since i handed early.known old.known new.known is.more result first.keeps is.tells;
 }
 
--- ---- rest
+-- ---- where there is nothing to do
 
 pub is_nothing : (i : Image) (known : Prefixes) (work : Work) (pad : ℕ)
     → ((why : Why) → work ≡ works.Nothing why → why ≢ whys.Busy → (asked : ℕ) → asked ≤ pad
     → IsAtRest i (logs_of known) asked (length (logs_of known 0)))
+    → (work ≡ works.Nothing whys.Busy → IsBusy i (logs_of known))
     → 0 ≤ pad → (why : Why) → work ≡ works.Nothing why → IsNothing i known why
-is_nothing i known work pad rest low whys.Busy is = tt
-is_nothing i known work pad rest low whys.NoLine is = rest whys.NoLine is (λ same. cc) 0 low
-is_nothing i known work pad rest low whys.Rest is = rest whys.Rest is (λ same. cc) 0 low
+is_nothing i known work pad rest busy low whys.Busy is = busy is
+is_nothing i known work pad rest busy low whys.NoLine is = rest whys.NoLine is (λ same. cc) 0 low
+is_nothing i known work pad rest busy low whys.Rest is = rest whys.Rest is (λ same. cc) 0 low

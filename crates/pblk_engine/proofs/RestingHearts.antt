@@ -47,9 +47,9 @@ use Rattle.pblk_core.specs.declared.target_core.Core.{Core}
 use Rattle.pblk_core.specs.declared.work.Work.TheVariants as works
 use Rattle.pblk_core.specs.declared.work.Why.{Why}
 use Rattle.pblk_core.specs.declared.work.Why.TheVariants as whys
-use Rattle.pblk_core.proofs.CopiesDue.{test_of_copy}
+use Rattle.pblk_core.proofs.CopiesDue.{copy_by_test, test_of_copy}
 use Rattle.pblk_core.proofs.Laws.{reset_empty}
-use Rattle.pblk_core.proofs.StandsTold.{collects_told, stands_told}
+use Rattle.pblk_core.proofs.StandsTold.{collects_told, copies_told, stands_told}
 use Rattle.pblk_model.proofs.Options.{none_there}
 use Rattle.pblk_model.proofs.Maps.{in_filter, range_get}
 use Rattle.pblk_model.proofs.Parts.{all_at, got_within}
@@ -122,7 +122,7 @@ module _ (i : Image) (w : World) (pad : ℕ) (again : List ℕ) (copying : Bool)
   idle : (nat_lt 0 (under_way i.shape (log_of w 0)) ≡ false) × (copying ≡ false)
   idle = neither (nat_lt 0 (under_way i.shape (log_of w 0))) copying chosen.3
 
-  none_copied : ¬ IsCopyDue i (log_of w)
+  pub none_copied : ¬ IsCopyDue i (log_of w)
   none_copied due = not_both (is_copy_due i (log_of w)) (test_of_copy i (log_of w) due) (not_due (is_copy_due i (log_of w)) copying idle.1 chosen.2)
 
   -- each stripe that was placed is answered
@@ -256,3 +256,10 @@ module _ (i : Image) (w : World) (c : Core) (v : View) (mount : IsLegalMount i w
         (is_resting i then_ (pad_of c) stands_then.again (is_copying c) reason is.left.legal other none asked
         (pad_kept asked _ (pad_of c) collects_then.asked within) noted_then (none_to_free_left i w c v mount is none_to_free));
   }
+
+  -- nor is a copy due by all that it knows
+  pub none_to_copy : (reason : Why) → reason ≢ whys.Busy → work_of i (log_of is.left.left) (pad_of c) stands_then.again (is_copying c) ≡ works.Nothing reason
+      → ¬ IsCopyDue i (log_of w)
+  none_to_copy reason other none due =
+      none_copied i then_ (pad_of c) stands_then.again (is_copying c) reason is.left.legal other none
+      (copy_by_test i (log_of then_) (copies_told i (log_of w) (log_of then_) (told_left i w c v mount is) ∙ test_of_copy i (log_of w) due))

@@ -1,16 +1,19 @@
 -- What a worker's calls of an engine did, by what the worker knows and the commands that it made.
-use Rattle.std.specs.Prelude.{ℕ, ◌≡◌, ◌≢◌, ◌⊎◌, ⊤, false, true, List, [], ◌∷◌, ◌++◌, length, Result, Ok, Err}
+use Rattle.std.specs.Prelude.{ℕ, ◌≤◌, ◌≡◌, ◌≢◌, ◌⊎◌, ⊤, Bool, false, true, List, [], ◌∷◌, ◌++◌, length, Result, Ok, Err}
 use Rattle.std.specs.List.{AllByRecursion}
 use Rattle.pblk_model.specs.Chunk.{Block}
 use Rattle.pblk_model.specs.ChunkStep.{ChunkCommand, Done, Gave, Read, Reset, Write}
 use Rattle.pblk_model.specs.Image.{Image}
 use Rattle.pblk_model.specs.UnitLog.{UnitOutcome, Answered, Failed}
-use Rattle.pblk_world.specs.AtRest.{IsAtRest}
+use Rattle.pblk_world.specs.AtRest.{IsAtRest, pad_target}
+use Rattle.pblk_world.specs.World.{Logs}
 use Rattle.scan_recovery.specs.DriveFaults.{is_drive_fault}
 use Rattle.unit_port.specs.Armed.{is_stop}
 use Rattle.unit_port.specs.Unit.{ModelUnit}
+use Rattle.pblk_core.specs.Named.{work_of}
 use Rattle.pblk_core.specs.declared.work.Why.{Why}
 use Rattle.pblk_core.specs.declared.work.Why.TheVariants as whys
+use Rattle.pblk_core.specs.declared.work.Work.TheVariants as works
 use Rattle.chronicle.specs.Prefixes.{Prefixes, logs_of, ArePrefixes}
 use Rattle.pblk_engine.specs.Arms.{number_told}
 use Rattle.pblk_engine.specs.Fetches.{TellsFetch}
@@ -63,9 +66,20 @@ HasFailed outcome = (k : ℕ) × (outcome ≡ Failed k)
 abbrev pub HasGiven : UnitOutcome → Type 0
 HasGiven outcome = (b : Block) × (outcome ≡ Answered (Gave b))
 
--- where nothing is in flight, the engine's log is at rest, at the length that is known
+-- Something is in flight, and by the logs nothing else can be done meanwhile. So it is for this pad
+-- target, which holds what the victim at work asks for, where the stopped stripes of these units
+-- are under way again, and a copy is or isn't.
+pub record IsBusy (i : Image) (logs : Logs) : Type 0 where
+  pub pad : ℕ
+  pub again : List ℕ
+  pub copying : Bool
+  pub asked : pad_target i logs 0 ≤ pad
+  pub busy : work_of i logs pad again copying ≡ works.Nothing whys.Busy
+
+-- why there is nothing to do: something is in flight and nothing else can be done meanwhile, or the
+-- engine's log is at rest, at the length that is known
 abbrev pub IsNothing : Image → Prefixes → Why → Type 0
-IsNothing i known whys.Busy = ⊤
+IsNothing i known whys.Busy = IsBusy i (logs_of known)
 IsNothing i known whys.NoLine = IsAtRest i (logs_of known) 0 (length (logs_of known 0))
 IsNothing i known whys.Rest = IsAtRest i (logs_of known) 0 (length (logs_of known 0))
 

@@ -1,6 +1,6 @@
 //! Answers to stripes that units had to program, as the core and the engine's author note them.
 
-ghost use Rattle.std.specs.Prelude.{◌≡◌, ◌≤◌, ◌<◌, ◌-◌, ◌++◌, ◌+◌, ◌∷◌, [], suc, false, length, IsTrue};
+ghost use Rattle.std.specs.Prelude.{◌≡◌, ◌↔◌, ◌≤◌, ◌<◌, ◌-◌, ◌++◌, ◌+◌, ◌∷◌, [], suc, false, length, IsTrue};
 ghost use Rattle.pblk_model.specs.Shape.{units};
 ghost use Rattle.pblk_world.specs.Events.{Decides};
 ghost use Rattle.pblk_world.specs.Orders.{NoneToFree};
@@ -54,7 +54,7 @@ fn is_awaited(core: &Core, author: &EngineAuthor, stripe: &Stripe, stops: u64) -
     requires inside { stripe.now.stripe.unit < units core.now.layout }
     requires shape { core.now.layout ≡ author.now.past.image.shape }
     ensures { IsTrue result
-        → IsAwaited core.now (logs_of author.now.known 0) stripe.now stops }
+        ↔ IsAwaited core.now (logs_of author.now.known 0) stripe.now stops }
 {
     let unit = stripe.unit();
     let turn = stripe.turn();

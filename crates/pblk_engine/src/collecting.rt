@@ -1,7 +1,8 @@
 //! A sector of the victim at work is copied, in one hold of the engine's lock.
-ghost use Rattle.std.specs.Prelude.{◌≡◌, ◌≢◌, ◌⊎◌, ◌<◌, ◌≤◌, Some, IfOk, IsOk};
+ghost use Rattle.std.specs.Prelude.{◌≡◌, ◌≢◌, ◌⊎◌, ◌<◌, ◌≤◌, Ok, Some, IfOk, IsOk};
 ghost use Rattle.std.specs.Sync.Mutex.{mutex_guard_value};
 ghost use Rattle.pblk_model.specs.Shape.{units};
+ghost use Rattle.pblk_core.specs.declared.work.Why.{Why as WhyOf};
 ghost use Rattle.pblk_core.specs.declared.work.Work.TheVariants as works;
 ghost use Rattle.chronicle.specs.Prefixes.{logs_of};
 ghost use Rattle.pblk_engine.specs.Copying.{IsFetched};
@@ -86,6 +87,7 @@ impl<M: Mount, U: Unit> Engine<M, U> {
         ensures pumped { HasPumped M.past.image M.handed worker.old worker.new result }
         ensures copied { IfOk result (IsOfRole roles.Collector) }
         ensures named { work ≡ works.Copy → IfOk result (λ did. did ≢ dids.Other) }
+        ensures some { (why : WhyOf) → result ≢ Ok (dids.Nothing why) }
     {
         match heart.next_copy(&self.ring) {
             NextCopy::At(of) => self.copy_sector(rt, &mut heart, worker, &of),

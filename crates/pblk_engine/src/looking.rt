@@ -2,7 +2,7 @@
 
 ghost use Rattle.std.specs.Prelude.{◌≡◌, ◌≢◌, ◌≤◌, ◌<◌, ◌^◌, ℕ, length, slice_get, Some, IfSome, IsSome};
 ghost use Rattle.pblk_model.specs.Bytes.{zeros};
-ghost use Rattle.pblk_world.specs.AtRest.{IsAtRest, logs_at};
+ghost use Rattle.pblk_world.specs.AtRest.{IsAtRest, IsCopyDue, logs_at};
 ghost use Rattle.pblk_world.specs.Reasons.{WasRoom};
 ghost use Rattle.pblk_world.specs.Space.{is_due, room};
 ghost use Rattle.chronicle.specs.Prefixes.{logs_of};
@@ -15,6 +15,7 @@ ghost use Rattle.pblk_core.specs.declared.work.Work.TheVariants as works;
 ghost use Rattle.step_laws.specs.SlotBlocks.{IsBlockOfSlot};
 ghost use Rattle.pblk_engine.specs.Hearts.{IsRingOf};
 ghost use Rattle.pblk_engine.specs.Looks.{front_synced, front_taken, latest_by};
+ghost use Rattle.pblk_engine.specs.Pumps.{IsBusy};
 
 use crate::heart::Heart;
 use crate::mount::Mount;
@@ -25,7 +26,8 @@ use write_ring::Ring;
 
 impl<M: Mount> Heart<M> {
     /// What comes next. Where that is nothing, and nothing is in flight, the target is at rest for
-    /// each pad target up to that which it has.
+    /// each pad target up to that which it has, and no copy is due by all that the heart knows. Where
+    /// something is in flight, nothing else can be done by the logs meanwhile.
     pub(crate) fn next_work(&self) -> Work
         ensures named { result ≡ self.now.work }
         ensures reset { (line unit : ℕ) → result ≡ works.Reset line unit
@@ -34,6 +36,10 @@ impl<M: Mount> Heart<M> {
             → (asked : ℕ) → asked ≤ self.now.pad
             → IsAtRest M.past.image (logs_of self.now.author.known) asked
             (length (logs_of self.now.author.known 0)) }
+        ensures busy { result ≡ works.Nothing whys.Busy
+            → IsBusy M.past.image (logs_of self.now.author.known) }
+        ensures no_copy { (why : WhyOf) → result ≡ works.Nothing why → why ≢ whys.Busy
+            → ¬ IsCopyDue M.past.image (logs_of self.now.author.known) }
     {
         self.core.next_work()
     }

@@ -1,8 +1,9 @@
 //! A stripe on its way: it is placed under the engine's lock, programmed under its unit's lock
 //! alone, and answered under the engine's lock again.
-ghost use Rattle.std.specs.Prelude.{◌≡◌, ◌<◌, ◌≤◌, IfOk};
+ghost use Rattle.std.specs.Prelude.{◌≡◌, ◌≢◌, ◌<◌, ◌≤◌, IfOk, Ok};
 ghost use Rattle.std.specs.Sync.Mutex.{mutex_guard_value};
 ghost use Rattle.chronicle.specs.Prefixes.{ArePrefixes, logs_of};
+ghost use Rattle.pblk_core.specs.declared.work.Why.{Why as WhyOf};
 ghost use Rattle.pblk_core.specs.declared.work.Work.TheVariants as works;
 ghost use Rattle.pblk_model.specs.Shape.{units};
 ghost use Rattle.pblk_engine.specs.Answers.{IsLastProgram};
@@ -11,6 +12,7 @@ ghost use Rattle.pblk_engine.specs.Placements.{IsPlacedAs};
 ghost use Rattle.pblk_engine.specs.Programs.{HasMade, HasTried};
 ghost use Rattle.pblk_engine.specs.Pumps.{HasPumped, IsOfWorker};
 ghost use Rattle.pblk_engine.specs.Stops.{stop_count};
+ghost use Rattle.pblk_engine.specs.declared.outcomes.Did.TheVariants as dids;
 
 use crate::arm::Programmed;
 use crate::commands::Ended;
@@ -141,6 +143,7 @@ impl<M: Mount, U: Unit> Engine<M, U> {
         requires known { worker.old.known ≡ (mutex_guard_value heart).author.known }
         ensures pumped { HasPumped M.past.image M.handed worker.old worker.new result }
         ensures worked { IfOk result IsOfWorker }
+        ensures some { (why : WhyOf) → result ≢ Ok (dids.Nothing why) }
     {
         let (note, stops) = self.place_stripe(&mut heart, worker);
         drop(heart);

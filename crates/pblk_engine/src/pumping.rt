@@ -1,10 +1,12 @@
 //! One piece of an engine's work.
-ghost use Rattle.std.specs.Prelude.{◌≡◌, ◌<◌, ℕ, IfOk};
+ghost use Rattle.std.specs.Prelude.{◌≡◌, ◌<◌, ℕ, IfOk, Ok};
 ghost use Rattle.std.specs.Sync.Mutex.{mutex_guard_value};
 ghost use Rattle.pblk_model.specs.Shape.{units};
 ghost use Rattle.pblk_core.specs.declared.work.Why.{Why as WhyOf};
 ghost use Rattle.pblk_core.specs.declared.work.Work.TheVariants as works;
 ghost use Rattle.pblk_engine.specs.Pumps.{HasPumped, IsNothing, IsOfRole};
+ghost use Rattle.pblk_engine.specs.declared.outcomes.Did.TheVariants as dids;
+ghost use Rattle.pblk_engine.specs.declared.outcomes.Role.TheVariants as roles;
 
 use crate::engine::Engine;
 use crate::errors::DriveErr;
@@ -20,8 +22,9 @@ impl<M: Mount, U: Unit> Engine<M, U> {
     /// Takes what is filled, and does one piece of work, if there is one for this role. It tells
     /// what that was, by the commands that the worker made in this call. `Lost` comes exactly where
     /// it had a stripe programmed and the program failed. `Nothing` comes where there was nothing
-    /// to do at its look. Where nothing was in flight then, the engine's log is at rest at the
-    /// length that the worker knows.
+    /// to do at its look. It is `Busy` where something was in flight then, and nothing else can be
+    /// done meanwhile by the logs that the worker knows. Where nothing was in flight, the engine's
+    /// log is at rest at the length that the worker knows.
     ///
     /// `Err` comes where the command that it gave a unit was stopped, or where it fetched a block
     /// to copy it and the fetch failed. It names that event.
@@ -55,6 +58,9 @@ impl<M: Mount, U: Unit> Engine<M, U> {
             → IsNothing M.past.image worker.old.known why }
         ensures pumped { HasPumped M.past.image M.handed worker.old worker.new result }
         ensures role { IfOk result (IsOfRole role) }
+        ensures nothing { (why : WhyOf) → result ≡ Ok (dids.Nothing why)
+            → work ≡ works.Nothing why }
+        ensures other { role ≡ roles.Lane → result ≡ Ok dids.Other → work ≡ works.Copy }
     {
         match (role, work) {
             (_, Work::Nothing(why)) => Ok(Did::Nothing(why)),

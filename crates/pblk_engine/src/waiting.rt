@@ -1,5 +1,5 @@
 //! What a session waits for: that its entries are on the drive, and room to claim.
-ghost use Rattle.std.specs.Prelude.{ℕ, ◌≡◌, ◌≢◌, ◌↔◌, ◌≤◌, ◌^◌, IsTrue};
+ghost use Rattle.std.specs.Prelude.{ℕ, ◌≡◌, ◌≢◌, ◌↔◌, ◌≤◌, ◌^◌, Err, IsTrue, max};
 ghost use Rattle.chronicle.specs.Prefixes.{logs_of};
 ghost use Rattle.pblk_core.specs.declared.work.Why.{Why as WhyOf};
 ghost use Rattle.pblk_core.specs.declared.work.Why.TheVariants as whys;
@@ -36,7 +36,8 @@ impl<M: Mount, U: Unit> Engine<M, U> {
     /// work, of any kind, and `Pumped` tells what that was; `Drive` names the command of it that
     /// was lost. `Worn` comes instead where all that was claimed is taken, the position is at most
     /// that and at most the pad target, and there is nothing to do and nothing in flight: then the
-    /// engine's log is at rest at the length that the worker knows.
+    /// engine's log is at rest at the length that the worker knows, and pads were asked for up to
+    /// the position.
     pub fn flush<R: Wait>(
         &self,
         rt: &R,
@@ -45,6 +46,8 @@ impl<M: Mount, U: Unit> Engine<M, U> {
     ) -> Result<Flushed, SettleErr>
         ensures flushed { HasFlushed M.past.image M.handed position worker.old worker.new result }
         ensures asked { AsksUpTo position worker.old worker.new }
+        ensures worn_asked { (wanted have : ℕ) → result ≡ Err (SettleErr.Worn wanted have)
+            → worker.new.asked ≡ max worker.old.asked position }
     {
         let mut heart = self.heart.lock(rt);
         let beating = &mut *heart;

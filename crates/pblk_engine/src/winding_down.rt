@@ -1,5 +1,5 @@
 //! How an engine is worked off, before it is closed.
-ghost use Rattle.std.specs.Prelude.{◌≡◌, ◌≢◌, ◌≤◌, ℕ, length};
+ghost use Rattle.std.specs.Prelude.{◌≡◌, ◌≢◌, ◌≤◌, ◌⊎◌, ℕ, length, true};
 ghost use Rattle.pblk_world.specs.AtRest.{IsAtRest};
 ghost use Rattle.chronicle.specs.Prefixes.{logs_of};
 ghost use Rattle.pblk_core.specs.declared.work.Why.{Why as WhyOf};
@@ -10,7 +10,8 @@ ghost use Rattle.pblk_engine.specs.Endings.{IsPassIn};
 ghost use Rattle.pblk_engine.specs.Settlings.{HasLooked, HasSettled, IsWorkedOff, IsWornAt};
 ghost use Rattle.pblk_engine.specs.Closed.{HasWorkedOff, answer_of};
 ghost use Rattle.pblk_engine.specs.Hearts.{IsRingOf};
-ghost use Rattle.pblk_world.specs.Fronts.{taken};
+ghost use Rattle.pblk_world.specs.Fronts.{synced, taken};
+ghost use Rattle.pblk_world.specs.Space.{is_due};
 ghost use Rattle.numbered_locks.specs.Handles.{places};
 ghost use Rattle.pblk_model.specs.Shape.{units as units_of};
 ghost use Rattle.pblk_engine.specs.declared.winding_down.Settlement.TheVariants as settlements;
@@ -122,6 +123,10 @@ impl<M: Mount> Heart<M> {
             → IsWorkedOff M.past.image (logs_of self.now.author.known) claimed }
         ensures worn { (have : ℕ) → result ≡ settlements.Worn have
             → IsWornAt M.past.image (logs_of self.now.author.known) claimed have }
+        ensures behind { result ≡ settlements.Behind
+            → (claimed ≢ taken (logs_of self.now.author.known 0))
+            ⊎ (synced M.past.image.shape (logs_of self.now.author.known 0) ≢ claimed)
+            ⊎ (is_due M.past.image (logs_of self.now.author.known) ≡ true) }
     {
         if self.front().position != claimed {
             return Settlement::Behind;

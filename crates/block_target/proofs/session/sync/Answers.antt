@@ -1,8 +1,10 @@
-use Rattle.std.proofs.Common.{Ok, Result, subst, ap}
+use Rattle.std.proofs.Common.{Err, Ok, Result, subst, ap}
 use Rattle.pblk_engine.specs.Waits.{HasFlushed}
 use Rattle.pblk_engine.specs.declared.errors.SettleErr.{SettleErr}
+use Rattle.pblk_engine.specs.declared.errors.SettleErr.TheVariants as errors
 use Rattle.pblk_engine.specs.declared.outcomes.Flushed.{Flushed}
-use Rattle.block_target.proofs.Putting.{asks_none, asks_then, flushed_all, flushed_err, flushed_more, well_begins}
+use Rattle.block_target.proofs.Putting.{asks_none, asks_then, asks_worn, flushed_all, flushed_err, flushed_more, well_begins}
+use Rattle.block_target.proofs.Syncing.{same_error}
 use Rattle.block_target.proofs.session.sync.Goals as goal
 
 pub loop-init : goal.loop-init
@@ -29,3 +31,9 @@ pub returns-in-Err-clause-cause : goal.returns-in-Err-clause-cause
 returns-in-Err-clause-cause g c =
     flushed_err g.M.Mount.past.image g.M.Mount.handed c.args.position c.args.worker.now c.loop.worker c.flush-flushed.new.worker c.in-Err.e
     c.loop.invariant.0 c.in-Err.ensures.flushed
+
+-- the look that was answered Worn asked for pads
+pub returns-in-Err-clause-worn_asked : goal.returns-in-Err-clause-worn_asked
+returns-in-Err-clause-worn_asked g c = λ wanted have is.
+    asks_worn c.args.position c.args.worker.now c.loop.worker c.flush-flushed.new.worker c.loop.invariant.1
+    (c.in-Err.ensures.worn_asked wanted have (ap (λ (e : SettleErr). Err e) (same_error c.in-Err.e (errors.Worn wanted have) is)))

@@ -83,6 +83,14 @@ module _ (g : Over) (c : After-put-put g) where
       subst (λ k. IsWriteRefusal g.M.Mount.past.image (logs_of c.put-put.new.worker.known) (length (logs_of c.put-put.new.worker.known 0)) k wanted have)
       c.fill.ensures.count (cause (errors.Worn wanted have) is).tells.2
 
+  -- then all that was claimed was taken
+  room_refused : (wanted have : ℕ) (is : c.put-put.result ≡ Err (errors.Worn wanted have))
+      → (pass_view c.put-put.new.pass).found.claimed ≡ taken (logs_of c.put-put.new.worker.known 0)
+  room_refused wanted have is =
+      let why = cause (errors.Worn wanted have) is in
+      room_taken g.M.Mount.past.image c.put-put.new.worker.known (length c.fill.new.batch.drafts) (pass_view c.put-put.new.pass).found.claimed
+      wanted have why.tells.1 why.tells.2
+
   -- what the pass found last is no lower than before
   claimed : (pass_view c.self.inside.pass).found.claimed ≤ (pass_view c.put-put.new.pass).found.claimed
   claimed = le_trans c.wait_for_claims.ensures.rises c.put-put.ensures.rises
@@ -141,8 +149,7 @@ invariant_of-self-in-Worn g c =
     let is : c.put-put.result ≡ Err e = c.in-Err.is ∙ ap (λ (x : SettleErr). Err x) c.in-Worn.is in
     let why = cause g d e is in
     let all : (pass_view c.put-put.new.pass).found.claimed ≡ taken (logs_of c.put-put.new.worker.known 0) =
-    room_taken g.M.Mount.past.image c.put-put.new.worker.known (length c.fill.new.batch.drafts) (pass_view c.put-put.new.pass).found.claimed
-    c.in-Worn.wanted c.in-Worn.have why.tells.1 why.tells.2 in
+    room_refused g d c.in-Worn.wanted c.in-Worn.have is in
     let seen = c.wait_for_claims.ensures.seen in
     let rises = c.put-put.ensures.rises in (
       held g d c.clear.new.self (cleared g.M.Mount.key c.self.inside.batch c.fill.new.batch c.put-put.new.batch c.clear.new.self
@@ -177,3 +184,9 @@ returns-in-Worn-clause-cause g c =
 
 pub returns-in-Worn-clause-learns : goal.returns-in-Worn-clause-learns
 returns-in-Worn-clause-learns g c = learned g (goal.at.returns-in-Worn-clause-learns g c).After-put-put _ _ _ _
+
+-- all that was claimed was taken
+pub returns-in-Worn-clause-all_taken : goal.returns-in-Worn-clause-all_taken
+returns-in-Worn-clause-all_taken g c = λ wanted have same.
+    let d = (goal.at.returns-in-Worn-clause-all_taken g c).After-put-put in
+    room_refused g d c.in-Worn.wanted c.in-Worn.have (c.in-Err.is ∙ ap (λ (x : SettleErr). Err x) c.in-Worn.is)

@@ -1,6 +1,8 @@
 use Rattle.std.proofs.Common.{◌≡◌, ◌<◌, ◌≤◌, [], sym, subst, ap, ◌∙◌, arith}
+use Rattle.std.specs.Prelude.{max}
 use Rattle.pblk_model.specs.Image.{Image}
 use Rattle.pblk_model.specs.declared.run.Front.{Front}
+use Rattle.pblk_world.specs.AtRest.{IsCopyDue}
 use Rattle.pblk_world.specs.Fronts.{synced, taken}
 use Rattle.chronicle.specs.Prefixes.{Prefixes, AreLegalLogs, logs_of}
 use Rattle.pblk_engine.specs.Hearts.{HeartView}
@@ -62,6 +64,20 @@ returns-then-is_stuck-clause-flushed g c =
     (c.next_work-work.ensures.rest stuck.0 stuck.1 stuck.2 c.args.position pads) c.if-position-synced.false (its_synced g d)
     (subst (λ n. c.args.position ≤ n) ((c.take_filled-filled.ensures.all filled.0 filled.1).1 ∙ its_taken g d) filled.2)
 
+-- where it is stuck no copy is due, so it has asked
+pub returns-then-is_stuck-clause-worn_asked : goal.returns-then-is_stuck-clause-worn_asked
+returns-then-is_stuck-clause-worn_asked g c = λ wanted have is.
+    let d = (goal.at.returns-then-is_stuck-clause-worn_asked g c).After-synced-synced in
+    let stuck = c.is_stuck.ensures.0 c.if-is_stuck.true in
+    let filled = c.is_all_taken.ensures.0 c.if-is_all_taken.true in
+    let low : c.args.position ≤ c.tell.new.heart.intake.intake.taken =
+    subst (λ n. c.args.position ≤ n) ((c.take_filled-filled.ensures.all filled.0 filled.1).1
+    ∙ sym (ap (λ (h : HeartView). h.intake.intake.taken) c.tell.ensures.heart)) filled.2 in
+    let none : ¬ IsCopyDue (i g d) (logs_of c.tell.new.heart.author.known) =
+    subst (λ (p : Prefixes). ¬ IsCopyDue (i g d) (logs_of p)) (same g d) (c.next_work-work.ensures.no_copy stuck.0 stuck.1 stuck.2) in
+    let asked = c.ask_pad.ensures.worker_asked (c.ask_pad.ensures.when.1 (low, none)) in
+    ap (λ (w : WorkerView). w.asked) asked ∙ ap (λ (w : WorkerView). max w.asked c.args.position) c.tell.ensures.worker
+
 pub pump_held-requires-clause-reset : goal.pump_held-requires-clause-reset
 pump_held-requires-clause-reset g c = λ line unit is. (c.next_work-work.ensures.reset line unit is).unit_in_range
 
@@ -69,7 +85,8 @@ pub pump_held-requires-clause-rest : goal.pump_held-requires-clause-rest
 pump_held-requires-clause-rest g c = λ why is.
     let d = (goal.at.pump_held-requires-clause-rest g c).After-synced-synced in
     subst (λ (p : Prefixes). IsNothing g.M.Mount.past.image p why) (sym (known g d))
-    (is_nothing (i g d) (k g d) c.next_work-work.result c.ask_pad.new.self.pad c.next_work-work.ensures.rest (omega arith) why is)
+    (is_nothing (i g d) (k g d) c.next_work-work.result c.ask_pad.new.self.pad c.next_work-work.ensures.rest c.next_work-work.ensures.busy
+    (omega arith) why is)
 
 pub returns-in_err-did-clause-flushed : goal.returns-in_err-did-clause-flushed
 returns-in_err-did-clause-flushed g c =

@@ -26,17 +26,11 @@ module _ (g : Over) (c : After-unit-unit g) where
   told how is = subst (λ (h : Ended). HasPumped g.M.Mount.past.image g.M.Mount.handed c.args.worker.now c.answer_program.new.worker
       (answer_of h c.unit-unit.result c.program_stripe-note.result.2)) is answered
 
-pub returns-in-Done : goal.returns-in-Done
-returns-in-Done g c = record {
-  pumped = told g (goal.at.returns-in-Done g c).After-unit-unit _ c.in-Done.is;
-  worked = (λ same. cc, λ same. cc, λ same. cc);
-}
+pub returns-in-Done-clause-pumped : goal.returns-in-Done-clause-pumped
+returns-in-Done-clause-pumped g c = told g (goal.at.returns-in-Done-clause-pumped g c).After-unit-unit _ c.in-Done.is
 
-pub returns-in-Failed : goal.returns-in-Failed
-returns-in-Failed g c = record {
-  pumped = told g (goal.at.returns-in-Failed g c).After-unit-unit _ c.in-Failed.is;
-  worked = (λ same. cc, λ same. cc, λ same. cc);
-}
+pub returns-in-Failed-clause-pumped : goal.returns-in-Failed-clause-pumped
+returns-in-Failed-clause-pumped g c = told g (goal.at.returns-in-Failed-clause-pumped g c).After-unit-unit _ c.in-Failed.is
 
-pub returns-in-Stopped : goal.returns-in-Stopped
-returns-in-Stopped g c = record { pumped = told g (goal.at.returns-in-Stopped g c).After-unit-unit _ c.in-Stopped.is; worked = tt }
+pub returns-in-Stopped-clause-pumped : goal.returns-in-Stopped-clause-pumped
+returns-in-Stopped-clause-pumped g c = told g (goal.at.returns-in-Stopped-clause-pumped g c).After-unit-unit _ c.in-Stopped.is

@@ -13,7 +13,7 @@ pub pump_held-requires-clause-rest : goal.pump_held-requires-clause-rest
 pump_held-requires-clause-rest g c = λ why is.
     subst (λ (k : Prefixes). IsNothing g.M.Mount.past.image k why) (sym (ap (λ (w : WorkerView). w.known) c.tell.ensures.worker))
     (is_nothing g.M.Mount.past.image c.tell.new.heart.author.known c.next_work-work.result c.tell.new.heart.pad c.next_work-work.ensures.rest
-    (omega arith) why is)
+    c.next_work-work.ensures.busy (omega arith) why is)
 
 pub returns-clause-pumped : goal.returns-clause-pumped
 returns-clause-pumped g c =

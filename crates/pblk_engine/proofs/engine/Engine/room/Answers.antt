@@ -75,7 +75,7 @@ pump_held-requires-clause-rest g c = λ why is.
     let d = (goal.at.pump_held-requires-clause-rest g c).After-granted-granted in
     subst (λ (p : Prefixes). IsNothing g.M.Mount.past.image p why) (same g d ∙ sym (known g d))
     (is_nothing (i g d) c.granted-granted.new.self.author.known c.next_work-work.result c.granted-granted.new.self.pad c.next_work-work.ensures.rest
-    (omega arith) why is)
+    c.next_work-work.ensures.busy (omega arith) why is)
 
 pub returns-in_err-did : goal.returns-in_err-did
 returns-in_err-did g c =

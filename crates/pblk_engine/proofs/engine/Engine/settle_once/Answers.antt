@@ -3,9 +3,11 @@ use Rattle.std.specs.Prelude.{IsTrue}
 use Rattle.pblk_world.specs.Fronts.{taken}
 use Rattle.write_ring.specs.declared.view.Part.{Part}
 use Rattle.write_ring.specs.Handles.{AreAllClaims, pass_view}
+use Rattle.pblk_core.specs.declared.work.Why.TheVariants as whys
+use Rattle.pblk_core.specs.declared.work.Work.TheVariants as works
 use Rattle.chronicle.specs.Prefixes.{Prefixes, logs_of}
 use Rattle.pblk_engine.specs.Hearts.{HeartView}
-use Rattle.pblk_engine.specs.Pumps.{IsNothing}
+use Rattle.pblk_engine.specs.Pumps.{IsBusy, IsNothing}
 use Rattle.pblk_engine.specs.Settlings.{HasLooked, HasWorked, IsWorkedOff, IsWornAt}
 use Rattle.pblk_engine.specs.declared.errors.SettleErr.TheVariants as errors
 use Rattle.pblk_engine.proofs.PumpSteps.{is_nothing}
@@ -45,6 +47,10 @@ module _ (g : Over) (c : After-deref-2 g) where
   rests = subst (λ (h : HeartView). AtRests g.M.Mount.past.image (logs_of h.author.known) c.next_work-work.result h.pad) c.deref.ensures
       c.next_work-work.ensures.rest
 
+  busy : c.next_work-work.result ≡ works.Nothing whys.Busy → IsBusy g.M.Mount.past.image (logs_of c.ask_pad.new.self.author.known)
+  busy = subst (λ (h : HeartView). c.next_work-work.result ≡ works.Nothing whys.Busy → IsBusy g.M.Mount.past.image (logs_of h.author.known)) c.deref.ensures
+      c.next_work-work.ensures.busy
+
   claims : AreAllClaims g.M.Mount.key.first c.all_claimed-claimed.result (pass_view c.args.pass.now).pass c.all_claimed-claimed.new.self.intake.pass
   claims = subst (λ (p : Part). AreAllClaims g.M.Mount.key.first c.all_claimed-claimed.result p c.all_claimed-claimed.new.self.intake.pass)
       c.all_claimed-claimed.ensures.same_pass (c.all_claimed-claimed.ensures.all c.requires.shares)
@@ -61,7 +67,8 @@ pub pump_held-requires-clause-rest : goal.pump_held-requires-clause-rest
 pump_held-requires-clause-rest g c = λ why is.
     let at = (goal.at.pump_held-requires-clause-rest g c).After-deref-2 in
     subst (λ (k : Prefixes). IsNothing g.M.Mount.past.image k why) (sym (knows g at))
-    (is_nothing g.M.Mount.past.image c.ask_pad.new.self.author.known c.next_work-work.result c.ask_pad.new.self.pad (rests g at) (omega arith) why is)
+    (is_nothing g.M.Mount.past.image c.ask_pad.new.self.author.known c.next_work-work.result c.ask_pad.new.self.pad (rests g at) (busy g at)
+    (omega arith) why is)
 
 pub returns-in-Settled-clause-looked : goal.returns-in-Settled-clause-looked
 returns-in-Settled-clause-looked g c =

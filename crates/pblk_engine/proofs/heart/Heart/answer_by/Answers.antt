@@ -93,11 +93,11 @@ note_answer-requires-clause-none g c =
 
 pub note_answer-requires-clause-entries : goal.note_answer-requires-clause-entries
 note_answer-requires-clause-entries g c =
-    entries g (goal.at.note_answer-requires-clause-entries g c).After-is_awaited (c.is_awaited.ensures c.if-not-is_awaited.false)
+    entries g (goal.at.note_answer-requires-clause-entries g c).After-is_awaited (c.is_awaited.ensures.0 c.if-not-is_awaited.false)
 
 pub note_answer-requires-clause-may : goal.note_answer-requires-clause-may
 note_answer-requires-clause-may g c =
-    may g (goal.at.note_answer-requires-clause-may g c).After-is_awaited (c.is_awaited.ensures c.if-not-is_awaited.false)
+    may g (goal.at.note_answer-requires-clause-may g c).After-is_awaited (c.is_awaited.ensures.0 c.if-not-is_awaited.false)
 
 -- once it is noted, and the heart settled
 module _ (g : Over) (c : After-settle g) where
