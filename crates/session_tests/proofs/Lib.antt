@@ -1,0 +1,2 @@
+pub mod ArmedUnits
+pub mod Pairs

@@ -1,0 +1,2 @@
+pub mod AllBack
+pub mod Places

@@ -1,0 +1,8 @@
+//! Sessions of one target, each in a thread of its own. Tests and measurements use them.
+#![tactic(auto)]
+
+mod crew;
+mod work;
+
+pub use crew::{Closed, serve};
+pub use work::Work;
