@@ -29,10 +29,10 @@ use Rattle.block_target.proofs.WornAnswers.{refusal_within}
 
 -- ---- numbers that are parted at one of them
 
-abbrev AllBelow : ℕ → List ℕ → Type 0
+abbrev pub AllBelow : ℕ → List ℕ → Type 0
 AllBelow n xs = AllByRecursion (λ x. x < n) xs
 
-abbrev AllFrom : ℕ → List ℕ → Type 0
+abbrev pub AllFrom : ℕ → List ℕ → Type 0
 AllFrom n xs = AllByRecursion (λ x. n ≤ x) xs
 
 -- a number at or past n isn't below it
@@ -49,21 +49,21 @@ same_part n (x ∷ xs) ys (u ∷ us) vs is low high below above =
 
 -- ---- where lines lie
 
-lines_from : (low from to : ℕ) (lines : List PlacedSector) → low ≤ from → Rise from to lines → AllFrom low (positions lines)
+pub lines_from : (low from to : ℕ) (lines : List PlacedSector) → low ≤ from → Rise from to lines → AllFrom low (positions lines)
 lines_from low from to [] le rise = tt
 lines_from low from to (x ∷ lines) le rise =
     let at : from ≤ x.position = rise.0 in (omega arith, lines_from low (x.position + 1) to lines (omega arith) rise.1)
 
-lines_below : (from to : ℕ) (lines : List PlacedSector) → Rise from to lines → AllBelow to (positions lines)
+pub lines_below : (from to : ℕ) (lines : List PlacedSector) → Rise from to lines → AllBelow to (positions lines)
 lines_below from to [] rise = tt
 lines_below from to (x ∷ lines) rise =
     let high : x.position + 1 ≤ to = rise_order (x.position + 1) to lines rise.1 in (omega arith, lines_below (x.position + 1) to lines rise.1)
 
-positions_both : (xs ys : List PlacedSector) → positions (xs ++ ys) ≡ positions xs ++ positions ys
+pub positions_both : (xs ys : List PlacedSector) → positions (xs ++ ys) ≡ positions xs ++ positions ys
 positions_both xs ys = map-append (λ (x : PlacedSector). x.position) xs ys
 
 -- of writes that end below a position
-writes_below : (n : ℕ) (own : List OwnWrite) → AreWholeWrites own → EndBelow n own → AllBelow n (positions (flat_map lines_of own))
+pub writes_below : (n : ℕ) (own : List OwnWrite) → AreWholeWrites own → EndBelow n own → AllBelow n (positions (flat_map lines_of own))
 writes_below n [] whole ends = tt
 writes_below n (w ∷ own) whole ends =
     let high : w.place.first + length w.sectors ≤ n = (let e : length w.sectors ≡ w.place.count = whole.0.1 in
@@ -101,13 +101,13 @@ lines_are : (own : List OwnWrite) → all_lines (map of_first own) ≡ flat_map 
 lines_are [] = refl
 lines_are (w ∷ own) = ap (λ (rest : List PlacedSector). lines_of w ++ rest) (lines_are own)
 
-own_lines : (t : SessionView) → PlacesRise t.own → all_lines (by_place (writes_from 0 (t ∷ []))) ≡ flat_map lines_of t.own
+pub own_lines : (t : SessionView) → PlacesRise t.own → all_lines (by_place (writes_from 0 (t ∷ []))) ≡ flat_map lines_of t.own
 own_lines t rising =
     ap (λ (ws : List ThreadWrite). all_lines (by_place ws)) (append-nil (map of_first t.own))
     ∙ ap all_lines (rising_stay first_of (map of_first t.own) (rising_keys t.own rising)) ∙ lines_are t.own
 
 -- a session's first writes have as many sectors as their places too
-whole_first : (n : ℕ) (own : List OwnWrite) → AreWholeWrites own → AreWholeWrites (take n own)
+pub whole_first : (n : ℕ) (own : List OwnWrite) → AreWholeWrites own → AreWholeWrites (take n own)
 whole_first zero own whole = tt
 whole_first (suc n) [] whole = tt
 whole_first (suc n) (w ∷ own) whole = (whole.0, whole_first n own whole.1)

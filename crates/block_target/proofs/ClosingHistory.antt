@@ -1,5 +1,5 @@
 -- The history of a closed world is what the sessions put.
-use Rattle.std.proofs.Common.{◌≡◌, ◌⊎◌, inl, inr, ℕ, ◌+◌, ◌-◌, ◌<◌, ◌≤◌, zero, suc, Bool, true, false, cond, Option, Some, None, List, [], ◌∷◌, ◌++◌, length, refl, sym, subst, ap, ap₂, ◌∙◌, arith}
+use Rattle.std.proofs.Common.{◌≡◌, ◌⊎◌, inl, inr, ℕ, ◌+◌, ◌-◌, ◌<◌, ◌≤◌, zero, suc, Bool, true, false, cond, Option, Some, None, List, [], ◌∷◌, length, refl, sym, subst, ap, ap₂, ◌∙◌, arith}
 use Rattle.std.specs.Prelude.{map, slice_get}
 use Rattle.std.specs.List.{AllByRecursion, Contains, filter}
 use Rattle.std.specs.Option.{is_some}
@@ -7,7 +7,8 @@ use Rattle.std.proofs.lemmas.Bool.{cases_lt}
 use Rattle.std.proofs.lemmas.Option.{none-some, same_Some}
 use Rattle.pblk_model.specs.RingState.{between, covers, times}
 use Rattle.pblk_model.proofs.Lists.{IsAmong, all_append, all_contains, among_contained, among_more}
-use Rattle.pblk_model.proofs.Parts.{contained_among, get_right, got_within}
+use Rattle.pblk_model.proofs.Parts.{contained_among, got_within}
+use Rattle.pblk_model.proofs.Maps.{from_map, get_mapped, in_map}
 use Rattle.pblk_world.specs.EngineLog.{Taken, takes}
 use Rattle.pblk_world.specs.Events.{Logged, Source}
 use Rattle.pblk_world.specs.Fronts.{first_position, is_users, taken, user_takes}
@@ -25,9 +26,11 @@ use Rattle.write_ring.specs.declared.view.Row.{Row}
 use Rattle.write_ring.proofs.ClaimLists.{inside}
 use Rattle.chronicle.specs.Views.{Past}
 use Rattle.pblk_engine.specs.Hearts.{ring_row}
+use Rattle.prefix_law.proofs.Among.{behind}
 use Rattle.block_target.specs.Closes.{IsKept, joined, writes_from}
 use Rattle.block_target.specs.Sessions.{SessionView, history_lines, line_of, row_of}
 use Rattle.block_target.proofs.ClosingParts.{among_get, claims_are, get_among, line_put, put_line}
+use Rattle.block_target.proofs.LogLines.{rise_lower}
 
 -- ---- rows at one position
 
@@ -136,11 +139,6 @@ often_at (u ∷ ts) from (suc k) t at there =
     ap (λ n. often n (u ∷ ts)) moved ∙ often_first (from + 1 + k) u ts ∙ ap₂ (λ n m. n + m) none rest
     ∙ (let e : 0 + cond (is_users t.entry.source) 1 0 ≡ cond (is_users t.entry.source) 1 0 = omega arith in e)
 
--- their lines rise
-rise_lower : (a b to : ℕ) (xs : List PlacedSector) → a ≤ b → Rise b to xs → Rise a to xs
-rise_lower a b to [] le rise = omega (arith, rise)
-rise_lower a b to (x ∷ xs) le rise = (omega (arith, rise.0), rise.1)
-
 pub rise_of : (ts : List Taken) (from : ℕ) → AreFrom from ts → Rise from (from + length ts) (lines_in ts)
 rise_of [] from at = omega arith
 rise_of (t ∷ ts) from at =
@@ -178,21 +176,6 @@ among_passed p (y ∷ xs) x at = go (p y) refl (among_passed p xs x) at
     go true is rest (zero, there) = ((0, there), ap p (sym (same_Some y x there)) ∙ is)
     go true is rest (suc k, there) = let was = rest (k, there) in ((suc was.0.0, was.0.1), was.1)
     go false is rest there = let was = rest there in ((suc was.0.0, was.0.1), was.1)
-
-among_mapped : {X Y : Type 0} (f : X → Y) (xs : List X) (x : X) → IsAmong xs x → IsAmong (map f xs) (f x)
-among_mapped f [] x (k, there) = absurd (none-some x there)
-among_mapped f (y ∷ xs) x (zero, there) = (0, ap (λ z. Some (f z)) (same_Some y x there))
-among_mapped f (y ∷ xs) x (suc k, there) = let rest = among_mapped f xs x (k, there) in (suc rest.0, rest.1)
-
-among_unmapped : {X Y : Type 0} (f : X → Y) (xs : List X) (y : Y) → IsAmong (map f xs) y → (x : X) × IsAmong xs x × (f x ≡ y)
-among_unmapped f [] y (k, there) = absurd (none-some y there)
-among_unmapped f (x ∷ xs) y (zero, there) = (x, (0, refl), same_Some (f x) y there)
-among_unmapped f (x ∷ xs) y (suc k, there) = let rest = among_unmapped f xs y (k, there) in (rest.0, (suc rest.1.0, rest.1.1), rest.2)
-
-get_mapped : {X Y : Type 0} (f : X → Y) (xs : List X) (k : ℕ) (x : X) → slice_get xs k ≡ Some x → slice_get (map f xs) k ≡ Some (f x)
-get_mapped f [] k x there = absurd (none-some x there)
-get_mapped f (y ∷ xs) zero x there = ap (λ z. Some (f z)) (same_Some y x there)
-get_mapped f (y ∷ xs) (suc k) x there = get_mapped f xs k x there
 
 -- the line that a row is
 abbrev line_in : Row → PlacedSector
@@ -261,7 +244,7 @@ module _ (log : List Logged) (first : ℕ) (first_is : first_position log ≡ fi
   -- each line of the history was put by the pass
   pub line_was_put : (line : PlacedSector) → IsAmong (history_lines log) line → (r : Row) × IsAmong pass.puts r × (line_in r ≡ line)
   line_was_put line at =
-      let was = among_unmapped line_of (user_takes log) line at in
+      let was = from_map line_of (user_takes log) line at in
       let passed = among_passed (λ (t : Taken). is_users t.entry.source) (takes log) was.0 was.1 in
       let put = (put_as passed.0.0 was.0 passed.0.1).0 (not_some was.0.entry.source passed.1) in
       (ring_row was.0, get_among pass.puts put.0 (ring_row was.0) put.1, was.2)
@@ -301,7 +284,7 @@ module _ (log : List Logged) (first : ℕ) (first_is : first_position log ≡ fi
             let same : ring_row t ≡ r = sym (one_row pass.puts r (ring_row t) put (get_among pass.puts its.0 (ring_row t) its.1)
             (at ∙ sym (from_first k t there)) most) in
             subst (λ (x : Row). IsAmong (history_lines log) (line_in x)) same
-            (among_mapped line_of (user_takes log) t (among_filter (λ (t : Taken). is_users t.entry.source) (takes log) t own (k, there)))
+            (in_map line_of (user_takes log) t (among_filter (λ (t : Taken). is_users t.entry.source) (takes log) t own (k, there)))
         user k t there at false other =
             let none : covers (first + k) pass.claims ≡ 0 = claimed_at k t there ∙ ap (λ b. cond b 1 0) other in
             let same : covers r.position pass.claims ≡ covers (first + k) pass.claims = ap (λ n. covers n pass.claims) at in
@@ -322,9 +305,6 @@ module _ (log : List Logged) (first : ℕ) (first_is : first_position log ≡ fi
 
 -- ---- writes in their places
 
-among_right : {X : Type 0} (xs ys : List X) (x : X) → IsAmong ys x → IsAmong (xs ++ ys) x
-among_right xs ys x (k, there) = (length xs + k, get_right xs ys k ∙ there)
-
 among_flat : (writes : List ThreadWrite) (w : ThreadWrite) (line : PlacedSector) → IsAmong writes w → IsAmong (lines_of w.write) line
     → IsAmong (all_lines writes) line
 among_flat [] w line (k, there) at = absurd (none-some w there)
@@ -332,7 +312,7 @@ among_flat (v ∷ writes) w line (zero, there) at =
     among_more (lines_of v.write) (all_lines writes) line
     (subst (λ (x : ThreadWrite). IsAmong (lines_of x.write) line) (sym (same_Some v w there)) at)
 among_flat (v ∷ writes) w line (suc k, there) at =
-    among_right (lines_of v.write) (all_lines writes) line (among_flat writes w line (k, there) at)
+    behind (lines_of v.write) (all_lines writes) line (among_flat writes w line (k, there) at)
 
 whole_own : (thread : ℕ) (own : List OwnWrite) → AllByRecursion (λ w. (1 ≤ w.place.count) × (length w.sectors ≡ w.place.count)) own
     → AllByRecursion HasItsSectors (map (λ w. record { thread = thread; write = w }) own)

@@ -1,7 +1,7 @@
 -- Which commands a worker lost in a world, by its list of the commands that it made.
-use Rattle.std.proofs.Common.{◌≡◌, ◌⊎◌, inl, inr, ⊎_elim, ℕ, ◌+◌, ◌-◌, ◌<◌, ◌==◌, ◌&&◌, suc, Bool, true, false, true≢false, cond, Option, Some, List, [], ◌∷◌, ◌++◌, length, refl, sym, subst, ap, ◌∙◌, arith, append-nil}
+use Rattle.std.proofs.Common.{◌≡◌, ◌⊎◌, ⊎_elim, ℕ, ◌+◌, ◌-◌, ◌<◌, ◌==◌, ◌&&◌, suc, Bool, true, false, true≢false, cond, Some, List, [], ◌∷◌, ◌++◌, length, refl, sym, subst, ap, ◌∙◌, arith, append-nil}
 use Rattle.std.specs.Prelude.{map, slice_get}
-use Rattle.std.specs.List.{cons_option, filter, filter_map}
+use Rattle.std.specs.List.{filter}
 use Rattle.std.proofs.lemmas.Bool.{cases_eq, eqb-true}
 use Rattle.std.proofs.lemmas.Option.{none-some, slice_get_within}
 use Rattle.std.proofs.lemmas.List.{map-append}
@@ -13,13 +13,13 @@ use Rattle.pblk_model.proofs.Tests.{same_number}
 use Rattle.pblk_world.specs.Events.{Decides, Does, EngineEvent, Event, Logged, Maker, Step}
 use Rattle.pblk_world.specs.Legal.{IsAllowed, IsLegal}
 use Rattle.pblk_world.specs.Makers.{HasMakers, IsNumbered, commands_of, is_made_by}
-use Rattle.pblk_world.specs.World.{World, log_of, prefixes, unit_event_of, unit_events}
-use Rattle.pblk_world.proofs.Growing.{at_end}
+use Rattle.pblk_world.specs.World.{World, log_of, prefixes, unit_events}
 use Rattle.pblk_world.proofs.WorldLemmas.{log_elsewhere, log_here}
 use Rattle.scan_recovery.specs.DriveFaults.{drive_faults_of, is_drive_fault, is_drive_fault_of, place_in}
-use Rattle.world_laws.proofs.Deeds.{IsDeed, deed}
 use Rattle.pblk_engine.specs.Workers.{Made, WasMade}
-use Rattle.pblk_engine.proofs.WorkersLists.{number_below}
+use Rattle.pblk_engine.proofs.WorkersLists.{StandsNewly, number_below, stands}
+use Rattle.pblk_engine.proofs.EventNumbers.{events_count}
+use Rattle.chronicle.proofs.Rights.{others_count, own_count}
 use Rattle.block_target.specs.Closes.{lost_places}
 
 -- ---- lists
@@ -47,49 +47,10 @@ lost_both a b =
     ap (map (λ (m : Made). (m.unit, m.number))) (filter_both (λ (m : Made). is_drive_fault m.event) a b)
     ∙ map-append (λ (m : Made). (m.unit, m.number)) (filter (λ (m : Made). is_drive_fault m.event) a) (filter (λ (m : Made). is_drive_fault m.event) b)
 
--- ---- the logs of units
-
-all_commands : (log : List Logged) → ((n : ℕ) (l : Logged) → slice_get log n ≡ Some l → (e : UnitEvent) × (unit_event_of l.event ≡ Some e))
-    → length (filter_map (λ (l : Logged). unit_event_of l.event) log) ≡ length log
-all_commands [] each = refl
-all_commands (l ∷ log) each =
-    ap (λ (o : Option UnitEvent). length (cons_option o (filter_map (λ (m : Logged). unit_event_of m.event) log))) (each 0 l refl).1
-    ∙ ap suc (all_commands log (λ n m there. each (suc n) m there))
-
--- each event of a unit's log is a command
-events_count : (i : Image) (w : World) (unit : ℕ) → IsLegal i w → length (unit_events (log_of w) unit) ≡ length (log_of w (suc unit))
-events_count i w unit legal = all_commands (log_of w (suc unit))
-    (λ n l there. let d : IsDeed i w unit n l = deed i w unit n l legal there in (d.event, d.is_event))
-
 -- ---- a step more
-
-abbrev StandsNewly : Step → World → ℕ → ℕ → Logged → Type 0
-StandsNewly s w author n l = (s.author ≡ author) × (n ≡ length (log_of w author)) × (s.logged ≡ l)
-
--- what stands in a log stood there before, or is the step's own
-stands : (s : Step) (w : World) (author n : ℕ) (l : Logged) → slice_get (log_of (s ∷ w) author) n ≡ Some l
-    → (slice_get (log_of w author) n ≡ Some l) ⊎ StandsNewly s w author n l
-stands s w author n l there = ⊎_elim
-    (λ (own : s.author ≡ author).
-    ⊎_elim (λ (old : slice_get (log_of w author) n ≡ Some l). inl old)
-    (λ (new : (n ≡ length (log_of w author)) × (s.logged ≡ l)). inr (own, new.0, new.1))
-    (at_end (log_of w author) s.logged l n (ap (λ (log : List Logged). slice_get log n) (sym (log_here s w author own)) ∙ there)))
-    (λ other. inl (ap (λ (log : List Logged). slice_get log n) (sym (log_elsewhere s w author other)) ∙ there))
-    (cases_eq s.author author)
 
 abbrev AreMade : World → ℕ → List Made → Type 0
 AreMade w worker made = (k : ℕ) (m : Made) → slice_get made k ≡ Some m → WasMade (log_of w) worker k m
-
-count_same : (worker : ℕ) (s : Step) (w : World) → is_made_by worker s.logged.event ≡ false → commands_of worker (s ∷ w) ≡ commands_of worker w
-count_same worker s w other =
-    ap (λ b. length (cond b (s ∷ filter (λ (step : Step). is_made_by worker step.logged.event) w)
-    (filter (λ (step : Step). is_made_by worker step.logged.event) w))) other
-
-count_more : (worker : ℕ) (s : Step) (w : World) → is_made_by worker s.logged.event ≡ true → commands_of worker (s ∷ w) ≡ commands_of worker w + 1
-count_more worker s w own =
-    ap (λ b. length (cond b (s ∷ filter (λ (step : Step). is_made_by worker step.logged.event) w)
-    (filter (λ (step : Step). is_made_by worker step.logged.event) w))) own
-    ∙ (let one : suc (commands_of worker w) ≡ commands_of worker w + 1 = omega arith in one)
 
 -- the event is a command, or it isn't of this maker
 abbrev maker_in : Event → Maker → Maker
@@ -196,7 +157,7 @@ module _ (i : Image) (s : Step) (w : World) (worker : ℕ) (made : List Made) (l
       own = ap (is_made_by worker) is ∙ ap (λ n. n == worker) its ∙ same_number worker
 
       parts : IsSplit made (commands_of worker w)
-      parts = split_last made (commands_of worker w) (long ∙ count_more worker s w own)
+      parts = split_last made (commands_of worker w) (long ∙ own_count worker s w own)
 
       m : Made
       m = parts.last
@@ -226,7 +187,7 @@ module _ (i : Image) (s : Step) (w : World) (worker : ℕ) (made : List Made) (l
   lost_step : (b : Bool) → is_made_by worker s.logged.event ≡ b → drive_faults_of worker (s ∷ w) ≡ lost_places made
   lost_step false other =
       lost_kept worker s w (other_lost worker s.logged.event other)
-      ∙ rest made (long ∙ count_same worker s w other) (made_before worker s w made other all)
+      ∙ rest made (long ∙ others_count worker s w other) (made_before worker s w made other all)
   lost_step true own = by_event s.logged.event refl own
 
 -- of a worker that made just these they are those of the list

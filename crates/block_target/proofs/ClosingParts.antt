@@ -1,5 +1,5 @@
 -- What tickets hand over: their workers, and their parts of the ring.
-use Rattle.std.proofs.Common.{◌≡◌, ◌⊎◌, inl, inr, ℕ, ◌+◌, ◌<◌, ◌≤◌, zero, suc, Some, List, [], ◌∷◌, ◌++◌, length, length-append, refl, sym, subst, ap, ap₂, ◌∙◌, arith}
+use Rattle.std.proofs.Common.{◌≡◌, ◌⊎◌, inl, inr, ℕ, ◌+◌, ◌<◌, ◌≤◌, zero, suc, Some, List, [], ◌∷◌, ◌++◌, length, length-append, refl, sym, subst, ap, ◌∙◌, arith}
 use Rattle.std.specs.Prelude.{map, slice_get}
 use Rattle.std.specs.List.{AllByRecursion, flat_map}
 use Rattle.std.proofs.lemmas.Grind.{flat_map-append}
@@ -8,7 +8,8 @@ use lib.ListN.{get_elem?}
 use mathlib.Core.Option.{some, some-injective}
 use Rattle.pblk_model.specs.RingState.{between, covers}
 use Rattle.pblk_model.proofs.Lists.{IsAmong, among_more}
-use Rattle.pblk_model.proofs.Parts.{get_last, get_right}
+use Rattle.pblk_model.proofs.Parts.{get_last}
+use Rattle.pblk_model.proofs.Maps.{from_map, in_map}
 use Rattle.unit_port.specs.Unit.{ModelUnit}
 use Rattle.block_port.specs.ByPlace.{ThreadWrite, all_lines, covered}
 use Rattle.block_port.specs.Own.{OwnWrite, PlacedSector, lines_of}
@@ -17,23 +18,11 @@ use Rattle.write_ring.specs.declared.view.Row.{Row}
 use Rattle.write_ring.proofs.ClaimLists.{covers_both}
 use Rattle.chronicle.specs.Views.{Past}
 use Rattle.pblk_engine.specs.Workers.{WorkerView}
+use Rattle.prefix_law.proofs.Among.{behind, of_both}
 use Rattle.block_target.specs.Closes.{IsKept, joined, with_workers, writes_from}
 use Rattle.block_target.specs.Sessions.{SessionView, claim_of, row_of}
 
 -- ---- workers
-
--- two lists with something behind each that are the same
-pub same_ends : {X : Type 0} (xs ys : List X) (x y : X) → xs ++ x ∷ [] ≡ ys ++ y ∷ [] → (xs ≡ ys) × (x ≡ y)
-same_ends [] [] x y same = (refl, cc)
-same_ends [] (b ∷ []) x y same = absurd cc
-same_ends [] (b ∷ c ∷ ys) x y same = absurd cc
-same_ends (a ∷ []) [] x y same = absurd cc
-same_ends (a ∷ c ∷ xs) [] x y same = absurd cc
-same_ends (a ∷ xs) (b ∷ ys) x y same =
-    let head : a ≡ b = cc in
-    let tail : xs ++ x ∷ [] ≡ ys ++ y ∷ [] = cc in
-    let rest = same_ends xs ys x y tail in
-    (ap₂ (λ z zs. z ∷ zs) head rest.0, rest.1)
 
 pub some_workers : (ws : List WorkerView) (ts : List SessionView) → 0 < length ts → 0 < length (with_workers ws ts)
 some_workers ws [] some_ts = absurd (omega arith)
@@ -113,42 +102,20 @@ module _ (past : Past) (handed : List ModelUnit) where
       flat_map-append (λ (w : ThreadWrite). lines_of w.write) (map (λ w. record { thread = thread; write = w }) t.own) (writes_from (suc thread) ts)
       ∙ ap (λ (ls : List PlacedSector). ls ++ all_lines (writes_from (suc thread) ts)) (lines_own thread t.own)
 
-  pub among_map : (lines : List PlacedSector) (line : PlacedSector) → IsAmong lines line → IsAmong (map row_of lines) (row_of line)
-  among_map [] line (k, there) = absurd (none-some line there)
-  among_map (x ∷ lines) line (zero, there) = (0, ap (λ (l : PlacedSector). Some (row_of l)) (same_Some x line there))
-  among_map (x ∷ lines) line (suc k, there) = let rest = among_map lines line (k, there) in (suc rest.0, rest.1)
-
-  among_row : (lines : List PlacedSector) (r : Row) → IsAmong (map row_of lines) r → (line : PlacedSector) × IsAmong lines line × (row_of line ≡ r)
-  among_row [] r (k, there) = absurd (none-some r there)
-  among_row (x ∷ lines) r (zero, there) = (x, (0, refl), same_Some (row_of x) r there)
-  among_row (x ∷ lines) r (suc k, there) = let rest = among_row lines r (k, there) in (rest.0, (suc rest.1.0, rest.1.1), rest.2)
-
-  among_right : {X : Type 0} (xs ys : List X) (x : X) → IsAmong ys x → IsAmong (xs ++ ys) x
-  among_right xs ys x (k, there) = (length xs + k, get_right xs ys k ∙ there)
-
-  among_cases : {X : Type 0} (xs ys : List X) (x : X) → IsAmong (xs ++ ys) x → IsAmong xs x ⊎ IsAmong ys x
-  among_cases [] ys x there = inr there
-  among_cases (y ∷ xs) ys x (zero, there) = inl (0, there)
-  among_cases (y ∷ xs) ys x (suc k, there) = go (among_cases xs ys x (k, there))
-    where
-      go : IsAmong xs x ⊎ IsAmong ys x → IsAmong (y ∷ xs) x ⊎ IsAmong ys x
-      go (inl (j, at)) = inl (suc j, at)
-      go (inr at) = inr at
-
   -- each line of the sessions' writes was put
   pub line_put : (p : Part) (ts : List SessionView) (thread : ℕ) (line : PlacedSector) → AllByRecursion (IsKept past handed) ts
       → IsAmong (all_lines (writes_from thread ts)) line → IsAmong (joined p ts).puts (row_of line)
   line_put p [] thread line kept (k, there) = absurd (none-some line there)
   line_put p (t ∷ ts) thread line kept there =
       by (line_put p ts (suc thread) line kept.1)
-      (among_cases (flat_map lines_of t.own) (all_lines (writes_from (suc thread) ts)) line
+      (of_both (flat_map lines_of t.own) (all_lines (writes_from (suc thread) ts)) line
       (subst (λ (ls : List PlacedSector). IsAmong ls line) (lines_here thread t ts) there))
     where
       by : (IsAmong (all_lines (writes_from (suc thread) ts)) line → IsAmong (joined p ts).puts (row_of line))
           → IsAmong (flat_map lines_of t.own) line ⊎ IsAmong (all_lines (writes_from (suc thread) ts)) line
           → IsAmong ((joined p ts).puts ++ t.part.puts) (row_of line)
-      by rest (inl own) = among_right (joined p ts).puts t.part.puts (row_of line)
-          (subst (λ (rs : List Row). IsAmong rs (row_of line)) (sym kept.0.session.part.puts) (among_map (flat_map lines_of t.own) line own))
+      by rest (inl own) = behind (joined p ts).puts t.part.puts (row_of line)
+          (subst (λ (rs : List Row). IsAmong rs (row_of line)) (sym kept.0.session.part.puts) (in_map row_of (flat_map lines_of t.own) line own))
       by rest (inr later) = among_more (joined p ts).puts t.part.puts (row_of line) (rest later)
 
   -- and each row that was put is such a line
@@ -156,7 +123,7 @@ module _ (past : Past) (handed : List ModelUnit) where
       → IsAmong (joined p ts).puts r → (line : PlacedSector) × IsAmong (all_lines (writes_from thread ts)) line × (row_of line ≡ r)
   put_line p [] thread r none kept there = absurd (none-some r (ap (λ (rs : List Row). slice_get rs there.0) (sym none) ∙ there.1))
   put_line p (t ∷ ts) thread r none kept there =
-      by (put_line p ts (suc thread) r none kept.1) (among_cases (joined p ts).puts t.part.puts r there)
+      by (put_line p ts (suc thread) r none kept.1) (of_both (joined p ts).puts t.part.puts r there)
     where
       Here : ℕ → List SessionView → Type 0
       Here from ts = (line : PlacedSector) × IsAmong (all_lines (writes_from from ts)) line × (row_of line ≡ r)
@@ -166,11 +133,11 @@ module _ (past : Past) (handed : List ModelUnit) where
           let was = rest earlier in (
             was.0,
             subst (λ (ls : List PlacedSector). IsAmong ls was.0) (sym (lines_here thread t ts))
-                (among_right (flat_map lines_of t.own) (all_lines (writes_from (suc thread) ts)) was.0 was.1),
+                (behind (flat_map lines_of t.own) (all_lines (writes_from (suc thread) ts)) was.0 was.1),
             was.2,
           )
       by rest (inr own) =
-          let was = among_row (flat_map lines_of t.own) r (subst (λ (rs : List Row). IsAmong rs r) kept.0.session.part.puts own) in (
+          let was = from_map row_of (flat_map lines_of t.own) r (subst (λ (rs : List Row). IsAmong rs r) kept.0.session.part.puts own) in (
             was.0,
             subst (λ (ls : List PlacedSector). IsAmong ls was.0) (sym (lines_here thread t ts))
                 (among_more (flat_map lines_of t.own) (all_lines (writes_from (suc thread) ts)) was.0 was.1),

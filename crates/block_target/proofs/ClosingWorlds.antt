@@ -1,11 +1,8 @@
 -- What a closed target leaves, by what settling told and by what its engine left.
-use Rattle.std.proofs.Common.{◌≡◌, ◌⊎◌, inl, inr, ℕ, ◌+◌, ◌^◌, ◌<◌, ◌≤◌, zero, suc, true, false, cond, Some, Ok, Err, Result, List, [], ◌∷◌, ◌++◌, length, refl, sym, subst, ap, ap₂, ◌∙◌, arith, le_refl, append-nil}
+use Rattle.std.proofs.Common.{◌≡◌, ◌⊎◌, inl, inr, ℕ, ◌+◌, ◌^◌, ◌<◌, ◌≤◌, zero, suc, true, false, Some, Ok, Err, Result, List, [], ◌∷◌, ◌++◌, length, refl, sym, subst, ap, ap₂, ◌∙◌, arith, le_refl, append-nil}
 use Rattle.std.specs.Prelude.{map, slice_get}
 use Rattle.std.specs.List.{AllByRecursion, Contains, filter, flat_map, range_with_len}
 use Rattle.std.proofs.Math.Seq.{take-length}
-use Rattle.std.proofs.lemmas.Bool.{cases_lt}
-use Rattle.std.proofs.lemmas.List.{get_or_past, map-append}
-use Rattle.std.proofs.lemmas.List.FromFn.{get_or-map-range_with_len, length-map-range_with_len}
 use Rattle.std.proofs.lemmas.Option.{none-some, same_Some}
 use mathlib.Core.List.{IsPrefix}
 use Rattle.pblk_model.specs.Contents.{end}
@@ -14,8 +11,6 @@ use Rattle.pblk_model.specs.RingState.{between, covers}
 use Rattle.pblk_model.specs.Sealed.{IsSealed}
 use Rattle.pblk_model.specs.Shape.{units as units_of}
 use Rattle.pblk_model.proofs.Lists.{IsAmong}
-use Rattle.pblk_model.proofs.Maps.{filter_both}
-use Rattle.pblk_model.proofs.Numbers.{fun_same}
 use Rattle.pblk_model.proofs.Parts.{all_at, before_last, get_first, get_last}
 use Rattle.pblk_world.specs.AtRest.{IsAtRest}
 use Rattle.pblk_world.specs.EngineLog.{Placed, begun, is_answered, placements}
@@ -23,11 +18,9 @@ use Rattle.pblk_model.specs.UnitLog.{UnitEvent}
 use Rattle.pblk_world.specs.Events.{Does, Logged, Maker}
 use Rattle.pblk_world.proofs.VictimsLemmas.{whole_prefix}
 use Rattle.pblk_world.specs.Fronts.{first_position, synced, taken}
-use Rattle.pblk_world.specs.Legal.{IsLegal}
 use Rattle.pblk_world.specs.Space.{is_due, position_limit}
 use Rattle.pblk_world.specs.World.{World, Logs, log_of, media}
 use Rattle.core_laws.specs.Positions.{AreNumbered}
-use Rattle.core_laws.proofs.NextWorlds.{none_beyond}
 use Rattle.pblk_core.proofs.SmallCalls.{numbered_in}
 use Rattle.prefix_law.proofs.Prefix.{end_above, end_where_answered, end_within}
 use Rattle.rest_laws.specs.Tidy.{IsTidy}
@@ -49,14 +42,13 @@ use Rattle.chronicle.specs.Views.{Past}
 use Rattle.chronicle.proofs.Rests.{still_begun}
 use Rattle.pblk_engine.specs.Endings.{HasEnded, HasMadeAll}
 use Rattle.pblk_engine.specs.Mounts.{IsMounted}
-use Rattle.pblk_engine.specs.Pumps.{IsFaultOf, NoFaults}
 use Rattle.pblk_engine.specs.Closed.{HasClosed, TellsEnd}
 use Rattle.pblk_engine.specs.Workers.{Made, WorkerView}
 use Rattle.pblk_engine.specs.declared.errors.SettleErr.{SettleErr}
 use Rattle.pblk_engine.specs.declared.errors.SettleErr.TheVariants as errors
-use Rattle.pblk_engine.specs.declared.errors.DriveErr.{DriveErr}
 use Rattle.pblk_engine.proofs.Accepted.{begun_known}
 use Rattle.pblk_engine.proofs.InOrder.{after_resets, none_was_left, opened_full}
+use Rattle.pblk_engine.proofs.OpenedPasts.{all_logs}
 use Rattle.block_target.specs.Closes.{AreAllBack, EndsAtSynced, IsClosed, IsKept, IsTidyClose, IsTold, NoneLost, TellsClosed, answer_at, close_faults, close_worns, joined, lost_places, with_workers, writes_from}
 use Rattle.block_target.specs.Sessions.{EndBelow, SessionView, WereRefused, answer_to, claim_of, faults_of, history_lines}
 use Rattle.block_target.specs.Targets.{TargetView}
@@ -66,22 +58,13 @@ use Rattle.block_target.proofs.ClosingLost.{engine_decides, lost_are, none_lost_
 use Rattle.block_target.proofs.ClosingParts.{claims_of, other_there, worker_there}
 use Rattle.block_target.proofs.OwnClaims.{end_below}
 use Rattle.block_target.proofs.WornAnswers.{all_later, all_taken, refused_more, refused_now}
+use Rattle.block_target.proofs.SessionSteps.{faults_both, faults_one, none_lost}
 use Rattle.step_laws.proofs.UnitSteps.{engine_longer}
 
 -- ---- the logs of a world as a list
 
 abbrev listed : Image → World → Prefixes
 listed i w = map (λ author. log_of w author) (range_with_len 0 (units_of i.shape + 1))
-
-listed_is : (i : Image) (w : World) → IsLegal i w → logs_of (listed i w) ≡ log_of w
-listed_is i w legal = fun_same (logs_of (listed i w)) (log_of w) (λ author. go author (cases_lt author (units_of i.shape + 1)))
-  where
-    go : (author : ℕ) → (author < units_of i.shape + 1) ⊎ (units_of i.shape + 1 ≤ author) → logs_of (listed i w) author ≡ log_of w author
-    go author (inl within) = get_or-map-range_with_len (log_of w) 0 (units_of i.shape + 1) author author [] within (omega arith)
-    go author (inr past) =
-        get_or_past (listed i w) author []
-        (let long : length (listed i w) ≡ units_of i.shape + 1 = length-map-range_with_len (log_of w) 0 (units_of i.shape + 1) in omega arith)
-        ∙ sym (none_beyond i w legal author (omega arith))
 
 -- ---- the answers
 
@@ -91,25 +74,6 @@ answers_are handed made = go (filter (λ (m : Made). is_drive_fault m.event) mad
     go : (lost : List Made) → map (answer_at handed) (map (λ (m : Made). (m.unit, m.number)) lost) ≡ map (answer_to handed) lost
     go [] = refl
     go (m ∷ lost) = ap (λ (rest : List DriveAnswer). answer_to handed m ∷ rest) (go lost)
-
-none_lost : (more : List Made) → NoFaults more → filter (λ (m : Made). is_drive_fault m.event) more ≡ []
-none_lost [] none = refl
-none_lost (m ∷ more) none =
-    ap (λ b. cond b (m ∷ filter (λ (m : Made). is_drive_fault m.event) more) (filter (λ (m : Made). is_drive_fault m.event) more)) none.0
-    ∙ none_lost more none.1
-
-faults_both : (handed : List ModelUnit) (made more : List Made) → faults_of handed (made ++ more) ≡ faults_of handed made ++ faults_of handed more
-faults_both handed made more =
-    ap (map (answer_to handed)) (filter_both (λ (m : Made). is_drive_fault m.event) made more)
-    ∙ map-append (answer_to handed) (filter (λ (m : Made). is_drive_fault m.event) made) (filter (λ (m : Made). is_drive_fault m.event) more)
-
-faults_one : (handed : List ModelUnit) (more : List Made) (e : DriveErr) → IsFaultOf handed more e
-    → faults_of handed more ≡ record { unit = e.unit; event = e.event } ∷ []
-faults_one handed more e is =
-    ap (faults_of handed) is.all ∙ faults_both handed is.others (is.last ∷ [])
-    ∙ ap₂ (λ (ms ns : List Made). map (answer_to handed) ms ++ map (answer_to handed) ns) (none_lost is.others is.none)
-    (ap (λ b. cond b (is.last ∷ []) []) is.lost)
-    ∙ ap₂ (λ u n. record { unit = u; event = n } ∷ []) (sym is.unit) (sym is.number)
 
 -- what the close lost is what it answered
 closed_faults : (i : Image) (handed : List ModelUnit) (logs : Logs) (more : List Made) (r : Result (Unit {0}) SettleErr)
@@ -161,7 +125,7 @@ module _ (past : Past) (key : Key) (handed : List ModelUnit) (wear : List (List 
   late = listed i w
 
   late_is : logs_of late ≡ log_of w
-  late_is = listed_is i w over.legal.legal
+  late_is = all_logs i w over.legal.legal
 
   to_late : (known : Prefixes) → ((author : ℕ) → IsPrefix (logs_of known author) (log_of w author)) → ArePrefixes known late
   to_late known knew = record { each = λ author. subst (λ (l : Logs). IsPrefix (logs_of known author) (l author)) (sym late_is) (knew author) }

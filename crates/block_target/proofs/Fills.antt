@@ -1,12 +1,10 @@
 -- Sectors that are filled into a batch one after another.
-use Rattle.std.proofs.Common.{◌≡◌, ℕ, ◌+◌, ◌-◌, ◌*◌, ◌<◌, ◌≤◌, false, None, List, [], ◌∷◌, ◌++◌, length, take, drop, slice_range, refl, sym, ap, ap₂, subst, ◌∙◌, arith, append-nil, length-append}
+use Rattle.std.proofs.Common.{◌≡◌, ℕ, ◌+◌, ◌-◌, ◌*◌, ◌≤◌, false, None, List, [], ◌∷◌, ◌++◌, length, take, drop, slice_range, refl, sym, ap, ap₂, subst, ◌∙◌, arith, append-nil, length-append}
 use Rattle.std.specs.Prelude.{map}
 use Rattle.std.specs.List.{AllByRecursion}
-use Rattle.std.proofs.Math.Nat.{mul-le-mul_right}
 use Rattle.std.proofs.lemmas.List.{length-take-le, map-append, take-append-drop}
 use Rattle.pblk_model.specs.Frames.{FrameView}
 use Rattle.pblk_model.proofs.Lists.{all_append}
-use Rattle.pblk_model.proofs.Numbers.{next_at}
 use Rattle.sector_pool.specs.declared.entry.Class.TheVariants as kind
 use Rattle.block_port.specs.Own.{PlacedSector, placed_from, sectors_of}
 use Rattle.block_port.proofs.OwnLemmas.{cut_none, length_sectors, sectors_append}
@@ -110,9 +108,3 @@ filling_more old now new lba size index bytes f is enough filled drafts free reg
         ++ record { position = first + n; write = record { lba = lba + n; sector = part } } ∷ []) many)
         ∙ map-append row_of (placed_from first lba (sectors_of size index bytes))
         (record { position = first + index; write = record { lba = lba + index; sector = part } } ∷ []))
-
-pub part_inside : (index count size : ℕ) → index < count → index * size + size ≤ count * size
-part_inside index count size less =
-    let e : (index + 1) * size ≡ index * size + size = next_at index size in
-    let le : (index + 1) * size ≤ count * size = mul-le-mul_right size (let h : index + 1 ≤ count = omega arith in h) in
-    omega arith

@@ -1,5 +1,5 @@
 -- Arms as an opening makes them of units, and as it takes the units out again.
-use Rattle.std.proofs.Common.{◌≡◌, ◌⊎◌, inl, inr, ⊎_elim, ℕ, zero, suc, ◌+◌, ◌<◌, Some, List, [], ◌∷◌, ◌++◌, length, length-append, map, reverse, append_assoc, refl, sym, subst, ap, ap₂, ◌∙◌, arith}
+use Rattle.std.proofs.Common.{◌≡◌, ◌⊎◌, ⊎_elim, ℕ, zero, suc, ◌+◌, ◌<◌, Some, List, [], ◌∷◌, ◌++◌, length, length-append, map, reverse, append_assoc, refl, sym, subst, ap, ap₂, ◌∙◌, arith}
 use Rattle.std.specs.Prelude.{slice_get}
 use Rattle.std.specs.List.{range_with_len}
 use Rattle.std.proofs.lemmas.List.{map-append, reverse-append}
@@ -10,11 +10,12 @@ use Rattle.chronicle.specs.Handles.{AuthorView}
 use Rattle.chronicle.specs.Views.{Past}
 use Rattle.pblk_engine.specs.Arms.{ArmView, arm_view}
 use Rattle.pblk_engine.specs.Endings.{AreArmsInOrder}
+use Rattle.pblk_world.proofs.Growing.{at_end}
 use Rattle.block_target.specs.Targets.{AreTakenOut, arms_of}
 
 -- ---- lists
 
-last_same : {X : Type 0} (xs ys : List X) (x y : X) → xs ++ x ∷ [] ≡ ys ++ y ∷ [] → (xs ≡ ys) × (x ≡ y)
+pub last_same : {X : Type 0} (xs ys : List X) (x y : X) → xs ++ x ∷ [] ≡ ys ++ y ∷ [] → (xs ≡ ys) × (x ≡ y)
 last_same [] [] x y e = (refl, cc)
 last_same [] (z ∷ ys) x y e = absurd (omega (arith, ap length e, length-append ys (y ∷ [])))
 last_same (z ∷ xs) [] x y e = absurd (omega (arith, ap length e, length-append xs (x ∷ [])))
@@ -30,13 +31,6 @@ one_longer xs ys x is = ap length is ∙ length-append xs (x ∷ [])
 pub at_middle : {X Y : Type 0} (f : X → Y) (xs ys : List X) (y : X) → slice_get (map f (xs ++ y ∷ ys)) (length xs) ≡ Some (f y)
 at_middle f [] ys y = refl
 at_middle f (x ∷ xs) ys y = at_middle f xs ys y
-
--- what stands in a list with one more is that one or stood there before
-at_end : {X : Type 0} (xs : List X) (y : X) (k : ℕ) (x : X) → slice_get (xs ++ y ∷ []) k ≡ Some x → (slice_get xs k ≡ Some x) ⊎ ((k ≡ length xs) × (y ≡ x))
-at_end [] y zero x there = inr (refl, same_Some y x there)
-at_end [] y (suc k) x there = absurd (none-some x there)
-at_end (z ∷ xs) y zero x there = inl there
-at_end (z ∷ xs) y (suc k) x there = ⊎_elim inl (λ h. inr (ap suc h.0, h.1)) (at_end xs y k x there)
 
 -- two lists of one length that have the same in each place
 pub lists_same : {X : Type 0} (xs ys : List X) → length xs ≡ length ys → ((k : ℕ) (x : X) → slice_get xs k ≡ Some x → slice_get ys k ≡ Some x) → xs ≡ ys
@@ -115,7 +109,7 @@ one_out wear arms us worn is a u levels numbered unit has = record {
   each = λ number l there.
       ⊎_elim (λ old. is.each number l old)
       (λ new. subst (λ x. slice_get wear number ≡ Some x) new.1 (subst (λ n. slice_get wear n ≡ Some levels) (numbered ∙ sym (new.0 ∙ is.count)) has))
-      (at_end worn levels number l there);
+      (at_end worn levels l number there);
 }
 
 pub taken_whole : (wear : List (List ℕ)) (past : Past) (us out : List ModelUnit) (worn : List (List ℕ)) → length wear ≡ length us

@@ -1,5 +1,5 @@
 -- What a mount is made of that has just begun: no frame is in the core's window.
-use Rattle.std.proofs.Common.{◌≡◌, List, [], ◌∷◌, length, refl, arith}
+use Rattle.std.proofs.Common.{◌≡◌, [], arith}
 use Rattle.pblk_model.specs.declared.found.Found.{Found}
 use Rattle.write_ring.specs.declared.view.Key.{Key}
 use Rattle.write_window.specs.Window as window
@@ -7,10 +7,7 @@ use Rattle.pblk_core.specs.declared.target_core.Core.{Core}
 use Rattle.chronicle.specs.Views.{Past}
 use Rattle.pblk_engine.specs.Beginnings.{IsFirstCore, IsFirstPast}
 use Rattle.pblk_engine.proofs.Beginnings.{heart_first}
-
-nothing_left : {X : Type 0} (xs : List X) → length xs ≡ 0 → xs ≡ []
-nothing_left [] e = refl
-nothing_left (x ∷ xs) e = absurd (omega arith)
+use Rattle.pblk_engine.proofs.RestingHearts.{empty_counts}
 
 pub window_empty : (past : Past) (f : Found) → IsFirstPast past f → (core : Core) → IsFirstCore past.image.shape f core
     → (key : Key) → key.first ≡ f.end → core.window.entries ≡ []
@@ -18,4 +15,4 @@ window_empty past f is core new key first =
     let heart = heart_first past f is core new key first in
     let taken : key.first ≡ window.taken core.window = heart.taken in
     let freed : key.first ≡ core.window.freed = heart.freed in
-    nothing_left core.window.entries (omega arith)
+    empty_counts core.window.entries (omega arith)

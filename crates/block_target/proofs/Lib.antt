@@ -19,5 +19,6 @@ pub mod WriteSteps
 mod ClosingLost
 mod ClosingParts
 mod ClosingHistory
-mod ClosingAlone
+pub mod ClosingAlone
 mod ClosingWorlds
+pub mod AllBack

@@ -1,9 +1,8 @@
 -- The users' entries of an engine's log as lines of the history, and the fronts there.
-use Rattle.std.proofs.Common.{◌≡◌, ℕ, ◌+◌, ◌<◌, ◌≤◌, nat_lt, suc, Some, Option, Bool, true, false, cond, List, [], ◌∷◌, ◌++◌, length, take, refl, sym, ap, subst, ◌∙◌, arith, le_trans, append-nil, append_assoc, length-append}
+use Rattle.std.proofs.Common.{◌≡◌, ℕ, ◌+◌, ◌<◌, ◌≤◌, nat_lt, suc, Some, Option, Bool, true, false, cond, List, [], ◌∷◌, ◌++◌, length, take, refl, sym, ap, subst, ◌∙◌, arith, le_trans, length-append}
 use Rattle.std.specs.Prelude.{map, slice_get}
 use Rattle.std.specs.List.{filter}
 use Rattle.std.proofs.lemmas.List.{map-append}
-use Rattle.std.proofs.lemmas.List.Elements.{filter_map-append}
 use Rattle.std.proofs.lemmas.Option.{slice_get_within}
 use mathlib.Core.List.{IsPrefix}
 use Rattle.pblk_model.specs.declared.shape.Shape.{Shape}
@@ -11,23 +10,24 @@ use Rattle.pblk_model.specs.History.{users}
 use Rattle.pblk_model.proofs.Maps.{filter_both}
 use Rattle.pblk_model.proofs.Parts.{get_first}
 use Rattle.pblk_model.proofs.Tests.{lt_true}
-use Rattle.pblk_world.specs.EngineLog.{Begun, Taken, begun, taken_by, takes}
+use Rattle.pblk_world.specs.EngineLog.{Begun, Taken, begun, takes}
 use Rattle.pblk_world.specs.Events.{Logged}
 use Rattle.pblk_world.specs.Fronts.{first_position, is_users, synced, taken, user_takes}
 use Rattle.pblk_world.proofs.EngineLogLemmas.{begun_of_first}
 use Rattle.core_laws.specs.Positions.{AreNumbered}
 use Rattle.core_laws.specs.WindowOf.{users_below}
-use Rattle.core_laws.proofs.Growing.{synced_grown}
 use Rattle.pblk_core.proofs.WaitingEntries.{numbered_at}
 use Rattle.chronicle.proofs.PrefixLemmas.{begins_take}
 use Rattle.block_port.specs.Own.{PlacedSector}
 use Rattle.block_port.specs.Port.{Rise, positions}
+use Rattle.world_laws.proofs.Later.{takes_joined}
+use Rattle.world_laws.proofs.Fronts.{synced_later}
 use Rattle.block_target.specs.Sessions.{history_lines, line_of}
 
 -- ---- a longer log
 
 -- lines that rise from a position rise from a lower one
-rise_lower : (a b to : ℕ) (xs : List PlacedSector) → a ≤ b → Rise b to xs → Rise a to xs
+pub rise_lower : (a b to : ℕ) (xs : List PlacedSector) → a ≤ b → Rise b to xs → Rise a to xs
 rise_lower a b to [] le rise = le_trans le rise
 rise_lower a b to (x ∷ xs) le rise = (le_trans le rise.0, rise.1)
 
@@ -53,12 +53,9 @@ rise_lines (t ∷ ts) from at =
     (subst (λ n. Rise (from + 1) n (map line_of (filter (λ t. is_users t.entry.source) ts))) to
     (rise_lines ts (from + 1) (λ k u there. at (suc k) u there ∙ (let e : from + suc k ≡ from + 1 + k = omega arith in e))))
 
-takes_both : (a b : List Logged) → takes (a ++ b) ≡ takes a ++ takes b
-takes_both a b = filter_map-append (λ l. taken_by l.event) a b
-
 lines_both : (a b : List Logged) → history_lines (a ++ b) ≡ history_lines a ++ history_lines b
 lines_both a b =
-    ap (λ (ts : List Taken). map line_of (filter (λ t. is_users t.entry.source) ts)) (takes_both a b)
+    ap (λ (ts : List Taken). map line_of (filter (λ t. is_users t.entry.source) ts)) (takes_joined a b)
     ∙ ap (map line_of) (filter_both (λ (t : Taken). is_users t.entry.source) (takes a) (takes b))
     ∙ map-append line_of (user_takes a) (user_takes b)
 
@@ -97,7 +94,7 @@ more_lines early late first is begins numbered = record {
     start = ap first_position (sym is.1) ∙ first_stays early is.0 first begins
 
     both : takes late ≡ takes early ++ takes is.0
-    both = ap takes (sym is.1) ∙ takes_both early is.0
+    both = ap takes (sym is.1) ∙ takes_joined early is.0
 
     long : length (takes late) ≡ length (takes early) + length (takes is.0)
     long = ap length both ∙ length-append (takes early) (takes is.0)
@@ -120,19 +117,12 @@ more_lines early late first is begins numbered = record {
         (ap (λ (ts : List Taken). slice_get ts (length (takes early) + k)) both ∙ get_behind (takes early) (takes is.0) k t there) in
         omega (arith, start, is_at)
 
--- a longer log has no less on the drive
-synced_more : (s : Shape) (a b : List Logged) → synced s a ≤ synced s (a ++ b)
-synced_more s a [] = subst (λ (log : List Logged). synced s a ≤ synced s log) (sym (append-nil a)) (omega arith)
-synced_more s a (l ∷ b) =
-    le_trans (synced_grown s a l)
-    (subst (λ (log : List Logged). synced s (a ++ l ∷ []) ≤ synced s log) (append_assoc a (l ∷ []) b) (synced_more s (a ++ l ∷ []) b))
-
 pub synced_prefix : (s : Shape) (early late : List Logged) → IsPrefix early late → synced s early ≤ synced s late
-synced_prefix s early late is = subst (λ (log : List Logged). synced s early ≤ synced s log) is.1 (synced_more s early is.0)
+synced_prefix s early late is = subst (λ (log : List Logged). synced s early ≤ synced s log) is.1 (synced_later s early is.0)
 
 -- ---- the fronts
 
-positions_placed : (ts : List Taken) → positions (map line_of ts) ≡ map (λ t. t.entry.position) ts
+pub positions_placed : (ts : List Taken) → positions (map line_of ts) ≡ map (λ t. t.entry.position) ts
 positions_placed [] = refl
 positions_placed (t ∷ ts) = ap (λ ps. t.entry.position ∷ ps) (positions_placed ts)
 

@@ -1,20 +1,17 @@
 -- While a session waits for room, or for its entries.
-use Rattle.std.proofs.Common.{◌≡◌, inl, inr, ℕ, ◌+◌, ◌≤◌, false, Ok, Err, List, [], ◌∷◌, ◌++◌, length, take, refl, sym, ap, subst, ◌∙◌, arith, append-nil, append_assoc}
+use Rattle.std.proofs.Common.{◌≡◌, inl, inr, ℕ, ◌+◌, ◌≤◌, Ok, Err, List, [], ◌++◌, length, take, refl, sym, ap, subst, ◌∙◌, arith, append-nil, append_assoc}
 use Rattle.std.specs.Prelude.{max}
 use Rattle.std.proofs.Math.Seq.{take-length}
 use Rattle.pblk_model.specs.Image.{Image}
-use Rattle.pblk_model.proofs.Lists.{all_append}
-use Rattle.scan_recovery.specs.DriveFaults.{is_drive_fault}
 use Rattle.unit_port.specs.Unit.{ModelUnit}
 use Rattle.pblk_model.specs.declared.run.Front.{Front}
 use Rattle.pblk_world.specs.AtRest.{IsWornWrite}
 use Rattle.pblk_world.specs.Fronts.{taken}
 use Rattle.chronicle.specs.Prefixes.{logs_of}
 use Rattle.chronicle.proofs.Rests.{still_begun}
-use Rattle.pblk_engine.specs.Pumps.{GoesOn, IsFaultOf, NoFaults}
+use Rattle.pblk_engine.specs.Pumps.{GoesOn, NoFaults}
 use Rattle.pblk_engine.specs.Waits.{AsksUpTo, HasFlushed, HasRoomed, WentOn}
 use Rattle.pblk_engine.specs.Workers.{Made, WorkerView}
-use Rattle.pblk_engine.specs.declared.errors.DriveErr.{DriveErr}
 use Rattle.pblk_engine.specs.declared.errors.SettleErr.{SettleErr}
 use Rattle.pblk_engine.specs.declared.errors.SettleErr.TheVariants as errors
 use Rattle.pblk_engine.specs.declared.outcomes.Did.{Did}
@@ -22,6 +19,7 @@ use Rattle.pblk_engine.specs.declared.outcomes.Flushed.TheVariants as flushed
 use Rattle.pblk_engine.specs.declared.outcomes.Roomed.{Roomed}
 use Rattle.pblk_engine.specs.declared.outcomes.Roomed.TheVariants as roomed
 use Rattle.pblk_engine.proofs.GoingOn.{all_known}
+use Rattle.pblk_engine.proofs.Settlings.{fault_then, none_of_both}
 use Rattle.block_target.specs.Causes.{HasCause, TellsPut, TellsSync}
 
 -- ---- workers that went on
@@ -38,22 +36,6 @@ went_then a b c xs ys first second = record {
 
 pub went : (a b : WorkerView) (xs : List Made) → GoesOn a b xs → WentOn a b xs
 went a b xs on = record { number = on.number; keeps = on.keeps; made = on.made }
-
--- ---- what was lost
-
-pub none_both : (xs ys : List Made) → NoFaults xs → NoFaults ys → NoFaults (xs ++ ys)
-none_both xs ys first second = all_append (λ (m : Made). is_drive_fault m.event ≡ false) xs ys first second
-
-pub fault_later : (handed : List ModelUnit) (xs ys : List Made) (e : DriveErr) → NoFaults xs → IsFaultOf handed ys e → IsFaultOf handed (xs ++ ys) e
-fault_later handed xs ys e none is = record {
-  others = xs ++ is.others;
-  last = is.last;
-  all = ap (λ (ms : List Made). xs ++ ms) is.all ∙ sym (append_assoc xs is.others (is.last ∷ []));
-  none = none_both xs is.others none is.none;
-  lost = is.lost;
-  unit = is.unit;
-  number = is.number;
-}
 
 -- ---- pads
 
@@ -87,7 +69,7 @@ pub well_more : (a b c : WorkerView) (xs : List Made) → WentWell a b → WentO
 well_more a b c xs was on none = record {
   more = was.more ++ xs;
   on = went_then a b c was.more xs was.on on;
-  none = none_both was.more xs was.none none;
+  none = none_of_both was.more xs was.none none;
 }
 
 went_on : (a b c : WorkerView) (xs : List Made) → WentWell a b → GoesOn b c xs → NoFaults xs → WentWell a c
@@ -115,7 +97,7 @@ pub roomed_lost : (i : Image) (handed : List ModelUnit) (claimed count unit even
 roomed_lost i handed claimed count unit event a b c was is = record {
   more = was.more ++ is.more;
   on = went_then a b c was.more is.more was.on (went b c is.more is.on);
-  tells = (fault_later handed was.more is.more (record { unit = unit; event = event }) was.none is.tells.1.0, is.tells.0);
+  tells = (fault_then handed was.more is.more (record { unit = unit; event = event }) was.none is.tells.1.0, is.tells.0);
 }
 
 -- where nobody had: what is wanted lies just behind all that was taken
@@ -153,7 +135,7 @@ pub flushed_err : (i : Image) (handed : List ModelUnit) (position : ℕ) (a b c 
 flushed_err i handed position a b c (errors.Drive unit event) was is = record {
   more = was.more ++ is.more;
   on = went_then a b c was.more is.more was.on is.on;
-  tells = (fault_later handed was.more is.more (record { unit = unit; event = event }) was.none is.tells.1.0, is.tells.0);
+  tells = (fault_then handed was.more is.more (record { unit = unit; event = event }) was.none is.tells.1.0, is.tells.0);
 }
 flushed_err i handed position a b c (errors.Worn wanted have) was is =
     let all = well_more a b c is.more was is.on (none_made is.more is.tells.0) in

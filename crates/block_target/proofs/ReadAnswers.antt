@@ -25,11 +25,10 @@ use Rattle.unit_port.specs.Unit.{ModelUnit}
 use Rattle.write_ring.specs.declared.view.Key.{Key}
 use Rattle.chronicle.specs.Prefixes.{AreLegalLogs, ArePrefixes, Prefixes, logs_of}
 use Rattle.chronicle.specs.Views.{Past}
-use Rattle.chronicle.proofs.PrefixLemmas.{begins_take}
 use Rattle.pblk_engine.specs.Looks.{front_taken, latest_by}
 use Rattle.pblk_engine.specs.Mounts.{IsMounted}
 use Rattle.pblk_engine.specs.Reads.{HasReadAt, part_at}
-use Rattle.pblk_engine.proofs.Accepted.{begun_known}
+use Rattle.pblk_engine.proofs.Accepted.{begun_known, prefixes_of}
 use Rattle.pblk_engine.proofs.Settlings.{taken_prefix}
 use Rattle.block_port.specs.Own.{PlacedSector, sectors_of}
 use Rattle.block_port.specs.Port.{IsFront, IsSeen, Rise, contents_after, positions, sectors_at}
@@ -38,15 +37,6 @@ use Rattle.block_target.specs.Sessions.{SessionView, device, history_lines, line
 use Rattle.block_target.proofs.Fills.{sectors_next}
 use Rattle.block_target.proofs.LogLines.{IsMore, more_lines, users_taken}
 use Rattle.block_target.proofs.SessionSteps.{numbered, taken_small}
-
--- ---- what the mount found
-
-prefixes_of : (a b : Prefixes) (v w : World) → log_of v ≡ logs_of a → log_of w ≡ logs_of b → ArePrefixes a b → early.ArePrefixes w (log_of v)
-prefixes_of a b v w first second more author = (
-  length (logs_of a author),
-  ap (λ (l : Logs). l author) first ∙ sym (begins_take (logs_of a author) (logs_of b author) (more.each author))
-      ∙ ap (λ (l : Logs). take (length (logs_of a author)) (l author)) (sym second),
-)
 
 -- ---- the lines below a front that was taken
 

@@ -1,26 +1,22 @@
 -- What units did while their drive was made ready is of a legal world.
-use Rattle.std.proofs.Common.{◌≡◌, ◌⊎◌, ℕ, ◌≤◌, Some, List, [], length, subst, sym, ap, ◌∙◌}
+use Rattle.std.proofs.Common.{◌≡◌, ℕ, Some, List, [], ap, ◌∙◌}
 use Rattle.std.specs.Prelude.{slice_get}
 use Rattle.std.specs.Option.{option_map}
 use Rattle.std.proofs.lemmas.Option.{slice_get-map}
 use Rattle.pblk_model.specs.declared.shape.Shape.{Shape}
 use Rattle.pblk_model.specs.Accepted.{IsAccepted}
 use Rattle.pblk_model.specs.Image.{Image}
-use Rattle.unit_port.specs.Armed.{Armed, IsUnarmed}
 use Rattle.unit_port.specs.Commands.{IsKept}
 use Rattle.unit_port.specs.Unit.{ModelUnit}
 use Rattle.scan_recovery.specs.Readying.{AreHandedBack}
 use Rattle.scan_recovery.specs.Units.{AreFit, IsUnitOf, image_of}
 use Rattle.scan_recovery.proofs.PadLoops.{fit_kept}
 use Rattle.pblk_world.specs.World.{log_of}
-use Rattle.step_laws.specs.Opened.{AreArmed, IsArmed, new_events}
+use Rattle.step_laws.specs.Opened.{AreArmed, new_events}
 use Rattle.step_laws.proofs.Worlds.{legal_mount, logs_are, media_are, stops_there, units_quiet}
 use Rattle.pblk_engine.specs.Arms.{IsArm}
+use Rattle.pblk_engine.proofs.OpenedPasts.{armed_still}
 use Rattle.block_target.specs.Opened.{AreReadied, readied_world}
-
--- a unit with more in its log is armed as it was
-armed_still : (old new : ModelUnit) → new.armed ≡ old.armed → IsArmed old → IsUnarmed new.armed ⊎ (new.armed.since ≤ length old.log)
-armed_still old new same = subst (λ (a : Armed). IsUnarmed a ⊎ (a.since ≤ length old.log)) (sym same)
 
 module _ (s : Shape) (us new : List ModelUnit) (accepted : IsAccepted s) (fit : AreFit s us) (armed : AreArmed us) (back : AreHandedBack s us new) where
   -- each unit is as that world leaves it

@@ -107,13 +107,13 @@ same_target past handed wear old new same = record {
 
 -- ---- the commands that were lost
 
-none_lost : (more : List Made) → NoFaults more → filter (λ (m : Made). is_drive_fault m.event) more ≡ []
+pub none_lost : (more : List Made) → NoFaults more → filter (λ (m : Made). is_drive_fault m.event) more ≡ []
 none_lost [] none = refl
 none_lost (m ∷ more) none =
     ap (λ b. cond b (m ∷ filter (λ (m : Made). is_drive_fault m.event) more) (filter (λ (m : Made). is_drive_fault m.event) more)) none.0
     ∙ none_lost more none.1
 
-faults_both : (handed : List ModelUnit) (made more : List Made) → faults_of handed (made ++ more) ≡ faults_of handed made ++ faults_of handed more
+pub faults_both : (handed : List ModelUnit) (made more : List Made) → faults_of handed (made ++ more) ≡ faults_of handed made ++ faults_of handed more
 faults_both handed made more =
     ap (map (answer_to handed)) (filter_both (λ (m : Made). is_drive_fault m.event) made more)
     ∙ map-append (answer_to handed) (filter (λ (m : Made). is_drive_fault m.event) made) (filter (λ (m : Made). is_drive_fault m.event) more)
@@ -124,15 +124,18 @@ faults_none handed made more none =
     ∙ ap (λ (ms : List Made). faults_of handed made ++ map (answer_to handed) ms) (none_lost more none)
     ∙ append-nil (faults_of handed made)
 
-faults_one : (handed : List ModelUnit) (made more : List Made) (e : DriveErr) → IsFaultOf handed more e
-    → faults_of handed (made ++ more) ≡ faults_of handed made ++ record { unit = e.unit; event = e.event } ∷ []
-faults_one handed made more e is =
-    faults_both handed made more
-    ∙ ap (λ (fs : List DriveAnswer). faults_of handed made ++ fs)
-    (ap (faults_of handed) is.all ∙ faults_both handed is.others (is.last ∷ [])
+pub faults_one : (handed : List ModelUnit) (more : List Made) (e : DriveErr) → IsFaultOf handed more e
+    → faults_of handed more ≡ record { unit = e.unit; event = e.event } ∷ []
+faults_one handed more e is =
+    ap (faults_of handed) is.all ∙ faults_both handed is.others (is.last ∷ [])
     ∙ ap₂ (λ (ms ns : List Made). map (answer_to handed) ms ++ map (answer_to handed) ns) (none_lost is.others is.none)
     (ap (λ b. cond b (is.last ∷ []) []) is.lost)
-    ∙ ap₂ (λ u n. record { unit = u; event = n } ∷ []) (sym is.unit) (sym is.number))
+    ∙ ap₂ (λ u n. record { unit = u; event = n } ∷ []) (sym is.unit) (sym is.number)
+
+faults_then : (handed : List ModelUnit) (made more : List Made) (e : DriveErr) → IsFaultOf handed more e
+    → faults_of handed (made ++ more) ≡ faults_of handed made ++ record { unit = e.unit; event = e.event } ∷ []
+faults_then handed made more e is =
+    faults_both handed made more ∙ ap (λ (fs : List DriveAnswer). faults_of handed made ++ fs) (faults_one handed more e is)
 
 -- ---- a session later
 
@@ -186,7 +189,7 @@ session_lost past handed count old new more e is step lost own part faults worns
   rising = subst PlacesRise (sym own) is.rising;
   written = is.written ∙ ap (λ (ws : List OwnWrite). length (flat_map lines_of ws)) (sym own);
   faults = faults ∙ ap (λ (fs : List DriveAnswer). fs ++ record { unit = e.unit; event = e.event } ∷ []) is.faults
-      ∙ sym (ap (faults_of handed) step.made ∙ faults_one handed old.worker.made more e lost);
+      ∙ sym (ap (faults_of handed) step.made ∙ faults_then handed old.worker.made more e lost);
   worns = subst (WereRefused past.image (logs_of new.worker.known) new.own new.found.claimed 0) (sym worns)
       (worns_kept past old new more step is.worns own claimed);
 }

@@ -15,8 +15,9 @@ use Rattle.pblk_engine.specs.Workers.{Made, WorkerView}
 use Rattle.pblk_engine.specs.declared.errors.SettleErr.{SettleErr}
 use Rattle.pblk_engine.specs.declared.errors.SettleErr.TheVariants as errors
 use Rattle.pblk_engine.proofs.GoingOn.{all_known}
+use Rattle.pblk_engine.proofs.Settlings.{fault_then, none_of_both}
 use Rattle.block_target.specs.Causes.{HasCause, TellsSync}
-use Rattle.block_target.proofs.Putting.{WentWell, asks_then, fault_later, none_both, went_then, well_more}
+use Rattle.block_target.proofs.Putting.{WentWell, asks_then, went_then, well_more}
 
 -- Pads were asked for up to an earlier position of the wait, which was answered Worn.
 pub record WasWorn (i : Image) (seen low high : ℕ) (old now : WorkerView) : Type 0 where
@@ -85,7 +86,7 @@ module _ (i : Image) (handed : List ModelUnit) (seen low claimed position : ℕ)
       tells : (at : ℕ) → at ≤ position → HasCause a c (λ more. TellsSync i handed at c more (Ok front))
       tells at within =
           before (λ more. TellsSync i handed position c more (Ok front)) (λ more. TellsSync i handed at c more (Ok front)) cause
-          (λ more t. (none_both was.well.more more was.well.none t.0, t.1, le_trans within t.2))
+          (λ more t. (none_of_both was.well.more more was.well.none t.0, t.1, le_trans within t.2))
 
       go : (b.asked ≡ a.asked) ⊎ WasWorn i seen low claimed a b → AsksUpTo position b c → TellsAll i handed seen low high a c (Ok front)
       go (inl same) asked = (position, claimed, is, from, le, tells position (le_refl position), asks_first position a b c same asked)
@@ -118,7 +119,7 @@ module _ (i : Image) (handed : List ModelUnit) (seen low claimed position : ℕ)
       tells at behind =
           before (λ more. TellsSync i handed position c more (Err (errors.Drive unit event)))
           (λ more. TellsSync i handed at c more (Err (errors.Drive unit event))) cause
-          (λ more t. (fault_later handed was.well.more more (record { unit = unit; event = event }) was.well.none t.0, behind))
+          (λ more t. (fault_then handed was.well.more more (record { unit = unit; event = event }) was.well.none t.0, behind))
 
       now : HasCause a c (λ more. TellsSync i handed position c more (Err (errors.Drive unit event)))
       now = tells position cause.tells.1
@@ -152,7 +153,7 @@ module _ (i : Image) (handed : List ModelUnit) (seen low claimed position : ℕ)
       le,
       before (λ more. TellsSync i handed position c more (Err (errors.Worn wanted have)))
           (λ more. TellsSync i handed position c more (Err (errors.Worn wanted have))) cause
-          (λ more t. (none_both was.well.more more was.well.none t.0, t.1, t.2)),
+          (λ more t. (none_of_both was.well.more more was.well.none t.0, t.1, t.2)),
       inr asked_all,
     )
 

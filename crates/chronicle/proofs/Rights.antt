@@ -21,7 +21,7 @@ others_count worker s w other =
     (filter (λ (step : Step). is_made_by worker step.logged.event) w))) other
 
 -- it is
-own_count : (worker : ℕ) (s : Step) (w : World) → is_made_by worker s.logged.event ≡ true → commands_of worker (s ∷ w) ≡ commands_of worker w + 1
+pub own_count : (worker : ℕ) (s : Step) (w : World) → is_made_by worker s.logged.event ≡ true → commands_of worker (s ∷ w) ≡ commands_of worker w + 1
 own_count worker s w own =
     ap (λ b. length (cond b (s ∷ filter (λ (step : Step). is_made_by worker step.logged.event) w)
     (filter (λ (step : Step). is_made_by worker step.logged.event) w))) own

@@ -54,8 +54,8 @@ pub struct Token {
     pub(crate) seat: Seat<(), View>,
 }
 
-// Contracts see the chronicle, what it began with, what is known of each log, the makers of the next
-// commands, and the number of the next new worker.
+// Contracts see the chronicle, what it began with, what is known of each log, the makers of the
+// next commands, and the number of the next new worker.
 impl Model for Token {
     ghost use Rattle.chronicle.specs.Handles.{TokenView};
 

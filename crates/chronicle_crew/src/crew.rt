@@ -63,8 +63,8 @@ fn alone(chronicle: &Chronicle, author: Author, turns: u32) -> Joined
     Joined { author, count: 0 }
 }
 
-// The author of a unit, which has appended nothing yet, and the worker that the token has the right to
-// number commands of.
+// The author of a unit, which has appended nothing yet, and the worker that the token has the right
+// to number commands of.
 fn idle(chronicle: &Chronicle, author: Author, token: Token, worker: u64, number: usize) -> Hand
     requires author { author ≡ first_author chronicle.now blank_past number }
     requires token { token.chronicle ≡ chronicle.now }

@@ -7,8 +7,8 @@ use crate::shown::StoppedFetch;
 use chronicle::{Author, Chronicle, Token};
 use std::sync::{Mutex, Wait};
 
-/// The author of a unit's log, and how many events it has appended; the worker that makes the unit's
-/// commands; and a token beside it.
+/// The author of a unit's log, and how many events it has appended; the worker that makes the
+/// unit's commands; and a token beside it.
 #[derive(Drop)]
 pub(crate) struct Hand {
     /// The author.

@@ -40,7 +40,7 @@ some_begun [] b is = absurd (none-some b is)
 some_begun (l ∷ log) b is = omega arith
 
 -- prefixes of known logs are those of a world
-prefixes_of : (a b : Prefixes) (v w : World) → log_of v ≡ logs_of a → log_of w ≡ logs_of b → ArePrefixes a b → early.ArePrefixes w (log_of v)
+pub prefixes_of : (a b : Prefixes) (v w : World) → log_of v ≡ logs_of a → log_of w ≡ logs_of b → ArePrefixes a b → early.ArePrefixes w (log_of v)
 prefixes_of a b v w first second more author = (
   length (logs_of a author),
   ap (λ (l : Logs). l author) first ∙ sym (begins_take (logs_of a author) (logs_of b author) (more.each author))

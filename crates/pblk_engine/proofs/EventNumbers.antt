@@ -25,7 +25,7 @@ all_commands (l ∷ log) each =
     ∙ ap suc (all_commands log (λ n m there. each (suc n) m there))
 
 -- all events of a unit's log are
-events_count : (i : Image) (w : World) (unit : ℕ) → IsLegal i w → length (unit_events (log_of w) unit) ≡ length (log_of w (suc unit))
+pub events_count : (i : Image) (w : World) (unit : ℕ) → IsLegal i w → length (unit_events (log_of w) unit) ≡ length (log_of w (suc unit))
 events_count i w unit legal = all_commands (log_of w (suc unit))
     (λ n l there. let d : IsDeed i w unit n l = deed i w unit n l legal there in (d.event, d.is_event))
 

@@ -60,9 +60,11 @@ pub mod WorkersLists
 pub mod Endings
 pub mod Tells
 pub mod GoingOn
+pub mod RoleCommands
 pub mod MadePrograms
 pub mod OpenedLines
 pub mod PumpSteps
+pub mod Lanes
 pub mod WaitSteps
 pub mod Settlings
 pub mod RunParts

@@ -1,5 +1,5 @@
 -- What a worker made of its stripe, as an arm tells it.
-use Rattle.std.proofs.Common.{◌≡◌, ℕ, suc, ◌<◌, ◌≤◌, Result, Ok, Err, List, [], ◌∷◌, length, refl, sym, subst, ap, ◌∙◌}
+use Rattle.std.proofs.Common.{◌≡◌, ℕ, suc, ◌<◌, ◌≤◌, Result, Ok, Err, List, [], ◌∷◌, ◌++◌, length, refl, sym, subst, ap, ◌∙◌}
 use Rattle.pblk_model.specs.Image.{Image}
 use Rattle.pblk_model.specs.Shape.{units}
 use Rattle.pblk_world.specs.Events.{Logged}
@@ -12,9 +12,9 @@ use Rattle.pblk_engine.specs.Arms.{ArmView, number_told}
 use Rattle.pblk_engine.specs.Deeds.{HasProgrammed, IsProgrammed}
 use Rattle.pblk_engine.specs.Placements.{IsPlacedAs}
 use Rattle.pblk_engine.specs.Programs.{HasMade, HasTried}
-use Rattle.pblk_engine.specs.Pumps.{HasPumped, TellsPump}
+use Rattle.pblk_engine.specs.Pumps.{AreOfRole, HasPumped, TellsPump}
 use Rattle.pblk_engine.specs.Stops.{stop_count}
-use Rattle.pblk_engine.specs.Workers.{WorkerView}
+use Rattle.pblk_engine.specs.Workers.{Made, WorkerView}
 use Rattle.pblk_engine.specs.declared.arm.Programmed.{Programmed}
 use Rattle.pblk_engine.specs.declared.arm.Programmed.TheVariants as programmed
 use Rattle.pblk_engine.specs.declared.commands.Ended.{Ended}
@@ -22,7 +22,9 @@ use Rattle.pblk_engine.specs.declared.commands.Ended.TheVariants as ended
 use Rattle.pblk_engine.specs.declared.errors.DriveErr.{DriveErr}
 use Rattle.pblk_engine.specs.declared.outcomes.Did.{Did}
 use Rattle.pblk_engine.specs.declared.outcomes.Did.TheVariants as dids
+use Rattle.pblk_engine.specs.declared.outcomes.Role.TheVariants as roles
 use Rattle.pblk_engine.proofs.GoingOn.{fault_one, goes_learned, goes_one, goes_placed, stop_lost, write_kept}
+use Rattle.pblk_engine.proofs.RoleCommands.{grown_of_role, write_of_lane}
 use Rattle.pblk_engine.proofs.Stops.{count_grows}
 use Rattle.pblk_engine.proofs.ToldPrograms.{answers_for}
 
@@ -73,6 +75,12 @@ answer_of ended.Stopped unit event = Err (record { unit = unit; event = event })
 
 module _ (i : Image) (handed : List ModelUnit) (old placed made new : WorkerView) (place : placed ≡ record old { stripe = placed.stripe }) (event unit : ℕ)
     (learns : new ≡ record made { known = new.known }) (keeps : ArePrefixes made.known new.known) (on : unit ≡ made.stripe.stripe.unit) where
+  -- what it made is a program
+  pub lane_made : (how : Ended) → HasMade handed placed made how event → (more : List Made) → new.made ≡ old.made ++ more → AreOfRole roles.Lane more
+  lane_made how is =
+      grown_of_role roles.Lane old new (is.made ∷ []) (goes_one old placed made new is.made (goes_placed old placed place) is.on (goes_learned made new learns keeps))
+      (write_of_lane is.made.event is.command, tt)
+
   pub pumped_made : (how : Ended) → HasMade handed placed made how event → HasPumped i handed old new (answer_of how unit event)
   pumped_made how is = record {
     more = is.made ∷ [];

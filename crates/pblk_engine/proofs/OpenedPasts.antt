@@ -46,7 +46,7 @@ use Rattle.pblk_engine.proofs.OpeningMakers.{opening_alone, opening_numbered}
 use Rattle.pblk_engine.proofs.Beginnings.{first_begun, first_legal}
 
 -- the logs of a legal world, one for each author
-all_logs : (i : Image) (w : World) → IsLegal i w → logs_of (map (λ author. log_of w author) (range_with_len 0 (units i.shape + 1))) ≡ log_of w
+pub all_logs : (i : Image) (w : World) → IsLegal i w → logs_of (map (λ author. log_of w author) (range_with_len 0 (units i.shape + 1))) ≡ log_of w
 all_logs i w legal = fun_same (logs_of (map (λ author. log_of w author) (range_with_len 0 (units i.shape + 1)))) (log_of w)
     (λ author. go author (cases_lt author (units i.shape + 1)))
   where
@@ -60,7 +60,7 @@ all_logs i w legal = fun_same (logs_of (map (λ author. log_of w author) (range_
         ∙ sym (none_beyond i w legal author (omega arith))
 
 -- a unit with more in its log is armed as it was
-armed_still : (old new : ModelUnit) → new.armed ≡ old.armed → IsArmed old → IsUnarmed new.armed ⊎ (new.armed.since ≤ length old.log)
+pub armed_still : (old new : ModelUnit) → new.armed ≡ old.armed → IsArmed old → IsUnarmed new.armed ⊎ (new.armed.since ≤ length old.log)
 armed_still old new same = subst (λ (a : Armed). IsUnarmed a ⊎ (a.since ≤ length old.log)) (sym same)
 
 module _ (s : Shape) (old new : List ModelUnit) (f : Found) (accepted : IsAccepted s) (fit : AreFit s old) (is : IsFoundAfter s old new f) where

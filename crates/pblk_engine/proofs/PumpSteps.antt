@@ -8,6 +8,8 @@ use Rattle.scan_recovery.specs.DriveFaults.{is_drive_fault, is_fetch}
 use Rattle.unit_port.specs.Armed.{is_fail, is_stop}
 use Rattle.unit_port.specs.Did.{failed_or_stopped}
 use Rattle.unit_port.specs.Unit.{ModelUnit}
+use Rattle.unit_port.specs.declared.unit.UnitErr.{UnitErr}
+use Rattle.unit_port.specs.declared.unit.UnitErr.TheVariants as causes
 use Rattle.pblk_core.specs.declared.work.Why.{Why}
 use Rattle.pblk_core.specs.declared.work.Why.TheVariants as whys
 use Rattle.pblk_core.specs.declared.work.Work.{Work}
@@ -16,13 +18,16 @@ use Rattle.chronicle.specs.Prefixes.{Prefixes, ArePrefixes, logs_of}
 use Rattle.pblk_engine.specs.Arms.{ArmView, number_told}
 use Rattle.pblk_engine.specs.ChunkResets.{HasReset}
 use Rattle.pblk_engine.specs.Deeds.{HasDone}
-use Rattle.pblk_engine.specs.Fetches.{TellsFetch}
+use Rattle.pblk_engine.specs.Fetches.{TellsCause, TellsFetch}
 use Rattle.pblk_engine.specs.Opens.{HasOpened}
-use Rattle.pblk_engine.specs.Pumps.{GoesOn, HasFetched, HasPumped, IsBusy, IsFetch, IsNothing, IsOnly, NoFaults, TellsPump}
+use Rattle.pblk_engine.specs.Pumps.{AreOfRole, GoesOn, HasCollected, HasFetched, HasPumped, IsBusy, IsFetch, IsNothing, IsOnly, NoFaults}
+use Rattle.pblk_engine.specs.Pumps.{TellsPump, fault_of, pumped_of}
 use Rattle.pblk_engine.specs.Workers.{Made, WorkerView}
 use Rattle.pblk_engine.specs.declared.errors.DriveErr.{DriveErr}
+use Rattle.pblk_engine.specs.declared.errors.FetchErr.{FetchErr}
 use Rattle.pblk_engine.specs.declared.outcomes.Did.{Did}
 use Rattle.pblk_engine.specs.declared.outcomes.Did.TheVariants as dids
+use Rattle.pblk_engine.specs.declared.outcomes.Role.TheVariants as roles
 use Rattle.pblk_engine.proofs.GoingOn.{answer_kept, fault_one, fetch_lost, goes_still, goes_then, reset_kept, stop_lost}
 use Rattle.pblk_engine.proofs.OpenedLines.{opened_since}
 
@@ -40,43 +45,64 @@ unanswered_lost e fetch is = go e.outcome refl is
     go (Failed k) same is = fetch_lost e (ap is_fetch fetch.1) (ap is_fail same)
     go (Stopped k) same is = stop_lost e (ap is_stop same)
 
-pub has_fetched : (handed : List ModelUnit) (old new : ArmView) (was now : WorkerView) (before : Prefixes) (line block unit : ℕ) (result : Result (Unit {0}) ℕ)
+-- a fetch whose cause is told is lost
+pub cause_lost : (e : UnitEvent) (cause : UnitErr) → IsFetch e.command → TellsCause cause e.outcome → is_drive_fault e ≡ true
+cause_lost e causes.Failed fetch is = fetch_lost e (ap is_fetch fetch.1) is
+cause_lost e causes.Stopped fetch is = stop_lost e is
+
+pub has_fetched : (handed : List ModelUnit) (old new : ArmView) (was now : WorkerView) (before : Prefixes) (line block unit : ℕ) (result : Result (Unit {0}) FetchErr)
     → old.number ≡ unit
-    → HasDone old new was now before line (Read block) (TellsFetch (number_told handed old.number (length (logs_of before (suc old.number)))) result)
+    → HasDone old new was now before line (Read block) (TellsFetch old.number (number_told handed old.number (length (logs_of before (suc old.number)))) result)
     → HasFetched handed unit was now result
 has_fetched handed old new was now before line block unit result on done = record {
   made = record { unit = old.number; number = length (logs_of before (suc old.number)); event = _ };
   on = record { number = done.worker; keeps = done.keeps; made = done.made; asked = done.asked };
   of = on;
   asked = (block, refl);
-  tells = subst (λ n. TellsFetch (number_told handed n (length (logs_of before (suc old.number)))) result done.outcome) on done.told;
+  tells = subst (λ n. TellsFetch n (number_told handed n (length (logs_of before (suc old.number)))) result done.outcome) on done.told;
 }
 
 module _ (i : Image) (handed : List ModelUnit) (old new : WorkerView) (unit : ℕ) where
+  -- its command is a fetch
+  fetch_only : (result : Result (Unit {0}) FetchErr) (is : HasFetched handed unit old new result) → AreOfRole roles.Collector (is.made ∷ [])
+  fetch_only result is = (ap is_fetch is.asked.1, tt)
+
   -- a fetch that was lost
-  pub pumped_lost : (event : ℕ) → HasFetched handed unit old new (Err event) → HasPumped i handed old new (Err (record { unit = unit; event = event }))
-  pumped_lost event is = record {
-    more = is.made ∷ [];
-    on = is.on;
-    tells = (
-      fault_one handed is.made (record { unit = unit; event = event }) (unanswered_lost is.made.event is.asked is.tells.0) (sym is.of)
-          (is.tells.1 ∙ ap (λ n. number_told handed n is.made.number) (sym is.of)),
-      refl,
-    );
+  pub collected_lost : (e : FetchErr) → HasFetched handed unit old new (Err e) → HasCollected i handed old new (Err e)
+  collected_lost e is = record {
+    pumped = record {
+      more = is.made ∷ [];
+      on = is.on;
+      tells = (
+        fault_one handed is.made (fault_of e) (cause_lost is.made.event e.cause is.asked is.tells.0) (is.tells.1 ∙ sym is.of)
+            (is.tells.2 ∙ ap (λ n. number_told handed n is.made.number) (sym is.of)),
+        refl,
+      );
+    };
+    fetched = fetch_only (Err e) is;
+    caused = (is.tells.0, tt);
   }
 
-  only_fetch : (result : Result (Unit {0}) ℕ) → (is : HasFetched handed unit old new (Ok tt))
+  only_fetch : (is : HasFetched handed unit old new (Ok tt))
       → NoFaults (is.made ∷ []) × IsOnly (is.made ∷ []) IsFetch (λ outcome. (b : _) × (outcome ≡ Answered (Gave b)))
-  only_fetch result is = (
+  only_fetch is = (
     (answer_kept is.made.event (ap is_stop is.tells.1) (ap is_fail is.tells.1), tt),
     record { made = is.made; only = refl; asked = is.asked; told = is.tells },
   )
 
-  pub pumped_copied : HasFetched handed unit old new (Ok tt) → HasPumped i handed old new (Ok dids.Copied)
-  pumped_copied is = record { more = is.made ∷ []; on = is.on; tells = only_fetch (Ok tt) is }
+  pub collected_copied : HasFetched handed unit old new (Ok tt) → HasCollected i handed old new (Ok dids.Copied)
+  collected_copied is = record {
+    pumped = record { more = is.made ∷ []; on = is.on; tells = only_fetch is };
+    fetched = fetch_only (Ok tt) is;
+    caused = tt;
+  }
 
-  pub pumped_refused : HasFetched handed unit old new (Ok tt) → HasPumped i handed old new (Ok dids.NotCopied)
-  pumped_refused is = let it = only_fetch (Ok tt) is in record { more = is.made ∷ []; on = is.on; tells = (it.0, inr it.1) }
+  pub collected_refused : HasFetched handed unit old new (Ok tt) → HasCollected i handed old new (Ok dids.NotCopied)
+  collected_refused is = let it = only_fetch is in record {
+    pumped = record { more = is.made ∷ []; on = is.on; tells = (it.0, inr it.1) };
+    fetched = fetch_only (Ok tt) is;
+    caused = tt;
+  }
 
   -- ---- resets
 
@@ -108,8 +134,11 @@ module _ (i : Image) (handed : List ModelUnit) (w : WorkerView) where
   pub pumped_other : HasPumped i handed w w (Ok dids.Other)
   pumped_other = record { more = []; on = goes_still w; tells = (tt, refl) }
 
-  pub pumped_full : HasPumped i handed w w (Ok dids.NotCopied)
-  pumped_full = record { more = []; on = goes_still w; tells = (tt, inl refl) }
+  pub collected_full : HasCollected i handed w w (Ok dids.NotCopied)
+  collected_full = record { pumped = record { more = []; on = goes_still w; tells = (tt, inl refl) }; fetched = tt; caused = tt }
+
+  pub collected_other : HasCollected i handed w w (Ok dids.Other)
+  collected_other = record { pumped = record { more = []; on = goes_still w; tells = (tt, refl) }; fetched = tt; caused = tt }
 
   pub pumped_nothing : (why : Why) → IsNothing i w.known why → HasPumped i handed w w (Ok (dids.Nothing why))
   pumped_nothing why is = record { more = []; on = goes_still w; tells = (tt, (refl, is)) }
@@ -139,6 +168,12 @@ pumped_since i handed early old new result first is = record {
   on = goes_then early old new [] is.more first is.on;
   tells = tells_since i handed early.known old.known new.known is.more result first.keeps is.tells;
 }
+
+pub collected_since : (i : Image) (handed : List ModelUnit) (early old new : WorkerView) (result : Result Did FetchErr) → GoesOn early old []
+    → HasCollected i handed old new result → HasCollected i handed early new result
+unfolding pumped_since
+collected_since i handed early old new result first is =
+    record { pumped = pumped_since i handed early old new (pumped_of result) first is.pumped; fetched = is.fetched; caused = is.caused }
 
 -- ---- where there is nothing to do
 

@@ -7,19 +7,19 @@ use Rattle.pblk_model.specs.UnitLog.{UnitOutcome}
 use Rattle.pblk_model.proofs.Lists.{all_append}
 use Rattle.scan_recovery.specs.DriveFaults.{is_drive_fault}
 use Rattle.unit_port.specs.Armed.{is_fail, is_stop}
-use Rattle.unit_port.specs.Did.{failed_or_stopped}
 use Rattle.unit_port.specs.Unit.{ModelUnit}
 use Rattle.chronicle.specs.Prefixes.{Prefixes, logs_of}
 use Rattle.pblk_engine.specs.Arms.{ArmView, number_told}
 use Rattle.pblk_engine.specs.Deeds.{HasDone, event_of}
 use Rattle.pblk_engine.specs.Fetches.{HasSought, TellsFetch, TellsMarked}
-use Rattle.pblk_engine.specs.Pumps.{GoesOn, NoFaults}
+use Rattle.pblk_engine.specs.Pumps.{GoesOn, NoFaults, fault_of}
 use Rattle.pblk_engine.specs.Reads.{HasFetchedPlace, IsLostFetch, WentWell}
 use Rattle.pblk_engine.specs.Workers.{Made, WorkerView}
 use Rattle.pblk_engine.specs.declared.errors.DriveErr.{DriveErr}
+use Rattle.pblk_engine.specs.declared.errors.FetchErr.{FetchErr}
 use Rattle.pblk_engine.specs.declared.sector_looks.SectorPlace.{SectorPlace}
 use Rattle.pblk_engine.proofs.GoingOn.{answer_kept, goes_still, goes_then}
-use Rattle.pblk_engine.proofs.PumpSteps.{unanswered_lost}
+use Rattle.pblk_engine.proofs.PumpSteps.{cause_lost, unanswered_lost}
 
 -- ---- one after another
 
@@ -74,16 +74,16 @@ module _ (handed : List ModelUnit) (p : SectorPlace) (old new : ArmView) (was no
       → GoesOn was now (made_of done.outcome ∷ [])
   went tells done = record { number = done.worker; keeps = done.keeps; made = done.made; asked = done.asked }
 
-  its_lost : (outcome : UnitOutcome) (event : ℕ) → failed_or_stopped outcome ≡ true
+  its_lost : (outcome : UnitOutcome) (event : ℕ) → is_drive_fault (made_of outcome).event ≡ true
       → event ≡ number_told handed old.number (length (logs_of before (suc old.number)))
       → IsLostFetch handed p.unit p.sought.line p.sought.block (made_of outcome ∷ []) (record { unit = p.unit; event = event })
-  its_lost outcome event failed number = record {
+  its_lost outcome event lost number = record {
     fault = record {
       others = [];
       last = made_of outcome;
       all = refl;
       none = tt;
-      lost = unanswered_lost (made_of outcome).event (p.sought.block, refl) failed;
+      lost = lost;
       unit = sym on;
       number = number;
     };
@@ -94,7 +94,7 @@ module _ (handed : List ModelUnit) (p : SectorPlace) (old new : ArmView) (was no
 
   -- under both locks
   pub held_done : HasDone old new was now before p.sought.line (Read p.sought.block)
-      (TellsFetch (number_told handed old.number (length (logs_of before (suc old.number)))) (Ok tt))
+      (TellsFetch old.number (number_told handed old.number (length (logs_of before (suc old.number)))) (Ok tt))
       → HasFetchedPlace {A = Unit {0}} handed p was now (Ok tt)
   held_done done = record {
     more = made_of done.outcome ∷ [];
@@ -102,13 +102,15 @@ module _ (handed : List ModelUnit) (p : SectorPlace) (old new : ArmView) (was no
     tells = (answer_kept (made_of done.outcome).event (ap is_stop done.told.1) (ap is_fail done.told.1), tt);
   }
 
-  pub held_lost : (event : ℕ) → HasDone old new was now before p.sought.line (Read p.sought.block)
-      (TellsFetch (number_told handed old.number (length (logs_of before (suc old.number)))) (Err event))
-      → HasFetchedPlace {A = Unit {0}} handed p was now (Err (record { unit = p.unit; event = event }))
-  held_lost event done = record {
+  pub held_lost : (e : FetchErr) → HasDone old new was now before p.sought.line (Read p.sought.block)
+      (TellsFetch old.number (number_told handed old.number (length (logs_of before (suc old.number)))) (Err e))
+      → HasFetchedPlace {A = Unit {0}} handed p was now (Err (fault_of e))
+  held_lost e done = record {
     more = made_of done.outcome ∷ [];
     on = went _ done;
-    tells = its_lost done.outcome event done.told.0 done.told.1;
+    tells = subst (λ (unit : ℕ). IsLostFetch handed p.unit p.sought.line p.sought.block (made_of done.outcome ∷ []) (record { unit = unit; event = e.event }))
+        (sym (done.told.1 ∙ on))
+        (its_lost done.outcome e.event (cause_lost (made_of done.outcome).event e.cause (p.sought.block, refl) done.told.0) done.told.2);
   }
 
   -- under the unit's lock alone
@@ -136,5 +138,5 @@ module _ (handed : List ModelUnit) (p : SectorPlace) (old new : ArmView) (was no
     sought_lost event (inr done) = record {
       more = made_of done.outcome ∷ [];
       on = went _ done;
-      tells = its_lost done.outcome event done.told.0 done.told.1;
+      tells = its_lost done.outcome event (unanswered_lost (made_of done.outcome).event (p.sought.block, refl) done.told.0) done.told.1;
     }

@@ -53,7 +53,7 @@ use Rattle.pblk_core.proofs.StandsTold.{collects_told, copies_told, stands_told}
 use Rattle.pblk_model.proofs.Options.{none_there}
 use Rattle.pblk_model.proofs.Maps.{in_filter, range_get}
 use Rattle.pblk_model.proofs.Parts.{all_at, got_within}
-use Rattle.pblk_model.proofs.Tests.{le_of_lt_false, lt_true, not_both}
+use Rattle.pblk_model.proofs.Tests.{either_false, le_of_lt_false, lt_true, not_both}
 use Rattle.pblk_engine.specs.Hearts.{IsHeart}
 use Rattle.pblk_engine.proofs.Decisions.{by_left, none_to_free_left, told_left}
 use Rattle.pblk_engine.proofs.NextWork.{no_reset_named, none_first}
@@ -85,19 +85,11 @@ not_due due true none e = absurd cc
 not_due true false none e = absurd cc
 not_due false false none e = refl
 
-neither : (a b : Bool) → (a || b) ≡ false → (a ≡ false) × (b ≡ false)
-neither true b e = absurd cc
-neither false b e = (refl, e)
-
-none_some : {X : Type 0} (o : Option X) → is_some o ≡ false → o ≡ None
-none_some None e = refl
-none_some (Some x) e = absurd cc
-
 -- where no unit has a stripe that isn't answered, no such stripe is on any
 none_counted : (n : ℕ) → nat_lt 0 n ≡ false → n ≡ 0
 none_counted n e = let low : n ≤ 0 = le_of_lt_false 0 n e in omega arith
 
-empty_counts : {X : Type 0} (xs : List X) → length xs ≡ 0 → xs ≡ []
+pub empty_counts : {X : Type 0} (xs : List X) → length xs ≡ 0 → xs ≡ []
 empty_counts [] e = refl
 empty_counts (x ∷ xs) e = absurd (omega arith)
 
@@ -120,14 +112,14 @@ module _ (i : Image) (w : World) (pad : ℕ) (again : List ℕ) (copying : Bool)
   chosen = not_chosen _ _ _ _ _ _ reason named.1 other
 
   idle : (nat_lt 0 (under_way i.shape (log_of w 0)) ≡ false) × (copying ≡ false)
-  idle = neither (nat_lt 0 (under_way i.shape (log_of w 0))) copying chosen.3
+  idle = either_false (nat_lt 0 (under_way i.shape (log_of w 0))) copying chosen.3
 
   pub none_copied : ¬ IsCopyDue i (log_of w)
   none_copied due = not_both (is_copy_due i (log_of w)) (test_of_copy i (log_of w) due) (not_due (is_copy_due i (log_of w)) copying idle.1 chosen.2)
 
   -- each stripe that was placed is answered
   none_waits : (unit : ℕ) → unit < units i.shape → unanswered_on (log_of w 0) unit ≡ None
-  none_waits unit inside = none_some (unanswered_on (log_of w 0) unit) (go (is_some (unanswered_on (log_of w 0) unit)) refl)
+  none_waits unit inside = none_there (unanswered_on (log_of w 0) unit) (go (is_some (unanswered_on (log_of w 0) unit)) refl)
     where
       go : (b : Bool) → is_some (unanswered_on (log_of w 0) unit) ≡ b → b ≡ false
       go false is = refl

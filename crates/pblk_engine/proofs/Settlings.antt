@@ -250,7 +250,7 @@ module _ (i : Image) (key : Key) (handed : List ModelUnit) (pass : Part) where
   }
 
 -- an error that is handed on by a `?`
-pub lost_is : {X : Type 0} (r : Result X SettleErr) (e : SettleErr) (P : SettleErr → Type 0) → ((w : SettleErr) → P w → w ≡ e) → IsErr r → IsErrAnd r P
+pub lost_is : {X E : Type 0} (r : Result X E) (e : E) (P : E → Type 0) → ((w : E) → P w → w ≡ e) → IsErr r → IsErrAnd r P
     → r ≡ Err e
 lost_is (Ok x) e P same is gives = absurd cc
 lost_is (Err w) e P same is gives = ap Err (same w gives)

@@ -16,6 +16,7 @@ use Rattle.pblk_laws.specs.LineBlocks.{chunk_in}
 use Rattle.pblk_laws.proofs.MarkNames.{sector_exactly}
 use Rattle.pblk_world.specs.Events.{Does, Logged}
 use Rattle.pblk_world.specs.World.{Logs, media}
+use Rattle.unit_port.specs.Armed.{is_fail, is_stop}
 use Rattle.unit_port.specs.Did.{failed_or_stopped}
 use Rattle.unit_port.specs.Unit.{ModelUnit, TellsBlock}
 use Rattle.unit_port.specs.declared.unit.UnitErr.{UnitErr}
@@ -31,7 +32,7 @@ use Rattle.write_ring.specs.declared.view.Key.{Key}
 use Rattle.pblk_engine.specs.Arms.{ArmView, number_told}
 use Rattle.pblk_engine.specs.ArmViews.{IsArmOfMount}
 use Rattle.pblk_engine.specs.Deeds.{HasDone, event_of}
-use Rattle.pblk_engine.specs.Fetches.{IsMarked, IsReadableAt, TellsMarked}
+use Rattle.pblk_engine.specs.Fetches.{IsMarked, IsReadableAt, TellsCause, TellsMarked}
 use Rattle.pblk_engine.specs.Workers.{WorkerView}
 use Rattle.pblk_engine.proofs.Fetches.{gave}
 use Rattle.pblk_engine.proofs.Resets.{same_logs}
@@ -57,6 +58,13 @@ was_refused old new o r x is tells = go x (subst (λ (s : Result Got UnitErr). T
     go : (x : UnitErr) → TellsBlock old new (Err x) o → failed_or_stopped o ≡ true
     go causes.Failed told = ap failed_or_stopped told.0
     go causes.Stopped told = ap failed_or_stopped told.0
+
+pub cause_told : (old new : List ℕ) (o : UnitOutcome) (r : Result Got UnitErr) (x : UnitErr) → r ≡ Err x → TellsBlock old new r o → TellsCause x o
+cause_told old new o r x is tells = go x (subst (λ (s : Result Got UnitErr). TellsBlock old new s o) is tells)
+  where
+    go : (x : UnitErr) → TellsBlock old new (Err x) o → TellsCause x o
+    go causes.Failed told = ap is_fail told.0
+    go causes.Stopped told = ap is_stop told.0
 
 -- ---- by its mark
 

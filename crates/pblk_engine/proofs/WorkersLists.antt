@@ -12,16 +12,17 @@ use Rattle.pblk_world.specs.Makers.{HasMakers, IsNumbered, commands_of, is_made_
 use Rattle.pblk_world.specs.World.{World, log_of}
 use Rattle.pblk_world.proofs.Growing.{at_end}
 use Rattle.pblk_world.proofs.WorldLemmas.{log_elsewhere, log_here}
+use Rattle.chronicle.proofs.Rights.{own_count}
 use Rattle.pblk_engine.specs.Endings.{HasMadeAll}
 use Rattle.pblk_engine.specs.Workers.{Made, WasMade, WorkerView}
 
 -- ---- one step more
 
 -- what stands in a log then: it stood there before, or is the step's own
-abbrev StandsNewly : Step → World → ℕ → ℕ → Logged → Type 0
+abbrev pub StandsNewly : Step → World → ℕ → ℕ → Logged → Type 0
 StandsNewly s w author n l = (s.author ≡ author) × (n ≡ length (log_of w author)) × (s.logged ≡ l)
 
-stands : (s : Step) (w : World) (author n : ℕ) (l : Logged) → slice_get (log_of (s ∷ w) author) n ≡ Some l
+pub stands : (s : Step) (w : World) (author n : ℕ) (l : Logged) → slice_get (log_of (s ∷ w) author) n ≡ Some l
     → (slice_get (log_of w author) n ≡ Some l) ⊎ StandsNewly s w author n l
 stands s w author n l there = ⊎_elim
     (λ (own : s.author ≡ author).
@@ -39,12 +40,6 @@ more_made worker s w = go (is_made_by worker s.logged.event)
         else filter (λ (step : Step). is_made_by worker step.logged.event) w)
     go true = omega arith
     go false = omega arith
-
-one_made : (worker : ℕ) (s : Step) (w : World) → is_made_by worker s.logged.event ≡ true → commands_of worker (s ∷ w) ≡ commands_of worker w + 1
-one_made worker s w own =
-    ap (λ b. length (if b then s ∷ filter (λ (step : Step). is_made_by worker step.logged.event) w
-    else filter (λ (step : Step). is_made_by worker step.logged.event) w)) own
-    ∙ (let one : suc (commands_of worker w) ≡ commands_of worker w + 1 = omega arith in one)
 
 its_number : (s : Step) (w : World) (e : UnitEvent) (m : Maker) → IsNumbered s.logged.event w → s.logged.event ≡ Does e m → m.made ≡ commands_of m.worker w
 its_number s w e m is event = subst (λ (x : Event). IsNumbered x w) event is
@@ -64,7 +59,7 @@ number_below (s ∷ w) author n l e m has there is = ⊎_elim
     (λ (new : StandsNewly s w author n l).
     let event : s.logged.event ≡ Does e m = ap (λ (x : Logged). x.event) new.2 ∙ is in
     let own : is_made_by m.worker s.logged.event ≡ true = ap (is_made_by m.worker) event ∙ same_number m.worker in
-    let count : commands_of m.worker (s ∷ w) ≡ commands_of m.worker w + 1 = one_made m.worker s w own in
+    let count : commands_of m.worker (s ∷ w) ≡ commands_of m.worker w + 1 = own_count m.worker s w own in
     let number : m.made ≡ commands_of m.worker w = its_number s w e m has.0 event in
     omega arith)
     (stands s w author n l there)

@@ -9,11 +9,15 @@ use Rattle.pblk_model.specs.Records.{named}
 use Rattle.pblk_model.specs.UnitLog.{UnitOutcome, Answered}
 use Rattle.pblk_laws.specs.LineBlocks.{chunk_in}
 use Rattle.pblk_world.specs.World.{Logs, media}
+use Rattle.unit_port.specs.Armed.{is_fail, is_stop}
 use Rattle.unit_port.specs.Did.{failed_or_stopped}
+use Rattle.unit_port.specs.declared.unit.UnitErr.{UnitErr}
+use Rattle.unit_port.specs.declared.unit.UnitErr.TheVariants as causes
 use Rattle.chronicle.specs.Prefixes.{Prefixes}
 use Rattle.pblk_engine.specs.Arms.{ArmView}
 use Rattle.pblk_engine.specs.Deeds.{HasDone}
 use Rattle.pblk_engine.specs.Workers.{WorkerView}
+use Rattle.pblk_engine.specs.declared.errors.FetchErr.{FetchErr}
 
 -- By these logs the unit's chunk of a line has this block, and it can be read.
 pub record IsReadableAt (i : Image) (logs : Logs) (unit line number : ℕ) : Type 0 where
@@ -23,10 +27,16 @@ pub record IsReadableAt (i : Image) (logs : Logs) (unit line number : ℕ) : Typ
   pub block : Block
   pub written : slice_get chunk.blocks number ≡ Some block
 
--- A fetch gave a block; or it failed or was stopped, and its number in the unit's log is told.
-abbrev pub TellsFetch : ℕ → Result (Unit {0}) ℕ → UnitOutcome → Type 0
-TellsFetch number (Ok _) outcome = (b : Block) × (outcome ≡ Answered (Gave b))
-TellsFetch number (Err event) outcome = (failed_or_stopped outcome ≡ true) × (event ≡ number)
+-- why a fetch gave no block: it failed, or it was stopped
+abbrev pub TellsCause : UnitErr → UnitOutcome → Type 0
+TellsCause causes.Failed outcome = is_fail outcome ≡ true
+TellsCause causes.Stopped outcome = is_stop outcome ≡ true
+
+-- A fetch gave a block; or it is told why not, and of which unit it was, with its number in the
+-- unit's log.
+abbrev pub TellsFetch : ℕ → ℕ → Result (Unit {0}) FetchErr → UnitOutcome → Type 0
+TellsFetch unit number (Ok _) outcome = (b : Block) × (outcome ≡ Answered (Gave b))
+TellsFetch unit number (Err e) outcome = TellsCause e.cause outcome × (e.unit ≡ unit) × (e.event ≡ number)
 
 -- The block's mark names the sector, and bears the position. What the mark names decides, and not
 -- how it is spelled.

@@ -21,6 +21,7 @@ pub mod Stops
 pub mod Answers
 pub mod Opens
 pub mod Pumps
+pub mod Lanes
 pub mod Reads
 pub mod ChunkResets
 pub mod Programs

@@ -7,7 +7,7 @@ use Rattle.pblk_model.specs.Image.{Image}
 use Rattle.pblk_model.specs.UnitLog.{UnitOutcome, Answered, Failed}
 use Rattle.pblk_world.specs.AtRest.{IsAtRest, pad_target}
 use Rattle.pblk_world.specs.World.{Logs}
-use Rattle.scan_recovery.specs.DriveFaults.{is_drive_fault}
+use Rattle.scan_recovery.specs.DriveFaults.{is_drive_fault, is_fetch}
 use Rattle.unit_port.specs.Armed.{is_stop}
 use Rattle.unit_port.specs.Unit.{ModelUnit}
 use Rattle.pblk_core.specs.Named.{work_of}
@@ -16,10 +16,11 @@ use Rattle.pblk_core.specs.declared.work.Why.TheVariants as whys
 use Rattle.pblk_core.specs.declared.work.Work.TheVariants as works
 use Rattle.chronicle.specs.Prefixes.{Prefixes, logs_of, ArePrefixes}
 use Rattle.pblk_engine.specs.Arms.{number_told}
-use Rattle.pblk_engine.specs.Fetches.{TellsFetch}
+use Rattle.pblk_engine.specs.Fetches.{TellsCause, TellsFetch}
 use Rattle.pblk_engine.specs.Opens.{HasOpened}
 use Rattle.pblk_engine.specs.Workers.{Made, WorkerView}
 use Rattle.pblk_engine.specs.declared.errors.DriveErr.{DriveErr}
+use Rattle.pblk_engine.specs.declared.errors.FetchErr.{FetchErr}
 use Rattle.pblk_engine.specs.declared.outcomes.Did.{Did}
 use Rattle.pblk_engine.specs.declared.outcomes.Did.TheVariants as dids
 use Rattle.pblk_engine.specs.declared.outcomes.Role.{Role}
@@ -83,14 +84,14 @@ IsNothing i known whys.Busy = IsBusy i (logs_of known)
 IsNothing i known whys.NoLine = IsAtRest i (logs_of known) 0 (length (logs_of known 0))
 IsNothing i known whys.Rest = IsAtRest i (logs_of known) 0 (length (logs_of known 0))
 
--- The worker had the unit fetch a block. It was given; or the fetch failed or was stopped, and its
--- number in the unit's log is told.
-pub record HasFetched (handed : List ModelUnit) (unit : ℕ) (old new : WorkerView) (result : Result (Unit {0}) ℕ) : Type 0 where
+-- The worker had the unit fetch a block. It was given; or it is told why not, with the fetch's
+-- number in the unit's log.
+pub record HasFetched (handed : List ModelUnit) (unit : ℕ) (old new : WorkerView) (result : Result (Unit {0}) FetchErr) : Type 0 where
   pub made : Made
   pub on : GoesOn old new (made ∷ [])
   pub of : made.unit ≡ unit
   pub asked : IsFetch made.event.command
-  pub tells : TellsFetch (number_told handed unit made.number) result made.event.outcome
+  pub tells : TellsFetch unit (number_told handed unit made.number) result made.event.outcome
 
 -- What a pump did, by the commands that its worker made in it, and by what the worker knows of the
 -- logs before it and after it.
@@ -121,6 +122,12 @@ IsOfRole roles.Collector dids.Other = ⊤
 IsOfRole roles.Collector (dids.Nothing why) = ⊤
 IsOfRole roles.Collector did = ⊥
 
+-- which commands a role makes: a lane programs and resets, and a collector fetches
+abbrev pub AreOfRole : Role → List Made → Type 0
+AreOfRole roles.All more = ⊤
+AreOfRole roles.Lane more = AllByRecursion (λ m. is_fetch m.event.command ≡ false) more
+AreOfRole roles.Collector more = AllByRecursion (λ m. is_fetch m.event.command ≡ true) more
+
 -- what is done of that which isn't a copy
 abbrev pub IsOfWorker : Did → Type 0
 IsOfWorker did = (did ≢ dids.Other) × (did ≢ dids.Copied) × (did ≢ dids.NotCopied)
@@ -130,3 +137,22 @@ pub record HasPumped (i : Image) (handed : List ModelUnit) (old new : WorkerView
   pub more : List Made
   pub on : GoesOn old new more
   pub tells : TellsPump i handed old.known new.known more result
+
+-- a fetch that gave no block, as a pump tells it
+abbrev pub fault_of : FetchErr → DriveErr
+fault_of e = record { unit = e.unit; event = e.event }
+
+abbrev pub pumped_of : Result Did FetchErr → Result Did DriveErr
+pumped_of (Ok did) = Ok did
+pumped_of (Err e) = Err (fault_of e)
+
+-- where it is an error, the cause of each of these fetches is told
+abbrev pub TellsCauses : List Made → Result Did FetchErr → Type 0
+TellsCauses more (Ok did) = ⊤
+TellsCauses more (Err e) = AllByRecursion (λ m. TellsCause e.cause m.event.outcome) more
+
+-- A pump in the role Collector, with its answer and the cause of a fetch that gave no block.
+pub record HasCollected (i : Image) (handed : List ModelUnit) (old new : WorkerView) (result : Result Did FetchErr) : Type 0 where
+  pub pumped : HasPumped i handed old new (pumped_of result)
+  pub fetched : AreOfRole roles.Collector pumped.more
+  pub caused : TellsCauses pumped.more result

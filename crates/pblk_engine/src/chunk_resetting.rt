@@ -1,11 +1,13 @@
 //! A chunk of a line that was given up is reset, and the engine notes that, in one hold of both
 //! locks.
-ghost use Rattle.std.specs.Prelude.{◌≡◌, ◌<◌, IfOk};
+ghost use Rattle.std.specs.Prelude.{◌≡◌, ◌<◌, ◌++◌, List, IfOk};
 ghost use Rattle.std.specs.Sync.Mutex.{mutex_guard_value};
 ghost use Rattle.pblk_model.specs.Shape.{units};
 ghost use Rattle.pblk_core.specs.declared.work.Work.TheVariants as works;
-ghost use Rattle.pblk_engine.specs.Pumps.{HasPumped};
+ghost use Rattle.pblk_engine.specs.Pumps.{AreOfRole, HasPumped};
+ghost use Rattle.pblk_engine.specs.Workers.{Made};
 ghost use Rattle.pblk_engine.specs.declared.outcomes.Did.TheVariants as dids;
+ghost use Rattle.pblk_engine.specs.declared.outcomes.Role.TheVariants as roles;
 
 use crate::engine::Engine;
 use crate::errors::DriveErr;
@@ -31,6 +33,8 @@ impl<M: Mount, U: Unit> Engine<M, U> {
         requires named { (mutex_guard_value heart).work ≡ works.Reset line unit }
         requires unit { unit < units M.past.image.shape }
         ensures pumped { HasPumped M.past.image M.handed worker.old worker.new result }
+        ensures made { (more : List Made) → worker.new.made ≡ worker.old.made ++ more
+            → AreOfRole roles.Lane more }
         ensures reset { IfOk result (λ did. did ≡ dids.Reset) }
     {
         let (held, arm) = self.arms.lock(rt, unit);

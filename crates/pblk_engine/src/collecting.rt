@@ -1,18 +1,19 @@
 //! A sector of the victim at work is copied, in one hold of the engine's lock.
-ghost use Rattle.std.specs.Prelude.{◌≡◌, ◌≢◌, ◌⊎◌, ◌<◌, ◌≤◌, Ok, Some, IfOk, IsOk};
+ghost use Rattle.std.specs.Prelude.{◌≡◌, ◌≢◌, ◌⊎◌, ◌<◌, ◌≤◌, ◌++◌, List, Ok, Some, IfOk, IsOk};
 ghost use Rattle.std.specs.Sync.Mutex.{mutex_guard_value};
 ghost use Rattle.pblk_model.specs.Shape.{units};
 ghost use Rattle.pblk_core.specs.declared.work.Why.{Why as WhyOf};
 ghost use Rattle.pblk_core.specs.declared.work.Work.TheVariants as works;
 ghost use Rattle.chronicle.specs.Prefixes.{logs_of};
 ghost use Rattle.pblk_engine.specs.Copying.{IsFetched};
-ghost use Rattle.pblk_engine.specs.Pumps.{HasFetched, HasPumped, IsOfRole};
+ghost use Rattle.pblk_engine.specs.Pumps.{AreOfRole, HasCollected, HasFetched, IsOfRole};
+ghost use Rattle.pblk_engine.specs.Workers.{Made};
 ghost use Rattle.pblk_engine.specs.declared.outcomes.Did.TheVariants as dids;
 ghost use Rattle.pblk_engine.specs.declared.outcomes.Role.TheVariants as roles;
 
 use crate::copying::{CopyPlace, NextCopy};
 use crate::engine::Engine;
-use crate::errors::DriveErr;
+use crate::errors::FetchErr;
 use crate::heart::Heart;
 use crate::mount::Mount;
 use crate::outcomes::Did;
@@ -29,7 +30,7 @@ impl<M: Mount, U: Unit> Engine<M, U> {
         heart: &mut Heart<M>,
         worker: &mut Worker<M>,
         of: &CopyPlace,
-    ) -> Result<(), u64>
+    ) -> Result<(), FetchErr>
         requires copy { heart.old.copy ≡ Some of.now }
         requires unit { of.now.unit < units M.past.image.shape }
         requires known { worker.old.known ≡ heart.old.author.known }
@@ -55,21 +56,19 @@ impl<M: Mount, U: Unit> Engine<M, U> {
         heart: &mut Heart<M>,
         worker: &mut Worker<M>,
         of: &CopyPlace,
-    ) -> Result<Did, DriveErr>
+    ) -> Result<Did, FetchErr>
         requires copy { heart.old.copy ≡ Some of.now }
         requires unit { of.now.unit < units M.past.image.shape }
         requires known { worker.old.known ≡ heart.old.author.known }
         requires reached { heart.old.intake.intake.taken ≤ heart.old.intake.found.claimed }
-        ensures pumped { HasPumped M.past.image M.handed worker.old worker.new result }
+        ensures collected { HasCollected M.past.image M.handed worker.old worker.new result }
         ensures copied { IfOk result (λ did. (did ≡ dids.Copied) ⊎ (did ≡ dids.NotCopied)) }
     {
-        match self.fetch_copy(rt, heart, worker, of) {
-            Err(event) => Err(DriveErr {
-                unit: of.unit,
-                event,
-            }),
-            Ok(()) if heart.put_copy(&self.ring, of) => Ok(Did::Copied),
-            Ok(()) => Ok(Did::NotCopied),
+        self.fetch_copy(rt, heart, worker, of)?;
+        if heart.put_copy(&self.ring, of) {
+            Ok(Did::Copied)
+        } else {
+            Ok(Did::NotCopied)
         }
     }
 
@@ -81,10 +80,12 @@ impl<M: Mount, U: Unit> Engine<M, U> {
         mut heart: MutexGuard<'_, Heart<M>>,
         work: Work,
         worker: &mut Worker<M>,
-    ) -> Result<Did, DriveErr>
+    ) -> Result<Did, FetchErr>
         requires named { work ≡ (mutex_guard_value heart).work }
         requires known { worker.old.known ≡ (mutex_guard_value heart).author.known }
-        ensures pumped { HasPumped M.past.image M.handed worker.old worker.new result }
+        ensures collected { HasCollected M.past.image M.handed worker.old worker.new result }
+        ensures made { (more : List Made) → worker.new.made ≡ worker.old.made ++ more
+            → AreOfRole roles.Collector more }
         ensures copied { IfOk result (IsOfRole roles.Collector) }
         ensures named { work ≡ works.Copy → IfOk result (λ did. did ≢ dids.Other) }
         ensures some { (why : WhyOf) → result ≢ Ok (dids.Nothing why) }
@@ -94,5 +95,20 @@ impl<M: Mount, U: Unit> Engine<M, U> {
             NextCopy::Full => Ok(Did::NotCopied),
             NextCopy::Nothing => Ok(Did::Other),
         }
+    }
+
+    /// Takes what is filled, and copies the sector that is to be copied next. It does what `pump`
+    /// does in the role Collector. `Err` comes where the fetch of the sector's block failed or was
+    /// stopped, and tells which. Then the sector is still to be copied.
+    pub fn collect<R: Wait>(&self, rt: &R, worker: &mut Worker<M>) -> Result<Did, FetchErr>
+        ensures collected { HasCollected M.past.image M.handed worker.old worker.new result }
+        ensures role { IfOk result (IsOfRole roles.Collector) }
+    {
+        let mut heart = self.heart.lock(rt);
+        let beating = &mut *heart;
+        beating.take_filled(&self.chronicle, &self.ring);
+        self.tell(beating, worker);
+        let work = beating.next_work();
+        self.copy(rt, heart, work, worker)
     }
 }

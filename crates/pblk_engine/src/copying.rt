@@ -15,6 +15,7 @@ ghost use Rattle.pblk_engine.specs.Hearts.{IsRingOf};
 ghost use Rattle.pblk_engine.specs.declared.copying.NextCopy.TheVariants as answer;
 
 use crate::arm::Arm;
+use crate::errors::FetchErr;
 use crate::heart::Heart;
 use crate::mount::Mount;
 use crate::worker::Worker;
@@ -92,15 +93,15 @@ impl<M: Mount> Heart<M> {
 
     /// Fetches the block of the sector that is copied next into the heart's buffer. It needs both
     /// locks: the heart and the arm take in what the other knows first. The heart knows all that
-    /// the worker knows. `Err` comes where the fetch failed or was stopped, with its number in the
-    /// unit's log, from 1. The fetch is noted with its maker.
+    /// the worker knows. `Err` comes where the fetch failed or was stopped, and tells which. The
+    /// fetch is noted with its maker.
     pub(crate) fn fetch_copy<U: Unit>(
         &mut self,
         chronicle: &Chronicle,
         arm: &mut Arm<M, U>,
         worker: &mut Worker<M>,
         of: &CopyPlace,
-    ) -> Result<(), u64>
+    ) -> Result<(), FetchErr>
         requires of { chronicle.now ≡ M.chronicle }
         requires copy { self.old.copy ≡ Some of.now }
         requires unit { arm.old.number ≡ of.now.unit }
@@ -114,7 +115,7 @@ impl<M: Mount> Heart<M> {
             let unit = arm.old.number in
             let event = number_told M.handed unit (length (logs_of before (suc unit))) in
             HasDone arm.old arm.new worker.old worker.new before of.now.job.line
-            (Read of.now.block) (TellsFetch event result) }
+            (Read of.now.block) (TellsFetch unit event result) }
         ensures fetched { IsOk result → IsFetched M.past.image (logs_of self.new.author.known)
             of.now self.new.sector }
         ensures keeps { ArePrefixes self.old.author.known self.new.author.known }

@@ -228,7 +228,8 @@ impl<M: Mount, U: Unit> Engine<M, U> {
         requires room { units_of M.past.image.shape ≤ vec_capacity units }
         requires workers_room { length workers.items < vec_capacity workers }
         ensures { HasClosed M.past M.key M.handed M.wear first workers.items names.spare
-            (pass_view pass).pass result.1 (map U.model result.0.items) (map U.wear result.0.items) }
+            (pass_view pass).pass result.1
+            (map U.model result.0.items) (map U.wear result.0.items) }
     {
         let mut first = first;
         let mut pass = pass;

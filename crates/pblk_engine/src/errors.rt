@@ -1,9 +1,11 @@
 //! Why an engine's calls don't do what they are for.
 
 ghost use Rattle.std.specs.Prelude.{◌≡◌};
+ghost use Rattle.pblk_engine.specs.Pumps.{fault_of};
 ghost use Rattle.pblk_engine.specs.declared.errors.SettleErr.TheVariants.{Drive};
 
 use thiserror::Error;
+use unit_port::UnitErr;
 
 /// This event of this unit, made in this call, was a stopped command or a fetch that failed. Units
 /// are numbered from 0, and the events of a unit's log from 1. From 2^64 - 1 on the number of an
@@ -13,6 +15,27 @@ use thiserror::Error;
 pub struct DriveErr {
     pub unit: u32,
     pub event: u64,
+}
+
+/// A fetch of this unit, made in this call, gave no block: it failed, or was stopped. Units and
+/// events are numbered as in [`DriveErr`].
+#[derive(Clone, Copy, Debug, PartialEq, Eq, Error)]
+#[error("event {event} of unit {unit}, a fetch: {cause}")]
+pub struct FetchErr {
+    pub unit: u32,
+    pub event: u64,
+    pub cause: UnitErr,
+}
+
+impl From<FetchErr> for DriveErr {
+    ghost from_gives = { λ e w. w ≡ fault_of e };
+
+    fn from(e: FetchErr) -> Self {
+        DriveErr {
+            unit: e.unit,
+            event: e.event,
+        }
+    }
 }
 
 /// Why a call doesn't come to what it works for.

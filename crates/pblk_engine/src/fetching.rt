@@ -15,6 +15,7 @@ ghost use Rattle.pblk_engine.specs.Notes.{IsNoteOf};
 
 use crate::arm::{Arm, note_command};
 use crate::commands;
+use crate::errors::FetchErr;
 use crate::mount::Mount;
 use crate::worker::Worker;
 use chronicle::{Chronicle, Note};
@@ -111,8 +112,7 @@ impl<M: Mount, U: Unit> Arm<M, U> {
 
     /// Fetches a block that can be read. It needs both locks: the note is the engine's, which met
     /// the arm's note and the worker's before. `Ok` comes with the block's sector in `out`. `Err`
-    /// comes where the fetch failed or was stopped, with its number in the unit's log, from 1. It
-    /// is noted with its maker.
+    /// comes where the fetch failed or was stopped, and tells which. It is noted with its maker.
     pub(crate) fn fetch_readable(
         &mut self,
         chronicle: &Chronicle,
@@ -121,7 +121,7 @@ impl<M: Mount, U: Unit> Arm<M, U> {
         line: u32,
         block: u32,
         out: &mut [u8],
-    ) -> Result<(), u64>
+    ) -> Result<(), FetchErr>
         requires of { chronicle.now ≡ M.chronicle }
         requires note { IsNoteOf M.chronicle M.past note }
         requires told { ArePrefixes worker.old.known note.known }
@@ -133,7 +133,7 @@ impl<M: Mount, U: Unit> Arm<M, U> {
             let unit = self.old.number in
             let event = number_told M.handed unit (length (logs_of before (suc unit))) in
             HasDone self.old self.new worker.old worker.new before line (Read block)
-            (TellsFetch event result) }
+            (TellsFetch unit event result) }
         ensures sector { IsOk result → (there : IsReadableAt M.past.image
             (logs_of (longer_of self.old.known note.known)) self.old.number line block)
             → out.new ≡ there.block.sector }
@@ -145,7 +145,11 @@ impl<M: Mount, U: Unit> Arm<M, U> {
         match self.fetch_block(chronicle, worker, line, block, out) {
             Ok(Got::Sector(_)) => Ok(()),
             Ok(Got::Empty) => unreachable!(),
-            Err(_) => Err(self.events()),
+            Err(cause) => Err(FetchErr {
+                unit: self.number,
+                event: self.events(),
+                cause,
+            }),
         }
     }
 

@@ -59,7 +59,8 @@ impl<M: Mount> Model for Heart<M> {
     ghost view = { λ h. heart_view h.core h.author h.intake.seat.me.0 h.asked h.sector.items };
 
     ghost invariant = { λ h. IsHeartOf M.chronicle M.ring M.past M.key h.intake.seat.table_id
-        (parts h.core h.author h.intake.seat.me.0) × IsCopyBatch M.key h.batch h.sector.items h.slots
+        (parts h.core h.author h.intake.seat.me.0)
+        × IsCopyBatch M.key h.batch h.sector.items h.slots
         × IsRaisedByVictims M.past.image (logs_of h.author.known) h.asked (pad_of h.core) };
 }
 

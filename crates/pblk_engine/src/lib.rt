@@ -20,6 +20,7 @@ mod engine_author;
 mod errors;
 mod fetching;
 mod heart;
+mod idle;
 mod laws;
 mod line_opening;
 mod looking;
@@ -47,7 +48,8 @@ pub use beginning::HeartParts;
 pub use closing::{Closing, IsSet, LaneEnd};
 pub use commands::Ended;
 pub use engine::Engine;
-pub use errors::{DriveErr, SettleErr};
+pub use errors::{DriveErr, FetchErr, SettleErr};
+pub use idle::Idle;
 pub use laws::{
     an_opening_is_a_past, each_command_stands_in_its_list, what_has_just_begun_is_mounted,
 };

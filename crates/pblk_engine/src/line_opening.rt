@@ -1,9 +1,11 @@
 //! A line is opened.
-ghost use Rattle.std.specs.Prelude.{◌≡◌, Ok};
+ghost use Rattle.std.specs.Prelude.{◌≡◌, ◌++◌, List, Ok};
 ghost use Rattle.std.specs.Sync.Mutex.{mutex_guard_value};
 ghost use Rattle.pblk_core.specs.declared.work.Work.TheVariants as works;
-ghost use Rattle.pblk_engine.specs.Pumps.{HasPumped};
+ghost use Rattle.pblk_engine.specs.Pumps.{AreOfRole, HasPumped};
+ghost use Rattle.pblk_engine.specs.Workers.{Made};
 ghost use Rattle.pblk_engine.specs.declared.outcomes.Did.TheVariants as dids;
+ghost use Rattle.pblk_engine.specs.declared.outcomes.Role.{Role as RoleOf};
 
 use crate::engine::Engine;
 use crate::heart::Heart;
@@ -24,6 +26,8 @@ impl<M: Mount, U: Unit> Engine<M, U> {
         requires known { worker.old.known ≡ (mutex_guard_value heart).author.known }
         ensures pumped { HasPumped M.past.image M.handed worker.old worker.new (Ok result) }
         ensures opened { result ≡ dids.Opened }
+        ensures made { (role : RoleOf) (more : List Made)
+            → worker.new.made ≡ worker.old.made ++ more → AreOfRole role more }
     {
         let beating = &mut *heart;
         beating.open_line(&self.chronicle, &self.ring);

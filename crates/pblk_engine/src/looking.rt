@@ -26,8 +26,8 @@ use write_ring::Ring;
 
 impl<M: Mount> Heart<M> {
     /// What comes next. Where that is nothing, and nothing is in flight, the target is at rest for
-    /// each pad target up to that which it has, and no copy is due by all that the heart knows. Where
-    /// something is in flight, nothing else can be done by the logs meanwhile.
+    /// each pad target up to that which it has, and no copy is due by all that the heart knows.
+    /// Where something is in flight, nothing else can be done by the logs meanwhile.
     pub(crate) fn next_work(&self) -> Work
         ensures named { result ≡ self.now.work }
         ensures reset { (line unit : ℕ) → result ≡ works.Reset line unit

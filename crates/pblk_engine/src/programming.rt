@@ -1,6 +1,6 @@
 //! A stripe on its way: it is placed under the engine's lock, programmed under its unit's lock
 //! alone, and answered under the engine's lock again.
-ghost use Rattle.std.specs.Prelude.{◌≡◌, ◌≢◌, ◌<◌, ◌≤◌, IfOk, Ok};
+ghost use Rattle.std.specs.Prelude.{◌≡◌, ◌≢◌, ◌<◌, ◌≤◌, ◌++◌, List, IfOk, Ok};
 ghost use Rattle.std.specs.Sync.Mutex.{mutex_guard_value};
 ghost use Rattle.chronicle.specs.Prefixes.{ArePrefixes, logs_of};
 ghost use Rattle.pblk_core.specs.declared.work.Why.{Why as WhyOf};
@@ -10,9 +10,11 @@ ghost use Rattle.pblk_engine.specs.Answers.{IsLastProgram};
 ghost use Rattle.pblk_engine.specs.Notes.{IsNoteOf};
 ghost use Rattle.pblk_engine.specs.Placements.{IsPlacedAs};
 ghost use Rattle.pblk_engine.specs.Programs.{HasMade, HasTried};
-ghost use Rattle.pblk_engine.specs.Pumps.{HasPumped, IsOfWorker};
+ghost use Rattle.pblk_engine.specs.Pumps.{AreOfRole, HasPumped, IsOfWorker};
 ghost use Rattle.pblk_engine.specs.Stops.{stop_count};
+ghost use Rattle.pblk_engine.specs.Workers.{Made};
 ghost use Rattle.pblk_engine.specs.declared.outcomes.Did.TheVariants as dids;
+ghost use Rattle.pblk_engine.specs.declared.outcomes.Role.TheVariants as roles;
 
 use crate::arm::Programmed;
 use crate::commands::Ended;
@@ -142,6 +144,8 @@ impl<M: Mount, U: Unit> Engine<M, U> {
         requires named { (mutex_guard_value heart).work ≡ works.Program }
         requires known { worker.old.known ≡ (mutex_guard_value heart).author.known }
         ensures pumped { HasPumped M.past.image M.handed worker.old worker.new result }
+        ensures made { (more : List Made) → worker.new.made ≡ worker.old.made ++ more
+            → AreOfRole roles.Lane more }
         ensures worked { IfOk result IsOfWorker }
         ensures some { (why : WhyOf) → result ≢ Ok (dids.Nothing why) }
     {

@@ -1,10 +1,11 @@
 //! One piece of an engine's work.
-ghost use Rattle.std.specs.Prelude.{◌≡◌, ◌<◌, ℕ, IfOk, Ok};
+ghost use Rattle.std.specs.Prelude.{◌≡◌, ◌<◌, ◌++◌, ℕ, List, IfOk, Ok};
 ghost use Rattle.std.specs.Sync.Mutex.{mutex_guard_value};
 ghost use Rattle.pblk_model.specs.Shape.{units};
 ghost use Rattle.pblk_core.specs.declared.work.Why.{Why as WhyOf};
 ghost use Rattle.pblk_core.specs.declared.work.Work.TheVariants as works;
-ghost use Rattle.pblk_engine.specs.Pumps.{HasPumped, IsNothing, IsOfRole};
+ghost use Rattle.pblk_engine.specs.Pumps.{AreOfRole, HasPumped, IsNothing, IsOfRole};
+ghost use Rattle.pblk_engine.specs.Workers.{Made};
 ghost use Rattle.pblk_engine.specs.declared.outcomes.Did.TheVariants as dids;
 ghost use Rattle.pblk_engine.specs.declared.outcomes.Role.TheVariants as roles;
 
@@ -27,10 +28,13 @@ impl<M: Mount, U: Unit> Engine<M, U> {
     /// log is at rest at the length that the worker knows.
     ///
     /// `Err` comes where the command that it gave a unit was stopped, or where it fetched a block
-    /// to copy it and the fetch failed. It names that event.
+    /// to copy it and the fetch failed. It names that event. Whatever the answer, the worker made
+    /// commands of this role alone.
     pub fn pump<R: Wait>(&self, rt: &R, worker: &mut Worker<M>, role: Role) -> Result<Did, DriveErr>
         ensures pumped { HasPumped M.past.image M.handed worker.old worker.new result }
         ensures role { IfOk result (IsOfRole role) }
+        ensures made { (more : List Made) → worker.new.made ≡ worker.old.made ++ more
+            → AreOfRole role more }
     {
         let mut heart = self.heart.lock(rt);
         let beating = &mut *heart;
@@ -58,13 +62,17 @@ impl<M: Mount, U: Unit> Engine<M, U> {
             → IsNothing M.past.image worker.old.known why }
         ensures pumped { HasPumped M.past.image M.handed worker.old worker.new result }
         ensures role { IfOk result (IsOfRole role) }
+        ensures made { (more : List Made) → worker.new.made ≡ worker.old.made ++ more
+            → AreOfRole role more }
         ensures nothing { (why : WhyOf) → result ≡ Ok (dids.Nothing why)
             → work ≡ works.Nothing why }
         ensures other { role ≡ roles.Lane → result ≡ Ok dids.Other → work ≡ works.Copy }
     {
         match (role, work) {
             (_, Work::Nothing(why)) => Ok(Did::Nothing(why)),
-            (Role::Collector, _) | (Role::All, Work::Copy) => self.copy(rt, heart, work, worker),
+            (Role::Collector, _) | (Role::All, Work::Copy) => Ok(self.copy(
+                rt, heart, work, worker,
+            )?),
             (Role::Lane, Work::Copy) => Ok(Did::Other),
             (_, Work::Program) => self.program(rt, heart, worker),
             (_, Work::Open) => Ok(self.open_line(heart, worker)),

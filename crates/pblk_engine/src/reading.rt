@@ -160,13 +160,7 @@ impl<M: Mount, U: Unit> Engine<M, U> {
         let (held, mut arm) = self.arms.lock(rt, place.unit);
         let fetched = heart.fetch_looked(&self.chronicle, &mut arm, worker, place, out);
         self.arms.unlock(held, arm);
-        match fetched {
-            Ok(()) => Ok(()),
-            Err(event) => Err(DriveErr {
-                unit: place.unit,
-                event,
-            }),
-        }
+        Ok(fetched?)
     }
 
     // Fetches the sectors of a run that are on the drive, where they were looked up in this hold of

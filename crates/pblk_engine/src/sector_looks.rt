@@ -14,6 +14,7 @@ ghost use Rattle.pblk_engine.specs.Notes.{IsNoteOf};
 ghost use Rattle.pblk_engine.specs.Reads.{IsLatest, IsLookedFor, IsPlaceOf, IsRun, IsRunLook};
 
 use crate::arm::Arm;
+use crate::errors::FetchErr;
 use crate::fetching::Sought;
 use crate::heart::Heart;
 use crate::mount::Mount;
@@ -138,8 +139,8 @@ impl<M: Mount> Heart<M> {
 
     /// Fetches the block of a sector that was looked up in this hold of the engine's lock. It needs
     /// both locks: the heart takes in what the arm and the worker know first. `Ok` comes with the
-    /// sector's latest content in `out`. `Err` comes where the fetch failed or was stopped, with
-    /// its number in the unit's log, from 1. The fetch is noted with its maker.
+    /// sector's latest content in `out`. `Err` comes where the fetch failed or was stopped, and
+    /// tells which. The fetch is noted with its maker.
     pub(crate) fn fetch_looked<U: Unit>(
         &mut self,
         chronicle: &Chronicle,
@@ -147,7 +148,7 @@ impl<M: Mount> Heart<M> {
         worker: &mut Worker<M>,
         place: SectorPlace,
         out: &mut [u8],
-    ) -> Result<(), u64>
+    ) -> Result<(), FetchErr>
         requires of { chronicle.now ≡ M.chronicle }
         requires unit { arm.old.number ≡ place.unit }
         requires legal { AreLegalLogs M.past.image self.old.author.known }
@@ -165,7 +166,7 @@ impl<M: Mount> Heart<M> {
             let unit = arm.old.number in
             let event = number_told M.handed unit (length (logs_of before (suc unit))) in
             HasDone arm.old arm.new worker.old worker.new before place.sought.line
-            (Read place.sought.block) (TellsFetch event result) }
+            (Read place.sought.block) (TellsFetch unit event result) }
         ensures latest { IsOk result → IsLatest M.past.image (logs_of self.old.author.known)
             place.sought.lba out.new }
         ensures size { length out.new ≡ length out.old }

@@ -43,7 +43,8 @@ struct Takes<'a> {
 impl<'a> Shows for Takes<'a> {
     type Event = Event;
 
-    ghost shown = { λ t. Decides (Take (entry_of t.entry.now) (mark_of t.core.now.map t.entry.now)) };
+    ghost shown = { λ t.
+        Decides (Take (entry_of t.entry.now) (mark_of t.core.now.map t.entry.now)) };
 }
 
 // Each byte of a slice is below 256.

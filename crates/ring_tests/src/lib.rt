@@ -4,6 +4,8 @@
 #[cfg(test)]
 mod rows;
 #[cfg(test)]
+mod sleeping;
+#[cfg(test)]
 mod steps;
 #[cfg(test)]
 mod threads;

@@ -1,16 +1,12 @@
 -- The only session of a target: the run of a script through it, and what comes back at the close.
-use Rattle.std.proofs.Common.{◌≡◌, ℕ, zero, suc, ◌+◌, List, [], ◌∷◌, length, map, slice_get, Option, Some, refl, sym, subst, ap, ◌∙◌, arith}
+use Rattle.std.proofs.Common.{◌≡◌, ℕ, List, [], ◌∷◌, length, map, slice_get, Option, refl, sym, subst, ap, ◌∙◌, arith}
 use Rattle.std.specs.Option.{option_map_or}
-use Rattle.std.proofs.lemmas.Option.{none-some, same_Some}
+use Rattle.std.proofs.lemmas.Option.{same_Some}
 use Rattle.pblk_model.specs.declared.script.Command.{Command}
 use Rattle.unit_port.specs.Unit.{ModelUnit}
 use Rattle.block_port.specs.Port.{Footing, IsSameTarget, ModelPort}
-use Rattle.write_ring.specs.declared.view.Key.{Key}
 use Rattle.chronicle.specs.Views.{Past}
-use Rattle.pblk_engine.specs.Workers.{WorkerView}
-use Rattle.block_target.specs.Closes.{AreAllBack}
 use Rattle.block_target.specs.Sessions.{SessionView, device}
-use Rattle.block_target.specs.Targets.{TargetView, first_target, first_worker}
 use Rattle.run_threads.specs.declared.records.Answer.{Answer}
 use Rattle.run_threads.specs.declared.records.Records.{Records}
 use Rattle.run_threads.specs.Run.{EachThread, WasRun, WereRun}
@@ -64,29 +60,3 @@ module _ (past : Past) (handed : List ModelUnit) (wear : List (List ℕ)) where
       let back = comes_back script records first ports news one are ran in
       let same : last ≡ back.0 = same_Some last back.0 (ap (λ (ts : List SessionView). slice_get ts 0) (sym news_are ∙ back.1)) in
       ap (λ (t : SessionView). t.worker.number) same ∙ back.2
-
--- one ticket and one worker come back
-pub all_back : (key : Key) (past : Past) (target : TargetView) (tickets : List SessionView) (workers : List WorkerView) (t : SessionView)
-    → target ≡ first_target key 1 1 → tickets ≡ t ∷ [] → workers ≡ first_worker past 1 ∷ [] → t.worker.number ≡ 0
-    → AreAllBack target tickets workers
-all_back key past target tickets workers t target_is tickets_are workers_are first =
-    subst (λ (v : TargetView). AreAllBack v tickets workers) (sym target_is)
-    (subst (λ (ts : List SessionView). AreAllBack (first_target key 1 1) ts workers) (sym tickets_are)
-    (subst (λ (ws : List WorkerView). AreAllBack (first_target key 1 1) (t ∷ []) ws) (sym workers_are)
-    (record {
-      some = omega arith;
-      shares = refl;
-      claims = refl;
-      puts = refl;
-      named = refl;
-      sessions = λ k s there. one_ticket k s there;
-      others = λ k w there. one_worker k w there;
-    })))
-  where
-    one_ticket : (k : ℕ) (s : SessionView) → slice_get (t ∷ []) k ≡ Some s → s.worker.number ≡ k
-    one_ticket zero s there = ap (λ (x : SessionView). x.worker.number) (sym (same_Some t s there)) ∙ first
-    one_ticket (suc k) s there = absurd (none-some s there)
-
-    one_worker : (k : ℕ) (w : WorkerView) → slice_get (first_worker past 1 ∷ []) k ≡ Some w → w.number ≡ length (t ∷ []) + k
-    one_worker zero w there = ap (λ (x : WorkerView). x.number) (sym (same_Some (first_worker past 1) w there))
-    one_worker (suc k) w there = absurd (none-some w there)

@@ -16,13 +16,14 @@ use run_threads::{Answer, Records, Trouble, Word, run};
 use std::alloc::{AllocError, Global};
 use std::marker::Brand;
 use std::sync::Wait;
+use std::thread::Threads;
 use unit_port::Unit;
 
 /// What is told of a script of one thread that is run on a target over new units, and of its close:
 /// a line for each answer, one for the close, and one for each unit: how many events it had, and
 /// the state and write pointer of each of its chunks that has blocks, with their marks where they
 /// are asked for.
-pub(crate) fn told<R: Wait>(
+pub(crate) fn told<R: Threads + Wait + Sync>(
     rt: &R,
     alloc: Global,
     shape: &Shape,
@@ -44,7 +45,7 @@ pub(crate) fn told<R: Wait>(
 
 // What is told of a script of one thread that is run on a target which was opened for one session,
 // and of its close.
-fn told_of<M: Mount, R: Wait>(
+fn told_of<M: Mount + Send + Sync, R: Threads + Wait + Sync>(
     rt: &R,
     alloc: Global,
     opened: Opened<MemoryUnit>,
@@ -73,7 +74,7 @@ fn told_of<M: Mount, R: Wait>(
 }
 
 // The answers to a script of one thread that is run as a session of a target, a line each.
-fn run_session<M: Mount, R: Wait>(
+fn run_session<M: Mount + Send + Sync, R: Threads + Wait + Sync>(
     rt: &R,
     alloc: Global,
     target: &Target<M, MemoryUnit>,

@@ -13,7 +13,7 @@ use Rattle.write_ring.specs.declared.view.Key.{Key}
 use Rattle.write_ring.specs.declared.view.View.{View}
 
 abbrev pub nothing_found : LastFound
-nothing_found = record { steps = 0; claimed = 0; met = 0; freed = 0; granted = 0; turn = 0 }
+nothing_found = record { steps = 0; claimed = 0; met = 0; freed = 0; granted = 0; over = 0; turn = 0 }
 
 -- a seat that is no pass
 abbrev pub no_part : Part
@@ -52,15 +52,16 @@ with_found v found = record v { found = found }
 abbrev pub with_pass : View → Part → View
 with_pass v pass = record v { pass = pass }
 
--- a load found n in `claimed`, in `freed`, in `granted` or in a turn word
+-- A load found n in `claimed`, in `freed`, in `granted` or in a turn word.
+-- With a limit, which is `freed` or `granted`, goes what the seat had found in `claimed` by then.
 abbrev pub saw_claimed : View → ℕ → View
 saw_claimed v n = with_found v (record v.found { steps = v.found.steps + 1; claimed = n })
 
 abbrev pub saw_freed : View → ℕ → View
-saw_freed v n = with_found v (record v.found { steps = v.found.steps + 1; freed = n })
+saw_freed v n = with_found v (record v.found { steps = v.found.steps + 1; freed = n; over = v.found.claimed })
 
 abbrev pub saw_granted : View → ℕ → View
-saw_granted v n = with_found v (record v.found { steps = v.found.steps + 1; granted = n })
+saw_granted v n = with_found v (record v.found { steps = v.found.steps + 1; granted = n; over = v.found.claimed })
 
 abbrev pub saw_turn : View → ℕ → View
 saw_turn v n = with_found v (record v.found { steps = v.found.steps + 1; turn = n })

@@ -17,7 +17,8 @@ impl Ring {
     /// Claims positions for the filled frames of the batch, and puts them there as copies, as
     /// `try_put` does for users. Copies go wherever the ring has room, the reserve too: the limit
     /// is the end of that room, which lies past `freed` by the ring's size, or 2^62 where that is
-    /// less. With this limit it's refused as `try_put` is.
+    /// less. With this limit it's refused as `try_put` is. Here `freed` is loaded after `claimed`
+    /// was found to be what the answer tells.
     ///
     /// After `Ok` each position from the ring's first one to the place was granted to users, or is
     /// one of the copies that this intake had claimed before.
@@ -45,6 +46,7 @@ impl Ring {
             (batch.new.free ≡ batch.old.free + length batch.old.drafts) }
         ensures place_room { IfOk result (λ p. HadRoom kind.Copy (ring_key self.now)
             batch.old.drafts p.first (intake_view intake.new)) }
+        ensures place_order { IfOk result (λ p. (intake_view intake.new).found.over ≡ p.first) }
         ensures place_steps { OnOk result
             ((intake_view intake.new).found.steps ≡ (intake_view intake.old).found.steps + 3) }
 
@@ -55,6 +57,8 @@ impl Ring {
         ensures full { (claimed limit : ℕ) → result ≡ Err (Refused.Full claimed limit)
             → WasFull kind.Copy (ring_key self.now) batch.old.drafts
             (record { claimed = claimed; limit = limit }) (intake_view intake.new) }
+        ensures full_order { (claimed limit : ℕ) → result ≡ Err (Refused.Full claimed limit)
+            → (intake_view intake.new).found.over ≡ claimed }
         ensures full_steps { (claimed limit : ℕ) → result ≡ Err (Refused.Full claimed limit)
             → (intake_view intake.new).found.steps ≡ (intake_view intake.old).found.steps + 2 }
         ensures raced { (expected found : ℕ) → result ≡ Err (Refused.Raced expected found)
@@ -62,6 +66,8 @@ impl Ring {
         ensures raced_room { (expected found : ℕ) → result ≡ Err (Refused.Raced expected found)
             → HadRoom kind.Copy (ring_key self.now) batch.old.drafts expected
             (intake_view intake.new) }
+        ensures raced_order { (expected found : ℕ) → result ≡ Err (Refused.Raced expected found)
+            → (intake_view intake.new).found.over ≡ expected }
         ensures raced_steps { (expected found : ℕ) → result ≡ Err (Refused.Raced expected found)
             → (intake_view intake.new).found.steps ≡ (intake_view intake.old).found.steps + 3 }
     {

@@ -20,6 +20,7 @@ mod putting;
 mod ring;
 mod rule;
 mod seats;
+mod sleeping;
 mod table;
 mod taking;
 mod view;

@@ -138,6 +138,7 @@ impl Ring {
             (batch.new.free ≡ batch.old.free + length batch.old.drafts) }
         ensures place_room { IfOk result (λ p. HadRoom class (ring_key self.now)
             batch.old.drafts p.first seat.new.me.0) }
+        ensures place_order { IfOk result (λ p. seat.new.me.0.found.over ≡ p.first) }
         ensures place_steps { OnOk result
             (seat.new.me.0.found.steps ≡ seat.old.me.0.found.steps + 3) }
         ensures reached { IfOk result (λ p. class ≡ kind.Copy
@@ -149,12 +150,16 @@ impl Ring {
         ensures full { (claimed limit : ℕ) → result ≡ Err (Refused.Full claimed limit)
             → WasFull class (ring_key self.now) batch.old.drafts
             (record { claimed = claimed; limit = limit }) seat.new.me.0 }
+        ensures full_order { (claimed limit : ℕ) → result ≡ Err (Refused.Full claimed limit)
+            → seat.new.me.0.found.over ≡ claimed }
         ensures full_steps { (claimed limit : ℕ) → result ≡ Err (Refused.Full claimed limit)
             → seat.new.me.0.found.steps ≡ seat.old.me.0.found.steps + 2 }
         ensures raced { (expected found : ℕ) → result ≡ Err (Refused.Raced expected found)
             → WasRaced expected found seat.new.me.0 }
         ensures raced_room { (expected found : ℕ) → result ≡ Err (Refused.Raced expected found)
             → HadRoom class (ring_key self.now) batch.old.drafts expected seat.new.me.0 }
+        ensures raced_order { (expected found : ℕ) → result ≡ Err (Refused.Raced expected found)
+            → seat.new.me.0.found.over ≡ expected }
         ensures raced_steps { (expected found : ℕ) → result ≡ Err (Refused.Raced expected found)
             → seat.new.me.0.found.steps ≡ seat.old.me.0.found.steps + 3 }
     {
@@ -173,6 +178,7 @@ impl Ring {
             });
         }
         self.put_batch(seat, class, claimed, batch);
+        self.wake();
         Ok(Place {
             first: claimed,
             count,

@@ -15,6 +15,7 @@ use crate::view::Key;
 use atomic_table::{Refused, Table};
 use sector_pool::Pool;
 use std::alloc::{AllocError, Global};
+use std::sync::atomic::AtomicU64;
 
 impl Ring {
     /// A ring of `n` positions, of which `reserve` are kept for copies, over the first sectors of a
@@ -88,7 +89,12 @@ impl Ring {
             Ok((table, seat)) => {
                 let mut seat = seat;
                 let intake = table.shared.split_seat::<Parted>(&mut seat);
-                let ring = Ring { table, size, first };
+                let ring = Ring {
+                    table,
+                    size,
+                    first,
+                    sleepers: AtomicU64::new(0),
+                };
                 let intake = Intake {
                     seat: intake,
                     taken: first,
@@ -137,10 +143,10 @@ impl Ring {
         self.table.shared.join_seat::<Passes>(&mut pass.seat, seat);
     }
 
-    /// Loads `claimed` once, for the intake and the pass together: all that the intake has taken was
-    /// claimed. Where the pass has all shares that the intake hasn't, each position from the ring's
-    /// first one to the answer is in one claim of the pass or of the intake, and no other position
-    /// is in any: so their claims are all that there are.
+    /// Loads `claimed` once, for the intake and the pass together: all that the intake has taken
+    /// was claimed. Where the pass has all shares that the intake hasn't, each position from the
+    /// ring's first one to the answer is in one claim of the pass or of the intake, and no other
+    /// position is in any: so their claims are all that there are.
     pub fn all_claimed(&self, intake: &mut Intake, pass: &mut Pass) -> u64
         requires intake_ring { IsIntakeOf self.now intake.old }
         requires ring { IsPassOf self.now pass.old }
@@ -197,6 +203,7 @@ impl Ring {
             table,
             size,
             first: _,
+            sleepers: _,
         } = self;
         let Pass { mut seat } = pass;
         let Intake {

@@ -6,6 +6,7 @@ use crate::rule::Order;
 use crate::view::{Key, View};
 use atomic_table::Table;
 use std::alloc::Global;
+use std::sync::atomic::AtomicU64;
 
 // Where the words lie: each on a cache line of its own, of so many words.
 pub(crate) const LINE: usize = 16;
@@ -26,6 +27,8 @@ pub struct Ring {
     pub(crate) table: Table<Cell, View, Key, Order, Global>,
     pub(crate) size: u64,
     pub(crate) first: u64,
+    // How many threads doze.
+    pub(crate) sleepers: AtomicU64,
     ghost sized: { table.shared.key.size ≡ size },
     ghost begins: { table.shared.key.first ≡ first },
     ghost small: { size < 2 ^ 32 },

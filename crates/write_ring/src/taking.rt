@@ -118,7 +118,11 @@ impl Ring {
         requires ring { IsIntakeOf self.now intake.old }
         ensures ring { IsIntakeOf self.now intake.new }
         ensures found { let old = intake_view intake.old in intake_view intake.new ≡ record old {
-          found = record old.found { steps = old.found.steps + 1; granted = result };
+          found = record old.found {
+            steps = old.found.steps + 1;
+            granted = result;
+            over = old.found.claimed;
+          };
         } }
         ensures granted { result ≡ (intake_view intake.old).intake.granted }
     {

@@ -1,5 +1,5 @@
-//! What the ring is made with, and what each of its seats knows. No value of a view is ever made: it is
-//! there in contracts alone.
+//! What the ring is made with, and what each of its seats knows. No value of a view is ever made:
+//! it is there in contracts alone.
 use pblk_model::Claim;
 use sector_pool::{Origin, Source};
 use std::collections::LinkedList;
@@ -45,6 +45,8 @@ pub struct LastFound {
     pub freed: u64,
     /// What the last load of `granted` found.
     pub granted: u64,
+    /// What the seat had found in `claimed` when it last loaded a limit, `freed` or `granted`.
+    pub over: u64,
     /// What the last load of a turn word found.
     pub turn: u64,
 }

@@ -17,11 +17,14 @@ use std::sync::Wait;
 impl Ring {
     /// Claims positions that no other claim has for the filled frames of the batch, by one
     /// exchange, and puts them there. It never waits. Afterwards the batch has as many free frames.
-    /// The place lies past all that the pass had found of `claimed` before.
+    /// The place lies past all that the pass had found of `claimed` before. Those who doze on the
+    /// ring are woken once the entries are there.
     ///
     /// Refused with `Full` exactly where `claimed`, as it was read, and the number of filled frames
-    /// are above `granted`, which is read next. Refused with `Raced` exactly where the exchange
-    /// found another number than that load. After a refusal the batch is unchanged.
+    /// are above `granted`. Refused with `Raced` exactly where the exchange found another number
+    /// than that load. After a refusal the batch is unchanged. Whatever the answer, `granted` is
+    /// loaded after `claimed` was found to be what the answer tells: where the place begins, what
+    /// `Full` names, or what `Raced` expected.
     pub fn try_put(&self, pass: &mut Pass, batch: &mut Batch) -> Result<Place, TryPut>
         requires ring { IsPassOf self.now pass.old }
         requires some { 0 < length batch.old.drafts }
@@ -42,6 +45,7 @@ impl Ring {
             (batch.new.free ≡ batch.old.free + length batch.old.drafts) }
         ensures place_room { IfOk result (λ p. HadRoom kind.User (ring_key self.now)
             batch.old.drafts p.first (pass_view pass.new)) }
+        ensures place_order { IfOk result (λ p. (pass_view pass.new).found.over ≡ p.first) }
         ensures place_steps { OnOk result
             ((pass_view pass.new).found.steps ≡ (pass_view pass.old).found.steps + 3) }
 
@@ -52,6 +56,8 @@ impl Ring {
         ensures full { (claimed limit : ℕ) → result ≡ Err (Refused.Full claimed limit)
             → WasFull kind.User (ring_key self.now) batch.old.drafts
             (record { claimed = claimed; limit = limit }) (pass_view pass.new) }
+        ensures full_order { (claimed limit : ℕ) → result ≡ Err (Refused.Full claimed limit)
+            → (pass_view pass.new).found.over ≡ claimed }
         ensures full_steps { (claimed limit : ℕ) → result ≡ Err (Refused.Full claimed limit)
             → (pass_view pass.new).found.steps ≡ (pass_view pass.old).found.steps + 2 }
         ensures raced { (expected found : ℕ) → result ≡ Err (Refused.Raced expected found)
@@ -59,6 +65,8 @@ impl Ring {
         ensures raced_room { (expected found : ℕ) → result ≡ Err (Refused.Raced expected found)
             → HadRoom kind.User (ring_key self.now) batch.old.drafts expected
             (pass_view pass.new) }
+        ensures raced_order { (expected found : ℕ) → result ≡ Err (Refused.Raced expected found)
+            → (pass_view pass.new).found.over ≡ expected }
         ensures raced_steps { (expected found : ℕ) → result ≡ Err (Refused.Raced expected found)
             → (pass_view pass.new).found.steps ≡ (pass_view pass.old).found.steps + 3 }
     {
@@ -81,6 +89,7 @@ impl Ring {
         ensures place_past { IfOk result (λ p. (pass_view pass.old).found.claimed ≤ p.first) }
         ensures place_room { IfOk result (λ p. HadRoom kind.User (ring_key self.now)
             batch.old.drafts p.first (pass_view pass.new)) }
+        ensures place_order { IfOk result (λ p. (pass_view pass.new).found.over ≡ p.first) }
         ensures place_steps { OnOk result
             ((pass_view pass.old).found.steps + 3 ≤ (pass_view pass.new).found.steps) }
         ensures empty { OnOk result (batch.new.drafts ≡ []) }
@@ -91,6 +100,7 @@ impl Ring {
         ensures same_batch { IfErr result (λ _. batch.new ≡ batch.old) }
         ensures full { IfErr result (λ e. WasFull kind.User (ring_key self.now)
             batch.old.drafts e (pass_view pass.new)) }
+        ensures full_order { IfErr result (λ e. (pass_view pass.new).found.over ≡ e.claimed) }
         ensures full_steps { IfErr result
             (λ _. (pass_view pass.old).found.steps + 2 ≤ (pass_view pass.new).found.steps) }
     {

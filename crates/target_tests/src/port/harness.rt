@@ -6,10 +6,11 @@ use run_script::read_script;
 use run_threads::run;
 use std::alloc::{AllocError, Global};
 use std::sync::Wait;
+use std::thread::Threads;
 
 /// What is told of a script that is run through a plain port of 64 sectors of 512 bytes: its
 /// answers, a line each. The port has the plan that is given, its last call first.
-pub fn told<R: Wait>(
+pub fn told<R: Threads + Wait + Sync>(
     rt: &R,
     alloc: Global,
     script: &str,

@@ -1,4 +1,4 @@
-use Rattle.std.proofs.Common.{◌≡◌, ◌++◌, ◌∷◌, [], List, length, refl, append_assoc, append-nil, sym, subst, ap, ◌∙◌, arith}
+use Rattle.std.proofs.Common.{◌≡◌, ◌++◌, ◌∷◌, [], List, length, append_assoc, append-nil, sym, subst, ap, ◌∙◌, arith}
 use Rattle.std.specs.Vec.Iter.{into_iter_items}
 use Rattle.chronicle.specs.Handles.{AuthorView, TokenView}
 use Rattle.chronicle.specs.Prefixes.{ArePrefixes, either, longer_of}
@@ -6,10 +6,7 @@ use Rattle.pblk_engine.specs.Endings.{HasTakenOver}
 use Rattle.pblk_engine.specs.Workers.{WorkerView}
 use Rattle.pblk_engine.proofs.TakingOver.{taken_next, taken_on}
 use Rattle.pblk_engine.proofs.ending.take_over.Goals as goal
-
-nothing_left : {X : Type 0} (l : List X) → length l ≡ 0 → l ≡ []
-nothing_left [] h = refl
-nothing_left (x ∷ xs) h = absurd (omega arith)
+use Rattle.pblk_engine.proofs.RestingHearts.{empty_counts}
 
 -- what was lent is the token
 met_with : (new author : AuthorView) (lent token : TokenView) → lent ≡ token → new ≡ record author {
@@ -54,7 +51,7 @@ pub returns-clause-taken_over : goal.returns-clause-taken_over
 returns-clause-taken_over g c =
     let at = c.loop-worker in
     let none = c.in-None.ensures.steps in
-    let empty : into_iter_items at.worker-iterator ≡ [] = nothing_left (into_iter_items at.worker-iterator) (sym at.invariant.2 ∙ none.0) in
+    let empty : into_iter_items at.worker-iterator ≡ [] = empty_counts (into_iter_items at.worker-iterator) (sym at.invariant.2 ∙ none.0) in
     let whole : at.yielded ≡ c.args.workers.items =
     sym (append-nil at.yielded) ∙ ap (λ (rest : List WorkerView). at.yielded ++ rest) (sym empty) ∙ at.invariant.1
     ∙ c.into_iter-worker-iterator.ensures.into_iter_gives.0 in

@@ -10,11 +10,12 @@ use Rattle.block_target.specs.Closes.{AreAllBack, IsClosed, IsKept, joined, with
 use Rattle.block_target.specs.Sessions.{SessionView}
 use Rattle.write_ring.specs.Handles.{pass_view}
 use Rattle.block_target.proofs.ClosingWorlds.{is_closed}
-use Rattle.block_target.proofs.ClosingParts.{same_ends, shares_are, some_workers}
+use Rattle.block_target.proofs.ClosingParts.{shares_are, some_workers}
 use Rattle.pblk_engine.specs.Workers.{WorkerView}
 use Rattle.write_ring.specs.declared.view.Part.{Part}
 use Rattle.block_target.specs.Targets.{TargetView, target_view}
 use Rattle.block_target.proofs.target.Target.close.Goals as goal
+use Rattle.block_target.proofs.FirstArms.{last_same}
 
 -- all workers have room there
 pub gather-workers-requires-clause-room : goal.gather-workers-requires-clause-room
@@ -51,7 +52,7 @@ closes : (past : Past) (key : Key) (handed : List ModelUnit) (wear : List (List 
     → IsClosed past key handed wear tickets workers settled units worn
 closes past key handed wear target [] workers rest first settled units worn mounted all kept split closed = absurd (omega (arith, all.some))
 closes past key handed wear target (t ∷ ts) workers rest first settled units worn mounted all kept split closed =
-    let parts = same_ends (with_workers workers ts) rest t.worker first split in
+    let parts = last_same (with_workers workers ts) rest t.worker first split in
     is_closed past key handed wear target t ts workers settled units worn mounted all kept
     (subst (λ (v : WorkerView). HasClosed past key handed wear v (with_workers workers ts) target.named (joined target.pass.pass (t ∷ ts)) settled units worn)
     (sym parts.1)

@@ -1,9 +1,13 @@
-use Rattle.std.proofs.Common.{sym, subst}
-use Rattle.chronicle.specs.Prefixes.{ArePrefixes, logs_of}
+use Rattle.std.proofs.Common.{◌≡◌, suc, length, sym, subst, ap, ◌∙◌}
+use Rattle.pblk_model.specs.ChunkStep.{Read}
+use Rattle.pblk_model.specs.UnitLog.{UnitOutcome}
+use Rattle.unit_port.specs.Unit.{TellsBlock}
+use Rattle.chronicle.specs.Prefixes.{ArePrefixes, Prefixes, logs_of, longer_of}
 use Rattle.chronicle.proofs.Rests.{still_begun}
 use Rattle.pblk_engine.specs.Arms.{ArmView}
 use Rattle.pblk_engine.specs.Fetches.{IsReadableAt}
 use Rattle.pblk_engine.proofs.Fetches.{takes_readable}
+use Rattle.pblk_engine.proofs.Sought.{cause_told, done_as, number_then, one_more}
 use Rattle.pblk_engine.proofs.arm.Arm.fetch_readable.Given.{Over}
 use Rattle.pblk_engine.proofs.arm.Arm.fetch_readable.Goals.{After-fetch_block}
 use Rattle.pblk_engine.proofs.arm.Arm.fetch_readable.Goals as goal
@@ -20,6 +24,23 @@ returns-in-Ok-Sector-clause-keeps g c = keeps_all g (goal.at.returns-in-Ok-Secto
 
 pub returns-in-Ok-Sector-clause-learns : goal.returns-in-Ok-Sector-clause-learns
 returns-in-Ok-Sector-clause-learns g c = learns_all g (goal.at.returns-in-Ok-Sector-clause-learns g c).After-fetch_block
+
+pub returns-in-Err-clause-done : goal.returns-in-Err-clause-done
+returns-in-Err-clause-done g c =
+    let old : ArmView = c.args.self.now in
+    let met : ArmView = c.meet.new.self in
+    let before : Prefixes = longer_of old.known c.args.note.known in
+    let tells : UnitOutcome → Type 0 = TellsBlock c.args.out.now c.fetch_block.new.out c.fetch_block.result in
+    let longer : suc (length (logs_of met.known (suc met.number))) ≡ length (logs_of c.fetch_block.new.self.known (suc met.number)) =
+    one_more g.M.Mount.past g.M.Mount.key g.M.Mount.handed g.M.Mount.wear met c.meet.ensures.is_arm c.fetch_block.new.self c.args.worker.now
+    c.fetch_block.new.worker c.args.line (Read c.args.block) tells c.fetch_block.ensures.done in
+    done_as old met c.fetch_block.new.self c.args.worker.now c.fetch_block.new.worker before c.args.line (Read c.args.block) tells _ c.meet.ensures.met
+    c.fetch_block.ensures.done (λ o told. (
+      cause_told c.args.out.now c.fetch_block.new.out o c.fetch_block.result c.in-Err.cause c.in-Err.is told,
+      ap (λ (a : ArmView). a.number) c.self.view_is ∙ c.fetch_block.ensures.number ∙ ap (λ (a : ArmView). a.number) c.meet.ensures.met,
+      number_then g.M.Mount.handed old met c.fetch_block.new.self before c.events.result c.meet.ensures.met c.fetch_block.ensures.number longer
+          c.events.ensures.told,
+    ))
 
 pub returns-in-Err-clause-keeps : goal.returns-in-Err-clause-keeps
 returns-in-Err-clause-keeps g c = keeps_all g (goal.at.returns-in-Err-clause-keeps g c).After-fetch_block

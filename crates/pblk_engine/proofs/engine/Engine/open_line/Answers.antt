@@ -6,6 +6,7 @@ use Rattle.pblk_engine.specs.Workers.{WorkerView}
 use Rattle.pblk_engine.proofs.GoingOn.{goes_told}
 use Rattle.pblk_engine.proofs.OpenedLines.{opened_still}
 use Rattle.pblk_engine.proofs.PumpSteps.{pumped_opened}
+use Rattle.pblk_engine.proofs.RoleCommands.{still_of_role}
 use Rattle.pblk_engine.proofs.engine.Engine.open_line.Goals as goal
 
 pub returns-clause-pumped : goal.returns-clause-pumped
@@ -18,3 +19,6 @@ returns-clause-pumped g c =
     (opened_still c.deref_mut-beating.result.now.author.known c.open_line.new.self.author.known told c.open_line.ensures.opened c.tell.ensures.heart_keeps) in
     pumped_opened g.M.Mount.past.image g.M.Mount.handed old new (goes_told old new told c.tell.ensures.worker c.tell.ensures.keeps)
     (subst (HasOpened old.known) (sym (ap (λ (w : WorkerView). w.known) c.tell.ensures.worker)) opened)
+
+pub returns-clause-made : goal.returns-clause-made
+returns-clause-made g c = λ role. still_of_role role c.args.worker.now c.tell.new.worker (ap (λ (w : WorkerView). w.made) c.tell.ensures.worker)

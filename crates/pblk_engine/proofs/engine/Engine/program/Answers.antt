@@ -1,9 +1,10 @@
-use Rattle.std.proofs.Common.{◌≡◌, subst, ap, ◌∙◌}
+use Rattle.std.proofs.Common.{◌≡◌, List, ◌++◌, subst, ap, ◌∙◌}
 use Rattle.pblk_core.specs.Filling.{Filling}
-use Rattle.pblk_engine.specs.Pumps.{HasPumped}
-use Rattle.pblk_engine.specs.Workers.{WorkerView}
+use Rattle.pblk_engine.specs.Pumps.{AreOfRole, HasPumped}
+use Rattle.pblk_engine.specs.Workers.{Made, WorkerView}
 use Rattle.pblk_engine.specs.declared.commands.Ended.{Ended}
-use Rattle.pblk_engine.proofs.MadePrograms.{answer_of, pumped_made}
+use Rattle.pblk_engine.specs.declared.outcomes.Role.TheVariants as roles
+use Rattle.pblk_engine.proofs.MadePrograms.{answer_of, lane_made, pumped_made}
 use Rattle.pblk_engine.proofs.engine.Engine.program.Goals.{After-unit-unit}
 use Rattle.pblk_engine.proofs.engine.Engine.program.Given.{Over}
 use Rattle.pblk_engine.proofs.engine.Engine.program.Goals as goal
@@ -26,6 +27,12 @@ module _ (g : Over) (c : After-unit-unit g) where
   told how is = subst (λ (h : Ended). HasPumped g.M.Mount.past.image g.M.Mount.handed c.args.worker.now c.answer_program.new.worker
       (answer_of h c.unit-unit.result c.program_stripe-note.result.2)) is answered
 
+  -- and its command is a program
+  made : (more : List Made) → c.answer_program.new.worker.made ≡ c.args.worker.now.made ++ more → AreOfRole roles.Lane more
+  made = lane_made g.M.Mount.past.image g.M.Mount.handed c.args.worker.now c.place_stripe-note.new.worker c.program_stripe-note.new.worker
+      c.answer_program.new.worker c.place_stripe-note.ensures.worker c.program_stripe-note.result.2 c.unit-unit.result c.answer_program.ensures.worker
+      c.answer_program.ensures.keeps on c.program_stripe-note.result.1 c.program_stripe-note.ensures.made
+
 pub returns-in-Done-clause-pumped : goal.returns-in-Done-clause-pumped
 returns-in-Done-clause-pumped g c = told g (goal.at.returns-in-Done-clause-pumped g c).After-unit-unit _ c.in-Done.is
 
@@ -34,3 +41,12 @@ returns-in-Failed-clause-pumped g c = told g (goal.at.returns-in-Failed-clause-p
 
 pub returns-in-Stopped-clause-pumped : goal.returns-in-Stopped-clause-pumped
 returns-in-Stopped-clause-pumped g c = told g (goal.at.returns-in-Stopped-clause-pumped g c).After-unit-unit _ c.in-Stopped.is
+
+pub returns-in-Done-clause-made : goal.returns-in-Done-clause-made
+returns-in-Done-clause-made g c = made g (goal.at.returns-in-Done-clause-made g c).After-unit-unit
+
+pub returns-in-Failed-clause-made : goal.returns-in-Failed-clause-made
+returns-in-Failed-clause-made g c = made g (goal.at.returns-in-Failed-clause-made g c).After-unit-unit
+
+pub returns-in-Stopped-clause-made : goal.returns-in-Stopped-clause-made
+returns-in-Stopped-clause-made g c = made g (goal.at.returns-in-Stopped-clause-made g c).After-unit-unit

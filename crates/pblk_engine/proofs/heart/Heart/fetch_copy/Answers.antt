@@ -73,7 +73,7 @@ returns-clause-done g c =
     let d = (goal.at.returns-clause-done g c).After-as_mut_slice-sector in
     subst (λ (p : ArmView × Prefixes). HasDone p.0 c.fetch_readable.new.self c.args.worker.now c.fetch_readable.new.worker (longer_of p.0.known p.1)
     c.args.of.now.job.line (Read c.args.of.now.block)
-    (TellsFetch (number_told g.M.Mount.handed p.0.number (length (logs_of (longer_of p.0.known p.1) (suc p.0.number)))) c.fetch_readable.result))
+    (TellsFetch p.0.number (number_told g.M.Mount.handed p.0.number (length (logs_of (longer_of p.0.known p.1) (suc p.0.number)))) c.fetch_readable.result))
     (λ j. (c.note-note.ensures.same j, sym (known g d) j)) c.fetch_readable.ensures.done
 
 pub returns-clause-fetched : goal.returns-clause-fetched

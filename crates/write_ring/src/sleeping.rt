@@ -1,0 +1,31 @@
+// Threads that have nothing to do sleep until something is claimed.
+use crate::table::{CLAIMED, Ring};
+use std::sync::Wait;
+use std::sync::atomic::Ordering::SeqCst;
+use std::time::Duration;
+
+impl Ring {
+    /// Loads `claimed` once, for `doze`. It takes no pass and no intake. Nothing is promised of the
+    /// answer.
+    pub fn peek(&self) -> u64 {
+        self.table.shared.peek(CLAIMED)
+    }
+
+    /// Sleeps if `claimed` is this number still: until something is claimed, and for no longer than
+    /// the limit. Only the lowest 32 bits are compared. It may also end for no reason. Nothing is
+    /// promised of how long it sleeps, and nothing of what is claimed afterwards.
+    pub fn doze<R: Wait>(&self, rt: &R, claimed: u64, limit: Duration) {
+        self.sleepers.fetch_add(1, SeqCst);
+        let low = (claimed & 0xffff_ffff) as u32;
+        self.table.shared.park_timeout(rt, CLAIMED, low, limit);
+        self.sleepers.fetch_sub(1, SeqCst);
+    }
+
+    /// Wakes all threads that doze. Each claim that succeeds does so, once its entries are there.
+    /// Where no thread dozes it is one load. Nothing is promised of when they run.
+    pub fn wake(&self) {
+        if self.sleepers.load(SeqCst) != 0 {
+            self.table.shared.wake_all(CLAIMED);
+        }
+    }
+}
