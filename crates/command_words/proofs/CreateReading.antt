@@ -1,15 +1,15 @@
 -- What the words of `create` say, by what was read of them.
-use Rattle.std.proofs.Common.{◌≡◌, ◌≢◌, ℕ, ◌<◌, Some, None, List, [], ◌∷◌, ◌++◌, map, get_or, set, sym, ap, ◌∙◌}
+use Rattle.std.proofs.Common.{◌≡◌, ◌≢◌, ℕ, ◌<◌, Some, None, List, [], ◌∷◌, ◌++◌, map, get_or, set, codes, subst, refl, sym, ap, ◌∙◌}
 use Rattle.std.specs.Borrow.{Bor}
 use Rattle.std.specs.Fmt.{decimal}
 use Rattle.std.specs.List.{AllByRecursion, slice_get}
 use Rattle.pblk_model.specs.CommandText as text
 use Rattle.command_words.specs.Grammar as model
-use Rattle.command_words.specs.Grammar.{Item, Name, Named, AreItemsOf, AreNumbers, IsOneOf, create_options, names_in, options_in, value_in, numbers_of}
+use Rattle.command_words.specs.Grammar.{Item, Name, Named, Flag, AreItemsOf, AreNumbers, IsOneOf, create_options, flags_in, names_in, options_in, value_in, numbers_of}
 use Rattle.command_words.specs.declared.create.CreateWords.{CreateWords}
-use Rattle.command_words.specs.Words.{HasRead, HasPlainName, AreWordsOf, names_of}
-use Rattle.command_words.proofs.Items.{all_at, names_in-append, options_in-append, new_value, unnamed, named_once, distinct_more}
-use Rattle.command_words.proofs.OptionValues.{names, with_name, with_value, value_at, number_at, one_create, distinct_names, plain_names, one_at, none_of, some_of}
+use Rattle.command_words.specs.Words.{HasRead, HasOwnForm, AreWordsOf, names_of}
+use Rattle.command_words.proofs.Items.{all_at, names_in-append, options_in-append, new_value, no_flag, same_flags, unnamed, named_once, distinct_more}
+use Rattle.command_words.proofs.OptionValues.{names, with_name, with_value, value_at, number_at, one_create, distinct_names, create_forms, one_at, none_of, some_of}
 use Rattle.command_words.proofs.Reading.{IsReading, all_read, plain_all, spelled_whole}
 use Rattle.std.proofs.lemmas.List.{append-nil}
 use Rattle.pblk_model.proofs.Lists.{all_append}
@@ -23,6 +23,7 @@ read_name items name old new free image values h = record {
   known = rw options_in-append (all_append (IsOneOf create_options) (options_in items) [] h.known tt);
   distinct = rw (options_in-append, append-nil) h.distinct;
   values = rw values (with_name create_options old.values items name.now h.values);
+  flags = same_flags (Name name.now) items refl ∙ h.flags;
 }
 
 two_names : (xs ys : List (List ℕ)) (a b image : List ℕ) → (a ∷ []) ++ b ∷ ys ≡ image ∷ [] → ⊥
@@ -46,6 +47,7 @@ read_option items i name value n below old new at_name at_below at_value spelled
       known = rw options_in-append (all_append (IsOneOf create_options) (options_in items) (name ∷ []) h.known (one_at create_options i name at_name, tt));
       distinct = rw options_in-append (distinct_more (options_in items) name h.distinct (unnamed name items fresh));
       values = rw values (with_value create_options old.values items i name value n below distinct_names at_name at_below at_value spelled small h.values);
+      flags = same_flags (Named name value) items refl ∙ h.flags;
     }
 
 -- a name that is no option's
@@ -53,6 +55,11 @@ pub other_option : (items more : List Item) (name value image : List ℕ) (numbe
     → AreItemsOf (items ++ Named name value ∷ more) (model.Create image numbers) → ⊥
 other_option items more name value image numbers none of = none
     (all_at (IsOneOf create_options) (options_in items) name (options_in more) (rw options_in-append at of.1))
+
+-- an option without a value
+pub flagged : (items more : List Item) (name image : List ℕ) (numbers : text.CreateNumbers)
+    → AreItemsOf (items ++ Flag name ∷ more) (model.Create image numbers) → ⊥
+flagged items more name image numbers of = no_flag items more name of.4
 
 -- an option that was named before
 pub second_option : (items more : List Item) (i : ℕ) (name value image : List ℕ) (numbers : text.CreateNumbers) (old : CreateWords) (n : ℕ)
@@ -78,8 +85,9 @@ other_number items more i name value image below numbers old at_name at_below at
 -- The end.
 
 pub plain_create : (items : List Item) (image : List ℕ) (numbers : text.CreateNumbers) → AreItemsOf items (model.Create image numbers)
-    → AllByRecursion HasPlainName items
-plain_create items image numbers of = plain_all (IsOneOf create_options) plain_names items of.1
+    → AllByRecursion HasOwnForm items
+plain_create items image numbers of = plain_all (IsOneOf create_options) create_forms items of.1
+    (subst (λ xs. AllByRecursion (λ name. name ≡ codes "collector") xs) (sym of.4) tt)
 
 -- the items of a command of these words are those that were read
 all_of : (words : List (List ℕ)) (w : CreateWords) (image : List ℕ) (numbers : text.CreateNumbers) (r : IsReading (λ items. HasRead items w) words [])
@@ -92,7 +100,7 @@ pub end_reading : (words : List (List ℕ)) (w : CreateWords) (image : Bor (List
 end_reading words w image numbers r is are = record {
   items = r.items;
   spelled = spelled_whole (λ items. HasRead items w) words r;
-  of = (r.has.names ∙ ap names_of is, r.has.known, r.has.distinct, are);
+  of = (r.has.names ∙ ap names_of is, r.has.known, r.has.distinct, are, r.has.flags);
 }
 
 pub no_image : (words : List (List ℕ)) (w : CreateWords) (image : List ℕ) (numbers : text.CreateNumbers) → IsReading (λ items. HasRead items w) words []

@@ -2,9 +2,10 @@
 use Rattle.std.proofs.Common.{String, Global, string_bytes, ◌≡◌, ◌≢◌, ℕ, suc, ◌<◌, ◌≤◌, ◌-◌, Option, Some, None, List, [], ◌∷◌, ◌++◌, length, get_or, take, drop, map, codes, refl, sym, ap, ◌∙◌, subst, inl, inr, arith, append_assoc}
 use Rattle.std.specs.Prelude.{IfSome, IsSome, IsSomeAnd}
 use Rattle.std.specs.List.{AllByRecursion}
-use Rattle.command_words.specs.Grammar.{Item, Name, Named, IsPlainWord}
-use Rattle.command_words.specs.Words.{IsItemBefore, HasPlainName}
+use Rattle.command_words.specs.Grammar.{Item, Name, Named, Flag, IsPlainWord}
+use Rattle.command_words.specs.Words.{IsItemBefore, HasOwnForm}
 use Rattle.command_words.proofs.Items.{all_at}
+use Rattle.command_words.proofs.OptionValues.{plain_by_test}
 use Rattle.pblk_model.proofs.Parts.{take-all}
 
 pub some_and : {X : Type 0} (r : Option X) (P Q : X → Type 0) → IfSome r P → IsSome r → ((x : X) → P x → Q x) → IsSomeAnd r Q
@@ -43,26 +44,34 @@ after_dashes option n v rest others e =
     let same : option ≡ (n ++ 61 ∷ []) ++ v = cc e in
     same ∙ append_assoc n (61 ∷ []) v
 
+-- the name of an option without a value
+collector_lacks : AllByRecursion (λ c. c ≢ 61) (codes "collector")
+collector_lacks = plain_by_test (codes "collector") refl
+
 -- an option whose word has a `=`
 pub with_equals : (option name value : List ℕ) (rest others : List (List ℕ)) (item : Item) → option ≡ name ++ 61 ∷ value → AllByRecursion (λ c. c ≢ 61) name
-    → HasPlainName item
+    → HasOwnForm item
     → IsItemBefore item others ((codes "--" ++ option) ∷ rest) → (Named name value ≡ item) × (rest ≡ others) × IsPlainWord value
 with_equals option name value rest others (Name n) parts lacks plain h = absurd (not_plain n (45 ∷ option) h.0 (cc h.1))
 with_equals option name value rest others (Named n v) parts lacks plain h = elim h.1 [
   | inl e ↦
       let same : option ≡ n = cc e in
-      absurd (all_at (λ c. c ≢ 61) name 61 value (subst (λ x. AllByRecursion (λ c. c ≢ 61) x) (sym same ∙ parts) plain) refl)
+      absurd (all_at (λ c. c ≢ 61) name 61 value (subst (λ x. AllByRecursion (λ c. c ≢ 61) x) (sym same ∙ parts) plain.0) refl)
   | inr e ↦
       let same : name ++ 61 ∷ value ≡ n ++ 61 ∷ v = sym parts ∙ after_dashes option n v rest others e in
-      let agree = parts_agree 61 name n value v lacks plain same in
+      let agree = parts_agree 61 name n value v lacks plain.0 same in
       (ap (λ x. Named x value) agree.0 ∙ ap (λ x. Named n x) agree.1, cc e, subst (λ x. IsPlainWord x) (sym agree.1) h.0)
 ]
+with_equals option name value rest others (Flag n) parts lacks plain h =
+    let same : option ≡ n = cc h in
+    absurd (all_at (λ c. c ≢ 61) name 61 value (subst (λ x. AllByRecursion (λ c. c ≢ 61) x) (sym (sym parts ∙ same ∙ plain)) collector_lacks) refl)
 
 -- one whose word has none
-pub without_equals : (option : List ℕ) (rest others : List (List ℕ)) (item : Item) → AllByRecursion (λ c. c ≢ 61) option → HasPlainName item
+pub without_equals : (option : List ℕ) (rest others : List (List ℕ)) (item : Item) → AllByRecursion (λ c. c ≢ 61) option → option ≢ codes "collector"
+    → HasOwnForm item
     → IsItemBefore item others ((codes "--" ++ option) ∷ rest) → (value : List ℕ) × (Named option value ≡ item) × (rest ≡ value ∷ others) × IsPlainWord value
-without_equals option rest others (Name n) lacks plain h = absurd (not_plain n (45 ∷ option) h.0 (cc h.1))
-without_equals option rest others (Named n v) lacks plain h = elim h.1 [
+without_equals option rest others (Name n) lacks valued plain h = absurd (not_plain n (45 ∷ option) h.0 (cc h.1))
+without_equals option rest others (Named n v) lacks valued plain h = elim h.1 [
   | inl e ↦
       let same : option ≡ n = cc e in
       (v, ap (λ x. Named x v) same, cc e, h.0)
@@ -70,6 +79,23 @@ without_equals option rest others (Named n v) lacks plain h = elim h.1 [
       let same = after_dashes option n v rest others e in
       absurd (all_at (λ c. c ≢ 61) n 61 v (subst (λ x. AllByRecursion (λ c. c ≢ 61) x) same lacks) refl)
 ]
+without_equals option rest others (Flag n) lacks valued plain h =
+    let same : option ≡ n = cc h in
+    absurd (valued (same ∙ plain))
+
+-- one that has no value
+pub is_collector : (option : List ℕ) (rest others : List (List ℕ)) (item : Item) → option ≡ codes "collector" → HasOwnForm item
+    → IsItemBefore item others ((codes "--" ++ option) ∷ rest) → (Flag option ≡ item) × (rest ≡ others)
+is_collector option rest others (Name n) is plain h = absurd (not_plain n (45 ∷ option) h.0 (cc h.1))
+is_collector option rest others (Named n v) is plain h = elim h.1 [
+  | inl e ↦
+      let same : option ≡ n = cc e in
+      absurd (plain.1 (sym same ∙ is))
+  | inr e ↦
+      let same = after_dashes option n v rest others e in
+      absurd (all_at (λ c. c ≢ 61) n 61 v (subst (λ x. AllByRecursion (λ c. c ≢ 61) x) (sym is ∙ same) collector_lacks) refl)
+]
+is_collector option rest others (Flag n) is plain h = (ap (λ x. Flag x) (is ∙ sym plain), cc h)
 
 -- a word that begins with one `-` alone
 pub no_option : (word : List ℕ) (rest others : List (List ℕ)) (item : Item) → ((more : List ℕ) → word ≢ 45 ∷ more)
@@ -79,6 +105,7 @@ no_option word rest others (Named n v) none h = elim h.1 [
   | inl e ↦ none n (cc e)
   | inr e ↦ none ((n ++ 61 ∷ []) ++ v) (cc e)
 ]
+no_option word rest others (Flag n) none h = none n (cc h)
 
 pub plain_word : (word : List ℕ) → word ≢ [] → ((more : List ℕ) → word ≢ 45 ∷ more) → IsPlainWord word
 plain_word [] some none = some refl
@@ -92,13 +119,14 @@ is_name word rest others (Named n v) none h = elim h.1 [
   | inl e ↦ absurd (none (45 ∷ n) (cc e))
   | inr e ↦ absurd (none (45 ∷ ((n ++ 61 ∷ []) ++ v)) (cc e))
 ]
+is_name word rest others (Flag n) none h = absurd (none (45 ∷ n) (cc h))
 
 -- an option whose value is the next word
 pub with_next : (option word : List ℕ) (words ws others : List (List ℕ)) (item : Item) → words ≡ word ∷ ws → AllByRecursion (λ c. c ≢ 61) option
-    → HasPlainName item
+    → option ≢ codes "collector" → HasOwnForm item
     → IsItemBefore item others ((codes "--" ++ option) ∷ words) → (Named option word ≡ item) × (ws ≡ others) × IsPlainWord word
-with_next option word words ws others item e lacks plain h =
-    let found = without_equals option words others item lacks plain h in
+with_next option word words ws others item e lacks valued plain h =
+    let found = without_equals option words others item lacks valued plain h in
     let joined : word ∷ ws ≡ found.0 ∷ others = sym e ∙ found.2 in
     let same : found.0 ≡ word = sym (cc joined) in
     (ap (λ x. Named option x) (sym same) ∙ found.1, cc joined, subst (λ x. IsPlainWord x) same found.3)

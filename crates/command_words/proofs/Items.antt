@@ -4,7 +4,7 @@ use Rattle.std.specs.List.{AllByRecursion}
 use Rattle.std.proofs.lemmas.Bool.{true≢false, cases_Bool}
 use Rattle.std.proofs.lemmas.List.{append-nil}
 use Rattle.std.proofs.lemmas.Slice.Eq.{bytes_eq-Decides}
-use Rattle.command_words.specs.Grammar.{Item, Name, Named, IsPlainWord, AreItems, names_in, options_in, value_in, values_in, AreDistinct}
+use Rattle.command_words.specs.Grammar.{Item, Name, Named, Flag, IsPlainWord, AreItems, names_in, options_in, flags_in, value_in, values_in, AreDistinct}
 use Rattle.command_words.specs.Words.{IsItemBefore}
 use Rattle.pblk_model.proofs.Bytes.{same_bytes, true_same}
 use Rattle.pblk_model.proofs.Lists.{all_append}
@@ -32,17 +32,38 @@ pub names_in-append : (xs ys : List Item) → names_in (xs ++ ys) ≡ names_in x
 names_in-append [] ys = refl
 names_in-append (Name n ∷ xs) ys = ap (λ zs. n ∷ zs) (names_in-append xs ys)
 names_in-append (Named n v ∷ xs) ys = names_in-append xs ys
+names_in-append (Flag n ∷ xs) ys = names_in-append xs ys
 
 pub options_in-append : (xs ys : List Item) → options_in (xs ++ ys) ≡ options_in xs ++ options_in ys
 options_in-append [] ys = refl
 options_in-append (Name n ∷ xs) ys = options_in-append xs ys
 options_in-append (Named n v ∷ xs) ys = ap (λ zs. n ∷ zs) (options_in-append xs ys)
+options_in-append (Flag n ∷ xs) ys = options_in-append xs ys
+
+pub flags_in-append : (xs ys : List Item) → flags_in (xs ++ ys) ≡ flags_in xs ++ flags_in ys
+flags_in-append [] ys = refl
+flags_in-append (Name n ∷ xs) ys = flags_in-append xs ys
+flags_in-append (Named n v ∷ xs) ys = flags_in-append xs ys
+flags_in-append (Flag n ∷ xs) ys = ap (λ zs. n ∷ zs) (flags_in-append xs ys)
+
+-- an item that has a value, or is a name, leaves the flags
+pub same_flags : (item : Item) (xs : List Item) → flags_in (item ∷ []) ≡ [] → flags_in (xs ++ item ∷ []) ≡ flags_in xs
+same_flags item xs none = flags_in-append xs (item ∷ []) ∙ ap (λ zs. flags_in xs ++ zs) none ∙ append-nil (flags_in xs)
+
+filled : (xs ys : List (List ℕ)) (x : List ℕ) → xs ++ x ∷ ys ≢ []
+filled [] ys x e = absurd (cc e)
+filled (y ∷ xs) ys x e = absurd (cc e)
+
+-- where no flag is, none is named
+pub no_flag : (xs ys : List Item) (name : List ℕ) → flags_in (xs ++ Flag name ∷ ys) ≢ []
+no_flag xs ys name e = filled (flags_in xs) (flags_in ys) name (sym (flags_in-append xs (Flag name ∷ ys)) ∙ e)
 
 -- an item that is no such option leaves the value
 pub same_value : (x : List ℕ) (item : Item) (xs : List Item) → value_in x (item ∷ []) ≡ None → value_in x (xs ++ item ∷ []) ≡ value_in x xs
 same_value x item [] h = h
 same_value x item (Name n ∷ xs) h = same_value x item xs h
 same_value x item (Named n v ∷ xs) h = ap (λ o. cond (bytes_eq n x) (Some v) o) (same_value x item xs h)
+same_value x item (Flag n ∷ xs) h = same_value x item xs h
 
 cond_some : {X : Type 0} (b : Bool) (v : X) (o p : Option X) → b ≡ true → cond b (Some v) o ≡ Some v
 cond_some true v o p h = refl
@@ -59,6 +80,7 @@ new_value x value [] ys h = cond_some (bytes_eq x x) value _ None (true_same x x
 new_value x value (Name n ∷ xs) ys h = new_value x value xs ys h
 new_value x value (Named n v ∷ xs) ys h = new_step (bytes_eq n x) v (value_in x xs) (value_in x (xs ++ Named x value ∷ ys)) value h
     (λ k. new_value x value xs ys k)
+new_value x value (Flag n ∷ xs) ys h = new_value x value xs ys h
 
 -- an option that has no value wasn't named
 pub unnamed : (x : List ℕ) (xs : List Item) → value_in x xs ≡ None → AllByRecursion (λ y. y ≢ x) (options_in xs)
@@ -68,6 +90,7 @@ unnamed x (Named n v ∷ xs) h = elim (cases_Bool (bytes_eq n x)) [
   | inl k ↦ absurd (cc (h, ap (λ b. cond b (Some v) (value_in x xs)) k))
   | inr k ↦ (other_name n x k, unnamed x xs (sym (ap (λ b. cond b (Some v) (value_in x xs)) k) ∙ h))
 ]
+unnamed x (Flag n ∷ xs) h = unnamed x xs h
 
 -- one that has a value is not named again
 pub named_once : (x word value : List ℕ) (xs ys : List Item) → value_in x xs ≡ Some word → AreDistinct (options_in (xs ++ Named x value ∷ ys)) → ⊥
@@ -77,6 +100,7 @@ named_once x word value (Named n v ∷ xs) ys h d = elim (cases_Bool (bytes_eq n
   | inl k ↦ all_at (λ y. y ≢ n) (options_in xs) x (options_in ys) (rw (options_in-append xs (Named x value ∷ ys)) at d.0) (sym (same_bytes n x k))
   | inr k ↦ named_once x word value xs ys (sym (ap (λ b. cond b (Some v) (value_in x xs)) k) ∙ h) d.1
 ]
+named_once x word value (Flag n ∷ xs) ys h d = named_once x word value xs ys h d
 
 pub distinct_more : (xs : List (List ℕ)) (x : List ℕ) → AreDistinct xs → AllByRecursion (λ y. y ≢ x) xs → AreDistinct (xs ++ x ∷ [])
 distinct_more [] x d h = (tt, tt)
@@ -93,6 +117,7 @@ pub record FirstItem (item : Item) (items : List Item) (words : List (List ℕ))
 pub first_item : (item : Item) (items : List Item) (words : List (List ℕ)) → AreItems (item ∷ items) words → FirstItem item items words
 first_item (Name n) items words (rest, plain, is, others) = record { rest = rest; first = (plain, is); others = others }
 first_item (Named n v) items words (rest, plain, is, others) = record { rest = rest; first = (plain, is); others = others }
+first_item (Flag n) items words (rest, is, others) = record { rest = rest; first = is; others = others }
 
 -- an item stands in words
 pub item_has_words : (item : Item) (rest words : List (List ℕ)) → IsItemBefore item rest words → words ≢ []
@@ -101,15 +126,17 @@ item_has_words (Named n v) rest words h e = elim h.1 [
   | inl k ↦ absurd (cc (k, e))
   | inr k ↦ absurd (cc (k, e))
 ]
+item_has_words (Flag n) rest words h e = absurd (cc (h, e))
 
 -- items without options are names alone
-pub plain_items : (items : List Item) (words : List (List ℕ)) → AreItems items words → options_in items ≡ [] → (words ≡ names_in items)
-    × AllByRecursion IsPlainWord words
-plain_items [] words h e = (h, rw h tt)
-plain_items (Name n ∷ items) words (rest, plain, is, others) e =
-    let more = plain_items items rest others e in
+pub plain_items : (items : List Item) (words : List (List ℕ)) → AreItems items words → options_in items ≡ [] → flags_in items ≡ []
+    → (words ≡ names_in items) × AllByRecursion IsPlainWord words
+plain_items [] words h e k = (h, rw h tt)
+plain_items (Name n ∷ items) words (rest, plain, is, others) e k =
+    let more = plain_items items rest others e k in
     (is ∙ ap (λ zs. n ∷ zs) more.0, rw is (plain, more.1))
-plain_items (Named n v ∷ items) words h e = absurd (cc e)
+plain_items (Named n v ∷ items) words h e k = absurd (cc e)
+plain_items (Flag n ∷ items) words h e k = absurd (cc k)
 
 -- the values of an option
 
@@ -122,6 +149,7 @@ pub values_in-append : (x : List ℕ) (xs ys : List Item) → values_in x (xs ++
 values_in-append x [] ys = refl
 values_in-append x (Name n ∷ xs) ys = values_in-append x xs ys
 values_in-append x (Named n v ∷ xs) ys = split (bytes_eq n x) v (values_in x (xs ++ ys)) (values_in x xs) (values_in x ys) (values_in-append x xs ys)
+values_in-append x (Flag n ∷ xs) ys = values_in-append x xs ys
 
 -- with an item that isn't of the option, and with one that is
 pub same_values_in : (x : List ℕ) (item : Item) (xs : List Item) → values_in x (item ∷ []) ≡ [] → values_in x (xs ++ item ∷ []) ≡ values_in x xs

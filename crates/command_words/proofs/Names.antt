@@ -8,29 +8,29 @@ use Rattle.command_words.specs.Words.{AreWordsOf, IsOneName}
 use Rattle.command_words.proofs.Items.{plain_items}
 
 one_name : (words : List (List ℕ)) (image : List ℕ) (items : List model.Item) → model.AreItems items words → model.names_in items ≡ image ∷ []
-    → model.options_in items ≡ [] → IsOneName words image
-one_name words image items spelled names options =
-    let plain = plain_items items words spelled options in
+    → model.options_in items ≡ [] → model.flags_in items ≡ [] → IsOneName words image
+one_name words image items spelled names options flags =
+    let plain = plain_items items words spelled options flags in
     let are : words ≡ image ∷ [] = plain.0 ∙ names in
     (are, (subst (λ ws. AllByRecursion IsPlainWord ws) are plain.1).0)
 
 pub name_of_geometry : (words : List (List ℕ)) (image : List ℕ) → AreWordsOf words (model.Geometry image) → IsOneName words image
-name_of_geometry words image h = one_name words image h.items h.spelled h.of.0 h.of.1
+name_of_geometry words image h = one_name words image h.items h.spelled h.of.0 h.of.1 h.of.2
 
 pub name_of_show : (words : List (List ℕ)) (image : List ℕ) → AreWordsOf words (model.Show image) → IsOneName words image
-name_of_show words image h = one_name words image h.items h.spelled h.of.0 h.of.1
+name_of_show words image h = one_name words image h.items h.spelled h.of.0 h.of.1 h.of.2
 
 pub name_of_report : (words : List (List ℕ)) (image : List ℕ) → AreWordsOf words (model.Report image) → IsOneName words image
-name_of_report words image h = one_name words image h.items h.spelled h.of.0 h.of.1
+name_of_report words image h = one_name words image h.items h.spelled h.of.0 h.of.1 h.of.2
 
 pub words_of_geometry : (words : List (List ℕ)) (image : List ℕ) → IsOneName words image → AreWordsOf words (model.Geometry image)
-words_of_geometry words image (e, plain) = record { items = Name image ∷ []; spelled = ([], plain, e, refl); of = (refl, refl) }
+words_of_geometry words image (e, plain) = record { items = Name image ∷ []; spelled = ([], plain, e, refl); of = (refl, refl, refl) }
 
 pub words_of_show : (words : List (List ℕ)) (image : List ℕ) → IsOneName words image → AreWordsOf words (model.Show image)
-words_of_show words image (e, plain) = record { items = Name image ∷ []; spelled = ([], plain, e, refl); of = (refl, refl) }
+words_of_show words image (e, plain) = record { items = Name image ∷ []; spelled = ([], plain, e, refl); of = (refl, refl, refl) }
 
 pub words_of_report : (words : List (List ℕ)) (image : List ℕ) → IsOneName words image → AreWordsOf words (model.Report image)
-words_of_report words image (e, plain) = record { items = Name image ∷ []; spelled = ([], plain, e, refl); of = (refl, refl) }
+words_of_report words image (e, plain) = record { items = Name image ∷ []; spelled = ([], plain, e, refl); of = (refl, refl, refl) }
 
 pub one_word : (words : List (String Global)) (w : String Global) (word : List ℕ) → 1 ≤ length words → length words < 2 → w ≡ get_or words 0 w
     → word ≡ string_bytes w → map string_bytes words ≡ word ∷ []

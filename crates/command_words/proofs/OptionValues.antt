@@ -1,12 +1,13 @@
 -- The numbers of options, by what was read of them.
-use Rattle.std.proofs.Common.{bytes_eq, cond, ◌==◌, ◌≡◌, ◌≢◌, ℕ, ◌<◌, ◌≤◌, ◌^◌, zero, suc, Bool, true, false, Option, Some, None, List, [], ◌∷◌, ◌++◌, map, get_or, set, refl, sym, ap, subst, ◌∙◌, inl, inr, arith}
+use Rattle.std.proofs.Common.{bytes_eq, cond, ◌&&◌, ◌==◌, ◌≡◌, ◌≢◌, ℕ, ◌<◌, ◌≤◌, ◌^◌, zero, suc, Bool, true, false, Option, Some, None, List, [], ◌∷◌, ◌++◌, map, codes, get_or, set, refl, sym, ap, subst, ◌∙◌, inl, inr, arith}
 use Rattle.std.specs.Fmt.{decimal}
 use Rattle.std.specs.List.{AllByRecursion, slice_get, list_all}
 use Rattle.std.proofs.lemmas.Fmt.{decimal_injective}
 use Rattle.command_words.specs.Grammar.{Item, Name, Named, NumberOption, IsNumber, AreNumbers, IsOneOf, value_in, AreDistinct, create_options}
-use Rattle.command_words.specs.Words.{IsValue, AreValues}
+use Rattle.command_words.specs.Words.{HasOwnForm, IsValue, AreValues}
 use Rattle.command_words.proofs.Items.{same_value, new_value, is_other, other_name}
 use Rattle.std.proofs.lemmas.Bool.{cases_Bool, eqb-false}
+use Rattle.pblk_model.proofs.Bytes.{true_same}
 use Rattle.pblk_model.proofs.Parts.{all_get}
 use Rattle.pblk_model.proofs.Tests.{first_of, second_of}
 
@@ -162,7 +163,7 @@ pub distinct_names : AreDistinct (names create_options)
 distinct_names = distinct_by_test (names create_options) refl
 
 -- no `=` stands in a name
-abbrev pub is_plain_name : List ℕ → Bool
+abbrev is_plain_name : List ℕ → Bool
 is_plain_name [] = true
 is_plain_name (b ∷ bs) = cond (b == 61) false (is_plain_name bs)
 
@@ -173,15 +174,32 @@ plain_by_test (b ∷ bs) h = elim (cases_Bool (b == 61)) [
   | inr k ↦ (eqb-false b 61 k, plain_by_test bs (sym (ap (λ t. cond t false (is_plain_name bs)) k) ∙ h))
 ]
 
-plain_one : (os : List NumberOption) (name : List ℕ) → list_all (λ o. is_plain_name o.name) os ≡ true → IsOneOf os name → AllByRecursion (λ b. b ≢ 61) name
-plain_one [] name h one = absurd one
-plain_one (o ∷ os) name h one = elim one [
-  | inl e ↦ rw e (plain_by_test o.name (first_of (is_plain_name o.name) (list_all (λ o. is_plain_name o.name) os) h))
-  | inr more ↦ plain_one os name (second_of (is_plain_name o.name) (list_all (λ o. is_plain_name o.name) os) h) more
+-- a name that isn't that of an option without a value
+abbrev is_valued : List ℕ → Bool
+is_valued name = cond (bytes_eq name (codes "collector")) false true
+
+valued_by_test : (name : List ℕ) → is_valued name ≡ true → name ≢ codes "collector"
+valued_by_test name h e = absurd (cc (h, ap (λ b. cond b false true) (true_same name (codes "collector") e)))
+
+-- an option of that name, with a value, is of the form that is read
+abbrev pub has_own_form : List ℕ → Bool
+has_own_form name = is_plain_name name && is_valued name
+
+pub own_by_test : (name option : List ℕ) → name ≡ option → has_own_form option ≡ true → HasOwnForm (Named name [])
+own_by_test name option is h = rw is (
+  plain_by_test option (first_of (is_plain_name option) (is_valued option) h),
+  valued_by_test option (second_of (is_plain_name option) (is_valued option) h),
+)
+
+own_one : (os : List NumberOption) (name : List ℕ) → list_all (λ o. has_own_form o.name) os ≡ true → IsOneOf os name → HasOwnForm (Named name [])
+own_one [] name h one = absurd one
+own_one (o ∷ os) name h one = elim one [
+  | inl e ↦ own_by_test name o.name e (first_of (has_own_form o.name) (list_all (λ o. has_own_form o.name) os) h)
+  | inr more ↦ own_one os name (second_of (has_own_form o.name) (list_all (λ o. has_own_form o.name) os) h) more
 ]
 
-pub plain_names : (name : List ℕ) → IsOneOf create_options name → AllByRecursion (λ b. b ≢ 61) name
-plain_names name one = plain_one create_options name refl one
+pub create_forms : (name : List ℕ) → IsOneOf create_options name → HasOwnForm (Named name [])
+create_forms name one = own_one create_options name refl one
 
 -- an option by its place is one of them
 pub one_at : (os : List NumberOption) (i : ℕ) (name : List ℕ) → slice_get (names os) i ≡ Some name → IsOneOf os name

@@ -1,25 +1,26 @@
 -- Words that are read as items, one after another. `Has` says what is known of the items that
 -- were read.
-use Rattle.std.proofs.Common.{◌≡◌, ◌≢◌, ℕ, List, [], ◌∷◌, ◌++◌, subst, refl, sym, ap, ◌∙◌, inl, inr, append_assoc}
+use Rattle.std.proofs.Common.{◌≡◌, ◌≢◌, ℕ, List, [], ◌∷◌, ◌++◌, codes, subst, refl, sym, ap, ◌∙◌, inl, inr, append_assoc}
 use Rattle.std.specs.List.{AllByRecursion}
 use Rattle.std.proofs.lemmas.List.{append-nil}
-use Rattle.command_words.specs.Grammar.{Item, Name, Named, AreItems, options_in}
-use Rattle.command_words.specs.Words.{HasPlainName, IsItemBefore}
+use Rattle.command_words.specs.Grammar.{Item, Name, Named, Flag, AreItems, options_in, flags_in}
+use Rattle.command_words.specs.Words.{HasOwnForm, IsItemBefore}
 use Rattle.command_words.proofs.Items.{all_at, first_item, item_has_words}
 
--- items whose options are such ones have no `=` in their names, where none of these has
-pub plain_all : (P : List ℕ → Type 0) → ((name : List ℕ) → P name → AllByRecursion (λ b. b ≢ 61) name) → (items : List Item)
-    → AllByRecursion P (options_in items) → AllByRecursion HasPlainName items
-plain_all P plain [] h = tt
-plain_all P plain (Name n ∷ items) h = (tt, plain_all P plain items h)
-plain_all P plain (Named n v ∷ items) h = (plain n h.0, plain_all P plain items h.1)
+-- items whose options are such ones are of the forms that are read, where all of these are
+pub plain_all : (P : List ℕ → Type 0) → ((name : List ℕ) → P name → HasOwnForm (Named name [])) → (items : List Item)
+    → AllByRecursion P (options_in items) → AllByRecursion (λ name. name ≡ codes "collector") (flags_in items) → AllByRecursion HasOwnForm items
+plain_all P plain [] h k = tt
+plain_all P plain (Name n ∷ items) h k = (tt, plain_all P plain items h k)
+plain_all P plain (Named n v ∷ items) h k = (plain n h.0, plain_all P plain items h.1 k)
+plain_all P plain (Flag n ∷ items) h k = (k.0, plain_all P plain items h k.1)
 
 -- what was read begins the words, and what is left ends them
 pub record IsReading (Has : List Item → Type 0) (words rest : List (List ℕ)) : Type 0 where
   pub items : List Item
   pub has : Has items
   pub spelled : (more : List Item) → AreItems more rest → AreItems (items ++ more) words
-  pub only : (all : List Item) → AllByRecursion HasPlainName all → AreItems all words
+  pub only : (all : List Item) → AllByRecursion HasOwnForm all → AreItems all words
       → (more : List Item) × (all ≡ items ++ more) × AreItems more rest
 
 pub begin_reading : (Has : List Item → Type 0) (words : List (List ℕ)) → Has [] → IsReading Has words words
@@ -33,6 +34,7 @@ begin_reading Has words h = record {
 before : (item : Item) (items : List Item) (rest words : List (List ℕ)) → IsItemBefore item rest words → AreItems items rest → AreItems (item ∷ items) words
 before (Name n) items rest words h k = (rest, h.0, h.1, k)
 before (Named n v) items rest words h k = (rest, h.0, h.1, k)
+before (Flag n) items rest words h k = (rest, h, k)
 
 -- the first item of what is left, if all words are items
 record NextItem (items all : List Item) (rest : List (List ℕ)) : Type 0 where
@@ -40,11 +42,11 @@ record NextItem (items all : List Item) (rest : List (List ℕ)) : Type 0 where
   more : List Item
   others : List (List ℕ)
   all_are : all ≡ items ++ item ∷ more
-  plain : HasPlainName item
+  plain : HasOwnForm item
   first : IsItemBefore item others rest
   left : AreItems more others
 
-next_item : (items all more : List Item) (rest : List (List ℕ)) → rest ≢ [] → all ≡ items ++ more → AllByRecursion HasPlainName all
+next_item : (items all more : List Item) (rest : List (List ℕ)) → rest ≢ [] → all ≡ items ++ more → AllByRecursion HasOwnForm all
     → AreItems more rest → NextItem items all rest
 next_item items all [] rest some e plain k = absurd (some k)
 next_item items all (item ∷ more) rest some e plain k =
@@ -54,20 +56,20 @@ next_item items all (item ∷ more) rest some e plain k =
       more = more;
       others = first.rest;
       all_are = e;
-      plain = all_at HasPlainName items item more (subst (λ xs. AllByRecursion HasPlainName xs) e plain);
+      plain = all_at HasOwnForm items item more (subst (λ xs. AllByRecursion HasOwnForm xs) e plain);
       first = first.first;
       left = first.others;
     }
 
 next_of : (Has : List Item → Type 0) (words rest : List (List ℕ)) (r : IsReading Has words rest) (all : List Item) → rest ≢ []
-    → AllByRecursion HasPlainName all → AreItems all words → NextItem r.items all rest
+    → AllByRecursion HasOwnForm all → AreItems all words → NextItem r.items all rest
 next_of Has words rest r all some plain k =
     let more = r.only all plain k in
     next_item r.items all more.0 rest some more.1 plain more.2
 
 -- with the next item
 pub read_on : (Has Next : List Item → Type 0) (words rest others : List (List ℕ)) (item : Item) → IsReading Has words rest → IsItemBefore item others rest
-    → ((it : Item) (left : List (List ℕ)) → HasPlainName it → IsItemBefore it left rest → (item ≡ it) × (others ≡ left))
+    → ((it : Item) (left : List (List ℕ)) → HasOwnForm it → IsItemBefore it left rest → (item ≡ it) × (others ≡ left))
     → ((items : List Item) → Has items → Next (items ++ item ∷ [])) → IsReading Next words others
 read_on Has Next words rest others item r found only taken = record {
   items = r.items ++ item ∷ [];
@@ -85,17 +87,17 @@ read_on Has Next words rest others item r found only taken = record {
 
 -- no item is next
 pub no_item : (Has : List Item → Type 0) (words rest : List (List ℕ)) → IsReading Has words rest → rest ≢ []
-    → ((it : Item) (left : List (List ℕ)) → HasPlainName it → IsItemBefore it left rest → ⊥)
-    → (all : List Item) → AllByRecursion HasPlainName all → AreItems all words → ⊥
+    → ((it : Item) (left : List (List ℕ)) → HasOwnForm it → IsItemBefore it left rest → ⊥)
+    → (all : List Item) → AllByRecursion HasOwnForm all → AreItems all words → ⊥
 no_item Has words rest r some none all plain k =
     let n = next_of Has words rest r all some plain k in
     none n.item n.others n.plain n.first
 
 -- the next item can't follow, in items that are such ones
 pub no_more : (Has Of : List Item → Type 0) (words rest others : List (List ℕ)) (item : Item) → IsReading Has words rest → IsItemBefore item others rest
-    → ((it : Item) (left : List (List ℕ)) → HasPlainName it → IsItemBefore it left rest → (item ≡ it) × (others ≡ left))
+    → ((it : Item) (left : List (List ℕ)) → HasOwnForm it → IsItemBefore it left rest → (item ≡ it) × (others ≡ left))
     → ((items more : List Item) → Has items → Of (items ++ item ∷ more) → ⊥)
-    → (all : List Item) → Of all → AllByRecursion HasPlainName all → AreItems all words → ⊥
+    → (all : List Item) → Of all → AllByRecursion HasOwnForm all → AreItems all words → ⊥
 no_more Has Of words rest others item r found only refused all of plain k =
     let n = next_of Has words rest r all (item_has_words item others rest found) plain k in
     let same = only n.item n.others n.plain n.first in
@@ -110,9 +112,10 @@ no_items items (Named n v ∷ more) k = elim k.2 [
   | inl e ↦ absurd (cc e)
   | inr e ↦ absurd (cc e)
 ]
+no_items items (Flag n ∷ more) k = absurd (cc k.1)
 
 -- the items are those that were read
-pub all_read : (Has : List Item → Type 0) (words : List (List ℕ)) (r : IsReading Has words []) (all : List Item) → AllByRecursion HasPlainName all
+pub all_read : (Has : List Item → Type 0) (words : List (List ℕ)) (r : IsReading Has words []) (all : List Item) → AllByRecursion HasOwnForm all
     → AreItems all words → all ≡ r.items
 all_read Has words r all plain k =
     let more = r.only all plain k in

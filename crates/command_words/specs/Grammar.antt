@@ -1,5 +1,5 @@
 -- The words of the command line: which words are which command.
-use Rattle.std.specs.Prelude.{ℕ, ◌≡◌, ◌≢◌, ◌<◌, ◌≤◌, ◌⊎◌, ◌^◌, ⊤, if◌then◌else◌, List, [], ◌∷◌, ◌++◌, length, Option, Some, None, codes}
+use Rattle.std.specs.Prelude.{ℕ, ◌≡◌, ◌≢◌, ◌+◌, ◌<◌, ◌≤◌, ◌⊎◌, ◌^◌, ⊤, Bool, if◌then◌else◌, List, [], ◌∷◌, ◌++◌, length, Option, Some, None, codes}
 use Rattle.std.specs.List.{AllByRecursion}
 use Rattle.std.specs.Str.{bytes_eq}
 use Rattle.std.specs.Fmt.{decimal}
@@ -14,10 +14,12 @@ abbrev pub IsPlainWord : List ℕ → Type 0
 IsPlainWord [] = ⊥
 IsPlainWord (byte ∷ bytes) = byte ≢ 45
 
--- What stands after the first word: a file's name, or an option's name with its value.
+-- What stands after the first word: a file's name, an option's name with its value, or the name of
+-- an option that has no value.
 pub data Item : Type 0 where
   Name : List ℕ → Item
   Named : List ℕ → List ℕ → Item
+  Flag : List ℕ → Item
 
 -- an option of this name and value, before these words: `--name value` or `--name=value`
 abbrev pub IsOptionBefore : List ℕ → List ℕ → List (List ℕ) → List (List ℕ) → Type 0
@@ -28,24 +30,35 @@ abbrev pub AreItems : List Item → List (List ℕ) → Type 0
 AreItems [] words = words ≡ []
 AreItems (Name name ∷ items) words = (rest : List (List ℕ)) × IsPlainWord name × (words ≡ name ∷ rest) × AreItems items rest
 AreItems (Named name value ∷ items) words = (rest : List (List ℕ)) × IsPlainWord value × IsOptionBefore name value rest words × AreItems items rest
+AreItems (Flag name ∷ items) words = (rest : List (List ℕ)) × (words ≡ (codes "--" ++ name) ∷ rest) × AreItems items rest
 
 -- the file names among them, in their order
 abbrev pub names_in : List Item → List (List ℕ)
 names_in [] = []
 names_in (Name name ∷ items) = name ∷ names_in items
 names_in (Named name value ∷ items) = names_in items
+names_in (Flag name ∷ items) = names_in items
 
--- the names of options among them
+-- the names of options with a value among them
 abbrev pub options_in : List Item → List (List ℕ)
 options_in [] = []
 options_in (Name name ∷ items) = options_in items
 options_in (Named name value ∷ items) = name ∷ options_in items
+options_in (Flag name ∷ items) = options_in items
+
+-- the names of options without a value among them
+abbrev pub flags_in : List Item → List (List ℕ)
+flags_in [] = []
+flags_in (Name name ∷ items) = flags_in items
+flags_in (Named name value ∷ items) = flags_in items
+flags_in (Flag name ∷ items) = name ∷ flags_in items
 
 -- the value of an option, if it is named
 abbrev pub value_in : List ℕ → List Item → Option (List ℕ)
 value_in option [] = None
 value_in option (Name name ∷ items) = value_in option items
 value_in option (Named name value ∷ items) = if bytes_eq name option then Some value else value_in option items
+value_in option (Flag name ∷ items) = value_in option items
 
 -- no name stands twice
 abbrev pub AreDistinct : List (List ℕ) → Type 0
@@ -97,6 +110,7 @@ abbrev pub values_in : List ℕ → List Item → List (List ℕ)
 values_in option [] = []
 values_in option (Name name ∷ items) = values_in option items
 values_in option (Named name value ∷ items) = if bytes_eq name option then value ∷ values_in option items else values_in option items
+values_in option (Flag name ∷ items) = values_in option items
 
 -- what a run is told besides its files
 pub record RunOptions : Type 0 where
@@ -104,10 +118,18 @@ pub record RunOptions : Type 0 where
   pub stop : Option Fuse
   -- which commands of which units fail
   pub plans : List FaultPlan
+  -- how many lanes work beside the threads
+  pub lanes : ℕ
+  -- whether a collector works beside them
+  pub collector : Bool
 
--- the options of `run`, by their names
+-- how many lanes and collectors are at work
+abbrev pub helpers_of : RunOptions → ℕ
+helpers_of o = o.lanes + (if o.collector then 1 else 0)
+
+-- the options of `run` that have a value, by their names
 abbrev pub IsRunOption : List ℕ → Type 0
-IsRunOption name = (name ≡ codes "stop") ⊎ (name ≡ codes "fail")
+IsRunOption name = (name ≡ codes "stop") ⊎ ((name ≡ codes "fail") ⊎ (name ≡ codes "lanes"))
 
 -- where a drive stops, as a word says it: the unit, the number of its program or reset, from 1,
 -- and how much of that lands
@@ -140,6 +162,16 @@ ArePlans [] (word ∷ words) = ⊥
 ArePlans (p ∷ plans) [] = ⊥
 ArePlans (p ∷ plans) (word ∷ words) = IsPlan p word × ArePlans plans words
 
+-- as many lanes as the option says that is named once, and none where it isn't named
+abbrev pub IsLanes : ℕ → List (List ℕ) → Type 0
+IsLanes n [] = n ≡ 0
+IsLanes n (word ∷ []) = (word ≡ decimal n) × (n ≤ 8)
+IsLanes n (word ∷ (other ∷ words)) = ⊥
+
+-- the options of `run` that have no value: that of the collector, once, exactly where it works
+abbrev pub flags_of : Bool → List (List ℕ)
+flags_of collector = if collector then codes "collector" ∷ [] else []
+
 -- A command, with its file names and numbers.
 pub data CommandLine : Type 0 where
   -- make a blank image of these numbers
@@ -156,12 +188,13 @@ pub data CommandLine : Type 0 where
 -- what stands after the first word of a command
 abbrev pub AreItemsOf : List Item → CommandLine → Type 0
 AreItemsOf items (Create image numbers) = (names_in items ≡ image ∷ []) × AllByRecursion (IsOneOf create_options) (options_in items)
-    × AreDistinct (options_in items) × AreNumbers create_options (numbers_of numbers) items
-AreItemsOf items (Geometry image) = (names_in items ≡ image ∷ []) × (options_in items ≡ [])
-AreItemsOf items (Show image) = (names_in items ≡ image ∷ []) × (options_in items ≡ [])
-AreItemsOf items (Report image) = (names_in items ≡ image ∷ []) × (options_in items ≡ [])
+    × AreDistinct (options_in items) × AreNumbers create_options (numbers_of numbers) items × (flags_in items ≡ [])
+AreItemsOf items (Geometry image) = (names_in items ≡ image ∷ []) × (options_in items ≡ []) × (flags_in items ≡ [])
+AreItemsOf items (Show image) = (names_in items ≡ image ∷ []) × (options_in items ≡ []) × (flags_in items ≡ [])
+AreItemsOf items (Report image) = (names_in items ≡ image ∷ []) × (options_in items ≡ []) × (flags_in items ≡ [])
 AreItemsOf items (Run image script options) = (names_in items ≡ image ∷ script ∷ []) × AllByRecursion IsRunOption (options_in items)
     × IsStop options.stop (values_in (codes "stop") items) × ArePlans options.plans (values_in (codes "fail") items) × (length options.plans ≤ 16)
+    × IsLanes options.lanes (values_in (codes "lanes") items) × (flags_in items ≡ flags_of options.collector)
 
 abbrev pub first_word : CommandLine → List ℕ
 first_word (Create image numbers) = codes "create"

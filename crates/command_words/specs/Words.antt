@@ -7,7 +7,7 @@ use Rattle.pblk_model.specs.CommandText as text
 use Rattle.unit_port.specs.declared.armed.CommandKind.{CommandKind}
 use Rattle.unit_port.specs.declared.armed.CommandKind.TheVariants as kinds
 use Rattle.command_words.specs.Grammar as model
-use Rattle.command_words.specs.Grammar.{NumberOption, IsPlainWord, IsOptionBefore, IsOneOf, IsRunOption, IsStop, ArePlans, AreItems, AreItemsOf, AreDistinct, names_in, options_in, value_in, values_in, create_options}
+use Rattle.command_words.specs.Grammar.{NumberOption, IsPlainWord, IsOptionBefore, IsOneOf, IsRunOption, IsStop, ArePlans, AreItems, AreItemsOf, AreDistinct, names_in, options_in, flags_in, flags_of, value_in, values_in, create_options}
 use Rattle.command_words.specs.declared.command.CommandLine.{CommandLine}
 use Rattle.command_words.specs.declared.command.CommandLine.TheVariants as lines
 use Rattle.command_words.specs.declared.command.CreateNumbers.{CreateNumbers}
@@ -38,7 +38,7 @@ numbers_seen n = record {
 
 -- the options, as the model has them
 abbrev pub options_seen : RunOptions → model.RunOptions
-options_seen o = record { stop = o.stop; plans = o.plans }
+options_seen o = record { stop = o.stop; plans = o.plans; lanes = o.lanes; collector = o.collector }
 
 -- a command that was read, as the model has it
 abbrev pub seen : CommandLine → model.CommandLine
@@ -72,16 +72,20 @@ is_padded (byte ∷ (next ∷ bytes)) = byte == 43 || byte == 48
 abbrev pub item_of : Item → model.Item
 item_of (items.Name name) = model.Name name.now
 item_of (items.Named name value) = model.Named name.now value.now
+item_of (items.Flag name) = model.Flag name.now
 
 -- the words are the item and, after it, the rest
 abbrev pub IsItemBefore : model.Item → List (List ℕ) → List (List ℕ) → Type 0
 IsItemBefore (model.Name name) rest words = IsPlainWord name × (words ≡ name ∷ rest)
 IsItemBefore (model.Named name value) rest words = IsPlainWord value × IsOptionBefore name value rest words
+IsItemBefore (model.Flag name) rest words = words ≡ (codes "--" ++ name) ∷ rest
 
--- the item's option, if it is one, has no `=` in its name
-abbrev pub HasPlainName : model.Item → Type 0
-HasPlainName (model.Name name) = ⊤
-HasPlainName (model.Named name value) = AllByRecursion (λ byte. byte ≢ 61) name
+-- The item's option, if it is one, has no value exactly where it is the collector's. No `=` stands
+-- in its name.
+abbrev pub HasOwnForm : model.Item → Type 0
+HasOwnForm (model.Name name) = ⊤
+HasOwnForm (model.Named name value) = AllByRecursion (λ byte. byte ≢ 61) name × (name ≢ codes "collector")
+HasOwnForm (model.Flag name) = name ≡ codes "collector"
 
 -- The options of `create`.
 
@@ -123,6 +127,7 @@ pub record HasRead (items : List model.Item) (w : CreateWords) : Type 0 where
   pub known : AllByRecursion (IsOneOf create_options) (options_in items)
   pub distinct : AreDistinct (options_in items)
   pub values : AreValues create_options w.values items
+  pub flags : flags_in items ≡ []
 
 -- What has been read of the words of `run`.
 
@@ -132,13 +137,20 @@ names_read run_names.Nothing = []
 names_read (run_names.Image image) = image.now ∷ []
 names_read (run_names.Both image script) = image.now ∷ script.now ∷ []
 
+-- how many lanes the option says, if it was named so far
+abbrev pub AreLanes : Option ℕ → List (List ℕ) → Type 0
+AreLanes None words = words ≡ []
+AreLanes (Some n) words = (words ≡ decimal n ∷ []) × (n ≤ 8)
+
 -- these items were read so far, and so may be the first ones of `run`
 pub record HasReadRun (items : List model.Item) (w : RunWords) : Type 0 where
   pub names : names_in items ≡ names_read w.names
   pub known : AllByRecursion IsRunOption (options_in items)
-  pub stop : IsStop w.options.stop (values_in (codes "stop") items)
-  pub plans : ArePlans w.options.plans (values_in (codes "fail") items)
-  pub few : length w.options.plans ≤ 16
+  pub stop : IsStop w.stop (values_in (codes "stop") items)
+  pub plans : ArePlans w.plans (values_in (codes "fail") items)
+  pub few : length w.plans ≤ 16
+  pub lanes : AreLanes w.lanes (values_in (codes "lanes") items)
+  pub flags : flags_in items ≡ flags_of w.collector
 
 -- a word in three parts, with a `:` between any two, of which the first two have none in them
 pub record IsInThree (first second third word : List ℕ) : Type 0 where

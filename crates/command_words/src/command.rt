@@ -35,6 +35,10 @@ pub struct RunOptions {
     pub stop: Option<Fuse>,
     /// Which commands of which units fail, by `--fail`.
     pub plans: FaultPlans,
+    /// How many lanes work beside the script's threads, by `--lanes`: 0 to 8. Without it none does.
+    pub lanes: u32,
+    /// Whether a collector works beside them, by `--collector`.
+    pub collector: bool,
 }
 
 /// A command with its file names and numbers. The names are neither empty nor begin with `-`.

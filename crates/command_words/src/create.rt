@@ -67,6 +67,7 @@ impl<'a> CreateWords<'a> {
         match item {
             Item::Name(name) => self.with_name(name),
             Item::Named(name, value) => self.with_option(name, value),
+            Item::Flag(_) => None,
         }
     }
 

@@ -2,23 +2,25 @@
 
 ghost use Rattle.std.specs.Prelude.{ℕ, ◌≡◌, ◌<◌, ◌≤◌, ◌↔◌, ◌∷◌, ◌++◌, IsTrue, IsSome, List, length, map, codes, IfSome, IsSomeAnd, string_bytes};
 ghost use Rattle.command_words.specs.Grammar as model;
-ghost use Rattle.command_words.specs.Words.{IsItemBefore, HasPlainName, item_of};
+ghost use Rattle.command_words.specs.Words.{IsItemBefore, HasOwnForm, item_of};
 
-/// The name of a file, or an option's name and its value.
+/// The name of a file, an option's name and its value, or the name of an option without a value.
 #[derive(Clone, Copy, Debug)]
 pub(crate) enum Item<'a> {
     Name(&'a str),
     Named(&'a str, &'a str),
+    Flag(&'a str),
 }
 
 /// The first item of some words, and the words after it.
 ///
-/// None where no item is first, whose option's name, if it is one, has no `=` in it.
+/// An option has no value where it is that of the collector, and else has one. None where no such
+/// item is first.
 pub(crate) fn read_item(words: &[String]) -> Option<(Item<'_>, &[String])>
     ensures found { IfSome result
         (λ r. IsItemBefore (item_of r.0) (map string_bytes r.1.now) (map string_bytes words.now)) }
     ensures shorter { IfSome result (λ r. length r.1.now < length words.now) }
-    ensures only { (item : model.Item) (rest : List (List ℕ)) → HasPlainName item
+    ensures only { (item : model.Item) (rest : List (List ℕ)) → HasOwnForm item
         → IsItemBefore item rest (map string_bytes words.now)
         → IsSomeAnd result (λ r. (item_of r.0 ≡ item) × (map string_bytes r.1.now ≡ rest)) }
 {
@@ -38,12 +40,13 @@ fn read_option<'a>(option: &'a str, rest: &'a [String]) -> Option<(Item<'a>, &'a
     ensures found { IfSome result (λ r. IsItemBefore (item_of r.0) (map string_bytes r.1.now)
         ((codes "--" ++ option.now) ∷ map string_bytes rest.now)) }
     ensures shorter { IfSome result (λ r. length r.1.now ≤ length rest.now) }
-    ensures only { (item : model.Item) (others : List (List ℕ)) → HasPlainName item
+    ensures only { (item : model.Item) (others : List (List ℕ)) → HasOwnForm item
         → IsItemBefore item others ((codes "--" ++ option.now) ∷ map string_bytes rest.now)
         → IsSomeAnd result (λ r. (item_of r.0 ≡ item) × (map string_bytes r.1.now ≡ others)) }
 {
     match option.split_once('=') {
         Some((name, value)) => named(name, value, rest),
+        None if is_flag(option) => Some((Item::Flag(option), rest)),
         None => {
             let [value, rest @ ..] = rest else {
                 return None;
@@ -51,6 +54,13 @@ fn read_option<'a>(option: &'a str, rest: &'a [String]) -> Option<(Item<'a>, &'a
             named(option, value.as_str(), rest)
         }
     }
+}
+
+/// Whether an option of this name has no value.
+pub(crate) fn is_flag(name: &str) -> bool
+    ensures { IsTrue result ↔ name.now ≡ codes "collector" }
+{
+    name == "collector"
 }
 
 // An option of this name and value, if it can have that value.

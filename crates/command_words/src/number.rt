@@ -1,6 +1,6 @@
 //! Numbers as words spell them.
 
-ghost use Rattle.std.specs.Prelude.{◌≡◌, ◌≢◌, ℕ, ◌<◌, ◌^◌, IfSome, IfNone};
+ghost use Rattle.std.specs.Prelude.{◌≡◌, ◌≢◌, ℕ, ◌<◌, ◌≤◌, ◌^◌, IfSome, IfNone};
 ghost use Rattle.std.specs.Fmt.{decimal};
 ghost use Rattle.command_words.specs.Words.{is_padded};
 
@@ -25,6 +25,18 @@ pub(crate) fn read_small(word: &str) -> Option<u32>
         return None;
     }
     Some(number as u32)
+}
+
+/// The number from 0 to 8 that a word spells so.
+pub(crate) fn read_lanes(word: &str) -> Option<u32>
+    ensures found { IfSome result (λ n. (word.now ≡ decimal n) × (n ≤ 8)) }
+    ensures none { IfNone result ((n : ℕ) → n ≤ 8 → word.now ≢ decimal n) }
+{
+    let number = read_small(word)?;
+    if number > 8 {
+        return None;
+    }
+    Some(number)
 }
 
 // Whether a word begins with `+`, or with a 0 that more follows: Rust's own reading of numbers

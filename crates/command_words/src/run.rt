@@ -8,8 +8,10 @@ ghost use Rattle.command_words.specs.Words.{AreWordsOf, HasReadRun, item_of, nam
 use crate::command::RunOptions;
 use crate::fault::read_plan;
 use crate::fuse::read_fuse;
-use crate::item::{Item, read_item};
+use crate::item::{Item, is_flag, read_item};
+use crate::number::read_lanes;
 use crate::plans::FaultPlans;
+use unit_port::Fuse;
 
 /// The names of files that have been read: that of an image comes before that of a script.
 #[derive(Clone, Copy, Debug)]
@@ -23,7 +25,10 @@ pub(crate) enum RunNames<'a> {
 #[derive(Debug, Drop)]
 pub(crate) struct RunWords<'a> {
     pub(crate) names: RunNames<'a>,
-    pub(crate) options: RunOptions,
+    pub(crate) stop: Option<Fuse>,
+    pub(crate) plans: FaultPlans,
+    pub(crate) lanes: Option<u32>,
+    pub(crate) collector: bool,
 }
 
 /// Reads the words after `run`.
@@ -43,7 +48,13 @@ pub(crate) fn read_run(words: &[String]) -> Option<(&str, &str, RunOptions)>
         rest = others;
     }
     let (image, script) = read.names.both()?;
-    Some((image, script, read.options))
+    let options = RunOptions {
+        stop: read.stop,
+        plans: read.plans,
+        lanes: read.lanes.unwrap_or(0),
+        collector: read.collector,
+    };
+    Some((image, script, options))
 }
 
 impl<'a> RunNames<'a> {
@@ -79,10 +90,10 @@ impl<'a> RunWords<'a> {
     {
         RunWords {
             names: RunNames::Nothing,
-            options: RunOptions {
-                stop: None,
-                plans: FaultPlans::none(),
-            },
+            stop: None,
+            plans: FaultPlans::none(),
+            lanes: None,
+            collector: false,
         }
     }
 
@@ -98,6 +109,7 @@ impl<'a> RunWords<'a> {
         match item {
             Item::Name(name) => self.with_name(name),
             Item::Named(name, value) => self.with_option(name, value),
+            Item::Flag(name) => self.with_flag(name),
         }
     }
 
@@ -128,6 +140,7 @@ impl<'a> RunWords<'a> {
         match name {
             "stop" => self.with_stop(value),
             "fail" => self.with_plan(value),
+            "lanes" => self.with_lanes(value),
             _ => None,
         }
     }
@@ -142,16 +155,11 @@ impl<'a> RunWords<'a> {
             → ¬ AreItemsOf (items ++ model.Named (codes "stop") value.now ∷ more)
             (model.Run image script options)) }
     {
-        let RunWords { names, options } = self;
-        let RunOptions { stop, plans } = options;
-        if stop.is_some() {
+        if self.stop.is_some() {
             return None;
         }
         let stop = Some(read_fuse(value)?);
-        Some(RunWords {
-            names,
-            options: RunOptions { stop, plans },
-        })
+        Some(RunWords { stop, ..self })
     }
 
     // With the option `--fail`. None where it was named 16 times before, or this is no plan.
@@ -164,12 +172,44 @@ impl<'a> RunWords<'a> {
             → ¬ AreItemsOf (items ++ model.Named (codes "fail") value.now ∷ more)
             (model.Run image script options)) }
     {
-        let RunWords { names, options } = self;
-        let RunOptions { stop, plans } = options;
-        let plans = plans.with(read_plan(value)?)?;
+        let plan = read_plan(value)?;
+        let plans = self.plans.with(plan)?;
+        Some(RunWords { plans, ..self })
+    }
+
+    // With the option `--lanes`. None where it was named before, or this is no number of lanes.
+    fn with_lanes(self, value: &'a str) -> Option<RunWords<'a>>
+        ensures taken { IfSome result (λ next. (items : List model.Item)
+            → HasReadRun items self.entry
+            → HasReadRun (items ++ model.Named (codes "lanes") value.now ∷ []) next) }
+        ensures refused { IfNone result ((items more : List model.Item) (image script : List ℕ)
+            (options : model.RunOptions) → HasReadRun items self.entry
+            → ¬ AreItemsOf (items ++ model.Named (codes "lanes") value.now ∷ more)
+            (model.Run image script options)) }
+    {
+        if self.lanes.is_some() {
+            return None;
+        }
+        let lanes = Some(read_lanes(value)?);
+        Some(RunWords { lanes, ..self })
+    }
+
+    // With an option that has no value. None where there is none of this name, or it was named
+    // before.
+    fn with_flag(self, name: &'a str) -> Option<RunWords<'a>>
+        ensures taken { IfSome result (λ next. (items : List model.Item)
+            → HasReadRun items self.entry → HasReadRun (items ++ model.Flag name.now ∷ []) next) }
+        ensures refused { IfNone result ((items more : List model.Item) (image script : List ℕ)
+            (options : model.RunOptions) → HasReadRun items self.entry
+            → ¬ AreItemsOf (items ++ model.Flag name.now ∷ more)
+            (model.Run image script options)) }
+    {
+        if self.collector || !is_flag(name) {
+            return None;
+        }
         Some(RunWords {
-            names,
-            options: RunOptions { stop, plans },
+            collector: true,
+            ..self
         })
     }
 }

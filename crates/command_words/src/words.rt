@@ -19,13 +19,14 @@ use crate::run::read_run;
 /// `--ws-min`, `--ws-opt`, `--mw`, `--sector` and `--ring` below 2^32; `--capacity` below 2^64.
 /// Numbers are `0` or digits without a leading 0.
 ///
-/// The option `--stop unit:nth:cut` of `run` stands anywhere after its first word in the same way,
-/// at most once. Its numbers are below 2^32, and nth is at least 1. The other commands have no
-/// options.
+/// Options of `run` stand anywhere after its first word in the same way. `--stop unit:nth:cut` and
+/// `--lanes` are each named at most once, and so is `--collector`, which has no value. `--fail` is
+/// named up to 16 times, with `p:unit:nth:cut`, `f:unit:nth` or `r:unit:nth`. Lanes are 0 to 8, and
+/// the nth of a stop is at least 1. The numbers of stops and plans are below 2^32.
 ///
-/// None where the words are no command: the first one is none of these, a word is missing or too
-/// many, a word is empty, a word begins with `-` and isn't one of the command's options, an option
-/// is named twice, or its value isn't such a number or such a stop.
+/// The other commands have no options. None where the words are no command: the first one is none
+/// of these, a word is missing or too many, a word is empty, a word begins with `-` and isn't one
+/// of the command's options, an option is named too often, or it can't have its value.
 pub fn read_words(words: &[String]) -> Option<CommandLine<'_>>
     ensures found { IfSome result (λ c. IsCommandLine (map string_bytes words.now) (seen c)) }
     ensures none { IfNone result

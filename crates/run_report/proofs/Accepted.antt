@@ -1,7 +1,6 @@
 -- The rows of records that answer a script.
-use Rattle.std.proofs.Common.{ℕ, suc, ◌+◌, ◌^◌, ◌<◌, ◌≤◌, ◌≡◌, nat_lt, List, [], ◌∷◌, length, Option, Some, None, refl, ap, ◌∙◌, arith, inl, inr}
+use Rattle.std.proofs.Common.{ℕ, suc, ◌+◌, ◌^◌, ◌<◌, ◌≤◌, ◌≡◌, List, [], ◌∷◌, length, Option, Some, None, refl, sym, ap, ◌∙◌, arith}
 use Rattle.std.specs.List.{AllByRecursion, sum_by}
-use Rattle.std.proofs.lemmas.Bool.{cases_Bool}
 use Rattle.std.proofs.lemmas.List.{length-append}
 use Rattle.std.proofs.lemmas.List.Sums.{sum_by-cons}
 use Rattle.pblk_model.specs.declared.script.Command.{Command}
@@ -14,7 +13,9 @@ use Rattle.run_threads.specs.declared.records.Trouble.{Trouble}
 use Rattle.run_threads.specs.declared.records.Trouble.TheVariants.{Drive, Worn}
 use Rattle.run_report.specs.declared.rows.Row.{Row}
 use Rattle.run_report.specs.Recorded.{AreAnswered, AreThreads, IsRecorded, IsThread}
-use Rattle.run_report.specs.Rows.{insert, in_order, answered_rows, rows_from, thread_rows}
+use Rattle.block_port.proofs.Ordering.{all_order, total_order}
+use Rattle.pblk_model.specs.RingState.{total}
+use Rattle.run_report.specs.Rows.{in_order, answered_rows, rows_from, thread_rows}
 use Rattle.run_report.specs.RowFits.{AreAsMany, AreRows, HasSectors}
 use Rattle.pblk_model.proofs.Lists.{all_append}
 
@@ -100,24 +101,13 @@ script_few thread (c ∷ script) (a ∷ threads) =
       sum_by-cons length c script,
     )
 
--- in order they are as many, and of the same kind
-all_insert : (P : Row → Type 0) (row : Row) (rows : List Row) → P row → AllByRecursion P rows → AllByRecursion P (insert row rows)
-all_insert P row [] h all = (h, tt)
-all_insert P row (other ∷ rows) h all =
-    elim (cases_Bool (nat_lt other.first row.first)) [ inl e ↦ rw e (all.0, all_insert P row rows h all.1) | inr e ↦ rw e (h, all) ]
-
-pub all_in_order : (P : Row → Type 0) (rows : List Row) → AllByRecursion P rows → AllByRecursion P (in_order rows)
-all_in_order P [] all = tt
-all_in_order P (row ∷ rows) all = all_insert P row (in_order rows) all.0 (all_in_order P rows all.1)
-
-length-insert : (row : Row) (rows : List Row) → length (insert row rows) ≡ suc (length rows)
-length-insert row [] = refl
-length-insert row (other ∷ rows) =
-    elim (cases_Bool (nat_lt other.first row.first)) [ inl e ↦ rw e (ap suc (length-insert row rows)) | inr e ↦ rw e refl ]
+-- in order they are as many
+one_each : {X : Type 0} (xs : List X) → total (λ x. 1) xs ≡ length xs
+one_each [] = refl
+one_each (x ∷ xs) = let rest : total (λ x. 1) xs ≡ length xs = one_each xs in omega (arith, rest)
 
 length-in_order : (rows : List Row) → length (in_order rows) ≡ length rows
-length-in_order [] = refl
-length-in_order (row ∷ rows) = length-insert row (in_order rows) ∙ ap suc (length-in_order rows)
+length-in_order rows = sym (one_each (in_order rows)) ∙ total_order (λ (row : Row). row.first) (λ row. 1) rows ∙ one_each rows
 
 pub are_rows : (script : List (List Command)) (records : Records) (rows : List Row) → IsRecorded script records
     → rows ≡ in_order (rows_from 0 script records.threads) → AreRows rows
@@ -125,6 +115,7 @@ are_rows script records rows h is =
     let few = script_few 0 script records.threads in
     let long = length-in_order (rows_from 0 script records.threads) in
     rw is (record {
-      each = all_in_order HasSectors (rows_from 0 script records.threads) (script_has h.capacity 0 script records.threads h.number h.fits.each);
+      each = all_order (λ (row : Row). row.first) HasSectors (rows_from 0 script records.threads)
+          (script_has h.capacity 0 script records.threads h.number h.fits.each);
       few = omega (arith, few, long, h.fits.commands);
     })

@@ -1,12 +1,12 @@
--- What a port knows of its own writes.
-use Rattle.std.proofs.Common.{ℕ, zero, suc, ◌+◌, ◌≤◌, ◌≡◌, List, [], ◌∷◌, ◌++◌, map, length, replicate, take, Some, slice_get, sym, refl, ap, subst, ◌∙◌, arith}
+-- The lines of a port's own writes, and what a port knows.
+use Rattle.std.proofs.Common.{ℕ, zero, suc, ◌+◌, ◌≤◌, ◌≡◌, List, [], ◌∷◌, ◌++◌, map, length, replicate, take, Some, slice_get, sym, refl, ap, ap₂, subst, ◌∙◌, arith}
 use Rattle.std.specs.List.{flat_map, range_with_len, zip}
 use Rattle.std.proofs.lemmas.Bool.{le-ltb}
 use Rattle.std.proofs.lemmas.List.{length-map, map-append, take-append-le}
 use Rattle.std.proofs.lemmas.Option.{none-some, same_Some}
 use Rattle.pblk_model.specs.declared.script.Command.{Command}
 use Rattle.pblk_model.specs.declared.script.Command.TheVariants.{Write, Read, Flush, Post, Await}
-use Rattle.pblk_model.specs.History.{users, tag_sector}
+use Rattle.pblk_model.specs.History.{SectorWrite, users, tag_sector}
 use Rattle.pblk_model.specs.Text.{HistoryLine, Outcome}
 use Rattle.pblk_model.specs.Transcript.{sector_writes}
 use Rattle.block_port.specs.Own as own
@@ -16,9 +16,10 @@ use Rattle.run_threads.specs.declared.records.Answer.{Answer}
 use Rattle.run_threads.specs.declared.records.Answer.TheVariants.{Placed, Words, Synced, Done, Range, Refused}
 use Rattle.run_threads.specs.Run.{Runs, Says, own_in}
 use Rattle.run_report.specs.Report.{outcome_of}
-use Rattle.run_report.specs.Rows.{lines_of, thread_rows}
-use Rattle.run_report.proofs.Steps.{places, seen_at, users-append}
-use Rattle.run_threads.proofs.RunLemmas.{run_learns, run_own}
+use Rattle.run_report.specs.declared.rows.Row.{Row}
+use Rattle.run_report.specs.Rows.{lines_of, positions_of, thread_rows}
+use Rattle.run_report.proofs.Steps.{seen_at, users-append}
+use Rattle.run_threads.proofs.RunLemmas.{run_learns}
 
 -- A port learns by each command.
 
@@ -41,65 +42,47 @@ writes-placed_from size position thread lba zero tag = refl
 writes-placed_from size position thread lba (suc count) tag =
     ap (λ ws. record { lba = lba; sector = tag_sector size tag } ∷ ws) (writes-placed_from size (position + 1) thread (lba + 1) count tag)
 
-abbrev lines : List OwnWrite → List PlacedSector
-lines writes = flat_map own.lines_of writes
+-- a write's lines, by the position at which it begins
+abbrev pub keyed : OwnWrite → ℕ × List PlacedSector
+keyed w = (w.place.first, own.lines_of w)
 
-own_positions : (size : ℕ) (cs : List Command) (rows : List Answer) → positions (lines (own_in size cs rows)) ≡ places cs rows
-own_positions size [] rows = refl
-own_positions size (c ∷ cs) [] = refl
-own_positions size (Write lba count tag ∷ cs) (Placed place ∷ rows) =
-    map-append (λ (x : PlacedSector). x.position) (placed_from place.first lba (replicate count (tag_sector size tag))) (lines (own_in size cs rows))
-    ∙ rw (positions-placed_from place.first lba count (tag_sector size tag), own_positions size cs rows) refl
-own_positions size (Write lba count tag ∷ cs) (Words front words ∷ rows) = own_positions size cs rows
-own_positions size (Write lba count tag ∷ cs) (Synced front ∷ rows) = own_positions size cs rows
-own_positions size (Write lba count tag ∷ cs) (Done ∷ rows) = own_positions size cs rows
-own_positions size (Write lba count tag ∷ cs) (Range ∷ rows) = own_positions size cs rows
-own_positions size (Write lba count tag ∷ cs) (Refused trouble ∷ rows) = own_positions size cs rows
-own_positions size (Read lba count ∷ cs) (a ∷ rows) = own_positions size cs rows
-own_positions size (Flush ∷ cs) (a ∷ rows) = own_positions size cs rows
-own_positions size (Post name ∷ cs) (a ∷ rows) = own_positions size cs rows
-own_positions size (Await name ∷ cs) (a ∷ rows) = own_positions size cs rows
+-- those of a row, of sectors of this size
+abbrev pub placed_lines : ℕ → Row → List PlacedSector
+placed_lines size row = placed_from row.first row.lba (replicate row.count (tag_sector size row.tag))
 
-own_writes : (size : ℕ) (cs : List Command) (rows : List Answer)
-    → map (λ x. x.write) (lines (own_in size cs rows)) ≡ sector_writes size (flat_map lines_of (thread_rows 0 cs rows))
-own_writes size [] rows = refl
-own_writes size (c ∷ cs) [] = refl
-own_writes size (Write lba count tag ∷ cs) (Placed place ∷ rows) =
-    map-append (λ (x : PlacedSector). x.write) (placed_from place.first lba (replicate count (tag_sector size tag))) (lines (own_in size cs rows))
-    ∙ rw (writes-placed_from size place.first 0 lba count tag, own_writes size cs rows)
-    (sym (map-append (λ (row : HistoryLine). record {
-      lba = row.lba;
-      sector = tag_sector size row.tag;
-    }) (map (λ at. record {
-      thread = 0;
-      lba = at;
-      tag = tag;
-    }) (range_with_len lba count)) (flat_map lines_of (thread_rows 0 cs rows))))
-own_writes size (Write lba count tag ∷ cs) (Words front words ∷ rows) = own_writes size cs rows
-own_writes size (Write lba count tag ∷ cs) (Synced front ∷ rows) = own_writes size cs rows
-own_writes size (Write lba count tag ∷ cs) (Done ∷ rows) = own_writes size cs rows
-own_writes size (Write lba count tag ∷ cs) (Range ∷ rows) = own_writes size cs rows
-own_writes size (Write lba count tag ∷ cs) (Refused trouble ∷ rows) = own_writes size cs rows
-own_writes size (Read lba count ∷ cs) (a ∷ rows) = own_writes size cs rows
-own_writes size (Flush ∷ cs) (a ∷ rows) = own_writes size cs rows
-own_writes size (Post name ∷ cs) (a ∷ rows) = own_writes size cs rows
-own_writes size (Await name ∷ cs) (a ∷ rows) = own_writes size cs rows
+abbrev pub keyed_row : ℕ → Row → ℕ × List PlacedSector
+keyed_row size row = (row.first, placed_lines size row)
 
--- what is known where a port began with none and only its own is known
-module _ (told : List ℕ → ℕ) (cs : List Command) (rows : List Answer) (old new : ModelPort) (h : Runs told old cs rows new) (unwritten : old.own ≡ [])
-    (known : List PlacedSector) (alone : known ≡ flat_map own.lines_of new.own) where
-  known_is : known ≡ lines (own_in old.sector cs rows)
-  known_is = alone ∙ ap lines (run_own told cs rows old new h ∙ ap (λ ws. ws ++ own_in old.sector cs rows) unwritten)
+pub own_keyed : (size thread : ℕ) (cs : List Command) (rows : List Answer)
+    → map keyed (own_in size cs rows) ≡ map (keyed_row size) (thread_rows thread cs rows)
+own_keyed size thread [] rows = refl
+own_keyed size thread (c ∷ cs) [] = refl
+own_keyed size thread (Write lba count tag ∷ cs) (Placed place ∷ rows) =
+    ap (λ xs. (place.first, placed_from place.first lba (replicate count (tag_sector size tag))) ∷ xs) (own_keyed size thread cs rows)
+own_keyed size thread (Write lba count tag ∷ cs) (Words front words ∷ rows) = own_keyed size thread cs rows
+own_keyed size thread (Write lba count tag ∷ cs) (Synced front ∷ rows) = own_keyed size thread cs rows
+own_keyed size thread (Write lba count tag ∷ cs) (Done ∷ rows) = own_keyed size thread cs rows
+own_keyed size thread (Write lba count tag ∷ cs) (Range ∷ rows) = own_keyed size thread cs rows
+own_keyed size thread (Write lba count tag ∷ cs) (Refused trouble ∷ rows) = own_keyed size thread cs rows
+own_keyed size thread (Read lba count ∷ cs) (a ∷ rows) = own_keyed size thread cs rows
+own_keyed size thread (Flush ∷ cs) (a ∷ rows) = own_keyed size thread cs rows
+own_keyed size thread (Post name ∷ cs) (a ∷ rows) = own_keyed size thread cs rows
+own_keyed size thread (Await name ∷ cs) (a ∷ rows) = own_keyed size thread cs rows
 
-  pub known_positions : positions known ≡ places cs rows
-  known_positions = ap positions known_is ∙ own_positions old.sector cs rows
+pub rows_positions : (size : ℕ) (rows : List Row) → positions (flat_map (placed_lines size) rows) ≡ flat_map positions_of rows
+rows_positions size [] = refl
+rows_positions size (row ∷ rows) = map-append (λ (x : PlacedSector). x.position) (placed_lines size row) (flat_map (placed_lines size) rows)
+    ∙ ap₂ (λ (ps qs : List ℕ). ps ++ qs) (positions-placed_from row.first row.lba row.count (tag_sector size row.tag)) (rows_positions size rows)
 
-  pub known_writes : map (λ x. x.write) known ≡ sector_writes old.sector (flat_map lines_of (thread_rows 0 cs rows))
-  known_writes = ap (map (λ (x : PlacedSector). x.write)) known_is ∙ own_writes old.sector cs rows
+pub rows_writes : (size : ℕ) (rows : List Row) → map (λ x. x.write) (flat_map (placed_lines size) rows) ≡ sector_writes size (flat_map lines_of rows)
+rows_writes size [] = refl
+rows_writes size (row ∷ rows) = map-append (λ (x : PlacedSector). x.write) (placed_lines size row) (flat_map (placed_lines size) rows)
+    ∙ ap₂ (λ (xs ys : List SectorWrite). xs ++ ys) (writes-placed_from size row.first row.thread row.lba row.count row.tag) (rows_writes size rows)
+    ∙ sym (map-append (λ (line : HistoryLine). record { lba = line.lba; sector = tag_sector size line.tag }) (lines_of row) (flat_map lines_of rows))
 
 -- What is known below a position that was taken stays.
 
-none_below : (from to p : ℕ) (xs : List PlacedSector) → Rise from to xs → p ≤ from → users (positions xs) p ≡ 0
+pub none_below : (from to p : ℕ) (xs : List PlacedSector) → Rise from to xs → p ≤ from → users (positions xs) p ≡ 0
 none_below from to p [] h low = refl
 none_below from to p (x ∷ xs) h low = rw (le-ltb x.position p (omega (arith, h.0, low))) (none_below (x.position + 1) to p xs h.1 (omega (arith, h.0, low)))
 

@@ -3,7 +3,8 @@ pub mod Sorting
 pub mod Accepted
 pub mod Steps
 pub mod Known
-pub mod OnePort
+pub mod PlacedRows
+pub mod Ports
 pub mod Recorded
 pub mod Objects
 pub mod Blanks

@@ -1,12 +1,16 @@
 -- Rows in the order of their positions, and a sort by them.
-use Rattle.std.proofs.Common.{ℕ, suc, ◌<◌, ◌≤◌, ◌≡◌, ◌&&◌, not, Bool, true, false, nat_eq, nat_lt, cond, List, [], ◌∷◌, ◌++◌, length, get_or, sym, refl, ap, subst, ◌∙◌, arith, inl, inr}
+use Rattle.std.proofs.Common.{ℕ, suc, ◌<◌, ◌≤◌, ◌≡◌, ◌&&◌, not, Bool, true, false, nat_eq, cond, List, [], ◌∷◌, ◌++◌, length, get_or, sym, refl, ap, subst, ◌∙◌, arith, inl, inr}
 use Rattle.std.specs.Prelude.{⊤}
-use Rattle.std.specs.List.{filter}
+use Rattle.std.specs.List.{AllByRecursion, filter}
 use Rattle.std.specs.List.Sorted.{IsNonDecreasingBy, IsStableByKey, ties}
 use Rattle.std.specs.Ordering.{is_lt, nat_cmp}
-use Rattle.std.proofs.lemmas.Bool.{cases_Bool, cases_lt, lt-ltb, le-ltb, ltb-true, ltb-false, eqb-true, false≢true, eq-eqb, ne_eqb}
+use Rattle.std.proofs.lemmas.Bool.{cases_lt, lt-ltb, le-ltb, eqb-true, false≢true, eq-eqb, ne_eqb}
 use Rattle.run_report.specs.declared.rows.Row.{Row}
-use Rattle.run_report.specs.Rows.{insert, in_order}
+use Rattle.run_report.specs.Rows.{in_order}
+use Rattle.block_port.specs.ByPlace.{KeysRise}
+use Rattle.block_port.proofs.Ordering.{order_rises, passing_order, rising_stay}
+use Rattle.pblk_model.proofs.Lists.{all_of}
+use Rattle.pblk_model.proofs.Maps.{all_passed}
 
 -- rows of positions that don't fall, from one on
 abbrev pub Climbs : ℕ → List Row → Type 0
@@ -21,52 +25,39 @@ climbs low (row ∷ rows) h first = (
       (λ d some. h 0 1 d (omega arith) (omega (arith, some))),
 )
 
-insert_climbs : (low : ℕ) (row : Row) (rows : List Row) → low ≤ row.first → Climbs low rows → Climbs low (insert row rows)
-insert_climbs low row [] le h = (le, tt)
-insert_climbs low row (other ∷ rows) le h =
-    elim (cases_Bool (nat_lt other.first row.first)) [
-      | inl e ↦ let below = ltb-true other.first row.first e in rw e (h.0, insert_climbs other.first row rows (omega (arith, below)) h.1)
-      | inr e ↦ let past = ltb-false other.first row.first e in rw e (le, (past, h.1))
-    ]
+-- that is to say that their positions rise
+rises_climb : (low : ℕ) (rows : List Row) → AllByRecursion (λ row. low ≤ row.first) rows → KeysRise (λ (row : Row). row.first) rows → Climbs low rows
+rises_climb low [] above h = tt
+rises_climb low (row ∷ rows) above h = (above.0, rises_climb row.first rows h.0 h.1)
+
+climbs_above : (low high : ℕ) (rows : List Row) → low ≤ high → Climbs high rows → AllByRecursion (λ row. low ≤ row.first) rows
+climbs_above low high [] le h = tt
+climbs_above low high (row ∷ rows) le h = (omega (arith, le, h.0), climbs_above low row.first rows (omega (arith, le, h.0)) h.1)
+
+pub climbs_rise : (low : ℕ) (rows : List Row) → Climbs low rows → KeysRise (λ (row : Row). row.first) rows
+climbs_rise low [] h = tt
+climbs_rise low (row ∷ rows) h = (climbs_above row.first row.first rows (omega arith) h.1, climbs_rise row.first rows h.1)
 
 order_climbs : (rows : List Row) → Climbs 0 (in_order rows)
-order_climbs [] = tt
-order_climbs (row ∷ rows) = insert_climbs 0 row (in_order rows) (omega arith) (order_climbs rows)
-
--- such rows stand in order
-insert_first : (row : Row) (rows : List Row) → Climbs row.first rows → insert row rows ≡ row ∷ rows
-insert_first row [] h = refl
-insert_first row (other ∷ rows) h = rw (le-ltb other.first row.first h.0) refl
-
-pub in_order_already : (low : ℕ) (rows : List Row) → Climbs low rows → in_order rows ≡ rows
-in_order_already low [] h = refl
-in_order_already low (row ∷ rows) h = ap (insert row) (in_order_already row.first rows h.1) ∙ insert_first row rows h.1
+order_climbs rows = rises_climb 0 (in_order rows) (all_of (λ (row : Row). 0 ≤ row.first) (λ row. omega arith) (in_order rows))
+    (order_rises (λ row. row.first) rows)
 
 -- The rows at a position stand in the order that they had.
 
 abbrev those_at : ℕ → List Row → List Row
 those_at p rows = filter (λ r. nat_eq r.first p) rows
 
-insert_at : (p : ℕ) (row : Row) (rows : List Row) → those_at p (insert row rows) ≡ those_at p (row ∷ rows)
-insert_at p row [] = refl
-insert_at p row (other ∷ rows) =
-    elim (cases_Bool (nat_lt other.first row.first)) [
-      | inl e ↦
-          let below = ltb-true other.first row.first e in
-          let rest = insert_at p row rows in
-          elim (cases_Bool (nat_eq other.first p)) [
-            | inl here ↦
-                let same = eqb-true other.first p here in
-                let differ : nat_eq row.first p ≡ false = ne_eqb row.first p (λ s. absurd (omega (arith, s, same, below))) in
-                rw (e, here, differ) (ap (λ xs. other ∷ xs) (rw differ at rest))
-            | inr not_here ↦ rw (e, not_here) rest
-          ]
-      | inr e ↦ rw e refl
-    ]
+-- they rise, as all stand there
+level : (p : ℕ) (rows : List Row) → AllByRecursion (λ row. nat_eq row.first p ≡ true) rows → Climbs p rows
+level p [] here = tt
+level p (row ∷ rows) here =
+    let at : row.first ≡ p = eqb-true row.first p here.0 in
+    (omega (arith, at), subst (λ (n : ℕ). Climbs n rows) (sym at) (level p rows here.1))
 
 order_at : (p : ℕ) (rows : List Row) → those_at p (in_order rows) ≡ those_at p rows
-order_at p [] = refl
-order_at p (row ∷ rows) = insert_at p row (in_order rows) ∙ ap (λ xs. cond (nat_eq row.first p) (row ∷ xs) xs) (order_at p rows)
+order_at p rows = passing_order (λ (row : Row). row.first) (λ (row : Row). nat_eq row.first p) rows
+    ∙ rising_stay (λ (row : Row). row.first) (those_at p rows)
+    (climbs_rise p (those_at p rows) (level p (those_at p rows) (all_passed (λ (row : Row). nat_eq row.first p) rows)))
 
 -- Rows that climb are what they have at each position.
 

@@ -2,7 +2,7 @@ pub mod Rows
 pub mod Recorded
 pub mod Report
 pub mod RowFits
-pub mod OnePort
+pub mod Ports
 pub mod Listing
 pub mod Numbers
 pub mod Objects

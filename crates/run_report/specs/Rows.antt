@@ -1,10 +1,11 @@
 -- The writes of a run that were answered a place, and the history that they are.
-use Rattle.std.specs.Prelude.{ℕ, ◌+◌, List, [], ◌∷◌, ◌++◌, if◌then◌else◌, nat_lt}
+use Rattle.std.specs.Prelude.{ℕ, ◌+◌, List, [], ◌∷◌, ◌++◌}
 use Rattle.std.specs.List.{range_with_len}
 use Rattle.pblk_model.specs.declared.script.Command.{Command}
 use Rattle.pblk_model.specs.declared.script.Command.TheVariants.{Write}
 use Rattle.pblk_model.specs.Text.{HistoryLine}
 use Rattle.pblk_model.specs.Transcript.{PlacedWrite, rows_of}
+use Rattle.block_port.specs.ByPlace.{order_by}
 use Rattle.run_threads.specs.declared.records.Answer.{Answer}
 use Rattle.run_threads.specs.declared.records.Answer.TheVariants.{Placed}
 use Rattle.run_report.specs.declared.rows.Row.{Row}
@@ -27,16 +28,9 @@ rows_from thread (commands ∷ script) (answers ∷ threads) =
     thread_rows thread commands answers ++ rows_from (thread + 1) script threads
 rows_from thread script threads = []
 
--- Rows in the order of their positions: each is inserted before the first that stands at its position or past
--- it.
-abbrev pub insert : Row → List Row → List Row
-insert row [] = row ∷ []
-insert row (other ∷ rows) =
-    if nat_lt other.first row.first then other ∷ insert row rows else row ∷ (other ∷ rows)
-
+-- rows in the order of their positions
 abbrev pub in_order : List Row → List Row
-in_order [] = []
-in_order (row ∷ rows) = insert row (in_order rows)
+in_order rows = order_by (λ row. row.first) rows
 
 -- a row's lines of the history, and their positions
 abbrev pub write_of : Row → PlacedWrite

@@ -2,12 +2,13 @@
 
 ghost use Rattle.std.specs.Prelude.{ℕ, ◌^◌, ◌<◌, ◌≤◌, ◌≡◌, List, [], ◌∷◌, ◌++◌, Some, None, length, map, take};
 ghost use Rattle.std.specs.List.{AllByRecursion};
+ghost use Rattle.block_port.specs.Own.{PlacedSector};
 ghost use Rattle.block_port.specs.Port.{ModelPort, positions};
 ghost use Rattle.pblk_model.specs.declared.script.Command.{Command};
 ghost use Rattle.pblk_model.specs.History.{after, users};
 ghost use Rattle.pblk_model.specs.Script.{ScriptFits};
 ghost use Rattle.pblk_model.specs.Transcript.{IsRun, IsTranscript, closing_event, events, sector_writes};
-ghost use Rattle.run_report.specs.OnePort.{AreKeptBelow, IsRunOfOnePort, IsTrouble, event_of};
+ghost use Rattle.run_report.specs.Ports.{AreKeptBelow, IsRunOfPorts, events_of};
 ghost use Rattle.run_report.specs.Recorded.{IsRecorded};
 ghost use Rattle.run_report.specs.Report.{closing_of, transcript_of};
 ghost use Rattle.run_threads.specs.declared.records.Records.{Records};
@@ -27,44 +28,40 @@ pub fn a_run_is_recorded()
         → IsRecorded script records }
 {}
 
-/// Where a script of one thread is run through one port, the history of the transcript of its
-/// records is all that the port knew at last, of which as many lines are kept as stand at positions
-/// below `end`; and it names the events that the port answered, and then that of the close. It is
-/// a transcript of the script from the port's contents at the beginning. Where all positions that
-/// were flushed are below `end`, and all that are known where closing met no trouble, it is one of
-/// a run that leaves these contents after the lines that are kept.
-pub fn a_run_through_one_port()
-    ensures told { (commands : List Command) (records : Records) (old new : ModelPort) (end : ℕ)
-        → IsRunOfOnePort commands records old new
-        → let script = commands ∷ [] in
-        IsTranscript old.sector script old.start (transcript_of script records end) }
-    ensures run { (commands : List Command) (records : Records) (old new : ModelPort) (end : ℕ)
-        → (ran : IsRunOfOnePort commands records old new)
-        → AreKeptBelow records new ran.last.known end
-        → let script = commands ∷ [] in
-        let t = transcript_of script records end in
-        let kept = sector_writes old.sector (take t.kept t.history) in
-        IsRun old.sector script old.start t (after old.start kept) }
-    ensures history { (commands : List Command) (records : Records) (old new : ModelPort) (end : ℕ)
-        → (ran : IsRunOfOnePort commands records old new)
-        → let t = transcript_of (commands ∷ []) records end in
-        sector_writes old.sector t.history ≡ map (λ line. line.write) ran.last.known }
-    ensures kept { (commands : List Command) (records : Records) (old new : ModelPort) (end : ℕ)
-        → (ran : IsRunOfOnePort commands records old new)
-        → let t = transcript_of (commands ∷ []) records end in
-        t.kept ≡ users (positions ran.last.known) end }
-    ensures events { (commands : List Command) (records : Records) (old new : ModelPort) (end : ℕ)
-        → IsRunOfOnePort commands records old new
-        → let t = transcript_of (commands ∷ []) records end in
-        events t ≡ map event_of new.faults ++ closing_event (closing_of records.closing) }
-{}
-
-/// Where a script of no thread is run, the transcript of its records is one of a run that changes
-/// nothing, whatever closing answered.
-pub fn a_run_of_no_thread()
-    ensures { (size : ℕ) (records : Records) (contents : List (List ℕ)) (end : ℕ)
-        → records.threads ≡ [] → records.opening ≡ None → IsTrouble records.closing
-        → IsRun size [] contents (transcript_of [] records end) contents }
+/// Where the threads of a script are run through ports of one target, each through a port of its
+/// own, the history of the transcript of their records is all that was known at last, of which as
+/// many lines are kept as stand at positions below `end`; and it names the events that the ports
+/// answered, thread after thread, and then that of the close. It is a transcript of the script from
+/// the ports' contents at the beginning. Where all positions that were flushed are below `end`, and
+/// all that are known where closing met no trouble, it is one of a run that leaves these contents
+/// after the lines that are kept.
+pub fn a_run_through_ports()
+    ensures told { (size : ℕ) (start : List (List ℕ)) (script : List (List Command))
+        (records : Records) (olds news : List ModelPort) (known : List PlacedSector) (end : ℕ)
+        → IsRunOfPorts size start script records olds news known
+        → IsTranscript size script start (transcript_of script records end) }
+    ensures run { (size : ℕ) (start : List (List ℕ)) (script : List (List Command))
+        (records : Records) (olds news : List ModelPort) (known : List PlacedSector) (end : ℕ)
+        → IsRunOfPorts size start script records olds news known
+        → AreKeptBelow records news known end
+        → let t = transcript_of script records end in
+        let kept = sector_writes size (take t.kept t.history) in
+        IsRun size script start t (after start kept) }
+    ensures history { (size : ℕ) (start : List (List ℕ)) (script : List (List Command))
+        (records : Records) (olds news : List ModelPort) (known : List PlacedSector) (end : ℕ)
+        → IsRunOfPorts size start script records olds news known
+        → let t = transcript_of script records end in
+        sector_writes size t.history ≡ map (λ line. line.write) known }
+    ensures kept { (size : ℕ) (start : List (List ℕ)) (script : List (List Command))
+        (records : Records) (olds news : List ModelPort) (known : List PlacedSector) (end : ℕ)
+        → IsRunOfPorts size start script records olds news known
+        → let t = transcript_of script records end in
+        t.kept ≡ users (positions known) end }
+    ensures events { (size : ℕ) (start : List (List ℕ)) (script : List (List Command))
+        (records : Records) (olds news : List ModelPort) (known : List PlacedSector) (end : ℕ)
+        → IsRunOfPorts size start script records olds news known
+        → let t = transcript_of script records end in
+        events t ≡ events_of news ++ closing_event (closing_of records.closing) }
 {}
 
 /// Where opening answered an event, and so no command was run, the transcript of the records is one

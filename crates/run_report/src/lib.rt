@@ -9,9 +9,7 @@ mod outcomes;
 mod rows;
 mod transcripts;
 
-pub use laws::{
-    a_run_is_recorded, a_run_of_no_thread, a_run_that_was_not_opened, a_run_through_one_port,
-};
+pub use laws::{a_run_is_recorded, a_run_that_was_not_opened, a_run_through_ports};
 pub use listings::{listing, one_listing};
 pub use numbers::report;
 pub use transcripts::transcript;

@@ -1,16 +1,16 @@
 -- What the answers of a thread say of its port as a whole.
-use Rattle.std.proofs.Common.{ℕ, ◌+◌, ◌≤◌, ◌≡◌, ⊎_elim, true, false, nat_lt, List, [], ◌∷◌, ◌++◌, sym, refl, ap, ◌∙◌, arith}
+use Rattle.std.proofs.Common.{ℕ, ◌≤◌, ◌≡◌, ⊎_elim, true, false, nat_lt, List, [], ◌∷◌, ◌++◌, sym, refl, ◌∙◌, arith}
 use Rattle.std.specs.List.{AllByRecursion}
 use Rattle.std.proofs.lemmas.Bool.{cases_Bool}
-use Rattle.std.proofs.lemmas.List.{append_assoc, append-nil}
+use Rattle.std.proofs.lemmas.List.{append-nil}
 use Rattle.pblk_model.specs.declared.script.Command.{Command}
 use Rattle.pblk_model.specs.declared.script.Command.TheVariants.{Write, Read, Flush, Post, Await}
 use Rattle.pblk_model.specs.History.{users}
 use Rattle.block_port.specs.Own.{PlacedSector}
-use Rattle.block_port.specs.Port.{ModelPort, IsSameTarget, Learns, Rise, positions}
+use Rattle.block_port.specs.Port.{ModelPort, IsSameTarget, Learns, positions}
 use Rattle.run_threads.specs.declared.records.Answer.{Answer}
 use Rattle.run_threads.specs.declared.records.Answer.TheVariants as answers
-use Rattle.run_threads.specs.Run.{Says, IsFlushed, Runs, WasRun, faults_in, faults_of, own_in, own_of, worns_in, worns_of}
+use Rattle.run_threads.specs.Run.{Says, IsFlushed, Runs, WasRun}
 use Rattle.run_threads.proofs.RunLemmas.{run_faults, run_learns, run_own, run_worns}
 
 -- Knowing more.

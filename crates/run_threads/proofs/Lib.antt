@@ -1,7 +1,10 @@
-mod Names
 mod Tags
-mod Running
-mod InOrder
 mod Laws
+mod Seats
+mod Moves
+mod Placed
+mod Scripts
+mod Running
 mod Whole
+mod Hearing
 pub mod RunLemmas

@@ -1,54 +1,24 @@
--- What the board of posts has under a name.
-use Rattle.std.specs.Prelude.{ℕ, ◌≡◌, ⊤, Bool, true, false, List, [], ◌∷◌, ◌||◌, Option, Some, None, is_some, IsSome}
-use Rattle.std.specs.HashMap.{get_by_text}
-use Rattle.std.specs.Option.{option_and_then, option_map}
-use Rattle.std.specs.Str.{bytes_eq}
-use Rattle.block_port.specs.declared.port.Note.{Note}
+-- What a thread has to have of the board before a command.
+use Rattle.std.specs.Prelude.{ℕ, ◌<◌, ◌≤◌, ◌≡◌, ⊤, [], Some}
+use Rattle.atomic_table.specs.declared.shared.Seat.{Seat}
 use Rattle.pblk_model.specs.declared.script.Command.{Command}
 use Rattle.pblk_model.specs.declared.script.Command.TheVariants.{Write, Read, Flush, Post, Await}
 use Rattle.run_threads.specs.declared.board.Board.{Board}
+use Rattle.run_threads.specs.Names.{HasWord, word_of}
+use Rattle.run_threads.specs.Views.{View}
 
--- whether it is a name of the board
-abbrev pub has_name : Board → List ℕ → Bool
-has_name board name = is_some (get_by_text board.notes name)
+-- how many words there are
+abbrev pub words_of : Board → ℕ
+words_of board = board.table.shared.table_id.words
 
--- the position that was posted under a name
-abbrev pub note_at : Board → List ℕ → Option ℕ
-note_at board name = option_and_then (λ slot. option_map (λ (note : Note). note.position) slot) (get_by_text board.notes name)
+-- a seat at this board, which has no slot
+abbrev pub IsSeatOf : Board → Seat (Unit {0}) View → Type 0
+IsSeatOf board seat = (seat.table_id ≡ board.table.shared.table_id) × (seat.me.1 ≡ [])
 
--- whether a command posts this name
-abbrev pub posts : List ℕ → Command → Bool
-posts name (Write lba count tag) = false
-posts name (Read lba count) = false
-posts name Flush = false
-posts name (Post other) = bytes_eq other name
-posts name (Await other) = false
-
-abbrev pub posts_in : List ℕ → List Command → Bool
-posts_in name [] = false
-posts_in name (c ∷ cs) = posts name c || posts_in name cs
-
--- what a thread has to find on the board before a command
-abbrev pub MayRun : Board → Command → Type 0
-MayRun board (Write lba count tag) = ⊤
-MayRun board (Read lba count) = ⊤
-MayRun board Flush = ⊤
-MayRun board (Post name) = (has_name board name ≡ true) × (note_at board name ≡ None)
-MayRun board (Await name) = IsSome (note_at board name)
-
--- `told` has what the board has
-abbrev pub IsAgreed : (List ℕ → ℕ) → Board → Type 0
-IsAgreed told board = (name : List ℕ) (position : ℕ) → note_at board name ≡ Some position → told name ≡ position
-
--- The posts and awaits of a thread, by the names that are posted before it: no name is posted again, and
--- each that is awaited is posted before.
-abbrev pub IsUnblocked : (List ℕ → Bool) → Command → Type 0
-IsUnblocked posted (Write lba count tag) = ⊤
-IsUnblocked posted (Read lba count) = ⊤
-IsUnblocked posted Flush = ⊤
-IsUnblocked posted (Post name) = posted name ≡ false
-IsUnblocked posted (Await name) = posted name ≡ true
-
-abbrev pub AreInOrder : (List ℕ → Bool) → List Command → Type 0
-AreInOrder posted [] = ⊤
-AreInOrder posted (c ∷ cs) = IsUnblocked posted c × AreInOrder (λ name. posts name c || posted name) cs
+-- a name that is posted has the seat's next word, and one that is awaited has a word
+abbrev pub MayRun : Board → View → Command → Type 0
+MayRun board v (Write lba count tag) = ⊤
+MayRun board v (Read lba count) = ⊤
+MayRun board v Flush = ⊤
+MayRun board v (Post name) = (word_of board.names name ≡ Some v.next) × (v.next < v.past) × (v.past ≤ words_of board)
+MayRun board v (Await name) = HasWord board.names (words_of board) name

@@ -1,5 +1,10 @@
+pub mod Views
+pub mod Steps
+pub mod Rule
+pub mod Names
 pub mod Board
 pub mod Words
 pub mod Run
 pub mod Rooms
 pub mod Desk
+pub mod Threads

@@ -1,17 +1,20 @@
 //! Runs a command through a port.
-ghost use Rattle.std.specs.Prelude.{ℕ, List, [], ◌≡◌, ◌+◌, ◌*◌, ◌≤◌, ◌||◌, true, Some, None, IsSome, IsNone, is_some, length};
+ghost use Rattle.std.specs.Prelude.{ℕ, List, [], ◌≡◌, ◌+◌, ◌*◌, ◌≤◌, ◌<◌, Some, length};
 ghost use Rattle.std.specs.Vec.{vec_capacity};
 ghost use Rattle.block_port.specs.Port.{ModelPort};
 ghost use Rattle.pblk_model.specs.Script.{CommandFits, IsRange};
 ghost use Rattle.pblk_model.specs.declared.script.Command.TheVariants as commands;
-ghost use Rattle.std.specs.Str.{bytes_eq};
-ghost use Rattle.run_threads.specs.Board.{note_at, has_name, posts, IsAgreed, MayRun};
+ghost use Rattle.run_threads.specs.Board.{IsSeatOf, MayRun, words_of};
+ghost use Rattle.run_threads.specs.Names.{HasWord, told_by, word_after, word_of};
 ghost use Rattle.run_threads.specs.Rooms.{HasWordRoom};
+ghost use Rattle.run_threads.specs.Rule.{AreTold};
 ghost use Rattle.run_threads.specs.Run.{Answers};
 
 use crate::board::Board;
 use crate::records::{Answer, Trouble, Word, Words};
 use crate::sectors::{fill, put_words};
+use crate::view::View;
+use atomic_table::Seat;
 use block_port::{FlushErr, Port, ReadErr, WriteErr};
 use pblk_model::{Command, PostName};
 use std::sync::Wait;
@@ -89,56 +92,81 @@ fn flush<R: Wait, P: Port>(rt: &R, port: &mut P) -> Answer
 }
 
 // Posts what the port has seen under a name.
-fn post<P: Port>(port: &P, name: &PostName, board: &mut Board) -> Answer
-    requires name { has_name board.old name.now ≡ true }
-    requires first { note_at board.old name.now ≡ None }
-    ensures answer { (told : List ℕ → ℕ) → IsAgreed told board.new
-        → Answers told (P.model port.now) (commands.Post name.now) result (P.model port.now) }
-    ensures agreed { (told : List ℕ → ℕ) → IsAgreed told board.new → IsAgreed told board.old }
-    ensures posted { (other : List ℕ) → is_some (note_at board.new other)
-        ≡ (bytes_eq name.now other || is_some (note_at board.old other)) }
-    ensures names { (other : List ℕ) → has_name board.new other ≡ has_name board.old other }
+fn post<P: Port>(board: &Board, seat: &mut Seat<(), View>, port: &P, name: &PostName) -> Answer
+    requires of { IsSeatOf board.now seat.old }
+    requires word { word_of board.now.names name.now ≡ Some seat.old.me.0.next }
+    requires may { seat.old.me.0.next < seat.old.me.0.past }
+    requires within { seat.old.me.0.past ≤ words_of board.now }
+    ensures of { IsSeatOf board.now seat.new }
+    ensures answer { (at : ℕ → ℕ) → AreTold at seat.new.me.0.known
+        → Answers (told_by board.now.names at) (P.model port.now) (commands.Post name.now) result
+        (P.model port.now) }
+    ensures known { (at : ℕ → ℕ) → AreTold at seat.new.me.0.known
+        → AreTold at seat.old.me.0.known }
+    ensures next { seat.new.me.0.next ≡ seat.old.me.0.next + 1 }
+    ensures past { seat.new.me.0.past ≡ seat.old.me.0.past }
 {
-    board.post(name.as_str(), port.tell());
+    board.post(seat, name.as_str(), port.tell());
     Answer::Done
 }
 
-// Hears what was posted under a name.
-fn hear<P: Port>(port: &mut P, name: &PostName, board: &Board) -> Answer
-    requires { IsSome (note_at board.now name.now) }
-    ensures { (told : List ℕ → ℕ) → IsAgreed told board.now
-        → Answers told (P.model port.old) (commands.Await name.now) result (P.model port.new) }
+// Hears what is posted under a name, once it is.
+fn hear<R: Wait, P: Port>(
+    rt: &R,
+    board: &Board,
+    seat: &mut Seat<(), View>,
+    port: &mut P,
+    name: &PostName,
+) -> Answer
+    requires of { IsSeatOf board.now seat.old }
+    requires word { HasWord board.now.names (words_of board.now) name.now }
+    ensures of { IsSeatOf board.now seat.new }
+    ensures answer { (at : ℕ → ℕ) → AreTold at seat.new.me.0.known
+        → Answers (told_by board.now.names at) (P.model port.old) (commands.Await name.now) result
+        (P.model port.new) }
+    ensures known { (at : ℕ → ℕ) → AreTold at seat.new.me.0.known
+        → AreTold at seat.old.me.0.known }
+    ensures next { seat.new.me.0.next ≡ seat.old.me.0.next }
+    ensures past { seat.new.me.0.past ≡ seat.old.me.0.past }
+    ensures capacity { (P.model port.new).capacity ≡ (P.model port.old).capacity }
 {
-    port.hear(board.note(name.as_str()));
+    let note = board.hear(rt, seat, name.as_str());
+    port.hear(note);
     Answer::Done
 }
 
-/// Runs a command. `words` has room for those of a read, and `bytes` for 16 sectors.
+/// Runs a command. `words` has room for those of a read, and `bytes` for 16 sectors. A post has the
+/// seat's next word, and an await waits until its name is posted.
 pub(crate) fn run_command<R: Wait, P: Port>(
     rt: &R,
+    board: &Board,
     command: &Command,
     port: &mut P,
     words: Vec<Word>,
     bytes: &mut [u8],
-    board: &mut Board,
+    seat: &mut Seat<(), View>,
 ) -> Answer
     requires fits { CommandFits (P.model port.old).capacity command.now }
     requires room { HasWordRoom command.now words }
     requires bytes { length bytes.old ≡ 65536 }
-    requires board { MayRun board.old command.now }
-    ensures answer { (told : List ℕ → ℕ) → IsAgreed told board.new
-        → Answers told (P.model port.old) command.now result (P.model port.new) }
+    requires of { IsSeatOf board.now seat.old }
+    requires may { MayRun board.now seat.old.me.0 command.now }
+    ensures answer { (at : ℕ → ℕ) → AreTold at seat.new.me.0.known
+        → Answers (told_by board.now.names at) (P.model port.old) command.now result
+        (P.model port.new) }
     ensures bytes { length bytes.new ≡ 65536 }
-    ensures agreed { (told : List ℕ → ℕ) → IsAgreed told board.new → IsAgreed told board.old }
-    ensures posted { (name : List ℕ) → is_some (note_at board.new name)
-        ≡ (posts name command.now || is_some (note_at board.old name)) }
-    ensures names { (name : List ℕ) → has_name board.new name ≡ has_name board.old name }
+    ensures of { IsSeatOf board.now seat.new }
+    ensures known { (at : ℕ → ℕ) → AreTold at seat.new.me.0.known
+        → AreTold at seat.old.me.0.known }
+    ensures next { seat.new.me.0.next ≡ word_after seat.old.me.0.next command.now }
+    ensures past { seat.new.me.0.past ≡ seat.old.me.0.past }
+    ensures capacity { (P.model port.new).capacity ≡ (P.model port.old).capacity }
 {
     match command {
         Command::Write { lba, count, tag } => write(rt, port, *lba, *count, *tag, bytes),
         Command::Read { lba, count } => read(rt, port, *lba, *count, words, bytes),
         Command::Flush => flush(rt, port),
-        Command::Post(name) => post(port, name, board),
-        Command::Await(name) => hear(port, name, board),
+        Command::Post(name) => post(board, seat, port, name),
+        Command::Await(name) => hear(rt, board, seat, port, name),
     }
 }

@@ -3,12 +3,15 @@
 
 mod board;
 mod command;
+mod desk;
+mod names;
 mod records;
+mod rule;
 mod runner;
 mod sectors;
-mod thread;
+mod view;
 
 pub use block_port::{Front, Place, Port};
 pub use records::{Answer, Answers, Records, ThreadRows, Trouble, Word, Words};
-pub use runner::run;
+pub use runner::{Prepared, prepare, run};
 pub use sectors::word;

@@ -41,6 +41,12 @@ fn run(
     options: RunOptions,
 ) -> Result<String, AllocError> {
     let mut text = format!(in alloc; "run [{image}] [{script}]")?;
+    if options.lanes != 0 {
+        write!(text, " lanes {}", options.lanes)?;
+    }
+    if options.collector {
+        write!(text, " collector")?;
+    }
     if let Some(fuse) = options.stop {
         write!(text, " stop {} {} {}", fuse.unit, fuse.nth, fuse.cut)?;
     }

@@ -1,4 +1,3 @@
-use Rattle.std.proofs.Common.{refl}
 use Rattle.command_words.proofs.RunReading.{with_name, third_name}
 use Rattle.command_words.proofs.run.RunWords.with_name.Goals as goal
 
@@ -7,4 +6,4 @@ returns-in_err-names-clause-refused c = rw c.from_residual.ensures (λ items mor
     third_name items more c.args.name.now image script options c.args.self c.in_err-names.ensures.refused h of)
 
 pub returns-clause-taken : goal.returns-clause-taken
-returns-clause-taken c = λ items h. with_name items c.args.name.now c.args.self _ c.in_ok-names.ensures.taken refl h
+returns-clause-taken c = λ items h. with_name items c.args.name.now c.args.self c.in_ok-names.names c.in_ok-names.ensures.taken h

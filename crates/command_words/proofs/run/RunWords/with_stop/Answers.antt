@@ -1,19 +1,19 @@
-use Rattle.std.proofs.Common.{sym, refl}
+use Rattle.std.proofs.Common.{sym}
 use Rattle.command_words.proofs.RunReading.{with_stop, second_stop, other_stop}
 use Rattle.command_words.proofs.run.RunWords.with_stop.Goals as goal
 use Rattle.pblk_model.proofs.Options.{none_there, some_value}
 
 pub returns-then-is_some-clause-refused : goal.returns-then-is_some-clause-refused
 returns-then-is_some-clause-refused c = λ items more image script options h of.
-    let there = some_value c.args.self.options.stop (sym c.if-is_some.ensures) in
+    let there = some_value c.args.self.stop (sym c.if-is_some.ensures) in
     second_stop items more c.args.value.now image script options c.args.self there.0 there.1 h of
 
 pub returns-in_err-read_fuse-clause-refused : goal.returns-in_err-read_fuse-clause-refused
 returns-in_err-read_fuse-clause-refused c = rw c.from_residual.ensures (λ items more image script options h of.
     other_stop items more c.args.value.now image script options c.args.self
-    (none_there c.args.self.options.stop (sym c.if-is_some.ensures)) c.in_err-read_fuse.ensures.none h of)
+    (none_there c.args.self.stop (sym c.if-is_some.ensures)) c.in_err-read_fuse.ensures.none h of)
 
 pub returns-clause-taken : goal.returns-clause-taken
 returns-clause-taken c = λ items h.
-    with_stop items c.args.value.now c.in_ok-read_fuse.field-0 c.args.self _ (none_there c.args.self.options.stop (sym c.if-is_some.ensures))
-    c.in_ok-read_fuse.ensures.found refl refl refl h
+    with_stop items c.args.value.now c.in_ok-read_fuse.field-0 c.args.self (none_there c.args.self.stop (sym c.if-is_some.ensures))
+    c.in_ok-read_fuse.ensures.found h

@@ -1,14 +1,14 @@
-use Rattle.std.proofs.Common.{◌||◌, ◌∙◌, sym, ap}
-use Rattle.run_threads.specs.Board.{posts}
-use Rattle.run_threads.proofs.Names.{posts_more}
+use Rattle.std.proofs.Common.{ℕ, List, [], sym, ◌∙◌, subst, arith}
+use Rattle.atomic_table.specs.Table.{opening}
+use Rattle.run_threads.specs.Rule.{IsKept}
+use Rattle.run_threads.specs.Steps.{starting}
+use Rattle.run_threads.proofs.Moves.{opens}
 use Rattle.run_threads.proofs.board.Board.new.Goals as goal
 
-pub loop-command-preserved : goal.loop-command-preserved
-loop-command-preserved c =
-    let l = c.loop-command in
-    let put = c.in_ok-prepare.ensures in
-    let command = c.command-item.result in (
-      λ name. put.names name ∙ ap (λ b. posts name command || b) (l.invariant.0 name)
-          ∙ sym (rw (← c.command-item.is) at (posts_more name c.args.commands.now l.command-index command c.loop-command-test.true)),
-      put.notes l.invariant.1,
-    )
+pub of_words-requires : goal.of_words-requires
+of_words-requires c =
+    subst (λ (words : List ℕ). IsKept (opening words [] (starting c.count-count.result))) (sym (c.as_slice.ensures.value ∙ c.in_ok-words.ensures))
+    (opens c.count-count.result)
+
+pub overflow_add-count : goal.overflow_add-count
+overflow_add-count c = let small = c.count-count.ensures.small in omega arith

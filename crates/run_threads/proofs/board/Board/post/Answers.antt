@@ -1,20 +1,21 @@
-use Rattle.std.proofs.Common.{Some, is_some, ap, ◌∙◌}
-use Rattle.std.specs.Str.{bytes_eq}
-use Rattle.std.proofs.lemmas.Map.Text.{hash_map_updates_text}
-use Rattle.run_threads.proofs.Names.{position_in, some_update, note_update, stays_there, same_name}
+use Rattle.std.proofs.Common.{◌≡◌, ◌+◌, ◌^◌, ◌<◌, ◌≤◌, sym, subst, ◌∙◌, arith}
+use Rattle.atomic_table.specs.Table.{Allows}
+use Rattle.std.proofs.lemmas.Option.{same_Some}
+use Rattle.run_threads.specs.Rule.{IsKept}
+use Rattle.run_threads.specs.Steps.{posted}
+use Rattle.run_threads.proofs.Moves.{posts}
 use Rattle.run_threads.proofs.board.Board.post.Goals as goal
 
-pub returns-clause-notes : goal.returns-clause-notes
-returns-clause-notes c =
-    let put = (c.get_mut.follows.holds (Some c.args.note)).3 c.requires in
-    λ other. ap position_in (hash_map_updates_text c.args.name.now c.args.self.now.notes (c.get_mut.follows.lender (Some c.args.note))
-    (Some (Some c.args.note)) put other)
-    ∙ note_update (bytes_eq c.args.name.now other) (Some c.args.note) _
-
-pub returns-clause-names : goal.returns-clause-names
-returns-clause-names c =
-    let put = (c.get_mut.follows.holds (Some c.args.note)).3 c.requires in
-    λ other. ap is_some (hash_map_updates_text c.args.name.now c.args.self.now.notes (c.get_mut.follows.lender (Some c.args.note))
-    (Some (Some c.args.note)) put other)
-    ∙ some_update (bytes_eq c.args.name.now other) (Some c.args.note) _
-    ∙ stays_there (bytes_eq c.args.name.now other) _ (λ same. same_name c.args.self.now c.args.name.now other same c.requires)
+pub store-requires : goal.store-requires
+store-requires c =
+    let seat = c.args.seat.now in
+    let word : seat.me.0.next ≡ c.word-word.result = same_Some seat.me.0.next c.word-word.result (sym c.requires.word ∙ c.word-word.ensures) in
+    let within : seat.me.0.next < c.args.self.now.table.shared.table_id.words = omega (arith, c.requires.may, c.requires.within) in
+    let value = c.args.note.position + 1 in
+    let low : value ≤ 2 ^ 63 = omega (arith, c.args.note.small) in (
+      c.requires.of.0,
+      subst (λ w. w < c.args.self.now.table.shared.table_id.words) word within,
+      subst (λ w. Allows IsKept c.args.self.now.table.shared.table_id.slots seat.id seat.me w (λ _. value)
+          (λ _ m. m ≡ (posted seat.me.0 value, seat.me.1))) word
+          (posts seat.id seat.me.0 seat.me.1 c.args.self.now.table.shared.table_id.slots value c.requires.may (omega arith) low),
+    )

@@ -1,6 +1,0 @@
-use Rattle.std.proofs.Common.{take}
-use Rattle.run_threads.specs.Rooms.{HaveWordRoom}
-use Rattle.run_threads.proofs.thread.rooms.Given as goal
-
-abbrev pub invariant-loop-command : goal.invariant-loop-command
-invariant-loop-command l = HaveWordRoom (take l.command-index l.commands) l.rooms.items
