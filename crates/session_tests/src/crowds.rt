@@ -2,7 +2,7 @@
 
 ghost use Rattle.std.specs.Prelude.{◌≡◌, ◌≤◌, length, IfOk};
 
-use crate::drives::{EIGHT_UNITS, SMALL, armed, blank};
+use crate::drives::{EIGHT_UNITS, SMALL, blank};
 use crate::history::{Wrong, is_kept, judge, refused};
 use crate::lists::list;
 use crate::roamers::{Board, Mix, Roamer};
@@ -11,7 +11,7 @@ use std::alloc::{AllocError, Global};
 use std::sync::Wait;
 use std::test::Fail;
 use std::thread::Threads;
-use target_crew::serve;
+use target_crew::{armed, serve};
 
 /// What sessions are to do.
 #[derive(Clone, Copy)]

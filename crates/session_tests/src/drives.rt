@@ -1,6 +1,5 @@
-//! Drives in memory, and their units as targets are opened on them.
-ghost use Rattle.std.specs.Prelude.{ℕ, ◌≡◌, length, map, slice_get, IfOk, IsTrue, Some};
-ghost use Rattle.block_target.specs.Opened.{CanOpen};
+//! Drives in memory.
+ghost use Rattle.std.specs.Prelude.{ℕ, ◌≡◌, length, slice_get, IfOk, IsTrue, Some};
 ghost use Rattle.ocssd_drive.specs.Units.{IsUnitOf, WornUnit};
 ghost use Rattle.ocssd_geometry.specs.Numbers.{IsGeometry, numbers_of};
 ghost use Rattle.pblk_model.specs.Accepted.{IsAccepted};
@@ -9,9 +8,8 @@ ghost use Rattle.pblk_model.specs.Shape.{units as units_of};
 
 use ocssd_drive::{Drive, Geometry, MemoryUnit};
 use pblk_model::Shape;
-use std::alloc::{AllocError, Global};
+use std::alloc::Global;
 use std::test::Fail;
-use unit_port::{FaultPlan, Fuse};
 
 /// The small drive: two units, and a target of 64 sectors.
 pub(crate) const SMALL: Shape = Shape::SMALL;
@@ -61,28 +59,6 @@ fn geometry_of(shape: &Shape) -> Result<Geometry, Fail>
 pub(crate) fn blank(alloc: Global, shape: &Shape) -> Result<Drive, Fail> {
     let geometry = geometry_of(shape)?;
     Ok(Drive::new(alloc, geometry, shape.sector, shape.capacity, shape.ring)?)
-}
-
-// The units of a drive.
-fn units_in(drive: Drive) -> Vec<MemoryUnit>
-    ensures { result.items ≡ drive.units }
-{
-    let Drive { units, .. } = drive;
-    units
-}
-
-/// The units of a drive, armed with these plans and this fuse, and its shape.
-pub(crate) fn armed(
-    alloc: Global,
-    mut drive: Drive,
-    plans: &[FaultPlan],
-    fuse: Option<Fuse>,
-) -> Result<(Shape, Vec<MemoryUnit>), AllocError>
-    ensures { IfOk result (λ r. CanOpen r.0 (map (λ u. u.unit) r.1.items)) }
-{
-    drive.arm(alloc, plans, fuse)?;
-    let shape = drive.shape();
-    Ok((shape, units_in(drive)))
 }
 
 // Whether this is a unit of a drive of this shape.

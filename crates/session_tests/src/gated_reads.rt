@@ -4,7 +4,7 @@ ghost use Rattle.ocssd_drive.specs.Drive.{shape_of};
 ghost use Rattle.pblk_model.specs.Shape.{units as units_of};
 
 use crate::deeds::{MOST, SECTOR, fill, words_of};
-use crate::drives::{MORE_CHUNKS, armed, blank};
+use crate::drives::{MORE_CHUNKS, blank};
 use crate::gate::{Gate, GatedUnit, Part};
 use block_target::{Front, Port, Session};
 use ocssd_drive::{Drive, MemoryUnit};
@@ -15,7 +15,7 @@ use std::sync::Wait;
 use std::sync::atomic::{AtomicBool, Ordering};
 use std::test::Fail;
 use std::thread::{self, Threads};
-use target_crew::{Work, serve};
+use target_crew::{Work, armed, serve};
 use unit_port::{CommandKind, FaultPlan, Unit};
 
 // On the drive all lines but the first have one unit. The first has both, and is filled with

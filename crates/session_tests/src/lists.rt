@@ -2,7 +2,7 @@
 ghost use Rattle.std.specs.Prelude.{◌≡◌};
 
 use crate::deeds::{MIXED, SECTOR, word_of};
-use crate::drives::{again, armed};
+use crate::drives::again;
 use block_target::{Port, Session};
 use ocssd_drive::MemoryUnit;
 use pblk_engine::Mount;
@@ -11,7 +11,7 @@ use std::alloc::{AllocError, Global};
 use std::sync::Wait;
 use std::test::Fail;
 use std::thread::Threads;
-use target_crew::{Work, serve};
+use target_crew::{Work, armed, serve};
 use unit_port::Unit;
 
 // A session that reads all sectors.

@@ -2,7 +2,7 @@
 ghost use Rattle.std.specs.Prelude.{◌≡◌, length, IfOk};
 
 use crate::deeds::{SECTOR, fill, word_of};
-use crate::drives::{SMALL, armed, blank};
+use crate::drives::{SMALL, blank};
 use block_target::{Note, Port, Session, TryWriteErr};
 use pblk_engine::Mount;
 use std::alloc::{AllocError, Global};
@@ -10,7 +10,7 @@ use std::sync::Wait;
 use std::sync::atomic::{AtomicU64, Ordering};
 use std::test::Fail;
 use std::thread::{self, Threads};
-use target_crew::{Work, serve};
+use target_crew::{Work, armed, serve};
 use unit_port::Unit;
 
 // What a session is asked.

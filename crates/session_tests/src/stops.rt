@@ -3,7 +3,7 @@
 ghost use Rattle.std.specs.Prelude.{◌≤◌};
 
 use crate::crowds::{Asked, crowd};
-use crate::drives::{SMALL, armed, blank};
+use crate::drives::{SMALL, blank};
 use crate::history::{flushed, is_kept, judge, refused};
 use crate::lists::list;
 use crate::roamers::{Board, Mix};
@@ -11,7 +11,7 @@ use std::alloc::Global;
 use std::sync::Wait;
 use std::test::Fail;
 use std::thread::Threads;
-use target_crew::serve;
+use target_crew::{armed, serve};
 use unit_port::Fuse;
 
 // All calls return, what they tell is right, and what was flushed is kept.

@@ -1,2 +1,3 @@
-pub mod AllBack
+pub mod ArmedUnits
+pub mod FirstTickets
 pub mod Places

@@ -41,6 +41,3 @@ pub put_on : {X : Type 0} (xs ys : List X) (x : X) (Fits : ℕ → X → Type 0)
     → EachFits Fits ys × (length ys ≡ length xs + 1)
 put_on xs ys x Fits are each last =
     (subst (λ zs. EachFits Fits zs) (sym are) (each_more Fits xs x each last), ap length are ∙ length-append xs (x ∷ []))
-
-pub one_longer : {X : Type 0} (xs ys : List X) (x : X) → ys ≡ xs ++ x ∷ [] → length ys ≡ length xs + 1
-one_longer xs ys x are = ap length are ∙ length-append xs (x ∷ [])

@@ -2,7 +2,9 @@
 #![tactic(auto)]
 
 mod crew;
+mod units;
 mod work;
 
 pub use crew::{Closed, serve};
+pub use units::armed;
 pub use work::Work;

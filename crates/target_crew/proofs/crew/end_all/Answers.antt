@@ -1,6 +1,7 @@
 use Rattle.std.proofs.Common.{◌≡◌, ◌+◌, length, ap, ◌∙◌, arith}
 use Rattle.block_target.specs.Sessions.{SessionView}
-use Rattle.target_crew.proofs.Places.{one_longer, put_on, taken_off}
+use Rattle.block_target.proofs.FirstArms.{one_longer}
+use Rattle.target_crew.proofs.Places.{put_on, taken_off}
 use Rattle.target_crew.proofs.crew.end_all.Goals as goal
 
 pub loop-seats-preserved : goal.loop-seats-preserved

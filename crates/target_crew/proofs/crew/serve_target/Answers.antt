@@ -1,11 +1,13 @@
 use Rattle.std.proofs.Common.{length, sym, ◌∙◌, arith}
-use Rattle.target_crew.proofs.AllBack.{all_back, first_count, first_numbered}
+use Rattle.block_target.proofs.AllBack.{all_back}
+use Rattle.target_crew.proofs.FirstTickets.{first_count, first_numbered}
 use Rattle.target_crew.proofs.crew.serve_target.Goals as goal
 
 pub close-requires : goal.close-requires
 close-requires g c = record {
   all = all_back g.M.Mount.past g.M.Mount.key (length c.args.works.items) c.args.target c.args.tickets.items c.args.workers.items c.requires.some
-      c.requires.few c.requires.target (first_count g.M.Mount.past g.M.Mount.key (length c.args.works.items) c.args.tickets.items c.requires.tickets)
+      (omega (arith, c.requires.few)) c.requires.target
+      (first_count g.M.Mount.past g.M.Mount.key (length c.args.works.items) c.args.tickets.items c.requires.tickets)
       (first_numbered g.M.Mount.past g.M.Mount.key (length c.args.works.items) c.args.tickets.items c.requires.tickets) c.requires.workers;
 }
 
@@ -48,7 +50,7 @@ end_all-requires-clause-seated g c = λ k s there.
 pub close-units-requires : goal.close-units-requires
 close-units-requires g c = record {
   all = all_back g.M.Mount.past g.M.Mount.key (length c.args.works.items) c.args.target c.end_all.new.tickets.items c.args.workers.items c.requires.some
-      c.requires.few c.requires.target
+      (omega (arith, c.requires.few)) c.requires.target
       (c.end_all.ensures.count ∙ c.work_all.ensures.count ∙ c.seat_all.ensures.count
       ∙ first_count g.M.Mount.past g.M.Mount.key (length c.args.works.items) c.args.tickets.items c.requires.tickets)
       c.end_all.ensures.numbered c.requires.workers;
