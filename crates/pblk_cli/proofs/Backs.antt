@@ -10,24 +10,28 @@ use Rattle.ocssd_drive.specs.Drive.{AreArmedTogether, DriveView, IsArmedWith, Is
 use Rattle.ocssd_drive.specs.Units.{IsUnitOf, WornUnit}
 use Rattle.pblk_world.specs.World.{Logs}
 use Rattle.pblk_engine.specs.Arms.{IsArm}
-use Rattle.pblk_cli.specs.Serving.{AreBack, IsLeftBy, units_of, wear_of}
+use Rattle.pblk_cli.specs.Serving.{AreBack, AreBackAs, IsLeftBy, units_of, wear_of}
 use Rattle.pblk_model.proofs.Maps.{get_mapped}
 use Rattle.pblk_model.proofs.Parts.{got_within}
 use Rattle.std.proofs.lemmas.Option.{slice_get_within}
 
-pub back_of : (s : Shape) (i : Image) (logs : Logs) (old new : List WornUnit) (handed : List ModelUnit) → i.shape ≡ s → handed ≡ units_of old
-    → length (units_of new) ≡ length (units_of old) → wear_of new ≡ wear_of old
-    → ((number : ℕ) (u : ModelUnit) → slice_get (units_of new) number ≡ Some u
-    → (was : ModelUnit) × (slice_get handed number ≡ Some was) × IsArm i logs number was u) → AreBack s old new
-back_of s i logs old new handed shape same count wear each = record {
-  count = sym (length-map new (λ (u : WornUnit). u.unit)) ∙ count ∙ length-map old (λ (u : WornUnit). u.unit);
+pub back_of : (s : Shape) (i : Image) (logs : Logs) (old : List ModelUnit) (was : List (List ℕ)) (new : List ModelUnit) (now : List (List ℕ))
+    (handed : List ModelUnit) → i.shape ≡ s → handed ≡ old → length new ≡ length old → now ≡ was
+    → ((number : ℕ) (u : ModelUnit) → slice_get new number ≡ Some u
+    → (before : ModelUnit) × (slice_get handed number ≡ Some before) × IsArm i logs number before u) → AreBackAs s old was new now
+back_of s i logs old was new now handed shape same count wear each = record {
+  count = count;
   wear = wear;
   shapes = λ number u there. ((each number u there).2.shape ∙ shape, (each number u there).2.fit);
-  arms = λ number u v was there.
+  arms = λ number u v before there.
       let at = each number v there in
-      let its : at.0 ≡ u = same_Some at.0 u (sym at.1 ∙ ap (λ us. slice_get us number) same ∙ was) in
+      let its : at.0 ≡ u = same_Some at.0 u (sym at.1 ∙ ap (λ us. slice_get us number) same ∙ before) in
       at.2.arms ∙ ap (λ (x : ModelUnit). x.armed) its;
 }
+
+-- as many units in memory
+pub as_many : (s : Shape) (old new : List WornUnit) → AreBack s old new → length new ≡ length old
+as_many s old new back = sym (length-map new (λ (u : WornUnit). u.unit)) ∙ back.count ∙ length-map old (λ (u : WornUnit). u.unit)
 
 pub left_by : (i j : Image) (logs : Logs) (handed us : List ModelUnit) (number : ℕ) (u : ModelUnit) → i ≡ j → handed ≡ us
     → (was : ModelUnit) × (slice_get handed number ≡ Some was) × IsArm i logs number was u → IsLeftBy j us logs number u
@@ -59,7 +63,7 @@ pub whole_back : (found : DriveView) (units : List WornUnit) → IsWhole found �
 whole_back found units whole back = record {
   geometry_is = whole.geometry_is;
   accepted = whole.accepted;
-  count = back.count ∙ whole.count;
+  count = as_many (shape_of found) found.units units back ∙ whole.count;
   fit = all_fit (shape_of found) found.units units back.wear whole.fit back.shapes;
 }
 
@@ -71,9 +75,9 @@ together_back s old new t back = record {
   fuse = t.fuse;
   word = t.word;
   has_word = t.has_word;
-  fits = t.fits ∙ ap (λ n. fitting_fuse n t.fuse) (sym back.count);
+  fits = t.fits ∙ ap (λ n. fitting_fuse n t.fuse) (sym (as_many s old new back));
   each = λ k u there.
-      let was = got_within old k (subst (λ n. k < n) back.count (slice_get_within new k u there)) in
+      let was = got_within old k (subst (λ n. k < n) (as_many s old new back) (slice_get_within new k u there)) in
       let arms : u.unit.armed ≡ was.0.unit.armed = back.arms k was.0.unit u.unit (get_mapped (λ (x : WornUnit). x.unit) old k was.0 was.1)
       (get_mapped (λ (x : WornUnit). x.unit) new k u there) in
       subst (IsArmedWith t.plans t.fuse t.word k) (sym arms) (t.each k was.0 was.1);

@@ -1,26 +1,23 @@
 -- A run whose text has no `e` line and no `worn` line: its status, its close, and what it writes.
-use Rattle.std.proofs.Common.{◌≡◌, ℕ, ◌+◌, ◌≤◌, ◌==◌, ◌||◌, zero, suc, cond, true, false, Some, None, Option, List, [], ◌∷◌, ◌++◌, length, map, take, refl, sym, subst, ap, ap₂, ◌∙◌, arith, append-nil}
+use Rattle.std.proofs.Common.{◌≡◌, ℕ, ◌+◌, ◌≤◌, ◌==◌, ◌||◌, zero, suc, cond, false, Some, None, Option, List, [], ◌∷◌, ◌++◌, length, map, take, refl, subst, ap, ap₂, ◌∙◌, arith}
 use Rattle.std.specs.Prelude.{slice_get, ⊤}
 use Rattle.std.specs.List.{AllByRecursion, cons_option, filter, filter_map, flat_map, list_any, range_with_len, zip}
 use Rattle.std.specs.Option.{unwrap_or}
 use Rattle.std.proofs.Math.Seq.{take-length}
 use Rattle.std.proofs.lemmas.List.{map-append}
-use Rattle.std.proofs.lemmas.Option.{none-some}
 use Rattle.block_port.specs.declared.rows.WornAnswer.{WornAnswer}
 use Rattle.pblk_model.specs.declared.script.Command.{Command}
 use Rattle.pblk_model.specs.declared.script.Command.TheVariants as script
 use Rattle.pblk_model.specs.History.{after, SectorWrite, tag_sector}
 use Rattle.pblk_model.specs.Script.{CommandFits, ScriptFits}
 use Rattle.pblk_model.specs.Text.{Closed, ClosedByDrive, ClosedWorn, Closing, Drive, Flushed, HistoryLine, Outcome, Silent, Transcript, Words, Worn}
-use Rattle.pblk_model.specs.Transcript.{Allowed, answered, closing_event, events, IsRun, IsTranscript, Moment, opening_event, outcome_event, placed_write, PlacedWrite, Ran, rows_of, sector_writes}
-use Rattle.pblk_cli.specs.Complete.{command_writes, script_writes}
+use Rattle.pblk_model.specs.Transcript.{Allowed, answered, closing_event, events, IsRun, Moment, opening_event, outcome_event, placed_write, PlacedWrite, Ran, rows_of, sector_writes}
+use Rattle.pblk_cli.specs.Complete.{AreApart, command_writes, script_writes}
 use Rattle.pblk_cli.specs.Status.{closed_worn, is_worn, names_any, status_of_run}
 use Rattle.pblk_cli.specs.Worn.{asked_by, closing_worn, thread_worns, threads_worns, worn_of, worns_of, written_of}
 use Rattle.pblk_model.proofs.Lists.{all_append}
-use Rattle.pblk_model.proofs.Maps.{in_filter}
 use Rattle.pblk_model.proofs.Parts.{all_at, all_by_get}
-use Rattle.pblk_model.proofs.Tests.{same_number}
-use Rattle.world_laws.proofs.HeldSectors.{all_pass}
+use Rattle.pblk_cli.proofs.ApartThreads.{in_thread_order, placed_sectors}
 
 -- ---- lists
 
@@ -143,23 +140,24 @@ rows_writes size w = go (range_with_len w.lba w.count)
     go [] = refl
     go (x ∷ xs) = ap (λ ys. record { lba = x; sector = tag_sector size w.tag } ∷ ys) (go xs)
 
+-- the history, write by write
+history_writes : (size : ℕ) (order : List PlacedWrite) → sector_writes size (flat_map rows_of order) ≡ flat_map (placed_sectors size) order
+history_writes size [] = refl
+history_writes size (w ∷ order) =
+    map-append (sector_of size) (rows_of w) (flat_map rows_of order) ∙ ap₂ (λ xs ys. xs ++ ys) (rows_writes size w) (history_writes size order)
+
 -- the writes of a thread, all of which were placed
-thread_writes : (size : ℕ) (cs : List Command) (os : List Outcome) → length os ≡ length cs → AllByRecursion IsPlacedWrite (zip cs os)
-    → sector_writes size (flat_map rows_of (filter_map (placed_write 0) (zip cs os))) ≡ flat_map (command_writes size) cs
-thread_writes size [] os e all = refl
-thread_writes size (c ∷ cs) [] e all = absurd (omega arith)
-thread_writes size (script.Write lba count tag ∷ cs) (o ∷ os) e all =
-    ap (λ x. sector_writes size (flat_map rows_of
-    (cons_option (placed_write 0 (script.Write lba count tag, x)) (filter_map (placed_write 0) (zip cs os))))) all.0
-    ∙ map-append (sector_of size) (rows_of w) (flat_map rows_of (filter_map (placed_write 0) (zip cs os)))
-    ∙ ap₂ (λ xs ys. xs ++ ys) (rows_writes size w) (thread_writes size cs os (omega arith) all.1)
-  where
-    w : PlacedWrite
-    w = record { thread = 0; lba = lba; count = count; tag = tag }
-thread_writes size (script.Read lba count ∷ cs) (o ∷ os) e all = thread_writes size cs os (omega arith) all.1
-thread_writes size (script.Flush ∷ cs) (o ∷ os) e all = thread_writes size cs os (omega arith) all.1
-thread_writes size (script.Post name ∷ cs) (o ∷ os) e all = thread_writes size cs os (omega arith) all.1
-thread_writes size (script.Await name ∷ cs) (o ∷ os) e all = thread_writes size cs os (omega arith) all.1
+thread_writes : (size thread : ℕ) (cs : List Command) (os : List Outcome) → length os ≡ length cs → AllByRecursion IsPlacedWrite (zip cs os)
+    → flat_map (placed_sectors size) (filter_map (placed_write thread) (zip cs os)) ≡ flat_map (command_writes size) cs
+thread_writes size thread [] os e all = refl
+thread_writes size thread (c ∷ cs) [] e all = absurd (omega arith)
+thread_writes size thread (script.Write lba count tag ∷ cs) (o ∷ os) e all =
+    ap (λ x. flat_map (placed_sectors size) (cons_option (placed_write thread (script.Write lba count tag, x)) (filter_map (placed_write thread) (zip cs os)))) all.0
+    ∙ ap (λ ws. command_writes size (script.Write lba count tag) ++ ws) (thread_writes size thread cs os (omega arith) all.1)
+thread_writes size thread (script.Read lba count ∷ cs) (o ∷ os) e all = thread_writes size thread cs os (omega arith) all.1
+thread_writes size thread (script.Flush ∷ cs) (o ∷ os) e all = thread_writes size thread cs os (omega arith) all.1
+thread_writes size thread (script.Post name ∷ cs) (o ∷ os) e all = thread_writes size thread cs os (omega arith) all.1
+thread_writes size thread (script.Await name ∷ cs) (o ∷ os) e all = thread_writes size thread cs os (omega arith) all.1
 
 -- each command with what became of it
 rows_calm : (cs : List Command) (os : List Outcome) → AllByRecursion IsCalm os → AllByRecursion (λ x. IsCalm x.1) (zip cs os)
@@ -167,72 +165,47 @@ rows_calm [] os all = tt
 rows_calm (c ∷ cs) [] all = tt
 rows_calm (c ∷ cs) (o ∷ os) all = (all.0, rows_calm cs os all.1)
 
--- ---- the order of the history
+-- ---- the threads of a run
 
-none_in : (order : List PlacedWrite) → ((i : ℕ) → filter (λ w. w.thread == i) order ≡ []) → order ≡ []
-none_in [] none = refl
-none_in (w ∷ order) none =
-    let among = in_filter (λ (x : PlacedWrite). x.thread == w.thread) (w ∷ order) w (0, refl) (same_number w.thread) in
-    absurd (none-some w (ap (λ (xs : List PlacedWrite). slice_get xs among.0) (sym (none w.thread)) ∙ among.1))
+-- a thread has as many outcomes as commands
+same_lengths : (oss : List (List Outcome)) (css : List (List Command)) → map length oss ≡ map length css → (i : ℕ)
+    → length (unwrap_or (slice_get oss i) []) ≡ length (unwrap_or (slice_get css i) [])
+same_lengths [] [] same i = refl
+same_lengths [] (cs ∷ css) same i = absurd cc
+same_lengths (os ∷ oss) [] same i = absurd cc
+same_lengths (os ∷ oss) (cs ∷ css) same zero = let e : length os ≡ length cs = cc in e
+same_lengths (os ∷ oss) (cs ∷ css) same (suc i) = same_lengths oss css (let rest : map length oss ≡ map length css = cc in rest) i
 
--- of one thread alone
-of_first : (order : List PlacedWrite) → ((i : ℕ) → filter (λ w. w.thread == suc i) order ≡ []) → filter (λ w. w.thread == 0) order ≡ order
-of_first order none = all_pass (λ w. w.thread == 0) order (all_by_get (λ (w : PlacedWrite). (w.thread == 0) ≡ true) order (λ k w at. by k w at w.thread refl))
-  where
-    by : (k : ℕ) (w : PlacedWrite) → slice_get order k ≡ Some w → (n : ℕ) → w.thread ≡ n → (w.thread == 0) ≡ true
-    by k w at zero e = ap (λ m. m == 0) e
-    by k w at (suc n) e =
-        let among = in_filter (λ (x : PlacedWrite). x.thread == suc n) order w (k, at) (ap (λ m. m == suc n) e ∙ same_number (suc n)) in
-        absurd (none-some w (ap (λ (xs : List PlacedWrite). slice_get xs among.0) (sym (none n)) ∙ among.1))
+calm_at : (oss : List (List Outcome)) → AllByRecursion (AllByRecursion IsCalm) oss → (i : ℕ) → AllByRecursion IsCalm (unwrap_or (slice_get oss i) [])
+calm_at [] all i = tt
+calm_at (os ∷ oss) all zero = all.0
+calm_at (os ∷ oss) all (suc i) = calm_at oss all.1 i
 
--- ---- the history of a run of a thread at most
-
-first_of : List ℕ → ℕ
-first_of [] = 0
-first_of (n ∷ ns) = n
-
-one_thread : (oss : List (List Outcome)) (cs : List Command) → map length oss ≡ length cs ∷ []
-    → (os : List Outcome) × (oss ≡ os ∷ []) × (length os ≡ length cs)
-unfolding first_of
-one_thread [] cs e = absurd cc
-one_thread (os ∷ []) cs e = (os, refl, ap first_of e)
-one_thread (os ∷ (other ∷ oss)) cs e = absurd cc
-
-pub history_of : (size : ℕ) (script : List (List Command)) (before : List (List ℕ)) (t : Transcript) → length script ≤ 1
-    → IsTranscript size script before t → events t ≡ [] → worns_of script t ≡ [] → sector_writes size t.history ≡ script_writes size script
-history_of size [] before t few told named refused =
-    ap (sector_writes size) told.history ∙ ap (λ ws. sector_writes size (flat_map rows_of ws)) (none_in told.order told.each)
-history_of size (a ∷ (b ∷ others)) before t few told named refused = absurd (omega arith)
-history_of size (cs ∷ []) before t few told named refused =
-    let shape = one_thread t.outcomes cs (subst (Ran (cs ∷ []) t) (opened t named) told.ran) in
-    by shape.0 shape.1 shape.2
-  where
-    by : (os : List Outcome) → t.outcomes ≡ os ∷ [] → length os ≡ length cs → sector_writes size t.history ≡ script_writes size (cs ∷ [])
-    by os is count =
-        ap (sector_writes size) told.history
-        ∙ ap (λ ws. sector_writes size (flat_map rows_of ws)) (sym (of_first told.order (λ i. told.each (suc i))) ∙ told.each 0
-        ∙ ap (λ (oss : List (List Outcome)). filter_map (placed_write 0) (zip cs (unwrap_or (slice_get oss 0) []))) is)
-        ∙ thread_writes size cs os count placed ∙ sym (append-nil (flat_map (command_writes size) cs))
-      where
-        its_calm : AllByRecursion IsCalm os
-        its_calm = (subst (AllByRecursion (AllByRecursion IsCalm)) is (calm (cs ∷ []) t named refused)).0
-
-        rows : answered (cs ∷ []) t 0 ≡ zip cs os
-        rows = ap (λ (oss : List (List Outcome)). zip cs (unwrap_or (slice_get oss 0) [])) is
-
-        placed : AllByRecursion IsPlacedWrite (zip cs os)
-        placed = all_by_get IsPlacedWrite (zip cs os) (λ k x at.
-            one_placed (record { size = size; sectors = before; script = cs ∷ []; transcript = t; seen = told.seen; thread = 0; command = k }) x.0 x.1
-            (told.allowed 0 k x (ap (λ (xs : List (Command × Outcome)). slice_get xs k) rows ∙ at))
-            (all_at (λ (y : Command × Outcome). IsCalm y.1) (zip cs os) k x at (rows_calm cs os its_calm)))
-
-pub contents_of : (size : ℕ) (script : List (List Command)) (before left : List (List ℕ)) (t : Transcript) → length script ≤ 1
+-- What a run leaves whose threads write no sector in common.
+pub contents_of : (size : ℕ) (script : List (List Command)) (before left : List (List ℕ)) (t : Transcript) → AreApart script
     → IsRun size script before t left → events t ≡ [] → worns_of script t ≡ [] → left ≡ after before (script_writes size script)
-contents_of size script before left t few run named refused =
+contents_of size script before left t apart run named refused =
     run.kept
     ∙ ap (λ n. after before (sector_writes size (take n t.history))) (run.closed (closed script t named refused))
-    ∙ ap (λ rows. after before (sector_writes size rows)) (take-length t.history)
-    ∙ ap (after before) (history_of size script before t few run.told named refused)
+    ∙ ap (λ rows. after before (sector_writes size rows)) (take-length t.history ∙ run.told.history)
+    ∙ ap (after before) (history_writes size run.told.order)
+    ∙ in_thread_order size script t.outcomes run.told.order before apart run.told.each written
+  where
+    lengths : map length t.outcomes ≡ map length script
+    lengths = subst (Ran script t) (opened t named) run.told.ran
+
+    written : (i : ℕ) → flat_map (placed_sectors size) (filter (λ w. w.thread == i) run.told.order)
+        ≡ flat_map (command_writes size) (unwrap_or (slice_get script i) [])
+    written i =
+        ap (flat_map (placed_sectors size)) (run.told.each i)
+        ∙ thread_writes size i (unwrap_or (slice_get script i) []) (unwrap_or (slice_get t.outcomes i) []) (same_lengths t.outcomes script lengths i) placed
+      where
+        placed : AllByRecursion IsPlacedWrite (zip (unwrap_or (slice_get script i) []) (unwrap_or (slice_get t.outcomes i) []))
+        placed = all_by_get IsPlacedWrite (answered script t i) (λ k x at.
+            one_placed (record { size = size; sectors = before; script = script; transcript = t; seen = run.told.seen; thread = i; command = k }) x.0 x.1
+            (run.told.allowed i k x at)
+            (all_at (λ (y : Command × Outcome). IsCalm y.1) (answered script t i) k x at
+            (rows_calm (unwrap_or (slice_get script i) []) (unwrap_or (slice_get t.outcomes i) []) (calm_at t.outcomes (calm script t named refused) i))))
 
 -- ---- how many sectors a refused write was of
 

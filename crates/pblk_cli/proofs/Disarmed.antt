@@ -65,9 +65,9 @@ loss_disarmed handed units place h =
       lost = h.lost;
     }
 
-pub serving_disarmed : (i : Image) (handed : List ModelUnit) (units : List WornUnit) (script : List (List Command)) (records : Records) (w : World)
-    → IsServing i handed (units_of units) script records w → IsServing i handed (units_of (map disarmed units)) script records w
-serving_disarmed i handed units script records w h = record {
+pub serving_disarmed : (i : Image) (handed : List ModelUnit) (units : List WornUnit) (script : List (List Command)) (helpers : ℕ) (records : Records) (w : World)
+    → IsServing i handed (units_of units) script helpers records w → IsServing i handed (units_of (map disarmed units)) script helpers records w
+serving_disarmed i handed units script helpers records w h = record {
   legal = h.legal;
   has_begun = h.has_begun;
   each = λ k v there.
@@ -114,7 +114,7 @@ module _ (s : Shape) (old units : List WornUnit) (fit : AreFit s (units_of old))
     (stopped : (k : ℕ) (u : WornUnit) → slice_get units k ≡ Some u → IsStopped u.unit → FuseFell units u.unit.armed) where
   fell : (a b : Armed) → a ≡ b → FuseFell units a → FellBetween old (map disarmed units) b
   fell a b arms f =
-      let low : f.fuse.unit < length (units_of old) = subst (λ n. f.fuse.unit < n) (back.count ∙ sym (length-map old (λ (x : WornUnit). x.unit)))
+      let low : f.fuse.unit < length (units_of old) = subst (λ n. f.fuse.unit < n) (sym (length-map units (λ (x : WornUnit). x.unit)) ∙ back.count)
       (slice_get_within units f.fuse.unit f.unit f.there) in
       let was = got_within (units_of old) f.fuse.unit low in
       let now = get_mapped (λ (x : WornUnit). x.unit) units f.fuse.unit f.unit f.there in

@@ -1,5 +1,5 @@
 -- The lines of an engine's log, the history, and where they stand.
-use Rattle.std.proofs.Common.{◌≡◌, ℕ, ◌<◌, ◌≤◌, List, [], ◌∷◌, ◌++◌, map, Some, refl, sym, ap, ◌∙◌, arith, le_trans}
+use Rattle.std.proofs.Common.{◌≡◌, ◌<◌, List, [], ◌∷◌, ◌++◌, map, Some, refl, sym, ap, ◌∙◌, arith}
 use Rattle.std.specs.List.{AllByRecursion, cons_option, filter}
 use Rattle.std.proofs.lemmas.Option.{none-some}
 use mathlib.Core.List.{IsPrefix}
@@ -15,9 +15,9 @@ use Rattle.pblk_world.specs.World.{World, log_of}
 use Rattle.core_laws.specs.Positions.{AreNumbered}
 use Rattle.world_laws.proofs.Positions.{position_below}
 use Rattle.block_port.specs.Own.{PlacedSector}
-use Rattle.block_port.specs.Port.{Rise, positions}
+use Rattle.block_port.specs.Port.{positions}
 use Rattle.block_target.specs.Sessions.{history_lines, line_of}
-use Rattle.block_target.proofs.LogLines.{IsMore, more_lines}
+use Rattle.block_target.proofs.LogLines.{IsMore, more_lines, positions_placed, rise_lower}
 
 -- ---- a log
 
@@ -28,10 +28,6 @@ writes_placed (t ∷ ts) = ap (λ (ws : List SectorWrite). record { lba = t.entr
 -- the history are the lines
 pub writes_are : (log : List Logged) → history log ≡ map (λ (x : PlacedSector). x.write) (history_lines log)
 writes_are log = sym (writes_placed (user_takes log))
-
-positions_placed : (ts : List Taken) → positions (map line_of ts) ≡ map (λ t. t.entry.position) ts
-positions_placed [] = refl
-positions_placed (t ∷ ts) = ap (λ ps. t.entry.position ∷ ps) (positions_placed ts)
 
 -- where they stand
 pub positions_are : (log : List Logged) → positions (history_lines log) ≡ user_positions log
@@ -55,10 +51,6 @@ none_at_first l b begins = by l.event begins
     by (Decides (Begin first)) is = refl
     by e is = absurd (none-some b is)
 
-raised : (a b to : ℕ) (xs : List PlacedSector) → a ≤ b → Rise b to xs → Rise a to xs
-raised a b to [] low rise = le_trans low rise
-raised a b to (x ∷ xs) low rise = (le_trans low rise.0, rise.1)
-
 pub later_lines : (early late : List Logged) (b : Begun) → IsPrefix early late → begun late ≡ Some b → AreNumbered late → IsMore early late
 later_lines [] [] b prefix begins numbered = absurd (none-some b begins)
 later_lines [] (l ∷ log) b prefix begins numbered =
@@ -68,7 +60,7 @@ later_lines [] (l ∷ log) b prefix begins numbered =
       before = omega arith;
       more = more.more;
       lines = more.lines ∙ ap (λ (ts : List Taken). map line_of (filter (λ t. is_users t.entry.source) ts) ++ more.more) none;
-      rise = raised (taken []) (taken (l ∷ [])) (taken (l ∷ log)) more.more (omega arith) more.rise;
+      rise = rise_lower (taken []) (taken (l ∷ [])) (taken (l ∷ log)) more.more (omega arith) more.rise;
     }
 later_lines (e ∷ early) late b prefix begins numbered = more_lines (e ∷ early) late b prefix (first_of late prefix.0 prefix.1 ∙ begins) numbered
   where

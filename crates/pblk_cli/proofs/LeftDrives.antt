@@ -32,7 +32,7 @@ use Rattle.drive_image.specs.Quiet.{IsQuiet}
 use Rattle.run_report.specs.Report.{transcript_of}
 use Rattle.run_threads.specs.declared.records.Records.{Records}
 use Rattle.step_laws.specs.Opened.{AreArmed}
-use Rattle.command_words.specs.Grammar.{RunOptions}
+use Rattle.command_words.specs.Grammar.{RunOptions, helpers_of}
 use Rattle.pblk_cli.specs.Commands.{IsWorldBetween}
 use Rattle.pblk_cli.specs.Running.{IsRunTo, IsStored}
 use Rattle.pblk_cli.specs.Serving.{IsLeftBy, IsRan, IsServing, transcript_by, units_of}
@@ -107,12 +107,12 @@ module _ (found : DriveView) (options : RunOptions) (word : Option TableId) (scr
   unit_count : length i.units ≡ length found.units
   unit_count = ap (λ us. length us) (image_units found whole) ∙ length-map found.units (λ (u : WornUnit). u.unit.media)
 
-  module _ (is : IsRan armed script left records) (made : IsStored left script records status text bytes) where
+  module _ (is : IsRan armed script (helpers_of options) left records) (made : IsStored left script records status text bytes) where
     abbrev w : World
     w = is.world
 
-    serving : IsServing i (units_of armed.units) (units_of left.units) script records w
-    serving = subst (λ d. IsServing (image_of d) (units_of armed.units) (units_of left.units) script records w) stored_same is.serving
+    serving : IsServing i (units_of armed.units) (units_of left.units) script (helpers_of options) records w
+    serving = subst (λ d. IsServing (image_of d) (units_of armed.units) (units_of left.units) script (helpers_of options) records w) stored_same is.serving
 
     numbers_left : left ≡ with_units left.units found
     numbers_left = is.drive.numbers
@@ -151,7 +151,7 @@ module _ (found : DriveView) (options : RunOptions) (word : Option TableId) (scr
           (outcomes_by i options.plans fuse word found.units left.units (log_of w) quiet armed_count armed_shapes left_count serving.each is.by_arms);
       named = are_names i options.plans fuse word found.units left.units (log_of w) quiet armed_count armed_shapes left_count serving.each _
           serving.named;
-      lost = told_of_all (log_length (units_of armed.units)) (length script) w _
+      lost = told_of_all (log_length (units_of armed.units)) (length script) (helpers_of options) w _
           (unlogged_before i options.plans fuse word found.units left.units (log_of w) quiet armed_count armed_shapes left_count serving.each) serving.lost;
       worn = serving.worn;
       granted = serving.granted;
@@ -173,9 +173,9 @@ module _ (found : DriveView) (options : RunOptions) (word : Option TableId) (scr
         (sym (ap contents left_is ∙ kept_contents i w serving.legal sealed t found.sector serving.kept serving.history_is))
         (serving.run sealed)
 
-    pub run_to : length script ≤ 1 → IsRunTo (stored found) options script status text bytes
+    pub run_to : IsRunTo (stored found) options script status text bytes
     unfolding world_is
-    run_to one = record {
+    run_to = record {
       left = stored left;
       run = record {
         transcript = t;
@@ -186,7 +186,7 @@ module _ (found : DriveView) (options : RunOptions) (word : Option TableId) (scr
         told = serving.told;
         relation = relation_is;
         sealed = λ sealed. subst IsSealed (sym left_is) (media_sealed i w serving.legal sealed);
-        complete = complete (stored found) (stored left) options script t world_is relation_is one serving.recorded.capacity
+        complete = complete (stored found) (stored left) options script t world_is relation_is serving.recorded.capacity
             serving.recorded.fits;
         spelled = made.spelled;
       };
@@ -208,12 +208,12 @@ armed_by found set plans stop quiet is =
 
 pub armed_run_to : (found set : DriveView) (options : RunOptions) (plans : List FaultPlan) (script : List (List Command)) (left : DriveView)
     (records : Records) (status : ℕ) (text bytes : List ℕ) → plans ≡ options.plans → IsQuiet found → IsArmedBy found plans options.stop set
-    → length script ≤ 1 → IsRan set script left records → IsStored left script records status text bytes
+    → IsRan set script (helpers_of options) left records → IsStored left script records status text bytes
     → IsRunTo (stored found) options script status text bytes
-armed_run_to found set options plans script left records status text bytes named quiet is one ran made =
+armed_run_to found set options plans script left records status text bytes named quiet is ran made =
     let fuse : Option Fuse = fitting_fuse (length found.units) options.stop in
     let armed_is : set ≡ with_units (armed_units options.plans fuse is.0 found.units) found =
     is.2 ∙ ap (λ ps. with_units (armed_units ps fuse is.0 found.units) found) named in
-    let on_armed : IsRan (with_units (armed_units options.plans fuse is.0 found.units) found) script left records =
-    subst (λ (d : DriveView). IsRan d script left records) armed_is ran in
-    run_to found options is.0 script left records status text bytes (whole_before found options.plans fuse is.0 on_armed.drive.was) quiet on_armed made one
+    let on_armed : IsRan (with_units (armed_units options.plans fuse is.0 found.units) found) script (helpers_of options) left records =
+    subst (λ (d : DriveView). IsRan d script (helpers_of options) left records) armed_is ran in
+    run_to found options is.0 script left records status text bytes (whole_before found options.plans fuse is.0 on_armed.drive.was) quiet on_armed made

@@ -69,25 +69,26 @@ distinct_last (q ∷ ps) p distinct others = (
   distinct_last ps p distinct.1 others.1,
 )
 
+-- a lost command stands before the place of the next one
+pub not_here : (s : Step) (w : World) (p : ℕ × ℕ) → IsLostAt w p → p ≢ place_in w s
+not_here s w p at same =
+    let low : p.1 < length (unit_events (log_of w) p.0) = slice_get_within (unit_events (log_of w) p.0) p.1 at.0 at.1 in
+    let unit : p.0 ≡ s.author - 1 = ap (λ (x : ℕ × ℕ). x.0) same in
+    let index : p.1 ≡ length (unit_events (log_of w) (s.author - 1)) = ap (λ (x : ℕ × ℕ). x.1) same in
+    let long : length (unit_events (log_of w) p.0) ≡ length (unit_events (log_of w) (s.author - 1)) =
+    ap (λ n. length (unit_events (log_of w) n)) unit in
+    absurd (omega arith)
+
 pub lost_distinct : (i : Image) (w : World) (worker : ℕ) → IsLegal i w → IsDistinct (drive_faults_of worker w)
 unfolding IsLegal
 lost_distinct i [] worker legal = tt
 lost_distinct i (s ∷ w) worker legal = go (lost_distinct i w worker legal.1) (is_drive_fault_of worker s.logged.event)
   where
-    not_here : (p : ℕ × ℕ) → IsLostAt w p → p ≢ place_in w s
-    not_here p at same =
-        let low : p.1 < length (unit_events (log_of w) p.0) = slice_get_within (unit_events (log_of w) p.0) p.1 at.0 at.1 in
-        let unit : p.0 ≡ s.author - 1 = ap (λ (x : ℕ × ℕ). x.0) same in
-        let index : p.1 ≡ length (unit_events (log_of w) (s.author - 1)) = ap (λ (x : ℕ × ℕ). x.1) same in
-        let long : length (unit_events (log_of w) p.0) ≡ length (unit_events (log_of w) (s.author - 1)) =
-        ap (λ n. length (unit_events (log_of w) n)) unit in
-        absurd (omega arith)
-
     go : IsDistinct (drive_faults_of worker w) → (b : Bool)
         → IsDistinct (cond b (drive_faults_of worker w ++ place_in w s ∷ []) (drive_faults_of worker w))
     go rest false = rest
     go rest true = distinct_last (drive_faults_of worker w) (place_in w s) rest
-        (all_weaker (IsLostAt w) (λ q. q ≢ place_in w s) (drive_faults_of worker w) not_here (lost_at i w worker legal.1))
+        (all_weaker (IsLostAt w) (λ q. q ≢ place_in w s) (drive_faults_of worker w) (not_here s w) (lost_at i w worker legal.1))
 
 -- ---- units that a world leaves
 
@@ -149,11 +150,12 @@ module _ (handed us : List ModelUnit) (i : Image) (w : World) (legal : IsLegal i
   names_placed [] = refl
   names_placed (p ∷ ps) = ap (λ (xs : List (ℕ × ℕ)). name_at (p.0, log_length handed p.0 + p.1) ∷ xs) (names_placed ps)
 
-  -- what lines name of a worker's commands that were lost
-  pub lost_new : (worker : ℕ) → AreNewDriveFaults handed us (names_after (log_length handed) (drive_faults_of worker w))
-  lost_new worker = record {
-    places = map placed (drive_faults_of worker w);
-    names_are = names_placed (drive_faults_of worker w);
-    each = all_new (drive_faults_of worker w) (lost_at i w worker legal);
-    distinct = all_apart (drive_faults_of worker w) (lost_distinct i w worker legal);
+  -- what lines name of lost commands, no two of which are the same
+  pub lost_named : (ps : List (ℕ × ℕ)) → AllByRecursion (IsLostAt w) ps → IsDistinct ps
+      → AreNewDriveFaults handed us (names_after (log_length handed) ps)
+  lost_named ps lost distinct = record {
+    places = map placed ps;
+    names_are = names_placed ps;
+    each = all_new ps lost;
+    distinct = all_apart ps distinct;
   }

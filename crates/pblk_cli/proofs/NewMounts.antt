@@ -1,11 +1,9 @@
 -- A mount that has begun on the units of a drive: what its logs begin with, and what it found.
-use Rattle.std.proofs.Common.{◌≡◌, ◌⊎◌, inl, inr, ℕ, zero, suc, ◌+◌, ◌<◌, ◌≤◌, false, Some, List, [], ◌∷◌, drop, length, map, sym, subst, ap, ◌∙◌, arith}
+use Rattle.std.proofs.Common.{◌≡◌, ◌⊎◌, inl, inr, ℕ, zero, suc, ◌<◌, ◌≤◌, false, Some, List, [], ◌∷◌, drop, length, sym, subst, ap, ◌∙◌, arith}
 use Rattle.std.specs.Prelude.{slice_get}
-use Rattle.std.specs.List.{AllByRecursion, cons_option, filter_map, range_with_len}
+use Rattle.std.specs.List.{AllByRecursion, cons_option, filter_map}
 use Rattle.std.proofs.Math.Seq.{drop-append_seam}
 use Rattle.std.proofs.lemmas.Bool.{cases_lt}
-use Rattle.std.proofs.lemmas.List.{get_or_past}
-use Rattle.std.proofs.lemmas.List.FromFn.{get_or-map-range_with_len, length-map-range_with_len}
 use Rattle.std.proofs.lemmas.Option.{none-some, same_Some}
 use mathlib.Core.List.{IsPrefix}
 use Rattle.pblk_model.specs.declared.found.Found.{Found}
@@ -14,11 +12,9 @@ use Rattle.pblk_model.specs.Accepted.{IsAccepted}
 use Rattle.pblk_model.specs.Image.{Image}
 use Rattle.pblk_model.specs.Shape.{units}
 use Rattle.pblk_model.specs.UnitLog.{UnitEvent}
-use Rattle.pblk_model.proofs.Numbers.{fun_same}
 use Rattle.pblk_model.proofs.Parts.{got_within}
 use Rattle.pblk_world.specs.EngineLog.{Begun, begun}
 use Rattle.pblk_world.specs.Events.{Begin, Decides, Does, Event, Logged, Maker}
-use Rattle.pblk_world.specs.Legal.{IsLegal}
 use Rattle.pblk_world.specs.LegalMounts.{IsLegalMount}
 use Rattle.pblk_world.specs.Lines.{found_image}
 use Rattle.pblk_world.specs.Opening.{MayBegin}
@@ -41,22 +37,9 @@ use Rattle.unit_port.specs.Unit.{ModelUnit}
 use Rattle.chronicle.specs.Prefixes.{logs_of}
 use Rattle.chronicle.proofs.PrefixLemmas.{begins_take}
 use Rattle.pblk_engine.specs.Beginnings.{opened_past, opened_world}
+use Rattle.pblk_engine.proofs.OpenedPasts.{all_logs}
 use Rattle.block_target.specs.Closes.{NoneLost}
 use Rattle.block_target.proofs.Readied.{are_readied}
-
--- the logs of a legal world, one for each author
-all_logs : (i : Image) (w : World) → IsLegal i w → logs_of (map (λ author. log_of w author) (range_with_len 0 (units i.shape + 1))) ≡ log_of w
-all_logs i w legal = fun_same (logs_of (map (λ author. log_of w author) (range_with_len 0 (units i.shape + 1)))) (log_of w)
-    (λ author. go author (cases_lt author (units i.shape + 1)))
-  where
-    go : (author : ℕ) → (author < units i.shape + 1) ⊎ (units i.shape + 1 ≤ author)
-        → logs_of (map (λ a. log_of w a) (range_with_len 0 (units i.shape + 1))) author ≡ log_of w author
-    go author (inl within) = get_or-map-range_with_len (log_of w) 0 (units i.shape + 1) author author [] within (omega arith)
-    go author (inr past) =
-        get_or_past (map (λ a. log_of w a) (range_with_len 0 (units i.shape + 1))) author []
-        (let long : length (map (λ a. log_of w a) (range_with_len 0 (units i.shape + 1))) ≡ units i.shape + 1 =
-        length-map-range_with_len (log_of w) 0 (units i.shape + 1) in omega arith)
-        ∙ sym (none_beyond i w legal author (omega arith))
 
 -- ---- a log without lost commands
 

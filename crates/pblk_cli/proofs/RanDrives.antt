@@ -41,20 +41,20 @@ module _ (found left : DriveView) (units : List WornUnit) (was : IsWhole found) 
     whole = whole;
   }
 
-  module _ (script : List (List Command)) (records : Records)
+  module _ (script : List (List Command)) (helpers : ℕ) (records : Records)
       (outcomes : (k : ℕ) (u : WornUnit) → slice_get units k ≡ Some u → AreEventsBy u.unit.shape u.unit.armed (events_since u.unit.armed u.unit.log))
       (stopped : (k : ℕ) (u : WornUnit) → slice_get units k ≡ Some u → IsStopped u.unit → FuseFell units u.unit.armed)
-      (served : IsServed (shape_of found) script found.units units records) where
+      (served : IsServed (shape_of found) script helpers (units_of found.units) (units_of units) records) where
     fit : AreFit (shape_of found) (units_of found.units)
     fit = drive_fits found found (shape_of found) refl refl was
 
-    serving_left : IsServing (image_file.image_of (stored found)) (units_of found.units) (units_of left.units) script records served.world
+    serving_left : IsServing (image_file.image_of (stored found)) (units_of found.units) (units_of left.units) script helpers records served.world
     serving_left =
-        subst (λ us. IsServing (image_file.image_of (stored found)) (units_of found.units) (units_of us) script records served.world) (sym units_are)
-        (subst (λ (i : Image). IsServing i (units_of found.units) (units_of (map disarmed units)) script records served.world) (image_handed found was)
-        (serving_disarmed (image_of (shape_of found) (units_of found.units)) (units_of found.units) units script records served.world served.serving))
+        subst (λ us. IsServing (image_file.image_of (stored found)) (units_of found.units) (units_of us) script helpers records served.world) (sym units_are)
+        (subst (λ (i : Image). IsServing i (units_of found.units) (units_of (map disarmed units)) script helpers records served.world) (image_handed found was)
+        (serving_disarmed (image_of (shape_of found) (units_of found.units)) (units_of found.units) units script helpers records served.world served.serving))
 
-    pub ran : IsRan found script left records
+    pub ran : IsRan found script helpers left records
     ran = record {
       world = served.world;
       serving = serving_left;
@@ -81,12 +81,13 @@ module _ (found fields : DriveView) (s : Shape) (units : List WornUnit) (same : 
     pub left_made : IsDriveLeft found left
     left_made = drive_left found left units was whole back_found is_found
 
-    pub ran_made : {E : Type 0} (script : List (List Command)) (records : Records) (result : Result Records E) → result ≡ Ok records
+    pub ran_made : {E : Type 0} (script : List (List Command)) (helpers : ℕ) (records : Records) (result : Result Records E) → result ≡ Ok records
         → ((k : ℕ) (u : WornUnit) → slice_get units k ≡ Some u → AreEventsBy u.unit.shape u.unit.armed (events_since u.unit.armed u.unit.log))
         → ((k : ℕ) (u : WornUnit) → slice_get units k ≡ Some u → IsStopped u.unit → FuseFell units u.unit.armed)
-        → IfOk result (IsServed s script fields.units units) → IsRan found script left records
-    ran_made script records result given outcomes stopped served =
-        let here : IsServed s script fields.units units records = subst (λ r. IfOk r (IsServed s script fields.units units)) given served in
-        ran found left units was whole back_found is_found script records outcomes stopped
-        (subst (λ (x : Shape). IsServed x script found.units units records) shape
-        (subst (λ (d : DriveView). IsServed s script d.units units records) same here))
+        → IfOk result (IsServed s script helpers (units_of fields.units) (units_of units)) → IsRan found script helpers left records
+    ran_made script helpers records result given outcomes stopped served =
+        let here : IsServed s script helpers (units_of fields.units) (units_of units) records =
+        subst (λ r. IfOk r (IsServed s script helpers (units_of fields.units) (units_of units))) given served in
+        ran found left units was whole back_found is_found script helpers records outcomes stopped
+        (subst (λ (x : Shape). IsServed x script helpers (units_of found.units) (units_of units) records) shape
+        (subst (λ (d : DriveView). IsServed s script helpers (units_of d.units) (units_of units) records) same here))

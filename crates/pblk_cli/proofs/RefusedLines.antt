@@ -13,11 +13,11 @@ use Rattle.pblk_cli.specs.Worn.{AreRefusedBetween, AreRefusedIn, IsRefusedFor, I
 module _ (i : Image) (logs : Logs) where
   -- ---- one answer
 
-  cause_for : (n count wanted have : ℕ) → IsRefusal i logs n count wanted have → IsRefusedFor i logs n count wanted have
+  pub cause_for : (n count wanted have : ℕ) → IsRefusal i logs n count wanted have → IsRefusedFor i logs n count wanted have
   cause_for n zero wanted have is = is
   cause_for n (suc others) wanted have is = (is.worn, is.granted)
 
-  rest_within : (n count wanted have : ℕ) → IsRefusal i logs n count wanted have → n ≤ length (logs 0)
+  pub rest_within : (n count wanted have : ℕ) → IsRefusal i logs n count wanted have → n ≤ length (logs 0)
   rest_within n zero wanted have is = is.at_rest.within
   rest_within n (suc others) wanted have is = is.worn.at_rest.within
 
@@ -52,7 +52,7 @@ module _ (i : Image) (logs : Logs) where
   from_below low from upto [] below are = le_trans below are
   from_below low from upto (a ∷ worns) below are = (are.0, le_trans below are.1, are.2, are.3)
 
-  first_part : (from upto : ℕ) (xs ys : List WornAnswer) → AreRefusedBetween i logs from upto (xs ++ ys) → AreRefusedBetween i logs from upto xs
+  pub first_part : (from upto : ℕ) (xs ys : List WornAnswer) → AreRefusedBetween i logs from upto (xs ++ ys) → AreRefusedBetween i logs from upto xs
   first_part from upto [] ys are = in_order from upto ys are
   first_part from upto (x ∷ xs) ys are = (are.0, are.1, are.2, first_part are.0 upto xs ys are.3)
 

@@ -19,7 +19,6 @@ pub image_refused_comes : (image script found commands : List ℕ) (options : Ru
     → ReadsFile script commands old new → (q : Refusal) → RefusesBytes found (reason_of q) → RunComesTo image script options (Refuses (reason_of q)) old new
 image_refused_comes image script found commands options old new a b (refusals.Image e) h = (found, a.0, is_there script commands old b.0, h, a.1)
 image_refused_comes image script found commands options old new a b (refusals.Script e) h = absurd h
-image_refused_comes image script found commands options old new a b refusals.ScriptUnbuilt h = absurd h
 image_refused_comes image script found commands options old new a b (refusals.Failed name) h = absurd h
 image_refused_comes image script found commands options old new a b (refusals.Missing name) h = absurd h
 image_refused_comes image script found commands options old new a b refusals.Memory h = (is_there image found old a.0, a.1)
@@ -41,20 +40,6 @@ script_refused_comes image script found commands options d old new a b is (refus
   h,
   a.1,
 )
-script_refused_comes image script found commands options d old new a b is refusals.ScriptUnbuilt (said, are, many) = (
-  d,
-  record {
-    bytes = found;
-    read = a.0;
-    is = is;
-  },
-  commands,
-  b.0,
-  said,
-  are,
-  many,
-  a.1,
-)
 script_refused_comes image script found commands options d old new a b is (refusals.Failed name) h = absurd h
 script_refused_comes image script found commands options d old new a b is (refusals.Missing name) h = absurd h
 script_refused_comes image script found commands options d old new a b is refusals.Memory h = (is_there image found old a.0, a.1)
@@ -69,7 +54,6 @@ input_of image script found commands options d status text bytes old new a b is 
   script_read = b.0;
   commands = h.commands;
   commands_are = h.commands_are;
-  one = h.one;
 }
 
 -- the others are as before both the reads and the write

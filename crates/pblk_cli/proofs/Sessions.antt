@@ -1,147 +1,176 @@
--- The run of a script of one thread at most as a session of a target.
-use Rattle.std.proofs.Common.{◌≡◌, ◌==◌, Bool, true, false, ℕ, suc, ◌+◌, ◌≤◌, List, [], ◌∷◌, ◌++◌, length, length-append, map, None, Option, Result, Ok, Err, slice_get, refl, sym, subst, ap, ◌∙◌, arith}
-use Rattle.std.specs.Prelude.{◌≢◌}
-use Rattle.std.specs.List.{AllByRecursion}
+-- The threads of a script as sessions of a new target.
+use Rattle.std.proofs.Common.{◌≡◌, ◌⊎◌, inl, inr, Bool, true, false, Result, Ok, Err, IfOk, IfErr, ℕ, ◌+◌, ◌<◌, ◌≤◌, zero, suc, List, [], ◌++◌, length, map, take, drop, slice_get, Option, Some, sym, ap, ◌∙◌, arith, append-nil}
+use Rattle.std.specs.List.{range_with_len}
 use Rattle.std.specs.Option.{option_map_or}
 use Rattle.std.proofs.Math.Nat.{le_refl}
+use Rattle.std.proofs.lemmas.Bool.{cases_lt}
 use Rattle.std.proofs.lemmas.List.{length-map}
-use Rattle.std.proofs.lemmas.Option.{same_Some}
-use Rattle.std.proofs.lemmas.Bool.{eq-eqb, eqb-true}
+use Rattle.std.proofs.lemmas.List.FromFn.{length-range_with_len}
 use Rattle.pblk_model.specs.declared.script.Command.{Command}
 use Rattle.pblk_model.specs.Script.{NeverStuck, ScriptFits}
+use Rattle.pblk_model.proofs.Maps.{all_mapped, get_mapped, row_at}
+use Rattle.pblk_model.proofs.Parts.{all_by_get, drop_past, get_whole, take_all}
 use Rattle.unit_port.specs.Unit.{ModelUnit}
-use Rattle.block_port.specs.Port.{Footing, IsSameTarget, ModelPort}
+use Rattle.block_port.specs.Port.{Footing, ModelPort}
 use Rattle.chronicle.specs.Views.{Past}
+use Rattle.write_ring.specs.declared.view.Key.{Key}
+use Rattle.pblk_engine.specs.Workers.{WorkerView}
+use Rattle.pblk_engine.proofs.RestingHearts.{empty_counts}
 use Rattle.block_target.specs.Sessions.{SessionView, device}
-use Rattle.run_threads.specs.declared.records.Answer.{Answer}
+use Rattle.block_target.specs.Targets.{first_session, first_sessions, first_worker, first_workers}
 use Rattle.run_threads.specs.declared.records.Records.{Records}
-use Rattle.run_threads.specs.Run.{EachThread, IsAcceptedFor, WasRun, WereRun}
-use Rattle.pblk_cli.specs.Serving.{HasRun, HasServed}
+use Rattle.run_threads.specs.Run.{IsAcceptedFor, WasRun, WereRun}
+use Rattle.pblk_cli.specs.Serving.{AreNumbered, HaveGoneOn, HaveHelped, HaveRun, helpers_for, sessions_for}
+use Rattle.pblk_cli.proofs.EachThreads.{each_at, each_many, mapped_at}
 
--- of one port
-has_run : (told : List ℕ → ℕ) (script : List (List Command)) (threads : List (List Answer)) (old new : ModelPort) → length script ≤ 1 → script ≢ []
-    → EachThread (WasRun told) script threads (old ∷ []) (new ∷ []) → HasRun script threads old new × IsSameTarget old new
-has_run told [] threads old new one some h = absurd (some refl)
-has_run told (cs ∷ []) [] old new one some h = absurd h
-has_run told (cs ∷ []) (rows ∷ []) old new one some h = ((rows, refl, told, h.0.runs), h.0.target)
-has_run told (cs ∷ []) (rows ∷ (more ∷ rest)) old new one some h = absurd h.1
-has_run told (cs ∷ (ds ∷ script)) threads old new one some h = absurd (omega arith)
-
--- as many ports come back
-pub each_many : (Holds : List Command → List Answer → ModelPort → ModelPort
-    → Type 0) (script : List (List Command)) (answers : List (List Answer)) (olds news : List ModelPort)
-    → EachThread Holds script answers olds news → length news ≡ length olds
-each_many Holds [] [] [] [] h = refl
-each_many Holds [] [] [] (new ∷ news) h = absurd h
-each_many Holds [] [] (old ∷ olds) news h = absurd h
-each_many Holds [] (rows ∷ answers) olds news h = absurd h
-each_many Holds (cs ∷ script) [] olds news h = absurd h
-each_many Holds (cs ∷ script) (rows ∷ answers) [] news h = absurd h
-each_many Holds (cs ∷ script) (rows ∷ answers) (old ∷ olds) [] h = absurd h
-each_many Holds (cs ∷ script) (rows ∷ answers) (old ∷ olds) (new ∷ news) h = ap suc (each_many Holds script answers olds news h.1)
-
--- the last of a list of one
-pub last_is : {X : Type 0} (first x : X) (xs : List X) → first ∷ [] ≡ xs ++ x ∷ [] → x ≡ first
-last_is first x [] same = same_Some x first (ap (λ ys. slice_get ys 0) (sym same))
-last_is first x (y ∷ xs) same =
-    let long : 1 ≡ length xs + 2 = ap length same ∙ ap suc (length-append xs (x ∷ [])) ∙ (let e : suc (length xs + 1) ≡ length xs + 2 = omega arith in e) in
-    absurd (omega (arith, long))
-
--- Whether a script has a thread.
-
-pub not_empty : (script slice : List (List Command)) (b : Bool) → slice ≡ script → b ≡ (length slice == 0) → b ≡ false → script ≢ []
-not_empty script slice b same is some empty = let none : length slice == 0 ≡ true = eq-eqb (length slice) 0
-    (ap (λ (xs : List (List Command)). length xs) (same ∙ empty)) in cc
-
--- as long as it has one
-pub one_thread : (script : List (List Command)) → length script ≤ 1 → script ≢ [] → length script ≡ 1
-one_thread [] few some = absurd (some refl)
-one_thread (cs ∷ []) few some = refl
-one_thread (cs ∷ (ds ∷ script)) few some = absurd (omega arith)
-
-same_target : (a : ModelPort) → IsSameTarget a a
-same_target a = record { start = refl; capacity = refl; sector = refl; footing = refl }
-
--- with records, or with why there are none
-abbrev pub answered : (E : Type 0) → Records → Result Records E
-answered E records = Ok records
-
-abbrev pub unanswered : (E : Type 0) → E → Result Records E
-unanswered E e = Err e
-
-pub idle_served : {E : Type 0} (script slice : List (List Command)) (b : Bool) → slice ≡ script → b ≡ (length slice == 0) → b ≡ true → (records : Records)
-    → records ≡ record { threads = []; opening = None; closing = None } → (port : ModelPort) → HasServed script port (answered E records) port
-idle_served [] slice b same is none records empty port = record {
-  session = record {
-    run = (ap (λ (r : Records). r.threads) empty, refl);
-    opened = ap (λ (r : Records). r.opening) empty;
-  };
-  same = same_target port;
-}
-idle_served (cs ∷ script) slice b same is none records empty port =
-    let no : length slice ≡ 0 = eqb-true (length slice) 0 (sym is ∙ none) in
-    let some : length slice ≡ suc (length script) = ap (λ (xs : List (List Command)). length xs) same in
-    absurd (omega arith)
-
--- without memory no command was run
-unrun_at : {E : Type 0} (script : List (List Command)) (port : ModelPort) (e : E) → HasServed script port (unanswered E e) port
-unrun_at script port e = record { session = tt; same = same_target port }
-
--- Ports.
-
-module _ (past : Past) (handed : List ModelUnit) (wear : List (List ℕ)) where
+module _ (past : Past) (key : Key) (handed : List ModelUnit) (wear : List (List ℕ)) (script : List (List Command)) where
   abbrev port : SessionView → ModelPort
   port t = device past handed wear t
 
-  -- a port of one session alone
-  one_session : (ports : List SessionView) → length ports ≡ 1 → (t : SessionView) × (ports ≡ t ∷ [])
-  one_session [] one = absurd (omega (arith, one))
-  one_session (t ∷ []) one = (t, refl)
-  one_session (t ∷ (more ∷ ports)) one = absurd (omega (arith, one))
+  -- the sessions as they were handed out
+  abbrev firsts : List SessionView
+  firsts = first_sessions past key (sessions_for (length script))
 
-  pub accepted_for : (script : List (List Command)) (ports : List SessionView) → length ports ≡ 1
-      → ScriptFits past.image.shape.capacity script → NeverStuck script → IsAcceptedFor script (map (device past handed wear) ports)
-  accepted_for script ports one fits flows =
-      let of = one_session ports one in
-      record {
-        capacity = past.image.shape.capacity;
-        fits = fits;
-        flows = flows;
-        within = subst
-            (λ (xs : List SessionView). AllByRecursion (λ (p : ModelPort). past.image.shape.capacity ≤ p.capacity) (map (device past handed wear) xs))
-            (sym of.1) (le_refl past.image.shape.capacity, tt);
-      }
+  pub firsts_count : length (first_sessions past key (sessions_for (length script))) ≡ sessions_for (length script)
+  firsts_count = length-map (range_with_len 0 (sessions_for (length script))) (first_session past key)
+      ∙ length-range_with_len 0 (sessions_for (length script))
 
-  pub as_many : (script : List (List Command)) (records : Records) (ports news : List SessionView) → length ports ≡ 1
-      → WereRun script records (map (device past handed wear) ports) (map (device past handed wear) news) → length news ≡ 1
-  as_many script records ports news one ran =
-      sym (length-map news port) ∙ each_many (WasRun ran.told) script records.threads (map port ports) (map port news) ran.threads
-      ∙ length-map ports port ∙ one
+  pub first_at : (k : ℕ) (t : SessionView) → slice_get (first_sessions past key (sessions_for (length script))) k ≡ Some t
+      → t ≡ first_session past key k
+  first_at k t there = sym (row_at (first_session past key) (sessions_for (length script)) 0 k t there).1
+      ∙ ap (first_session past key) (let e : 0 + k ≡ k = omega arith in e)
 
-  pub run_served : {E : Type 0} (script : List (List Command)) (records : Records) (first last : SessionView) (ports news : List SessionView)
-      → length script ≡ 1 → ports ≡ first ∷ [] → news ≡ last ∷ []
-      → WereRun script records (map (device past handed wear) ports) (map (device past handed wear) news)
-      → HasServed script (device past handed wear first) (answered E records) (device past handed wear last)
-  run_served script records first last ports news one olds_are news_are ran =
-      let some : script ≢ [] =
-      (λ none. let empty : length script ≡ 0 = ap (λ (xs : List (List Command)). length xs) none in absurd (omega (arith, one))) in
-      let olds = subst (λ (xs : List SessionView). EachThread (WasRun ran.told) script records.threads (map port xs) (map port news)) olds_are ran.threads in
-      let both = subst (λ (xs : List SessionView). EachThread (WasRun ran.told) script records.threads (map port (first ∷ [])) (map port xs)) news_are olds in
-      let is = has_run ran.told script records.threads (port first) (port last) (omega (arith, one)) some both in
-      record { session = record { run = is.0; opened = ran.opening }; same = is.1 }
+  pub first_numbered : AreNumbered (first_sessions past key (sessions_for (length script)))
+  first_numbered k t there = ap (λ (s : SessionView). s.worker.number) (first_at k t there)
 
-  -- without memory the ticket comes back as it was
-  pub unrun_served : {E : Type 0} (script : List (List Command)) (e : E) (first last : SessionView) → last ≡ first
-      → HasServed script (device past handed wear first) (unanswered E e) (device past handed wear last)
-  unrun_served {E} script e first last same =
-      subst (λ (t : SessionView). HasServed script (port first) (unanswered E e) (port t)) (sym same) (unrun_at script (port first) e)
+  -- the threads' sessions are all of them, but for the one of a script without a thread
+  none_left : 1 ≤ length script → drop (length script) firsts ≡ []
+  none_left some = drop_past firsts (length script) (let count : length firsts ≡ sessions_for (length script) = firsts_count in omega arith)
 
-  -- a session has its number for good
-  pub same_number : (first last : SessionView) → IsSameTarget (device past handed wear first) (device past handed wear last)
-      → last.worker.number ≡ first.worker.number
-  same_number first last same = ap (λ (o : Option Footing). option_map_or (λ (f : Footing). f.seat) o 0) same.footing
+  all_first : 1 ≤ length script → take (length script) firsts ≡ firsts
+  all_first some = take_all firsts (length script) (let count : length firsts ≡ sessions_for (length script) = firsts_count in omega arith)
 
-  -- the only one comes back as it was
-  pub first_same : (first last : SessionView) (ports news : List SessionView) → ports ≡ first ∷ [] → news ≡ last ∷ [] → news ≡ ports → first ≡ last
-  first_same first last ports news olds_are news_are same =
-      same_Some first last (ap (λ (xs : List SessionView). slice_get xs 0) (sym olds_are ∙ sym same ∙ news_are))
+  -- Those that weren't run are all there, the threads' last.
+  pub unrun : drop (length script) (first_sessions past key (sessions_for (length script)))
+      ++ take (length script) (first_sessions past key (sessions_for (length script)))
+      ≡ first_sessions past key (sessions_for (length script))
+  unrun = by (cases_lt 0 (length script))
+    where
+      by : (0 < length script) ⊎ (length script ≤ 0) → drop (length script) firsts ++ take (length script) firsts ≡ firsts
+      by (inl some) = ap (λ (ts : List SessionView). ts ++ take (length script) firsts) (none_left some) ∙ all_first some
+      by (inr none) =
+          let zero_threads : length script ≡ 0 = omega arith in
+          ap (λ n. drop n firsts ++ take n firsts) zero_threads ∙ append-nil firsts
+
+  -- as many run as there are threads
+  pub ports_many : length (take (length script) (first_sessions past key (sessions_for (length script)))) ≡ length script
+  ports_many = by (cases_lt 0 (length script))
+    where
+      by : (0 < length script) ⊎ (length script ≤ 0) → length (take (length script) firsts) ≡ length script
+      by (inl some) = let count : length firsts ≡ sessions_for (length script) = firsts_count in ap (λ (ts : List SessionView). length ts) (all_first some) ∙ omega (arith, count, some)
+      by (inr none) =
+          let zero_threads : length script ≡ 0 = omega arith in
+          ap (λ n. length (take n firsts)) zero_threads ∙ sym zero_threads
+
+  pub accepted_for : (ports : List SessionView) → ScriptFits past.image.shape.capacity script → NeverStuck script
+      → IsAcceptedFor script (map (device past handed wear) ports)
+  accepted_for ports fits flows = record {
+    capacity = past.image.shape.capacity;
+    fits = fits;
+    flows = flows;
+    within = all_mapped (λ (p : ModelPort). past.image.shape.capacity ≤ p.capacity) port ports
+        (all_by_get (λ (t : SessionView). past.image.shape.capacity ≤ past.image.shape.capacity) ports (λ k t there. le_refl past.image.shape.capacity));
+  }
+
+  -- They were run.
+  module _ (records : Records) (lasts : List SessionView) (h : HaveRun past key handed wear script records lasts) where
+    pub ports_count : length h.ports ≡ length script
+    ports_count =
+        sym (length-map h.ports port)
+        ∙ each_many (WasRun h.ran.told) script records.threads (map port (take (length script) firsts)) (map port h.ports) h.ran.threads
+
+    -- without a thread the one session is as it was
+    pub idle_last : length script ≡ 0 → lasts ≡ first_sessions past key (sessions_for (length script))
+    idle_last none = h.lasts_are ∙ ap (λ n. drop n firsts ++ h.ports) none ∙ ap (λ (ts : List SessionView). firsts ++ ts) (empty_counts h.ports (ports_count ∙ none))
+        ∙ append-nil firsts
+
+    -- else they are the threads'
+    pub busy_lasts : 1 ≤ length script → lasts ≡ h.ports
+    busy_lasts some = h.lasts_are ∙ ap (λ (ts : List SessionView). ts ++ h.ports) (none_left some)
+
+    pub lasts_count : length lasts ≡ sessions_for (length script)
+    lasts_count = by (cases_lt 0 (length script))
+      where
+        by : (0 < length script) ⊎ (length script ≤ 0) → length lasts ≡ sessions_for (length script)
+        by (inl some) =
+            let count : length lasts ≡ length script = ap (λ (ts : List SessionView). length ts) (busy_lasts some) ∙ ports_count in omega arith
+        by (inr none) = ap (λ (ts : List SessionView). length ts) (idle_last (omega arith)) ∙ firsts_count
+
+    -- a thread's session has its number for good
+    port_number : (k : ℕ) (t : SessionView) → slice_get h.ports k ≡ Some t → t.worker.number ≡ k
+    port_number k t there =
+        let at = each_at (WasRun h.ran.told) script records.threads (map port (take (length script) firsts)) (map port h.ports) h.ran.threads k (port t)
+        (get_mapped port h.ports k t there) in
+        ap (λ (o : Option Footing). option_map_or (λ (f : Footing). f.seat) o 0) at.holds.target.footing ∙ seat at.old k at.old_at
+      where
+        seat : (old : ModelPort) (j : ℕ) → slice_get (map port (take (length script) firsts)) j ≡ Some old
+            → option_map_or (λ (f : Footing). f.seat) old.footing 0 ≡ j
+        seat old j is =
+            let was = mapped_at port (take (length script) firsts) j old is in
+            ap (λ (p : ModelPort). option_map_or (λ (f : Footing). f.seat) p.footing 0) (sym was.2)
+            ∙ first_numbered j was.0 (get_whole (length script) firsts j was.0 was.1)
+
+    pub numbered : AreNumbered lasts
+    numbered k t there = by (cases_lt 0 (length script))
+      where
+        by : (0 < length script) ⊎ (length script ≤ 0) → t.worker.number ≡ k
+        by (inl some) = port_number k t (ap (λ (ts : List SessionView). slice_get ts k) (sym (busy_lasts some)) ∙ there)
+        by (inr none) = first_numbered k t (ap (λ (ts : List SessionView). slice_get ts k) (sym (idle_last (omega arith))) ∙ there)
+
+  -- Whether they were run or not, there are as many, with their numbers.
+  pub over_count : {E : Type 0} (r : Result Records E) (lasts : List SessionView) → IfOk r (λ records. HaveRun past key handed wear script records lasts)
+      → IfErr r (λ _. lasts ≡ first_sessions past key (sessions_for (length script))) → length lasts ≡ sessions_for (length script)
+  over_count (Ok records) lasts ran none = lasts_count records lasts ran
+  over_count (Err e) lasts ran none = ap (λ (ts : List SessionView). length ts) none ∙ firsts_count
+
+  pub over_numbered : {E : Type 0} (r : Result Records E) (lasts : List SessionView) → IfOk r (λ records. HaveRun past key handed wear script records lasts)
+      → IfErr r (λ _. lasts ≡ first_sessions past key (sessions_for (length script))) → AreNumbered lasts
+  over_numbered (Ok records) lasts ran none = numbered records lasts ran
+  over_numbered (Err e) lasts ran none = λ k t there. first_numbered k t (ap (λ (ts : List SessionView). slice_get ts k) (sym none) ∙ there)
+
+-- The workers besides.
+
+pub workers_count : (past : Past) (from count : ℕ) → length (first_workers past from count) ≡ count
+workers_count past from count = length-map (range_with_len from count) (first_worker past) ∙ length-range_with_len from count
+
+pub first_helped : (past : Past) (sessions helpers count : ℕ) → HaveHelped sessions helpers (first_workers past sessions count)
+first_helped past sessions helpers count = record {
+  numbers = λ k w there. ap (λ (v : WorkerView). v.number) (sym (row_at (first_worker past) count sessions k w there).1);
+  idle = λ k w there beyond. ap (λ (v : WorkerView). v.made) (sym (row_at (first_worker past) count sessions k w there).1);
+}
+
+pub helped_then : (sessions helpers : ℕ) (old new : List WorkerView) → HaveHelped sessions helpers old → HaveGoneOn helpers old new
+    → HaveHelped sessions helpers new
+helped_then sessions helpers old new h went = record {
+  numbers = λ k w there. let was = went.numbers k w there in was.2 ∙ h.numbers k was.0 was.1;
+  idle = λ k w there beyond. h.idle k w (went.others k w there beyond) beyond;
+}
+
+pub few_helpers : (lanes : ℕ) (collector : Bool) → helpers_for lanes collector ≤ lanes + 1
+few_helpers lanes false = omega arith
+few_helpers lanes true = omega arith
+
+-- a session for each thread, and one at least
+pub some_session : (threads : ℕ) → 1 ≤ sessions_for threads
+some_session zero = omega arith
+some_session (suc n) = omega arith
+
+pub enough_sessions : (threads : ℕ) → threads ≤ sessions_for threads
+enough_sessions zero = omega arith
+enough_sessions (suc n) = omega arith
+
+-- As many ports come back as there are threads.
+pub many_back : (script : List (List Command)) (records : Records) (olds : List ModelPort) (ports : List SessionView) (model : SessionView → ModelPort)
+    → WereRun script records olds (map model ports) → length ports ≡ length script
+many_back script records olds ports model ran =
+    sym (length-map ports model) ∙ each_many (WasRun ran.told) script records.threads olds (map model ports) ran.threads

@@ -59,7 +59,7 @@ none_refused i w (a ∷ worns) is room left far few are = absurd (one are.0.0 a.
 module _ (found left : Drive) (options : RunOptions) (commands : List (List Command)) (t : Transcript)
     (world : IsWorldBetween found left options commands t)
     (relation : IsSealed (image_of found) → IsRun found.sector commands (contents (image_of found)) t (contents (image_of left)))
-    (few : length commands ≤ 1) (capacity : ℕ) (fits : ScriptFits capacity commands) (fine : HasNoFailures (log_of world.world)) (named : events t ≡ [])
+    (capacity : ℕ) (fits : ScriptFits capacity commands) (fine : HasNoFailures (log_of world.world)) (named : events t ≡ [])
     (tidy : IsTidy (image_of found)) (small : HasSmallNumbers (image_of left)) where
   abbrev i : Image
   i = image_of found
@@ -131,6 +131,6 @@ module _ (found left : Drive) (options : RunOptions) (commands : List (List Comm
     status = status_zero commands t named refused;
     closed = closed commands t named refused;
     kept = (relation tidy.sealed).closed (closed commands t named refused);
-    written = contents_of found.sector commands (contents i) (contents (image_of left)) t few (relation tidy.sealed) named refused;
+    written = λ apart. contents_of found.sector commands (contents i) (contents (image_of left)) t apart (relation tidy.sealed) named refused;
     tidy = subst IsTidy (sym world.media_are) (left_tidy i w world.legal some fine tidy not_due);
   }

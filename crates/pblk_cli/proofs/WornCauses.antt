@@ -1,12 +1,8 @@
 -- The `worn` lines of a transcript are what its port answered for want of room, and what its close
 -- answered.
-use Rattle.std.proofs.Common.{◌≡◌, ℕ, ◌+◌, List, [], ◌∷◌, ◌++◌, length, map, Result, Ok, Err, refl, sym, ap, ap₂, ◌∙◌}
-use Rattle.std.specs.List.{flat_map}
-use Rattle.std.proofs.lemmas.List.{append-nil}
+use Rattle.std.proofs.Common.{◌≡◌, ℕ, ◌+◌, List, [], ◌∷◌, ◌++◌, map, Result, Ok, Err, refl, ap, ap₂, ◌∙◌}
 use Rattle.pblk_model.specs.declared.script.Command.{Command}
 use Rattle.pblk_model.specs.declared.script.Command.TheVariants.{Write, Read, Flush, Post, Await}
-use Rattle.block_port.specs.declared.rows.WornAnswer.{WornAnswer}
-use Rattle.block_port.specs.Own.{OwnWrite, lines_of}
 use Rattle.block_port.specs.Port.{ModelPort}
 use Rattle.pblk_engine.specs.declared.errors.SettleErr.{SettleErr}
 use Rattle.pblk_engine.specs.declared.errors.SettleErr.TheVariants as settle
@@ -16,7 +12,6 @@ use Rattle.run_threads.specs.declared.records.Answer.TheVariants.{Placed, Words,
 use Rattle.run_threads.specs.declared.records.Trouble.TheVariants.{Drive, Worn}
 use Rattle.run_threads.specs.Run as run
 use Rattle.run_threads.specs.Run.{Runs, Says, worns_in}
-use Rattle.run_threads.proofs.RunLemmas.{run_worns}
 use Rattle.run_report.specs.Report.{closing_of, outcome_of}
 use Rattle.pblk_cli.specs.Serving.{trouble_of}
 use Rattle.pblk_cli.specs.Worn.{asked_by, closing_worn, thread_worns, worn_of, written_of}
@@ -41,7 +36,7 @@ one_written told old (Write lba count tag) (Refused (Drive unit event)) new h = 
 one_written told old (Write lba count tag) (Refused (Worn wanted have)) new h = refl
 one_written told old c a new h = refl
 
-thread_worn : (told : List ℕ → ℕ) (written : ℕ) (cs : List Command) (rows : List Answer) (old new : ModelPort) → Runs told old cs rows new
+pub thread_worn : (told : List ℕ → ℕ) (written : ℕ) (cs : List Command) (rows : List Answer) (old new : ModelPort) → Runs told old cs rows new
     → thread_worns written cs (map outcome_of rows) ≡ worns_in written cs rows
 thread_worn told written [] [] old new h = refl
 thread_worn told written [] (a ∷ rows) old new h = absurd h
@@ -51,24 +46,7 @@ thread_worn told written (c ∷ cs) (a ∷ rows) old new h =
     (ap (λ n. thread_worns (written + n) cs (map outcome_of rows)) (one_written told old c a h.0 h.1.says)
     ∙ thread_worn told (written + run.written_of c a) cs rows h.0 new h.2)
 
-close_worn : (written : ℕ) (settled : Result Unit SettleErr) → close_worns written settled ≡ closing_worn written (closing_of (trouble_of settled))
+pub close_worn : (written : ℕ) (settled : Result Unit SettleErr) → close_worns written settled ≡ closing_worn written (closing_of (trouble_of settled))
 close_worn written (Ok x) = refl
 close_worn written (Err (settle.Drive unit event)) = refl
 close_worn written (Err (settle.Worn wanted have)) = refl
-
--- of one thread through one port that had written nothing, and of its close, after so many sectors
-pub one_worns : (told : List ℕ → ℕ) (commands : List Command) (answers : List Answer) (old new : ModelPort) (settled : Result Unit SettleErr) (written : ℕ)
-    → Runs told old commands answers new → old.worns ≡ [] → old.own ≡ [] → written ≡ length (flat_map lines_of new.own)
-    → new.worns ++ close_worns (length (flat_map lines_of new.own)) settled
-    ≡ (thread_worns 0 commands (map outcome_of answers) ++ []) ++ closing_worn written (closing_of (trouble_of settled))
-one_worns told commands answers old new settled written ran calm unwritten same =
-    let none : length (flat_map lines_of old.own) ≡ 0 = ap (λ (ws : List OwnWrite). length (flat_map lines_of ws)) unwritten in
-    ap₂ (λ xs ys. xs ++ ys)
-    (run_worns told commands answers old new ran ∙ ap₂ (λ xs n. xs ++ worns_in n commands answers) calm none
-    ∙ sym (thread_worn told 0 commands answers old new ran) ∙ sym (append-nil (thread_worns 0 commands (map outcome_of answers))))
-    (ap (λ n. close_worns n settled) (sym same) ∙ close_worn written settled)
-
--- and of no thread
-pub no_worns : (worns : List WornAnswer) (own : List OwnWrite) (settled : Result Unit SettleErr) → worns ≡ [] → own ≡ []
-    → worns ++ close_worns (length (flat_map lines_of own)) settled ≡ closing_worn 0 (closing_of (trouble_of settled))
-no_worns worns own settled calm unwritten = rw (calm, unwritten) (close_worn 0 settled)

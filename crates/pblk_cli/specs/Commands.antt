@@ -1,9 +1,9 @@
 -- What each command comes to, by the files before and after: a text, or a refusal with its cause.
 -- No other ending is left.
-use Rattle.std.specs.Prelude.{ℕ, ◌≤◌, ◌≡◌, ◌⊎◌, false, List, [], map, length, Some, None, Err}
+use Rattle.std.specs.Prelude.{ℕ, ◌≤◌, ◌≡◌, ◌⊎◌, ⊤, false, List, [], map, length, Some, None, Err}
 use Rattle.pblk_outside.specs.Files.{FilesView}
 use Rattle.pblk_model.specs.declared.script.Command.{Command}
-use Rattle.command_words.specs.Grammar.{CommandLine, Create, Geometry, Show, Report, Run, IsCommandLine, RunOptions}
+use Rattle.command_words.specs.Grammar.{CommandLine, Create, Geometry, Show, Report, Run, IsCommandLine, RunOptions, helpers_of}
 use Rattle.pblk_model.specs.CommandText.{CreateNumbers, created_refusal, created_drive, created_text, geometry_text, words_line}
 use Rattle.pblk_model.specs.Contents.{contents, end}
 use Rattle.pblk_model.specs.History.{users}
@@ -30,7 +30,7 @@ use Rattle.pblk_cli.specs.Status.{status_of_run}
 use Rattle.pblk_cli.specs.Stops.{AreAllTold, AreNames, AreOutcomesBy, HasBegun, fuse_on}
 use Rattle.pblk_cli.specs.Synced.{AreFlushesSynced, IsAllSynced}
 use Rattle.pblk_cli.specs.Worn.{AreRefusedIn}
-use Rattle.pblk_cli.specs.Telling.{Call, Image, Script, ScriptUnbuilt, Failed, Missing, Memory, Ending, Gives, Refuses, Tells, Holds, IsThere, AreUntouched, Stores, FailsReading, IsMissing, FailsWriting}
+use Rattle.pblk_cli.specs.Telling.{Call, Image, Script, Failed, Missing, Memory, Ending, Gives, Refuses, Tells, Holds, IsThere, AreUntouched, Stores, FailsReading, IsMissing, FailsWriting}
 
 -- Creating.
 
@@ -83,7 +83,6 @@ pub record RunInput (image script : List ℕ) (files : FilesView) : Type 0 where
   pub script_read : Holds script script_bytes files
   pub commands : List (List Command)
   pub commands_are : IsScript drive.capacity script_bytes commands
-  pub one : length commands ≤ 1
 
 -- the geometry, the settings and the wear indices of one drive are those of another
 pub record SameNumbers (old new : Drive) : Type 0 where
@@ -112,8 +111,9 @@ pub record IsWorldBetween (found left : Drive) (options : RunOptions) (commands 
   -- Each `e` line names an event of its own in it: a command that was stopped, or a fetch that failed.
   pub named : AreNames (image_of found) (log_of world) (events t)
   -- The lines of the opening, of each thread and of the close leave out no such command of theirs, and
-  -- name them in the order of the world's steps.
-  pub lost : AreAllTold (length commands) (λ unit. 0) world t
+  -- name them in the order of the world's steps. Nobody else lost a command but the lanes and the
+  -- collector that the run was told of.
+  pub lost : AreAllTold (length commands) (helpers_of options) (λ unit. 0) world t
   -- Each answer for want of room was given at a length of the engine's log at which the target was at
   -- rest. These lengths never fall from one answer of a thread to the next, and the close comes last.
   -- What the thread had written is at most what users' writes took by then, and just that where the
@@ -180,6 +180,14 @@ pub record RunMade (image script : List ℕ) (options : RunOptions) (status : �
   pub status_is : status ≡ status_of_run run.transcript
   pub stored : Stores image (image_bytes left) old new
 
+-- a run has as many lanes as the option may say
+abbrev pub HasFewLanes : CommandLine → Type 0
+HasFewLanes (Create image numbers) = ⊤
+HasFewLanes (Geometry image) = ⊤
+HasFewLanes (Show image) = ⊤
+HasFewLanes (Report image) = ⊤
+HasFewLanes (Run image script options) = options.lanes ≤ 8
+
 abbrev pub RunComesTo : List ℕ → List ℕ → RunOptions → Ending → FilesView → FilesView → Type 0
 RunComesTo image script options (Gives status text) old new = RunMade image script options status text old new
 -- both files were read, and the image is refused
@@ -188,9 +196,6 @@ RunComesTo image script options (Refuses (Image e)) old new = (bytes : List ℕ)
 -- the image is accepted, and the script is refused
 RunComesTo image script options (Refuses (Script e)) old new = (d : Drive) × IsDriveOf image old d
     × (bytes : List ℕ) × Holds script bytes old × (read_script d.capacity bytes ≡ Err e) × AreUntouched old new
--- both are accepted, and the script has a second thread
-RunComesTo image script options (Refuses ScriptUnbuilt) old new = (d : Drive) × IsDriveOf image old d
-    × (bytes : List ℕ) × Holds script bytes old × (commands : List (List Command)) × IsScript d.capacity bytes commands × (2 ≤ length commands) × AreUntouched old new
 -- the image, or, where it is there, the script could not be read; or all was made, and the image
 -- could not be written
 RunComesTo image script options (Refuses (Failed name)) old new = ((name ≡ image) × FailsReading image old new)

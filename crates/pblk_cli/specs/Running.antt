@@ -1,5 +1,5 @@
 -- What running the bytes of a script on the drive of an image comes to.
-use Rattle.std.specs.Prelude.{ℕ, ◌≤◌, ◌≡◌, ◌⊎◌, List, length, Err}
+use Rattle.std.specs.Prelude.{ℕ, ◌≡◌, ◌⊎◌, List, Err}
 use Rattle.command_words.specs.Grammar.{RunOptions}
 use Rattle.pblk_outside.specs.Files.{FilesView}
 use Rattle.pblk_model.specs.declared.script.Command.{Command}
@@ -13,7 +13,7 @@ use Rattle.pblk_model.specs.ScriptText.{IsScript, read_script}
 use Rattle.run_script.specs.Reading.{BeginsWell}
 use Rattle.pblk_cli.specs.Commands.{IsRunBetween}
 use Rattle.pblk_cli.specs.Status.{status_of_run}
-use Rattle.pblk_cli.specs.Telling.{Reason, Script, ScriptUnbuilt, Failed, Missing, Memory, IsThere, AreUntouched, FailsReading, IsMissing}
+use Rattle.pblk_cli.specs.Telling.{Reason, Script, Failed, Missing, Memory, IsThere, AreUntouched, FailsReading, IsMissing}
 
 -- one of both files could not be read, or there was no memory for their bytes
 abbrev pub CannotReadBoth : List ℕ → List ℕ → Reason → FilesView → FilesView → Type 0
@@ -42,13 +42,11 @@ pub record IsStored (left : DriveView) (commands : List (List Command)) (records
 pub record IsRunOfScript (found : Drive) (options : RunOptions) (script : List ℕ) (status : ℕ) (text bytes : List ℕ) : Type 0 where
   pub commands : List (List Command)
   pub commands_are : IsScript found.capacity script commands
-  pub one : length commands ≤ 1
   pub run : IsRunTo found options commands status text bytes
 
 -- They were refused for a drive of this capacity; or there was no memory to read them or to run
 -- them, and the first line that isn't skipped isn't refused.
 abbrev pub RefusesScript : ℕ → List ℕ → Reason → Type 0
 RefusesScript capacity script (Script e) = read_script capacity script ≡ Err e
-RefusesScript capacity script ScriptUnbuilt = (commands : List (List Command)) × IsScript capacity script commands × (2 ≤ length commands)
 RefusesScript capacity script Memory = BeginsWell capacity script
 RefusesScript capacity script reason = ⊥

@@ -1,7 +1,6 @@
 -- What running a script on a target over the units of a drive comes to.
-use Rattle.std.specs.Prelude.{ℕ, ◌<◌, ◌≤◌, ◌≡◌, ◌⊎◌, ⊤, true, false, List, [], ◌∷◌, ◌++◌, map, take, length, slice_get, Option, Some, None, Result, Ok, Err}
+use Rattle.std.specs.Prelude.{ℕ, ◌+◌, ◌<◌, ◌≤◌, ◌≡◌, ◌⊎◌, Bool, true, false, if◌then◌else◌, List, [], ◌++◌, map, max, take, drop, length, slice_get, Option, Some, None, Result, Ok, Err}
 use Rattle.std.specs.List.{AllByRecursion}
-use Rattle.pblk_model.specs.declared.found.Found.{Found}
 use Rattle.pblk_model.specs.declared.shape.Shape.{Shape}
 use Rattle.pblk_model.specs.declared.script.Command.{Command}
 use Rattle.pblk_model.specs.Contents.{contents, end}
@@ -27,28 +26,30 @@ use Rattle.ocssd_drive.specs.Outcomes.{AreEventsBy}
 use Rattle.ocssd_drive.specs.Units.{WornUnit, disarmed}
 use Rattle.scan_recovery.specs.DriveFaults.{NoDriveFaults, is_drive_fault}
 use Rattle.scan_recovery.specs.Units.{image_of, log_length}
-use Rattle.block_port.specs.Port.{IsSameTarget, ModelPort}
 use Rattle.pblk_world.specs.LegalMounts.{IsLegalMount}
 use Rattle.pblk_world.specs.Orders.{AreAfterResets, AreOpenedFull, NoneToFree, NoneWasLeft}
 use Rattle.pblk_world.specs.Reasons.{AreBegun, AreGranted, AreUrgent}
-use Rattle.scan_recovery.specs.Readying.{IsFoundAfter}
 use Rattle.write_ring.specs.declared.view.Key.{Key}
 use Rattle.chronicle.specs.Views.{Past}
-use Rattle.pblk_engine.specs.Beginnings.{opened_past}
 use Rattle.pblk_engine.specs.Workers.{WorkerView}
 use Rattle.pblk_engine.specs.declared.errors.SettleErr.{SettleErr}
 use Rattle.pblk_engine.specs.declared.errors.SettleErr.TheVariants as settle
+use Rattle.block_port.specs.Port.{ModelPort}
 use Rattle.block_target.specs.Closes.{IsClosed}
 use Rattle.block_target.specs.Sessions.{SessionView, device}
-use Rattle.block_target.specs.Targets.{TargetView, first_session, first_target, first_worker}
-use Rattle.run_threads.specs.declared.records.Answer.{Answer}
+use Rattle.block_target.specs.Opened.{CanOpen}
+use Rattle.block_target.specs.OpenedTargets.{IsOpenedOn, OpenedView}
+use Rattle.block_target.specs.Targets.{first_sessions}
 use Rattle.run_threads.specs.declared.records.Records.{Records}
 use Rattle.run_threads.specs.declared.records.Trouble.{Trouble}
 use Rattle.run_threads.specs.declared.records.Trouble.TheVariants.{Drive, Worn}
-use Rattle.run_threads.specs.Run.{Runs}
-use Rattle.run_report.specs.OnePort.{IsTrouble}
+use Rattle.run_threads.specs.Run.{WereRun}
+use Rattle.run_threads.specs.Threads.{HasWorked, IsPrepared}
+use Rattle.run_report.specs.Ports.{IsTrouble}
 use Rattle.run_report.specs.Recorded.{IsRecorded}
 use Rattle.run_report.specs.Report.{closing_of, opening_of, transcript_of}
+use Rattle.pblk_cli.specs.declared.serving.Task.{Task}
+use Rattle.pblk_cli.specs.declared.serving.Task.TheVariants.{Helpers, Threads}
 use Rattle.pblk_cli.specs.Stops.{AreAllTold, HasBegun, name_at}
 use Rattle.pblk_cli.specs.Synced.{AreFlushesSynced, IsAllSynced}
 use Rattle.pblk_cli.specs.Worn.{AreRefusedIn}
@@ -61,56 +62,80 @@ abbrev pub wear_of : List WornUnit → List (List ℕ)
 wear_of units = map (λ u. u.wear) units
 
 -- Units that come back: each in its place, and armed as it was. They fit the drive, and no wear
--- index has changed.
-pub record AreBack (s : Shape) (old new : List WornUnit) : Type 0 where
+-- index has changed. These are the units and their wear before and after.
+pub record AreBackAs (s : Shape) (old : List ModelUnit) (was : List (List ℕ)) (new : List ModelUnit) (now : List (List ℕ)) : Type 0 where
   pub count : length new ≡ length old
-  pub wear : wear_of new ≡ wear_of old
-  pub shapes : (number : ℕ) (u : ModelUnit) → slice_get (units_of new) number ≡ Some u → (u.shape ≡ s) × IsFitUnit u
-  pub arms : (number : ℕ) (u v : ModelUnit) → slice_get (units_of old) number ≡ Some u → slice_get (units_of new) number ≡ Some v
-      → v.armed ≡ u.armed
+  pub wear : now ≡ was
+  pub shapes : (number : ℕ) (u : ModelUnit) → slice_get new number ≡ Some u → (u.shape ≡ s) × IsFitUnit u
+  pub arms : (number : ℕ) (u v : ModelUnit) → slice_get old number ≡ Some u → slice_get new number ≡ Some v → v.armed ≡ u.armed
+
+-- the same of units in memory
+abbrev pub AreBack : Shape → List WornUnit → List WornUnit → Type 0
+AreBack s old new = AreBackAs s (units_of old) (wear_of old) (units_of new) (wear_of new)
 
 -- The target.
 
--- A mount has begun on these units, and this is what it is by name: what its logs began with, and
--- the units with their wear as they were handed in.
-pub record IsNewMount (s : Shape) (units : List WornUnit) (past : Past) (handed : List ModelUnit) (wear : List (List ℕ)) : Type 0 where
-  pub handed_are : handed ≡ units_of units
-  pub wear_is : wear ≡ wear_of units
-  -- its drive was made ready, where no command was lost, and this was found
-  pub ready : List ModelUnit
-  pub found : Found
-  pub is : IsFoundAfter s (units_of units) ready found
-  pub done : NoDriveFaults (units_of units) ready
-  pub past_is : past ≡ opened_past s (units_of units) ready found
+-- A drive was opened on these units, where no command was lost.
+pub record IsOpening (s : Shape) (old : List ModelUnit) (wear : List (List ℕ)) (v : OpenedView) : Type 0 where
+  pub opens : CanOpen s old
+  pub opened : IsOpenedOn s old wear v.sessions v.lanes v
+  pub done : NoDriveFaults old v.units
 
--- It has no lane and one session, which has done nothing yet. That has a share of the ring, and
--- there is a worker for a collector.
-pub record AreHandedOut (past : Past) (key : Key) (target : TargetView) (tickets : List SessionView) (workers : List WorkerView) : Type 0 where
-  pub target_is : target ≡ first_target key 1 1
-  pub tickets_are : tickets ≡ first_session past key 0 ∷ []
-  pub workers_are : workers ≡ first_worker past 1 ∷ []
+-- how many sessions a target has for so many threads: one at least, by which it is closed
+abbrev pub sessions_for : ℕ → ℕ
+sessions_for threads = max 1 threads
+
+-- how many workers are at work beside the sessions
+abbrev pub helpers_for : ℕ → Bool → ℕ
+helpers_for lanes collector = lanes + (if collector then 1 else 0)
 
 -- Sessions.
 
--- The thread of a script was run through a port; where the script has none the port is as it was.
-abbrev pub HasRun : List (List Command) → List (List Answer) → ModelPort → ModelPort → Type 0
-HasRun [] threads old new = (threads ≡ []) × (new ≡ old)
-HasRun (commands ∷ script) threads old new = (answers : List Answer) × (threads ≡ answers ∷ [])
-    × (told : List ℕ → ℕ) × Runs told old commands answers new
+-- The threads of a script were run, each by a session of its own, from the target's beginning on.
+-- The one session of a script without a thread has done nothing.
+pub record HaveRun (past : Past) (key : Key) (handed : List ModelUnit) (wear : List (List ℕ)) (script : List (List Command)) (records : Records)
+    (lasts : List SessionView) : Type 0 where
+  -- the threads' sessions, in the end
+  pub ports : List SessionView
+  pub ran : let firsts = first_sessions past key (sessions_for (length script)) in
+      WereRun script records (map (device past handed wear) (take (length script) firsts)) (map (device past handed wear) ports)
+  pub lasts_are : let firsts = first_sessions past key (sessions_for (length script)) in lasts ≡ drop (length script) firsts ++ ports
 
-pub record IsSession (script : List (List Command)) (old : ModelPort) (records : Records) (new : ModelPort) : Type 0 where
-  pub run : HasRun script records.threads old new
-  pub opened : records.opening ≡ None
+-- the sessions' workers have the first numbers, in their order
+abbrev pub AreNumbered : List SessionView → Type 0
+AreNumbered sessions = (k : ℕ) (t : SessionView) → slice_get sessions k ≡ Some t → t.worker.number ≡ k
 
--- the session's records, unless there was no memory for it
-abbrev pub IsSessionOf : {E : Type 0} → List (List Command) → ModelPort → Result Records E → ModelPort → Type 0
-IsSessionOf script old (Ok records) new = IsSession script old records new
-IsSessionOf script old (Err e) new = ⊤
+-- The workers besides have the next numbers. So many of them were at work, and the others have done
+-- nothing.
+pub record HaveHelped (sessions helpers : ℕ) (workers : List WorkerView) : Type 0 where
+  pub numbers : (k : ℕ) (w : WorkerView) → slice_get workers k ≡ Some w → w.number ≡ sessions + k
+  pub idle : (k : ℕ) (w : WorkerView) → slice_get workers k ≡ Some w → helpers ≤ k → w.made ≡ []
 
--- A session was run, or there was no memory for it; either way it is of the same target as before.
-pub record HasServed {E : Type 0} (script : List (List Command)) (old : ModelPort) (records : Result Records E) (new : ModelPort) : Type 0 where
-  pub session : IsSessionOf script old records new
-  pub same : IsSameTarget old new
+-- The first of these workers, so many, went on. Each keeps its number, and the others are as they were.
+pub record HaveGoneOn (helpers : ℕ) (old new : List WorkerView) : Type 0 where
+  pub count : length new ≡ length old
+  pub numbers : (k : ℕ) (w : WorkerView) → slice_get new k ≡ Some w → (was : WorkerView) × (slice_get old k ≡ Some was) × (w.number ≡ was.number)
+  pub others : (k : ℕ) (w : WorkerView) → slice_get new k ≡ Some w → helpers ≤ k → slice_get old k ≡ Some w
+
+-- What one thread has to do: the work of these helpers, one at least, or the threads of a script.
+abbrev pub CanWork : {M U : Type 0} → (SessionView → ModelPort) → ℕ → Task M U → Type 0
+CanWork model helpers (Helpers workers) = (0 < helpers) × (helpers ≤ length workers.items)
+CanWork model helpers (Threads prepared) = IsPrepared model prepared
+
+-- It did it.
+abbrev pub HasDone : {M U : Type 0} → (SessionView → ModelPort) → ℕ → Task M U → Task M U → Type 0
+HasDone model helpers (Helpers old) (Helpers new) = HaveGoneOn helpers old.items new.items
+HasDone model helpers (Helpers old) (Threads new) = ⊥
+HasDone model helpers (Threads old) (Helpers new) = ⊥
+HasDone model helpers (Threads old) (Threads new) = HasWorked model old new
+
+-- the same of some tasks
+abbrev pub CanAllWork : {M U : Type 0} → (SessionView → ModelPort) → ℕ → List (Task M U) → Type 0
+CanAllWork model helpers tasks = (i : ℕ) (t : _) → slice_get tasks i ≡ Some t → CanWork model helpers t
+
+pub record HaveAllDone {M U : Type 0} (model : SessionView → ModelPort) (helpers : ℕ) (olds news : List (Task M U)) : Type 0 where
+  pub count : length news ≡ length olds
+  pub done : (i : ℕ) (old new : _) → slice_get olds i ≡ Some old → slice_get news i ≡ Some new → HasDone model helpers old new
 
 -- the trouble that a close met, by its answer
 abbrev pub trouble_of : Result Unit SettleErr → Option Trouble
@@ -118,39 +143,37 @@ trouble_of (Ok x) = None
 trouble_of (Err (settle.Worn wanted have)) = Some (Worn wanted have)
 trouble_of (Err (settle.Drive unit event)) = Some (Drive unit event)
 
--- The target of a session was closed, and these units came back. Nobody had the other worker that
--- was handed out.
-pub record IsBroughtBack (past : Past) (key : Key) (handed : List ModelUnit) (wear : List (List ℕ)) (last : SessionView) (units : List WornUnit) : Type 0 where
-  pub settled : Result Unit SettleErr
-  pub closed : IsClosed past key handed wear (last ∷ []) (first_worker past 1 ∷ []) settled (units_of units) (wear_of units)
-  pub trouble : IsTrouble (trouble_of settled)
-
 -- these records, with what the close met
 abbrev pub with_closing : Records → Result Unit SettleErr → Records
 with_closing records settled = record { threads = records.threads; opening = records.opening; closing = trouble_of settled }
 
--- What the close makes of records, or of want of memory.
-abbrev pub Closes : {E : Type 0} → Result Records E → Result Unit SettleErr → Result Records E → Type 0
-Closes (Ok before) settled (Ok after) = after ≡ with_closing before settled
-Closes (Ok before) settled (Err e) = ⊥
-Closes (Err e) settled (Ok after) = ⊥
-Closes (Err e) settled (Err f) = ⊤
+-- A target was closed, by these sessions and workers, with this answer, and these units came back.
+pub record IsBroughtBack (past : Past) (key : Key) (handed : List ModelUnit) (wear : List (List ℕ)) (lasts : List SessionView) (workers : List WorkerView)
+    (settled : Result Unit SettleErr) (units : List ModelUnit) (worn : List (List ℕ)) : Type 0 where
+  pub closed : IsClosed past key handed wear lasts workers settled units worn
+  pub trouble : IsTrouble (trouble_of settled)
 
--- A session was run on a target from its beginning on, or there was no memory for it; and the
+-- A target was closed, whatever its sessions and workers had done.
+pub record IsOver (past : Past) (key : Key) (handed : List ModelUnit) (wear : List (List ℕ)) (units : List ModelUnit) (worn : List (List ℕ)) : Type 0 where
+  pub lasts : List SessionView
+  pub workers : List WorkerView
+  pub settled : Result Unit SettleErr
+  pub closed : IsClosed past key handed wear lasts workers settled units worn
+
+-- The threads of a script were run by the sessions of a new target beside so many helpers, and the
 -- target was closed.
-pub record IsServedOn {E : Type 0} (past : Past) (key : Key) (handed : List ModelUnit) (wear : List (List ℕ))
-    (script : List (List Command)) (units : List WornUnit) (records : Result Records E) : Type 0 where
-  pub last : SessionView
-  pub before : Result Records E
-  pub served : HasServed script (device past handed wear (first_session past key 0)) before (device past handed wear last)
-  pub closed : IsBroughtBack past key handed wear last units
-  pub closes : Closes before closed.settled records
-
--- Units came back as opening left them, without their target: there was no memory for it.
-pub record AreNotServed {E : Type 0} (left : List ModelUnit) (wear : List (List ℕ)) (units : List WornUnit) (records : Result Records E) : Type 0 where
-  pub units_are : units_of units ≡ left
-  pub wear_is : wear_of units ≡ wear
-  pub none : (r : Records) → records ≡ Ok r → ⊥
+pub record IsServedOn (past : Past) (key : Key) (handed : List ModelUnit) (wear : List (List ℕ)) (script : List (List Command)) (lanes helpers : ℕ)
+    (units : List ModelUnit) (worn : List (List ℕ)) (records : Records) : Type 0 where
+  pub before : Records
+  pub lasts : List SessionView
+  pub ran : HaveRun past key handed wear script before lasts
+  pub count : length lasts ≡ sessions_for (length script)
+  pub workers : List WorkerView
+  pub workers_count : length workers ≡ lanes + 1
+  pub helped : HaveHelped (sessions_for (length script)) helpers workers
+  pub settled : Result Unit SettleErr
+  pub back : IsBroughtBack past key handed wear lasts workers settled units worn
+  pub records_are : records ≡ with_closing before settled
 
 -- What was done.
 
@@ -187,7 +210,7 @@ pub record AreNewDriveFaults (handed units : List ModelUnit) (names : List (ℕ 
 
 -- A script was run on units with this image, or their target answered an event as it was opened.
 -- What was done is a world.
-pub record IsServing (i : Image) (handed units : List ModelUnit) (script : List (List Command)) (records : Records) (w : World) : Type 0 where
+pub record IsServing (i : Image) (handed units : List ModelUnit) (script : List (List Command)) (helpers : ℕ) (records : Records) (w : World) : Type 0 where
   pub legal : IsLegalMount i w
   -- The mount has begun in it, unless opening answered an event.
   pub has_begun : HasBegun (opening_of records.opening) (begun (log_of w 0))
@@ -199,7 +222,7 @@ pub record IsServing (i : Image) (handed units : List ModelUnit) (script : List 
   pub named : AreNewDriveFaults handed units (events (transcript_by script records i (log_of w)))
   -- Of the opening's commands, of each thread's and of the close's, none that was stopped and no fetch
   -- that failed is left out, and they are named in the order of the world's steps.
-  pub lost : AreAllTold (length script) (log_length handed) w (transcript_by script records i (log_of w))
+  pub lost : AreAllTold (length script) helpers (log_length handed) w (transcript_by script records i (log_of w))
   -- Its history is the transcript's.
   pub history_is : history (log_of w 0) ≡ sector_writes i.shape.sector (transcript_by script records i (log_of w)).history
   -- The target was at rest at each answer for want of room.
@@ -232,9 +255,9 @@ pub record IsServing (i : Image) (handed units : List ModelUnit) (script : List 
       IsRun i.shape.sector script start t (after start (sector_writes i.shape.sector (take t.kept t.history)))
 
 -- the same on the units of a drive of this shape
-pub record IsServed (s : Shape) (script : List (List Command)) (old new : List WornUnit) (records : Records) : Type 0 where
+pub record IsServed (s : Shape) (script : List (List Command)) (helpers : ℕ) (old new : List ModelUnit) (records : Records) : Type 0 where
   pub world : World
-  pub serving : IsServing (image_of s (units_of old)) (units_of old) (units_of new) script records world
+  pub serving : IsServing (image_of s old) old new script helpers records world
 
 -- Drives.
 
@@ -267,9 +290,9 @@ pub record IsDriveLeft (found left : DriveView) : Type 0 where
   pub was : IsWhole found
   pub whole : IsWhole left
 
--- A script was run on a drive.
-pub record IsRan (found : DriveView) (script : List (List Command)) (left : DriveView) (records : Records) : Type 0 where
+-- A script was run on a drive, beside so many lanes and collectors.
+pub record IsRan (found : DriveView) (script : List (List Command)) (helpers : ℕ) (left : DriveView) (records : Records) : Type 0 where
   pub world : World
-  pub serving : IsServing (image_file.image_of (stored found)) (units_of found.units) (units_of left.units) script records world
+  pub serving : IsServing (image_file.image_of (stored found)) (units_of found.units) (units_of left.units) script helpers records world
   pub by_arms : DidByArms found.units left.units
   pub drive : IsDriveLeft found left

@@ -75,16 +75,18 @@ names_after before places = map (λ place. name_at (place.0, before place.0 + pl
 abbrev pub thread_events : Transcript → ℕ → List (ℕ × ℕ)
 thread_events t thread = flat_map outcome_event (unwrap_or (slice_get t.outcomes thread) [])
 
--- No command that was lost is left out. Those of a worker, in the order of the world's steps, are
--- the ones that its lines name, in their order: the opening's by the line of the opening, and a
--- thread's by its lines. Worker 0, which is the first thread's where there is one, makes the close,
--- too, whose line comes last. There is no other worker that lost a command.
-pub record AreAllTold (threads : ℕ) (before : ℕ → ℕ) (w : World) (t : Transcript) : Type 0 where
+-- No command that was lost is left out, but for those of lanes and of a collector, of which no line
+-- tells. Those of a worker, in the order of the world's steps, are the ones that its lines name, in
+-- their order: the opening's by the line of the opening, and a thread's by its lines. Worker 0, which
+-- is the first thread's where there is one, makes the close, too, whose line comes last. Lanes and a
+-- collector, of which there are so many, have the numbers behind the threads'. There is no other
+-- worker that lost a command.
+pub record AreAllTold (threads helpers : ℕ) (before : ℕ → ℕ) (w : World) (t : Transcript) : Type 0 where
   pub opening : names_after before (drive_faults_of opening_worker w) ≡ opening_event t.opening
   pub first : names_after before (drive_faults_of 0 w) ≡ thread_events t 0 ++ closing_event t.closing
   pub others : (thread : ℕ) → 0 < thread → thread < threads
       → names_after before (drive_faults_of thread w) ≡ thread_events t thread
-  pub alone : (worker : ℕ) → max 1 threads ≤ worker → worker ≢ opening_worker
+  pub alone : (worker : ℕ) → max 1 threads + helpers ≤ worker → worker ≢ opening_worker
       → drive_faults_of worker w ≡ []
 
 -- Each of these names is of such an event, and no two are of the same.

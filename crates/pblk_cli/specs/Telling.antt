@@ -1,5 +1,5 @@
 -- A call of the program: what it comes to, what it tells of that, and what it is told of files.
-use Rattle.std.specs.Prelude.{ℕ, ◌≡◌, ◌⊎◌, ◌++◌, IsTrue, List, Some, codes}
+use Rattle.std.specs.Prelude.{ℕ, ◌≡◌, ◌⊎◌, ◌++◌, IsTrue, List, Some}
 use Rattle.pblk_outside.specs.declared.file_fault.FileCall.TheVariants as calls
 use Rattle.pblk_outside.specs.Faults.{HasRisen}
 use Rattle.pblk_outside.specs.Files.{FilesView, AddsFault, IsCalm, SameFiles, SameOthers, TellsMissing}
@@ -7,7 +7,6 @@ use Rattle.pblk_outside.specs.Sink.{SinkView, TakesPrefix}
 use Rattle.pblk_model.specs.declared.image.ImageErr.{ImageErr}
 use Rattle.pblk_model.specs.declared.script.ScriptErr.{ScriptErr}
 use Rattle.pblk_model.specs.CommandText.{image_line, script_line, failed_line, missing_line, memory_line}
-use Rattle.pblk_model.specs.Text.{newline}
 use Rattle.command_text.specs.Says.{Says}
 
 -- A call: the status that it answered, and the files and the output before and after.
@@ -23,8 +22,6 @@ pub data Reason : Type 0 where
   -- the image, or what it is to be made of
   Image : ImageErr → Reason
   Script : ScriptErr → Reason
-  -- a script that `run` doesn't take so far: it has a second thread
-  ScriptUnbuilt : Reason
   -- a file, by its name, could not be read or written
   Failed : List ℕ → Reason
   -- it isn't there
@@ -39,7 +36,6 @@ pub data Ending : Type 0 where
 abbrev pub status_of : Reason → ℕ
 status_of (Image e) = 3
 status_of (Script e) = 2
-status_of ScriptUnbuilt = 2
 status_of (Failed name) = 4
 status_of (Missing name) = 4
 status_of Memory = 7
@@ -47,7 +43,6 @@ status_of Memory = 7
 abbrev pub line_of : Reason → List ℕ
 line_of (Image e) = image_line e
 line_of (Script e) = script_line e
-line_of ScriptUnbuilt = codes "script Unbuilt" ++ newline
 line_of (Failed name) = failed_line name
 line_of (Missing name) = missing_line name
 line_of Memory = memory_line

@@ -1,7 +1,5 @@
 //! The program behind the command `pblk`: it reads its words, makes images (`create`), tells their
 //! numbers (`geometry`) and what they hold (`show` and `report`), and runs scripts on them (`run`).
-//!
-//! So far `run` takes scripts of one thread.
 #![tactic(auto)]
 
 mod create;
@@ -13,7 +11,7 @@ mod main_call;
 mod output;
 mod refusal;
 mod run;
-mod serve;
+mod serving;
 mod show;
 mod status;
 
@@ -26,3 +24,4 @@ pub use laws::{
     the_first_run_is_on_the_drive_made, the_next_run_is_on_the_drive_left,
 };
 pub use main_call::{pblk_main, pblk_program};
+pub use serving::serve;

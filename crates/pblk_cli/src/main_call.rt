@@ -3,7 +3,7 @@
 ghost use Rattle.std.specs.Prelude.{◌≡◌, ◌≤◌, map, string_bytes};
 ghost use Rattle.std.specs.Process.{exit_status};
 ghost use Rattle.command_words.specs.Words.{seen};
-ghost use Rattle.pblk_cli.specs.Commands.{CallEnds, ComesTo};
+ghost use Rattle.pblk_cli.specs.Commands.{CallEnds, ComesTo, HasFewLanes};
 ghost use Rattle.pblk_cli.specs.Endings.{ending_of};
 ghost use Rattle.pblk_cli.specs.Program.{ProgramEnds};
 
@@ -19,6 +19,7 @@ use pblk_outside::{Files, Sink, WordsErr};
 use std::alloc::Global;
 use std::process::ExitCode;
 use std::sync::Wait;
+use std::thread::Threads;
 
 /// Runs the command that the words are, and answers its status.
 ///
@@ -26,7 +27,7 @@ use std::sync::Wait;
 /// |---|---|
 /// | 0 | the command did all its work, and its text was written |
 /// | 1 | the words are no command |
-/// | 2 | the script is refused, or has a second thread |
+/// | 2 | the script is refused |
 /// | 3 | the image is refused, or what `create` is to make |
 /// | 4 | a file could not be read or written, or isn't there |
 /// | 5 | a run's text has an `e` line, which names an event of a unit; the text was written |
@@ -47,9 +48,9 @@ use std::sync::Wait;
 ///
 /// Over a tidy image a run in which no command fails, and whose text names no event of a unit, does
 /// all that its script says, and its text has no line of an error, as long as the numbers of the
-/// image left are far from their ends. So does one that is told of no stop and of no plan. The image
-/// left is tidy again, and the one that `create` makes is tidy.
-pub fn pblk_main<R: Wait, F: Files, O: Sink>(
+/// image left are far from their ends. So does one that is told of no stop and of no plan. The
+/// image left is tidy again, and the one that `create` makes is tidy.
+pub fn pblk_main<R: Threads + Wait + Sync, F: Files, O: Sink>(
     rt: &R,
     alloc: Global,
     words: &[String],
@@ -78,12 +79,13 @@ pub fn pblk_main<R: Wait, F: Files, O: Sink>(
 }
 
 // What a command comes to.
-fn do_command<'a, R: Wait, F: Files>(
+fn do_command<'a, R: Threads + Wait + Sync, F: Files>(
     rt: &R,
     alloc: Global,
     command: CommandLine<'a>,
     files: &mut F,
 ) -> Result<Output, Refusal<'a>>
+    requires few_lanes { HasFewLanes (seen command) }
     ensures comes { ComesTo (seen command.entry) (ending_of result)
         (F.view files.old) (F.view files.new) }
     ensures told { (F.view files.new).told ≡ (F.view files.old).told }
@@ -104,7 +106,7 @@ fn do_command<'a, R: Wait, F: Files>(
 /// Runs the command that the words are, as `pblk_main` does, and gives its status as the program's
 /// exit code. Words that could not be had are answered here: 1 where one is no text, and 7 for want
 /// of memory, each with its line.
-pub fn pblk_program<R: Wait, F: Files, O: Sink>(
+pub fn pblk_program<R: Threads + Wait + Sync, F: Files, O: Sink>(
     rt: &R,
     alloc: Global,
     words: Result<Vec<String>, WordsErr>,

@@ -18,8 +18,6 @@ pub(crate) enum Refusal<'a> {
     Image(ImageErr),
     /// The script is refused.
     Script(ScriptErr),
-    /// The script isn't one that `run` takes so far: it has a second thread.
-    ScriptUnbuilt,
     /// The file of this name could not be read or written.
     Failed(&'a str),
     /// The file of this name isn't there.
@@ -50,7 +48,7 @@ impl Refusal<'_> {
         ensures { result ≡ status_of (reason_of self.entry) }
     {
         match self {
-            Refusal::Script(_) | Refusal::ScriptUnbuilt => 2,
+            Refusal::Script(_) => 2,
             Refusal::Image(_) => 3,
             Refusal::Failed(_) | Refusal::Missing(_) => 4,
             Refusal::Memory => 7,
@@ -68,7 +66,6 @@ impl Refusal<'_> {
         match self {
             Refusal::Image(e) => tell_image(out, &e),
             Refusal::Script(e) => tell_script(out, &e),
-            Refusal::ScriptUnbuilt => tell(out, &[b"script Unbuilt\n"]),
             Refusal::Failed(name) => tell_failed(out, name),
             Refusal::Missing(name) => tell_missing(out, name),
             Refusal::Memory => tell_memory(out),

@@ -1,6 +1,6 @@
 //! `run`: a script on the drive of an image.
 
-ghost use Rattle.std.specs.Prelude.{◌≡◌, ◌≤◌, IfOk, IfErr, length};
+ghost use Rattle.std.specs.Prelude.{◌≡◌, ◌≤◌, IfOk, IfErr};
 ghost use Rattle.pblk_model.specs.Contents.{end};
 ghost use Rattle.pblk_model.specs.ImageFile.{image_of};
 ghost use Rattle.pblk_model.specs.Script.{NeverStuck, ScriptFits};
@@ -31,10 +31,11 @@ use run_threads::Records;
 use scan_recovery::summary;
 use std::alloc::{AllocError, Global};
 use std::sync::Wait;
+use std::thread::Threads;
 
 /// Reads an image and a script, runs the script on the image's drive, stores the drive under the
 /// image's name, and gives the transcript.
-pub(crate) fn run<'a, R: Wait, F: Files>(
+pub(crate) fn run<'a, R: Threads + Wait + Sync, F: Files>(
     rt: &R,
     alloc: Global,
     image: &'a str,
@@ -42,6 +43,7 @@ pub(crate) fn run<'a, R: Wait, F: Files>(
     options: &RunOptions,
     files: &mut F,
 ) -> Result<Output, Refusal<'a>>
+    requires few_lanes { options.now.lanes ≤ 8 }
     ensures comes { RunComesTo image.now script.now (options_seen options.now) (ending_of result)
         (F.view files.old) (F.view files.new) }
     ensures told { (F.view files.new).told ≡ (F.view files.old).told }
@@ -93,7 +95,7 @@ fn read_both<'a, F: Files>(
 
 // Reads the script that these bytes are and runs it, with these options: the bytes of the image
 // afterwards, and the status and the text of the transcript.
-fn read_and_run<'a, R: Wait>(
+fn read_and_run<'a, R: Threads + Wait + Sync>(
     rt: &R,
     alloc: Global,
     drive: Drive,
@@ -101,6 +103,7 @@ fn read_and_run<'a, R: Wait>(
     script: &[u8],
 ) -> Result<(Vec<u8>, Output), Refusal<'a>>
     requires quiet { IsQuiet drive }
+    requires few_lanes { options.now.lanes ≤ 8 }
     ensures run { IfOk result (λ made. IsRunOfScript (stored drive) (options_seen options.now)
         script.now made.1.status made.1.text.items made.0.items) }
     ensures refused { IfErr result (λ refusal.
@@ -110,10 +113,6 @@ fn read_and_run<'a, R: Wait>(
         Ok(script) => script,
         Err(e) => return Err(script_refusal_of(e)),
     };
-    let threads = script.as_slice().len();
-    if threads > 1 {
-        return Err(Refusal::ScriptUnbuilt);
-    }
     match run_and_store(rt, alloc, drive, options, &script) {
         Ok(made) => Ok(made),
         Err(_) => Err(Refusal::Memory),
@@ -131,9 +130,9 @@ fn script_refusal_of<'a>(e: ScriptErr) -> Refusal<'a>
     }
 }
 
-// Runs a script of one thread at most on a drive whose commands fail and stop as the options say,
+// Runs a script on a drive whose commands fail and stop as the options say,
 // and makes what is stored and what is told.
-fn run_and_store<R: Wait>(
+fn run_and_store<R: Threads + Wait + Sync>(
     rt: &R,
     alloc: Global,
     mut drive: Drive,
@@ -141,14 +140,14 @@ fn run_and_store<R: Wait>(
     script: &Script,
 ) -> Result<(Vec<u8>, Output), AllocError>
     requires quiet { IsQuiet drive }
-    requires one { length script.now ≤ 1 }
     requires fits { ScriptFits drive.capacity script.now }
     requires flows { NeverStuck script.now }
+    requires few_lanes { options.now.lanes ≤ 8 }
     ensures { IfOk result (λ made. IsRunTo (stored drive) (options_seen options.now)
         script.now made.1.status made.1.text.items made.0.items) }
 {
     drive.arm(alloc, options.plans.as_slice(), options.stop)?;
-    match run_drive(rt, alloc, drive, script, 0, false) {
+    match run_drive(rt, alloc, drive, script, options.lanes, options.collector) {
         Ok((drive, records)) => store_run(alloc, drive, script, &records),
         Err((e, _)) => Err(e),
     }

@@ -31,7 +31,8 @@ pub(crate) fn show<'a, F: Files>(
     }
 }
 
-/// Reads an image and tells its numbers as one object of JSON: those of its chunks, and of what it holds.
+/// Reads an image and tells its numbers as one object of JSON: those of its chunks, and of what it
+/// holds.
 pub(crate) fn report_numbers<'a, F: Files>(
     alloc: Global,
     image: &'a str,

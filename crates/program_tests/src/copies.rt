@@ -8,6 +8,7 @@ use crate::stops::files_of;
 use std::alloc::{AllocError, Global};
 use std::sync::Wait;
 use std::test::Fail;
+use std::thread::Threads;
 
 // On each drive at least ten times as many sectors are written as there are.
 static LOADS: [Load; 4] = [
@@ -118,7 +119,7 @@ fn live_sectors_are_copied(rt: HostRuntime) -> Result<(), Fail> {
 
 // Stops at each program and reset of a unit, of which nothing, a half or all is done. Names what of
 // the first that doesn't go as told is wrong, if any, and which it is.
-fn wrong_stop<R: Wait>(
+fn wrong_stop<R: Threads + Wait + Sync>(
     rt: &R,
     alloc: Global,
     load: &Load,

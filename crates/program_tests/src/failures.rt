@@ -9,6 +9,7 @@ use crate::stops::{called, files_of, wrong_stop};
 use std::alloc::{AllocError, Global};
 use std::sync::Wait;
 use std::test::Fail;
+use std::thread::Threads;
 
 // A run on the blank small drive: its options, its script, what follows the history in its text,
 // and what the image holds then.
@@ -137,7 +138,7 @@ fn after<'a>(command: &'a str, name: &str) -> Option<(&'a str, &'a str)> {
 }
 
 // The name of what of it doesn't go as told, if anything.
-fn wrong_failure<R: Wait>(
+fn wrong_failure<R: Threads + Wait + Sync>(
     rt: &R,
     alloc: Global,
     failure: &Failure,
@@ -265,7 +266,7 @@ static KINDS: [(&str, &str, &[u8]); 3] = [("p", ":0", &[6]), ("f", "", &[5, 6]),
 
 // Runs a load with each of the first twelve commands of a kind of a unit failing. Gives what
 // doesn't go as told, if anything.
-fn wrong_kind<R: Wait>(
+fn wrong_kind<R: Threads + Wait + Sync>(
     rt: &R,
     alloc: Global,
     load: &Load,
@@ -287,7 +288,11 @@ fn wrong_kind<R: Wait>(
 }
 
 // The same of each kind and each unit.
-fn wrong_load<R: Wait>(rt: &R, alloc: Global, load: &Load) -> Result<String, AllocError> {
+fn wrong_load<R: Threads + Wait + Sync>(
+    rt: &R,
+    alloc: Global,
+    load: &Load,
+) -> Result<String, AllocError> {
     let Some(numbers) = drive(load.drive) else {
         return String::from_str(alloc, "drive");
     };
@@ -394,7 +399,7 @@ static WORN: [(Load, u64, Failing, u64, u64); 9] = [
 // Runs a load again and again, each time with tags of its own. Gives the name of what doesn't go as
 // told, if anything, how many runs there were until none of the writes found room, and how many
 // sectors were written.
-fn wear_out<R: Wait>(
+fn wear_out<R: Threads + Wait + Sync>(
     rt: &R,
     alloc: Global,
     load: &Load,

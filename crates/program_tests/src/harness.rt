@@ -26,10 +26,16 @@ use pblk_outside::{MemoryFiles, MemorySink};
 use std::alloc::{AllocError, Global};
 use std::sync::Wait;
 use std::test::Fail;
+use std::thread::Threads;
 
 /// Makes the calls of a table's rows, each of which has the usual parts where it lacks its own.
 /// Fails with the first row that doesn't go as told, and names what went otherwise.
-pub(crate) fn check<R: Wait>(rt: &R, alloc: Global, usual: &str, table: &str) -> Result<(), Fail> {
+pub(crate) fn check<R: Threads + Wait + Sync>(
+    rt: &R,
+    alloc: Global,
+    usual: &str,
+    table: &str,
+) -> Result<(), Fail> {
     let mut files = MemoryFiles::new(alloc, &[])?;
     for line in table.split('\n') {
         if !line.is_empty() && !line.starts_with('#') {
@@ -39,7 +45,7 @@ pub(crate) fn check<R: Wait>(rt: &R, alloc: Global, usual: &str, table: &str) ->
     Ok(())
 }
 
-fn check_row<R: Wait>(
+fn check_row<R: Threads + Wait + Sync>(
     rt: &R,
     alloc: Global,
     files: &mut MemoryFiles,
@@ -88,7 +94,7 @@ fn has_known_names(row: &str) -> bool {
 }
 
 // The name of what of a row doesn't go as told, if any.
-fn wrong_row<R: Wait>(
+fn wrong_row<R: Threads + Wait + Sync>(
     rt: &R,
     alloc: Global,
     files: &mut MemoryFiles,
@@ -107,7 +113,7 @@ fn wrong_row<R: Wait>(
 }
 
 // The same for its call on one image.
-fn wrong_call<R: Wait>(
+fn wrong_call<R: Threads + Wait + Sync>(
     rt: &R,
     alloc: Global,
     files: &mut MemoryFiles,
@@ -131,7 +137,7 @@ fn is_text(alloc: Global, bytes: &[u8], text: &str) -> Result<bool, AllocError> 
 }
 
 /// Calls the program, which gives its status.
-pub(crate) fn call<R: Wait>(
+pub(crate) fn call<R: Threads + Wait + Sync>(
     rt: &R,
     alloc: Global,
     line: &str,

@@ -91,7 +91,7 @@ fn a_script_and_a_wrong_pointer_are_refused(rt: HostRuntime) -> Result<(), Fail>
 // isn't Free: it is Open, Closed or Offline.
 const BESIDE: &str = "
 script=thread/x/ ; text=script Form 2/
-script=thread/thread/ ; text=script Unbuilt/
+script=thread/w 0 1 1/f/thread/await x/ ; text=script NeverPosted 5/
 ";
 
 #[test]

@@ -5,6 +5,7 @@ use crate::stops::{called, ends};
 use pblk_outside::MemoryFiles;
 use std::alloc::{AllocError, Global};
 use std::sync::Wait;
+use std::thread::Threads;
 
 /// Which sectors the writes of a load go to.
 #[derive(Clone, Copy)]
@@ -220,7 +221,7 @@ fn after_words<'a>(row: &'a str, words: &str) -> Option<(&'a str, &'a str)> {
 }
 
 // Whether an image lists sectors with these tags. Where its end lies isn't told.
-fn shows<R: Wait>(
+fn shows<R: Threads + Wait + Sync>(
     rt: &R,
     alloc: Global,
     files: &mut MemoryFiles,
@@ -238,7 +239,7 @@ fn shows<R: Wait>(
 }
 
 // Whether another mount reads sectors with these tags.
-fn reads<R: Wait>(
+fn reads<R: Threads + Wait + Sync>(
     rt: &R,
     alloc: Global,
     files: &mut MemoryFiles,
@@ -268,7 +269,7 @@ pub(crate) struct Came {
 /// history, without the writes that are refused. What is kept are the lines of each flush at least,
 /// and all with status 0. They are written to the tags that the sectors had: the image holds these,
 /// another mount reads them, and it leaves them.
-pub(crate) fn run_load<R: Wait>(
+pub(crate) fn run_load<R: Threads + Wait + Sync>(
     rt: &R,
     alloc: Global,
     files: &mut MemoryFiles,
@@ -334,7 +335,7 @@ fn wrong_text(
 
 // The name of what of an image with these tags isn't as told, if anything: what it shows, what
 // another mount reads, or what it shows then.
-fn wrong_image<R: Wait>(
+fn wrong_image<R: Threads + Wait + Sync>(
     rt: &R,
     alloc: Global,
     files: &mut MemoryFiles,

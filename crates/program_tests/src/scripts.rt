@@ -27,10 +27,8 @@ script=thread/await a/post a/await b/ ; text=script NeverPosted 4/
 script=thread/await a/post a/ ; text=script Stuck 2/
 script=thread/await a/post b/thread/await b/post a/ ; text=script Stuck 2/
 script=thread/f/thread/post c/await a/post b/thread/await c/await b/post a/ ; text=script Stuck 5/
-# Scripts that are none that is taken so far: they have a second thread.
-script=thread/thread/ ; text=script Unbuilt/
-script=thread/w 5 1 17/f/thread/r 5 1/ ; text=script Unbuilt/
-script=thread/post a/thread/await a/thread/ ; text=script Unbuilt/
+script=thread/await p/post a/thread/await a/post b/thread/await b/post p/ ; text=script Stuck 2/
+script=thread/r 0 1/thread/r 64 1/ ; text=script Range 4/
 ";
 
 #[test]

@@ -7,6 +7,7 @@ use pblk_outside::{MemoryFiles, MemorySink};
 use std::alloc::{AllocError, Global};
 use std::sync::Wait;
 use std::test::Fail;
+use std::thread::Threads;
 
 // The script. Its last sectors are placed in a second line.
 const SCRIPT: &str = "thread\nw 0 16 1\nw 16 16 2\nw 32 8 3\nw 0 4 4\nf\n";
@@ -123,7 +124,7 @@ fn status_of(told: &str) -> u8 {
 }
 
 /// Makes a call: its status, and what it writes.
-pub(crate) fn called<R: Wait>(
+pub(crate) fn called<R: Threads + Wait + Sync>(
     rt: &R,
     alloc: Global,
     files: &mut MemoryFiles,
@@ -135,7 +136,7 @@ pub(crate) fn called<R: Wait>(
 }
 
 /// Whether a call ends with this status, and writes this text.
-pub(crate) fn ends<R: Wait>(
+pub(crate) fn ends<R: Threads + Wait + Sync>(
     rt: &R,
     alloc: Global,
     files: &mut MemoryFiles,
@@ -161,7 +162,7 @@ pub(crate) fn files_of(
 
 /// Names what of a run of the script with these options doesn't go as told, if anything: the run,
 /// what it leaves, or an opening of that.
-pub(crate) fn wrong_stop<R: Wait>(
+pub(crate) fn wrong_stop<R: Threads + Wait + Sync>(
     rt: &R,
     alloc: Global,
     options: &str,
@@ -188,7 +189,7 @@ pub(crate) fn wrong_stop<R: Wait>(
 
 // The same for openings of an image that holds this. Each is stopped at a program of a unit, of
 // which nothing, a half or all lands.
-fn wrong_openings<R: Wait>(
+fn wrong_openings<R: Threads + Wait + Sync>(
     rt: &R,
     alloc: Global,
     left: &[u8],
@@ -206,7 +207,7 @@ fn wrong_openings<R: Wait>(
 
 // Whether an image holds this still after a mount that was stopped at any program or reset of this
 // unit, and after one more. Here a mount makes twelve of them on a unit at most.
-fn openings_keep<R: Wait>(
+fn openings_keep<R: Threads + Wait + Sync>(
     rt: &R,
     alloc: Global,
     left: &[u8],
@@ -248,7 +249,7 @@ fn is_opening(
 }
 
 // Whether the image holds this, and does so after an opening.
-fn keep<R: Wait>(
+fn keep<R: Threads + Wait + Sync>(
     rt: &R,
     alloc: Global,
     files: &mut MemoryFiles,

@@ -7,6 +7,7 @@ use std::alloc::{AllocError, Global};
 use std::process::ExitCode;
 use std::sync::Wait;
 use std::test::Fail;
+use std::thread::Threads;
 
 // Words that touch no file, whether there is an image or not.
 const REFUSED: &str = "
@@ -37,7 +38,14 @@ call=create|image|--groups|1|--groups|1
 call=create|image|--groups=1|--groups=1
 call=create|image|--lines|8
 call=geometry|image|--groups|1
-call=run|image|script|--lanes|0
+call=run|image|script|--lanes
+call=run|image|script|--lanes|9
+call=run|image|script|--lanes|-1
+call=run|image|--lanes=1|script|--lanes|1
+call=run|image|script|--collector=1
+call=run|--collector|image|script|--collector
+call=show|image|--lanes|1
+call=create|image|--collector
 call=create|image|--groups|65536
 call=create|image|--units=65536
 call=create|image|--blocks|4294967296
@@ -88,7 +96,7 @@ fn no_words_are_no_command(rt: HostRuntime) -> Result<(), Fail> {
 }
 
 // Whether the program ends as told on these words, or without words, where there is no file.
-fn ends<R: Wait>(
+fn ends<R: Threads + Wait + Sync>(
     rt: &R,
     alloc: Global,
     words: Result<Vec<String>, WordsErr>,

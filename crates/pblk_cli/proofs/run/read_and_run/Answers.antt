@@ -1,4 +1,4 @@
-use Rattle.std.proofs.Common.{Err, ◌≡◌, ◌<◌, ◌≤◌, length, subst, ap, arith}
+use Rattle.std.proofs.Common.{Err, subst, ap}
 use Rattle.pblk_model.specs.ScriptText.{IsScript, read_script}
 use Rattle.run_script.specs.Reading.{BeginsWell, Refuses}
 use Rattle.pblk_cli.proofs.RunInput.{read_begins, refuses_script}
@@ -11,21 +11,10 @@ returns-in-Err-clause-refused g c =
     (λ memory. subst (λ n. BeginsWell n c.args.script.now) (ap (λ d. d.capacity) c.drive.view_is) (c.in-Err.ensures.memory (ap (λ x. Err x) memory)))
     c.script_refusal_of.result (record { memory = c.script_refusal_of.ensures.memory; script = c.script_refusal_of.ensures.script })
 
-pub returns-then-threads-gt1-clause-refused : goal.returns-then-threads-gt1-clause-refused
-returns-then-threads-gt1-clause-refused g c = (
-  c.in-Ok.script,
-  subst (λ n. IsScript n c.args.script.now c.in-Ok.script) (ap (λ d. d.capacity) c.drive.view_is) c.in-Ok.ensures.script,
-  (let many : 1 < length c.as_slice-threads.result.now = c.if-threads-gt1.true in
-      let same : length c.as_slice-threads.result.now ≡ length c.in-Ok.script = ap length c.as_slice-threads.ensures in omega arith),
-)
-
 pub returns-in-Ok-run_and_store-clause-run : goal.returns-in-Ok-run_and_store-clause-run
 returns-in-Ok-run_and_store-clause-run g c = record {
   commands = c.in-Ok.script;
   commands_are = subst (λ n. IsScript n c.args.script.now c.in-Ok.script) (ap (λ d. d.capacity) c.drive.view_is) c.in-Ok.ensures.script;
-  one =
-      (let few : length c.as_slice-threads.result.now ≤ 1 = c.if-threads-gt1.false in
-      let same : length c.as_slice-threads.result.now ≡ length c.in-Ok.script = ap length c.as_slice-threads.ensures in omega arith);
   run = c.in-Ok-run_and_store.ensures;
 }
 
