@@ -14,8 +14,8 @@ use Rattle.pblk_model.specs.ImageFile.{StoredChunk, blank_drive}
 use Rattle.ocssd_geometry.specs.declared.geometry.Geometry.{Geometry}
 use Rattle.ocssd_geometry.specs.Numbers.{numbers_of}
 use Rattle.pblk_model.specs.Shape.{units}
-use Rattle.ocssd_drive.specs.Units.{WornUnit, IsUnitOf, new_unit, stored_chunks, with_stored, worn_chunk}
-use Rattle.ocssd_drive.specs.Drive.{DriveView, IsWhole, new_drive, shape_of, stored, with_chunk_at, with_restored, with_units}
+use Rattle.ocssd_drive.specs.Units.{WornUnit, IsUnitOf, new_unit, stored_chunks, with_chunk, with_stored, worn_chunk}
+use Rattle.ocssd_drive.specs.Drive.{DriveView, IsWhole, new_drive, shape_of, stored, with_chunk_at, with_replaced, with_restored, with_units}
 use Rattle.pblk_model.proofs.Maps.{map-replicate}
 use Rattle.pblk_model.proofs.Parts.{all_get, all_set}
 
@@ -46,6 +46,10 @@ pub restored_by : (d : DriveView) (i chunk : ℕ) (state : ChunkState) (bytes : 
     → new ≡ with_stored chunk (worn_chunk state (blocks_of u.unit.shape.sector bytes marks) wear) u → with_units (slice_set d.units i new) d ≡ with_restored i chunk (worn_chunk state (blocks_of d.sector bytes marks) wear) d
 restored_by d i chunk state bytes marks wear u new at is =
     restored_is d i chunk _ u new at.there (is ∙ ap (λ (s : Shape). with_stored chunk (worn_chunk state (blocks_of s.sector bytes marks) wear) u) at.fits.shape)
+
+-- the unit was handed a chunk in the place of one of its own
+pub replaced_by : (d : DriveView) (i chunk : ℕ) (k : Chunk) (u new : WornUnit) → IsUnitAt d i u → new ≡ with_chunk chunk k u → with_units (slice_set d.units i new) d ≡ with_replaced i chunk k d
+replaced_by d i chunk k u new at is = rw (at.there, is) refl
 
 -- a chunk in this state is it with its blocks
 pub chunk_is : (c : Chunk) (state : ChunkState) → c.state ≡ state → c ≡ record { state = state; blocks = c.blocks }

@@ -5,6 +5,7 @@ use Rattle.std.specs.Option.{is_some, option_map, option_map_or}
 use Rattle.atomic_table.specs.Seated.{TableId}
 use Rattle.pblk_model.specs.declared.shape.Shape.{Shape}
 use Rattle.pblk_model.specs.Accepted.{IsAccepted}
+use Rattle.pblk_model.specs.Chunk.{Chunk}
 use Rattle.pblk_model.specs.Shape.{units}
 use Rattle.pblk_model.specs.Geometry.{shape_with}
 use Rattle.pblk_model.specs.ImageFile as ImageFile
@@ -20,7 +21,7 @@ use Rattle.ocssd_drive.specs.Tally.{IsTally}
 use Rattle.ocssd_drive.specs.StopWord.{SeatView, keeper, other_unit}
 use Rattle.ocssd_drive.specs.Journal.{FitsArming, word_of}
 use Rattle.ocssd_drive.specs.declared.journal.Arming.{Arming}
-use Rattle.ocssd_drive.specs.Units.{WornUnit, IsUnitOf, with_arms, with_stored, stored_chunks, new_unit}
+use Rattle.ocssd_drive.specs.Units.{WornUnit, IsUnitOf, with_arms, with_chunk, with_stored, stored_chunks, new_unit}
 
 -- the numbers of a drive and of the target on it, and the units
 pub record DriveView : Type 0 where
@@ -65,6 +66,10 @@ changed_at change i xs = option_map_or (λ x. slice_set xs i (change x)) (slice_
 -- the drive with this chunk and wear index at a place of a unit
 abbrev pub with_restored : ℕ → ℕ → StoredChunk → DriveView → DriveView
 with_restored unit chunk k d = with_units (changed_at (with_stored chunk k) unit d.units) d
+
+-- the drive with this chunk at a place of a unit
+abbrev pub with_replaced : ℕ → ℕ → Chunk → DriveView → DriveView
+with_replaced unit chunk c d = with_units (changed_at (with_chunk chunk c) unit d.units) d
 
 -- the drive in a file with this chunk and wear index at a place of a unit
 abbrev pub with_chunk_at : ℕ → ℕ → StoredChunk → ImageFile.Drive → ImageFile.Drive

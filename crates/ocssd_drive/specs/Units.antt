@@ -49,6 +49,14 @@ with_stored at k u = record {
   seat = u.seat;
 }
 
+-- the unit with this chunk at a place, whose wear index stays
+abbrev pub with_chunk : ℕ → Chunk → WornUnit → WornUnit
+with_chunk at c u = record {
+  unit = record { shape = u.unit.shape; media = slice_set u.unit.media at c; log = u.unit.log; armed = u.unit.armed };
+  wear = u.wear;
+  seat = u.seat;
+}
+
 -- its chunks with their wear indices
 abbrev pub stored_chunks : WornUnit → List StoredChunk
 stored_chunks u = map (λ (p : Chunk × ℕ). record { chunk = p.0; wear = p.1 }) (zip u.unit.media u.wear)

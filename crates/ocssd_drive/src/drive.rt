@@ -10,15 +10,16 @@ ghost use Rattle.ocssd_geometry.specs.Numbers.{IsGeometry, numbers_of};
 ghost use Rattle.atomic_table.specs.Seated.{TableId};
 ghost use Rattle.unit_port.specs.Armed.{events_since};
 ghost use Rattle.unit_port.specs.Unit.{IsStopped};
-ghost use Rattle.ocssd_drive.specs.Drive.{AreArmedTogether, FuseFell, HasWord, IsWhole, armed_units, fitting_fuse, new_drive, shape_of, stored, with_chunk_at, with_restored, with_units};
+ghost use Rattle.ocssd_drive.specs.Drive.{AreArmedTogether, FuseFell, HasWord, IsWhole, armed_units, fitting_fuse, new_drive, shape_of, stored, with_chunk_at, with_replaced, with_restored, with_units};
 ghost use Rattle.ocssd_drive.specs.Spelled.{RestoresDrive};
 ghost use Rattle.ocssd_drive.specs.Journal.{IsCalm};
 ghost use Rattle.ocssd_drive.specs.Outcomes.{AreEventsBy};
-ghost use Rattle.ocssd_drive.specs.Units.{WornUnit, IsUnitOf, disarmed, new_unit, worn_chunk};
+ghost use Rattle.ocssd_drive.specs.Units.{WornUnit, IsChunkIn, IsUnitOf, disarmed, new_unit, worn_chunk};
 
 use crate::arm::{fitting, install, make_armings};
 use crate::disarm::disarm_units;
 use crate::memory_unit::MemoryUnit;
+use ocssd_chunks::Chunk;
 use ocssd_geometry::Geometry;
 use pblk_model::{ChunkState, Mark, Shape, ShapeErr};
 use std::alloc::{AllocError, Global};
@@ -173,6 +174,20 @@ impl Drive {
     {
         let found = &mut self.units[unit as usize];
         found.restore_spelled(chunk, wear, state, count, bytes);
+    }
+
+    /// Puts a chunk of a drive of this one's shape in the place of a chunk of a unit, whose wear index stays. All
+    /// else stays. It isn't logged (Open-Channel SSD Specification 2.0, Chunk states and write pointer).
+    pub fn replace_chunk(&mut self, unit: u32, chunk: u32, with: Chunk)
+        requires unit { unit < units (shape_of self.old) }
+        requires chunk { chunk < self.old.geometry.chunks }
+        requires with { IsChunkIn (shape_of self.old) with }
+        ensures replaced { self.new ≡ with_replaced unit chunk with.chunk self.old }
+        ensures numbers { shape_of self.new ≡ shape_of self.old }
+        ensures whole { IsWhole self.new }
+    {
+        let found = &mut self.units[unit as usize];
+        found.replace_chunk(chunk, with);
     }
 
     /// Arms the units with plans and a fuse, in place of what they were armed with. With a fuse they share a

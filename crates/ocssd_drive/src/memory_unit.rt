@@ -8,7 +8,7 @@ ghost use Rattle.unit_port.specs.Armed.{IsUnarmed};
 ghost use Rattle.unit_port.specs.Unit.{IsChunkOf, IsFitUnit, IsReady, Takes, TellsBlock, TellsDone, DidProgram, DidFetch, DidReset};
 ghost use Rattle.ocssd_drive.specs.Outcomes.{GoesByArms};
 ghost use Rattle.ocssd_drive.specs.Planned.{IsPlanned};
-ghost use Rattle.ocssd_drive.specs.Units.{WornUnit, new_unit, with_arms, with_stored, worn_chunk, disarmed, IsChunkIn, IsUnitOf, IsWrite, TakesUnder, MeetsFault};
+ghost use Rattle.ocssd_drive.specs.Units.{WornUnit, new_unit, with_arms, with_chunk, with_stored, worn_chunk, disarmed, IsChunkIn, IsUnitOf, IsWrite, TakesUnder, MeetsFault};
 ghost use Rattle.ocssd_drive.specs.Shown.{outcome_of, fetch_outcome};
 ghost use Rattle.ocssd_drive.specs.Journal.{FitsArming, IsCalm, SeatTells, word_of};
 ghost use Rattle.ocssd_drive.specs.Faults.{fuse_is_at};
@@ -219,6 +219,17 @@ impl MemoryUnit {
         self.wear[place] = wear;
         let found = &mut self.chunks[place];
         found.restore_spelled(state, count, bytes);
+    }
+
+    /// Puts a chunk of a drive of the unit's shape in the place of one of the unit's chunks, whose wear index
+    /// stays. It isn't logged (Open-Channel SSD Specification 2.0, Chunk states and write pointer).
+    pub fn replace_chunk(&mut self, chunk: u32, with: Chunk)
+        requires chunk { chunk < length self.old.unit.media }
+        requires with { IsChunkIn self.old.unit.shape with }
+        ensures replaced { self.new ≡ with_chunk chunk with.chunk self.old }
+        ensures fits { IsUnitOf self.new.unit.shape self.new }
+    {
+        self.chunks[chunk as usize] = with;
     }
 
     /// Arms the unit, which has this number in its drive, with what was made of these plans and this fuse.
