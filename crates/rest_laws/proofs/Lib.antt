@@ -9,6 +9,8 @@ pub mod CountedLines
 pub mod NextPlaces
 pub mod LastStarts
 pub mod FreeNow
+pub mod FreeCounts
+pub mod RunLogs
 pub mod VictimExists
 pub mod AtWork
 pub mod SomeOpened
@@ -23,9 +25,9 @@ pub mod PlacedSince
 pub mod FreedNear
 pub mod OnlyLastOpen
 pub mod NothingOpened
+pub mod StillMounts
 pub mod RestingWork
 pub mod RestingVictims
-pub mod FreeCounts
 pub mod RestingRoom
 pub mod WholeChunks
 pub mod LostEvents
@@ -55,7 +57,6 @@ pub mod LeftTidy
 pub mod ToldRest
 pub mod WrittenThen
 pub mod RestingThen
-pub mod RunLogs
 pub mod RunNumbers
 pub mod RunStates
 pub mod VictimSteps

@@ -18,13 +18,12 @@ use Rattle.pblk_world.specs.Space.{placed_front}
 use Rattle.pblk_world.specs.World.{World, log_of}
 use Rattle.pblk_world.proofs.SyncedFront.{synced_is, synced_within}
 use Rattle.pblk_model.proofs.Lists.{among_contained}
-use Rattle.pblk_model.proofs.Maps.{fewer_taken, given_at, in_filter}
+use Rattle.pblk_model.proofs.Maps.{fewer_taken, filter_all, given_at, in_filter}
 use Rattle.pblk_model.proofs.Parts.{all_by_get, contained_among, get_taken, get_whole_within, got_within}
 use Rattle.pblk_model.proofs.Tests.{lt_true}
 use Rattle.pblk_world.specs.LegalMounts.{IsLegalMount}
 use Rattle.pblk_world.specs.Reasons.{AreBegun, TakesCopy, WasBegun}
 use Rattle.world_laws.proofs.Fronts.{IsLandedAt, landed_at, synced_from}
-use Rattle.world_laws.proofs.HeldSectors.{all_pass}
 use Rattle.world_laws.proofs.Positions.{position_below, position_of}
 use Rattle.world_laws.proofs.TakenEvents.{IsTakenAt, taken_at}
 use Rattle.core_laws.specs.Spent.{IsSpent}
@@ -51,7 +50,7 @@ synced_within_placed i w mount =
     let placed : Taken → Bool = was_placed i.shape (log_of w 0) in
     let from : first_position (log_of w 0) ≤ synced i.shape (log_of w 0) = synced_from i.shape (log_of w 0) in
     let upto : synced i.shape (log_of w 0) ≤ taken (log_of w 0) = synced_within i.shape (log_of w 0) in
-    let all : filter placed (take count ts) ≡ take count ts = all_pass placed (take count ts) (all_by_get (λ t. placed t ≡ true) (take count ts) each) in
+    let all : filter placed (take count ts) ≡ take count ts = filter_all placed (take count ts) (all_by_get (λ t. placed t ≡ true) (take count ts) each) in
     let few : length (filter placed (take count ts)) ≤ length (filter placed ts) = fewer_taken placed count ts in
     let same : length (filter placed (take count ts)) ≡ length (take count ts) = ap length all in
     omega (arith, length-take count ts)

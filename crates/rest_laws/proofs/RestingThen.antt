@@ -39,6 +39,7 @@ use Rattle.rest_laws.proofs.NothingFailed.{faultless_kept, faultless_wide}
 use Rattle.rest_laws.proofs.NotedResets.{all_noted}
 use Rattle.rest_laws.proofs.RestingRoom.{has_room, not_due}
 use Rattle.rest_laws.proofs.RestingWork.{target_synced}
+use Rattle.rest_laws.proofs.StillMounts.{still}
 use Rattle.rest_laws.proofs.TidyFound.{found_tidy}
 use Rattle.rest_laws.proofs.ToldRest.{may_free_told, no_work_told}
 use Rattle.rest_laws.proofs.VictimStripes.{prefix_of}
@@ -205,7 +206,8 @@ module _ (i : Image) (w : World) (is : IsTidyMount i w) where
       pub synced_then : asked ≤ taken (take n (log_of w 0)) → asked ≤ synced i.shape (take n (log_of w 0))
       synced_then low =
           subst (λ (xs : List Logged). asked ≤ synced i.shape xs) v.own
-          (target_synced i (world_at i w n is.mount.legal within).world asked (resting left asked rest) asked some_address below_target
+          (target_synced i (world_at i w n is.mount.legal within).world asked
+          (still i (world_at i w n is.mount.legal within).world asked (resting left asked rest)) asked some_address below_target
           (subst (λ (xs : List Logged). asked ≤ taken xs) (sym v.own) low))
         where
           below_target : asked ≤ pad_target i (log_of (world_at i w n is.mount.legal within).world) asked

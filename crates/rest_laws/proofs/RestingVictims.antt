@@ -31,6 +31,7 @@ use Rattle.rest_laws.specs.RestingMounts.{IsRestingMount}
 use Rattle.rest_laws.proofs.AtWork.{victim_at_work}
 use Rattle.rest_laws.proofs.LastStarts.{landed_is_newest, last_stands}
 use Rattle.rest_laws.proofs.RestingWork.{begun_line, target_synced}
+use Rattle.rest_laws.proofs.StillMounts.{still}
 use Rattle.rest_laws.proofs.VictimExists.{victim_exists}
 
 module _ (i : Image) (w : World) (asked : ℕ) (r : IsRestingMount i w asked) where
@@ -59,7 +60,7 @@ module _ (i : Image) (w : World) (asked : ℕ) (r : IsRestingMount i w asked) wh
           below_max a b c x = omega arith
 
       takers : taken_up_to i (log_of w) line ≤ synced i.shape (log_of w 0)
-      takers = target_synced i w asked r (taken_up_to i (log_of w) line) some asks
+      takers = target_synced i w asked (still i w asked r) (taken_up_to i (log_of w) line) some asks
           (taken_within i w r.mount.legal line (taken log) (λ t there took.
           all_at (λ (u : Taken). u.entry.position < taken log) (takes log) there.0 t there.1 (all_below log (ordered i w lossless.mount).numbered)))
 
@@ -123,7 +124,7 @@ module _ (i : Image) (w : World) (asked : ℕ) (r : IsRestingMount i w asked) wh
       go : (t : Bool) → is_due i (log_of w) ≡ t → is_due i (log_of w) ≡ false
       go false e = e
       go true e =
-          let started = begun_line i w asked r last (last_stands i w lossless last is) in
+          let started = begun_line i w asked (still i w asked r) last (last_stands i w lossless last is) in
           let next = victim_exists i w lossless r.full r.wide r.resting.no_work.no_reset last is (landed_is_newest i w last is started) e in
           let long : 0 < length log = begun_knows (length log) log r.beginning (ap begun (take-length log) ∙ r.begins) in
           let victim = victim_at_work i (log_of w) next.0 long e next.1 in

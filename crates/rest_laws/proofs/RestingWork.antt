@@ -31,7 +31,7 @@ use Rattle.core_laws.proofs.Distinct.{passing}
 use Rattle.core_laws.proofs.LandedNow.{opened_now}
 use Rattle.core_laws.proofs.PlacedInOrder.{IsOrdered, count_is, ordered, some_hold_below, waiting_are_last}
 use Rattle.rest_laws.specs.NewestOpened.{IsLastOpened}
-use Rattle.rest_laws.specs.RestingMounts.{IsRestingMount}
+use Rattle.rest_laws.specs.RestingMounts.{IsStillMount}
 use Rattle.rest_laws.specs.RoomSteps.{free_data}
 use Rattle.rest_laws.proofs.LastStarts.{start_landed}
 use Rattle.rest_laws.proofs.NextPlaces.{stripe_with}
@@ -65,7 +65,7 @@ first_in_sum f (suc n) some = go (cases_lt 0 (sum_by f (range_with_len 0 n))) (�
       first = λ j low. none_in_sum f n (omega (arith, none)) j low;
     }
 
-module _ (i : Image) (w : World) (asked : ℕ) (r : IsRestingMount i w asked) where
+module _ (i : Image) (w : World) (asked : ℕ) (r : IsStillMount i w asked) where
   abbrev log : List Logged
   log = log_of w 0
 
@@ -84,8 +84,8 @@ module _ (i : Image) (w : World) (asked : ℕ) (r : IsRestingMount i w asked) wh
   -- ---- lines
 
   pub begun_line : (o : Opening) → life_of (log_of w 0) o.line ≡ Opened o → has_landed_start i.shape (log_of w 0) o ≡ true
-  begun_line o is_open = start_landed i w lossless o is_open r.resting.stripes (λ stripe its start.
-      r.resting.no_work.no_program stripe (record { opening = o; is_open = ap (life_of log) its ∙ is_open; kind = inl start }))
+  begun_line o is_open = start_landed i w lossless o is_open r.stripes (λ stripe its start.
+      r.no_program stripe (record { opening = o; is_open = ap (life_of log) its ∙ is_open; kind = inl start }))
 
   -- a stripe of data could be placed in a line with an address left
   none_in_open : IsUrgent i.shape (log_of w 0) (pad_target i (log_of w) asked) → 0 < length (waiting i.shape (log_of w 0))
@@ -114,7 +114,7 @@ module _ (i : Image) (w : World) (asked : ℕ) (r : IsRestingMount i w asked) wh
                 has_entry = waits;
                 blocks = stripe.3;
               } in
-              r.resting.no_work.no_program stripe.0
+              r.no_program stripe.0
               (record { opening = o; is_open = ap (life_of log) stripe.1 ∙ is_open; kind = inr (inr (inr (is_data, urgent))) })
             where
               below : (a n e : ℕ) → 0 < e - max a n → n < e
@@ -144,8 +144,8 @@ module _ (i : Image) (w : World) (asked : ℕ) (r : IsRestingMount i w asked) wh
               order (inr (inl before)) =
                   let is_open : life_of log o.line ≡ Opened o = ap (life_of log) now.1 ∙ is in
                   let over : are_over i (log_of w) o.line ≡ true =
-                  others_over i w lossless r.full last last_is.opened o before is_open r.resting.stripes (λ stripe its end.
-                  r.resting.no_work.no_program stripe (record { opening = o; is_open = ap (life_of log) its ∙ is_open; kind = inr (inl end) })) in
+                  others_over i w lossless r.full last last_is.opened o before is_open r.stripes (λ stripe its end.
+                  r.no_program stripe (record { opening = o; is_open = ap (life_of log) its ∙ is_open; kind = inr (inl end) })) in
                   absurd (not_both (are_over i (log_of w) line) (ap (are_over i (log_of w)) (sym now.1) ∙ over)
                   (not_true (are_over i (log_of w) line) (both (is_opened (life_of log line)) (not (are_over i (log_of w) line)) left).1))
 
@@ -164,7 +164,7 @@ module _ (i : Image) (w : World) (asked : ℕ) (r : IsRestingMount i w asked) wh
           is_last last.0 last.1 m m_left ∙ sym (is_last last.0 last.1 n n_left)
 
   none_to_open : 0 < length (waiting i.shape (log_of w 0)) → open_addresses i (log_of w) ≡ 0 → 0 < free_addresses i (log_of w) → ⊥
-  none_to_open waits none some = r.resting.no_work.no_opening r.beginning line start r.begins waits none may
+  none_to_open waits none some = r.no_opening r.beginning line start r.begins waits none may
     where
       first : IsFirstIn (free_data i (log_of w)) i.shape.chunks
       first = first_in_sum (free_data i (log_of w)) i.shape.chunks some
@@ -268,7 +268,7 @@ module _ (i : Image) (w : World) (asked : ℕ) (r : IsRestingMount i w asked) wh
           (le_true (first_position log) (synced s log) from) (lt_true (synced s log) (placed_front s log) more) in
           let at = passing (holds_position s (synced s log)) (placements log) also in
           let landed : has_landed log at.0 ≡ true =
-          landed_of_answered log at.0 (r.resting.stripes at.0 (contained_among (placements log) at.0 at.1)) (not_lost at.0) in
+          landed_of_answered log at.0 (r.stripes at.0 (contained_among (placements log) at.0 at.1)) (not_lost at.0) in
           let test : Placed → Bool = λ p. has_landed log p && holds_position s (synced s log) p in
           not_both (list_any test (placements log)) (any_member test (placements log) at.1.0 at.0 at.1.1
           (and_both (has_landed log at.0) (holds_position s (synced s log) at.0) landed at.2)) missing

@@ -31,12 +31,14 @@ too_few n k d lines most some few live spare =
     let both : n * (4 * k) ≤ n * (3 * d) = omega arith in
     le_of_mul-le-mul_left both (omega arith)
 
+pub share_of_live : (s : Shape) (n k : ℕ) → IsAccepted s → s.chunks ≤ n + 5 → n * k ≤ s.capacity → 4 * k ≤ 3 * full_data s
+share_of_live s n k is most within = too_few n k (full_data s) s.chunks s.capacity is.drive.lines_low most within is.target.spare
+
 -- So many lines, all but five, can't each have more live sectors than a line's data less a stripe.
 pub too_few_live : (s : Shape) (n : ℕ) → IsAccepted s → s.chunks ≤ n + 5 → n * (full_data s + 1 - s.ws_opt) ≤ s.capacity → ⊥
 too_few_live s n is most within =
     let eight : 8 * s.ws_opt ≤ full_data s = eight_stripes s is in
-    let four : 4 * (full_data s + 1 - s.ws_opt) ≤ 3 * full_data s =
-    too_few n (full_data s + 1 - s.ws_opt) (full_data s) s.chunks s.capacity is.drive.lines_low most within is.target.spare in
+    let four : 4 * (full_data s + 1 - s.ws_opt) ≤ 3 * full_data s = share_of_live s n (full_data s + 1 - s.ws_opt) is most within in
     let some : 0 < s.ws_opt = is.drive.ws_opt in
     by_numbers (full_data s) s.ws_opt eight four some
   where

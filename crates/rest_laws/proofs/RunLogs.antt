@@ -1,24 +1,21 @@
 -- The logs at a length of the engine's log, by what the engine had been told, and an event of that
 -- log as a step between two worlds.
-use Rattle.std.proofs.Common.{◌≡◌, ◌⊎◌, inl, inr, ℕ, ◌+◌, ◌*◌, ◌≤◌, ◌<◌, ◌&&◌, not, suc, true, false, Some, List, [], ◌∷◌, ◌++◌, length, take, refl, sym, subst, ap, ap₂, ◌∙◌, arith, Bool}
+use Rattle.std.proofs.Common.{◌≡◌, ℕ, ◌+◌, ◌≤◌, ◌<◌, ◌&&◌, not, suc, true, false, Some, List, [], ◌∷◌, ◌++◌, length, take, refl, sym, subst, ap, ap₂, ◌∙◌, arith, Bool}
 use Rattle.std.specs.Prelude.{slice_get}
 use Rattle.std.specs.List.{Contains, range_with_len}
-use Rattle.std.proofs.Math.Nat.{mul-le-mul_right}
-use Rattle.std.proofs.lemmas.Bool.{cases_lt}
 use Rattle.std.proofs.lemmas.List.{take-append-le}
 use Rattle.pblk_model.specs.Image.{Image}
 use Rattle.pblk_world.specs.AtRest.{logs_at}
 use Rattle.pblk_world.specs.Events.{Logged}
 use Rattle.pblk_world.specs.Legal.{IsLegal}
 use Rattle.pblk_world.specs.Lines.{are_empty, is_given_up, known_image}
-use Rattle.pblk_world.specs.Space.{free_addresses, full_data, is_due}
+use Rattle.pblk_world.specs.Space.{is_due}
 use Rattle.pblk_world.specs.Victims.{engine_prefix}
 use Rattle.pblk_world.specs.World.{World, Logs, known, log_of}
 use Rattle.pblk_world.proofs.Growing.{grows}
 use Rattle.pblk_world.proofs.WorldLemmas.{log_here}
 use Rattle.pblk_model.proofs.Maps.{filter_same, none_kept}
 use Rattle.pblk_model.proofs.Parts.{take_next}
-use Rattle.pblk_model.proofs.Tests.{within_is}
 use Rattle.pblk_world.specs.LegalMounts.{IsLegalMount}
 use Rattle.pblk_world.specs.Orders.{AreReset}
 use Rattle.world_laws.specs.SameTold.{AreSameTold}
@@ -28,9 +25,8 @@ use Rattle.world_laws.proofs.ToldSince.{same_told, told_up_to}
 use Rattle.world_laws.proofs.ToldTables.{free_told}
 use Rattle.rest_laws.specs.RoomRuns.{IsReasonedMount}
 use Rattle.rest_laws.specs.RoomSteps.{free_lines, is_unreset, unreset_lines}
-use Rattle.rest_laws.proofs.FreeCounts.{free_are, many_free}
+use Rattle.rest_laws.proofs.FreeCounts.{few_free as few_due, many_free}
 use Rattle.rest_laws.proofs.LengthLogs.{IsWorldAt, told_at, world_at}
-use Rattle.rest_laws.proofs.RoomyShapes.{eight_stripes}
 
 told_through : (i : Image) (a b c : Logs) → AreSameTold i a b → AreSameTold i a c → AreSameTold i b c
 told_through i a b c h k = record {
@@ -114,17 +110,7 @@ step_at i w n l mount there = record {
 -- where it is three lines are Free at most
 pub few_free : (i : Image) (w : World) (n : ℕ) → IsReasonedMount i w → 0 < n → n ≤ length (log_of w 0)
     → is_due i (engine_prefix n (log_of w)) ≡ true → free_lines i (engine_prefix n (log_of w)) ≤ 3
-few_free i w n is some within due = go (cases_lt 3 (free_lines i (engine_prefix n (log_of w))))
-  where
-    above : (f d a w : ℕ) → 4 * d ≤ f * d → a ≡ f * d → a ≤ 3 * d → 8 * w ≤ d → 0 < w → ⊥
-    above f d a w four sum most eight one = omega arith
-
-    go : (3 < free_lines i (engine_prefix n (log_of w))) ⊎ (free_lines i (engine_prefix n (log_of w)) ≤ 3) → free_lines i (engine_prefix n (log_of w)) ≤ 3
-    go (inr few) = few
-    go (inl many) = absurd (above (free_lines i (engine_prefix n (log_of w))) (full_data i.shape) (free_addresses i (engine_prefix n (log_of w))) i.shape.ws_opt
-        (mul-le-mul_right (full_data i.shape) many) (free_are i (engine_prefix n (log_of w)) (is.wide n some within))
-        (within_is (free_addresses i (engine_prefix n (log_of w))) (3 * full_data i.shape) due)
-        (eight_stripes i.shape is.mount.accepted) is.mount.accepted.drive.ws_opt)
+few_free i w n is some within due = few_due i (engine_prefix n (log_of w)) (is.wide n some within) is.mount.accepted due
 
 pub more_free : (i : Image) (w : World) (n : ℕ) → IsReasonedMount i w → 0 < n → n ≤ length (log_of w 0)
     → is_due i (engine_prefix n (log_of w)) ≡ false → 3 < free_lines i (engine_prefix n (log_of w))

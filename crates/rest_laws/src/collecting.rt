@@ -16,13 +16,14 @@ ghost use Rattle.pblk_world.specs.Lines.{found_image, has_stripe_left, is_free_l
 ghost use Rattle.pblk_world.specs.Placing.{IsStart, line_end};
 ghost use Rattle.pblk_world.specs.Space.{full_data, is_due};
 ghost use Rattle.pblk_world.specs.Starts.{has_landed_start, have_landed, newest_start};
-ghost use Rattle.pblk_world.specs.Victims.{engine_prefix, live, next_victim};
+ghost use Rattle.pblk_world.specs.Victims.{engine_prefix, is_failed, live, next_victim};
 ghost use Rattle.pblk_world.specs.World.{World, Logs, log_of};
 ghost use Rattle.pblk_world.specs.LegalMounts.{IsLegalMount, NoStripeLost};
 ghost use Rattle.core_laws.specs.Spent.{OpensWhenFull};
 ghost use Rattle.rest_laws.specs.BehindLines.{IsBehind};
 ghost use Rattle.rest_laws.specs.NewestOpened.{IsLastOpened};
-ghost use Rattle.rest_laws.specs.Tidy.{has_free_chunks};
+ghost use Rattle.rest_laws.specs.RoomSteps.{free_lines, unreset_lines};
+ghost use Rattle.rest_laws.specs.Tidy.{AreWide, has_free_chunks};
 ghost use Rattle.rest_laws.specs.Untroubled.{IsUntroubled};
 
 /// Each sector is live in one line at most, so what is live in all lines together is at most what
@@ -74,6 +75,20 @@ pub fn some_line_may_be_collected()
         → IsUntroubled i w → IsLastOpened (log_of w 0) last
         → has_landed_start i.shape (log_of w 0) last ≡ true → is_due i (log_of w) ≡ true
         → (line : ℕ) × (next_victim i (log_of w) ≡ Some line) }
+{}
+
+/// Where at most three lines are Free or to be reset, and the start record of the line that was
+/// opened last has landed: the line that is collected next has three in four of a line's sectors
+/// live at most, unless it is failed.
+pub fn the_next_victim_has_few_live_sectors()
+    ensures { (i : Image) (w : World) (last : Opening) (line : ℕ) → IsLegalMount i w
+        → NoStripeLost (log_of w 0) → OpensWhenFull i (log_of w)
+        → AreWide (known_image i (log_of w)) → IsLastOpened (log_of w 0) last
+        → has_landed_start i.shape (log_of w 0) last ≡ true
+        → free_lines i (log_of w) + unreset_lines i (log_of w) ≤ 3
+        → next_victim i (log_of w) ≡ Some line
+        → (is_failed i (log_of w) line ≡ true)
+        ⊎ (4 * live i (log_of w) line ≤ 3 * full_data i.shape) }
 {}
 
 /// Where collection is due and some line may be collected, a victim is at work.

@@ -11,8 +11,12 @@
 //!   that had a stripe left when the last one was opened.
 //! - So where few lines are Free and the newest start record has landed, some line may be
 //!   collected, and a victim is at work.
+//! - The victim that comes to work then has few live sectors, unless it is failed. So a line of
+//!   addresses is soon made of it.
 //! - Where no stripe is under way and none of an end record is left, only the line that was opened
 //!   last may be written to. Then the front taken is near the front freed.
+//! - Where no stripe is under way, none is to be placed and no line is to be opened, a copy that is
+//!   due has room in the ring.
 //! - As long as more data addresses are left than entries wait, a mount at rest has nothing left to
 //!   do. Then all that was taken below the pad target has landed, collection isn't due, and there
 //!   is room for sixteen more sectors.
@@ -57,7 +61,8 @@ pub use answers::{
 };
 pub use collecting::{
     a_sector_is_live_in_one_line, a_victim_is_at_work, all_but_two_lines_are_behind,
-    some_line_may_be_collected, the_last_line_has_begun, what_has_landed_whole_is_synced,
+    some_line_may_be_collected, the_last_line_has_begun, the_next_victim_has_few_live_sectors,
+    what_has_landed_whole_is_synced,
 };
 pub use copying::{
     a_begun_copy_is_overtaken, a_copied_sector_is_live_until_it_is_taken,
@@ -69,7 +74,8 @@ pub use copying::{
 pub use faultless::{a_faultless_mount_loses_nothing, a_tidy_image_is_found_tidy};
 pub use never_stuck::what_waits_is_less_than_the_addresses;
 pub use resting::{
-    at_rest_all_is_done, at_rest_there_is_room, only_the_last_line_is_open, the_front_freed_is_near,
+    a_copy_that_is_due_has_room, at_rest_all_is_done, at_rest_there_is_room,
+    only_the_last_line_is_open, the_front_freed_is_near,
 };
 pub use room::{
     a_reset_not_noted_is_of_a_line_to_be_reset, free_lines_are_opened_and_come_by_resets,

@@ -4,19 +4,19 @@ ghost use Rattle.std.specs.Prelude.{◌≡◌, ◌+◌, ◌-◌, ◌*◌, ◌≤
 ghost use Rattle.std.specs.List.{Contains, filter, range_with_len};
 ghost use Rattle.pblk_model.specs.Image.{Image, width};
 ghost use Rattle.pblk_model.specs.Shape.{units};
-ghost use Rattle.pblk_world.specs.AtRest.{pad_target};
+ghost use Rattle.pblk_world.specs.AtRest.{IsCopyDue, pad_target};
 ghost use Rattle.pblk_world.specs.EngineLog.{Opened, Opening, life_of, openings};
 ghost use Rattle.pblk_world.specs.EngineLog.{Placed, is_answered, placements};
 ghost use Rattle.pblk_world.specs.Events.{Stripe};
 ghost use Rattle.pblk_world.specs.Fronts.{synced, taken, waiting};
 ghost use Rattle.pblk_world.specs.Lines.{are_over, found_image, known_image};
 ghost use Rattle.pblk_world.specs.Placing.{IsEnd};
-ghost use Rattle.pblk_world.specs.Space.{addresses, freed, is_due, position_limit, room};
+ghost use Rattle.pblk_world.specs.Space.{addresses, freed, is_due, position_limit, ring_limit, room};
 ghost use Rattle.pblk_world.specs.World.{World, log_of};
 ghost use Rattle.pblk_world.specs.LegalMounts.{IsLegalMount, NoStripeLost};
 ghost use Rattle.core_laws.specs.Spent.{OpensWhenFull};
 ghost use Rattle.rest_laws.specs.NewestOpened.{IsLastOpened};
-ghost use Rattle.rest_laws.specs.RestingMounts.{IsRestingMount};
+ghost use Rattle.rest_laws.specs.RestingMounts.{IsRestingMount, IsStillMount};
 ghost use Rattle.rest_laws.specs.Tidy.{has_free_chunks};
 
 /// Where no stripe is under way and none of a line's end record is left to be placed, nothing more
@@ -79,4 +79,13 @@ pub fn at_rest_there_is_room()
         → length (waiting i.shape (log_of w 0)) < addresses i (log_of w)
         → taken (log_of w 0) + 16 ≤ position_limit (log_of w 0)
         → taken (log_of w 0) + 16 ≤ room i (log_of w) }
+{}
+
+/// Where no stripe is under way, none is to be placed and no line is to be opened, a copy that is
+/// due finds room in the ring, and so do fifteen entries after it: the front taken is as far below
+/// the end of what users may claim there.
+pub fn a_copy_that_is_due_has_room()
+    ensures { (i : Image) (w : World) (asked : ℕ) → IsStillMount i w asked
+        → IsCopyDue i (log_of w)
+        → taken (log_of w 0) + 16 ≤ ring_limit i.shape (log_of w 0) }
 {}

@@ -6,3 +6,5 @@ pub mod Lines
 pub mod Placing
 pub mod Runs
 pub mod Room
+pub mod Settled
+pub mod SettledRuns

@@ -12,12 +12,20 @@
 //! - In the zone all is placed up to where pads were asked for while collection wasn't due.
 //! - Where less than a stripe waits, and the space limit is less than 16 past what is taken,
 //!   collection is due.
+//!
+//! A second law bounds a settling, also by counting (`specs/Settling.antt`): how many pumps one worker
+//! makes until all is on the drive and collection isn't due, while nobody else works or claims.
+//!
+//! - A settling ends. What is left to be done is worth a number that each pump makes less, and that
+//!   nothing else makes more.
 #![tactic(auto)]
 
 mod laws;
+mod settling;
 
 pub use laws::{
     asks_before_due_are_placed, collection_is_due_where_space_is_short,
     copies_of_a_victim_fit_a_line, no_user_waits_in_the_zone, the_space_limit_never_falls,
     what_is_missing_is_reset_or_copied, what_waits_has_room,
 };
+pub use settling::a_settling_ends;
