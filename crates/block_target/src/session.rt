@@ -25,6 +25,7 @@ use crossbeam_utils::Backoff;
 use pblk_engine::{Did, DriveErr, Engine, Flushed, Mount, Roomed, SettleErr, Worker};
 use std::marker::Model;
 use std::sync::Wait;
+use std::time::Duration;
 use thiserror::Error;
 use unit_port::{Log, Unit};
 use write_ring::{Batch, Pass, Ring, TryPut};
@@ -94,6 +95,9 @@ pub enum TryWriteErr {
     Raced { expected: u64, found: u64 },
 }
 
+// How long a session waits at most for what others grant, in microseconds, before it looks again.
+const PATIENCE: u64 = 200;
+
 // Pauses after a pump: for longer and longer where it did nothing that helps who waits.
 fn pause(backoff: &Backoff, did: Did) {
     match did {
@@ -149,8 +153,8 @@ fn wait_for_claims<M: Mount, U: Unit, R: Wait>(
     unreachable!()
 }
 
-// Puts the filled frames of a batch into the ring, once there is room. It is refused only where
-// nobody else claimed a position between the try and the refusal.
+// Puts the filled frames of a batch into the ring, once there is room. It is refused for want of
+// room only where nobody else claimed a position between the try and the refusal.
 fn put<M: Mount, U: Unit, R: Wait>(
     engine: &Engine<M, U>,
     rt: &R,
@@ -198,6 +202,13 @@ fn put<M: Mount, U: Unit, R: Wait>(
             }
             Err(full) => full,
         };
+        if engine.is_contended() {
+            // Others work for the target now, and grant more.
+            engine
+                .ring()
+                .await_grant(rt, full.limit, Duration::from_micros(PATIENCE));
+            continue;
+        }
         let roomed = engine.room(rt, worker, full.claimed + u64::from(count), count);
         worker.stands();
         match roomed {

@@ -21,6 +21,7 @@ use numbered_locks::NumberedLocks;
 use pblk_core::Core;
 use std::marker::PhantomData;
 use std::sync::Mutex;
+use std::sync::atomic::AtomicU64;
 use unit_port::Unit;
 use write_ring::{Batch, Intake, Ring};
 
@@ -101,6 +102,7 @@ impl<M: Mount, U: Unit> Engine<M, U> {
             ring,
             chronicle,
             heart: Mutex::new(heart),
+            queue: AtomicU64::new(0),
             arms,
         }
     }

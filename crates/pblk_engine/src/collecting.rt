@@ -104,7 +104,7 @@ impl<M: Mount, U: Unit> Engine<M, U> {
         ensures collected { HasCollected M.past.image M.handed worker.old worker.new result }
         ensures role { IfOk result (IsOfRole roles.Collector) }
     {
-        let mut heart = self.heart.lock(rt);
+        let mut heart = self.hold(rt);
         let beating = &mut *heart;
         beating.take_filled(&self.chronicle, &self.ring);
         self.tell(beating, worker);

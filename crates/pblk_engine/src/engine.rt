@@ -9,9 +9,12 @@ use crate::mount::Mount;
 use crate::places::ArmPlaces;
 use crate::worker::Worker;
 use chronicle::Chronicle;
+use crossbeam_utils::Backoff;
 use numbered_locks::NumberedLocks;
 use std::marker::Model;
-use std::sync::Mutex;
+use std::sync::atomic::AtomicU64;
+use std::sync::atomic::Ordering::Relaxed;
+use std::sync::{Mutex, MutexGuard, Wait};
 use unit_port::Unit;
 use write_ring::Ring;
 
@@ -24,6 +27,8 @@ pub struct Engine<M: Mount, U: Unit> {
     pub(crate) ring: Ring,
     pub(crate) chronicle: Chronicle,
     pub(crate) heart: Mutex<Heart<M>>,
+    // How many threads wait for the engine's lock.
+    pub(crate) queue: AtomicU64,
     pub(crate) arms: NumberedLocks<Arm<M, U>, ArmPlaces<M, U>>,
 }
 
@@ -42,7 +47,40 @@ impl<M: Mount, U: Unit> Model for Engine<M, U> {
         × (places e.arms ≡ units M.past.image.shape) };
 }
 
+// How often a thread looks whether the engine's lock is free before it sleeps.
+const TURNS: u32 = 12;
+
 impl<M: Mount, U: Unit> Engine<M, U> {
+    /// Takes the engine's lock. Most holds are shorter than the time in which a thread is put to
+    /// sleep and woken. So where somebody has the lock, the thread looks again for some turns, with
+    /// longer and longer pauses, before it sleeps.
+    pub(crate) fn hold<R: Wait>(&self, rt: &R) -> MutexGuard<'_, Heart<M>> {
+        if let Some(heart) = self.heart.try_lock() {
+            return heart;
+        }
+        self.queue.fetch_add(1, Relaxed);
+        let heart = self.wait(rt);
+        self.queue.fetch_sub(1, Relaxed);
+        heart
+    }
+
+    // Waits for the engine's lock: first with pauses, and then it sleeps.
+    fn wait<R: Wait>(&self, rt: &R) -> MutexGuard<'_, Heart<M>> {
+        let backoff = Backoff::new();
+        for _ in 0..TURNS {
+            if let Some(heart) = self.heart.try_lock() {
+                return heart;
+            }
+            backoff.snooze();
+        }
+        self.heart.lock(rt)
+    }
+
+    /// Whether a thread waits for the engine's lock now. Nothing is promised of the answer.
+    pub fn is_contended(&self) -> bool {
+        self.queue.load(Relaxed) != 0
+    }
+
     /// The write ring of the mount.
     pub fn ring(&self) -> &Ring
         ensures ring { IsRingOf M.ring M.key result.now }

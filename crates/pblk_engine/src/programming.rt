@@ -121,7 +121,7 @@ impl<M: Mount, U: Unit> Engine<M, U> {
             ≡ record old { known = worker.new.known } }
         ensures keeps { ArePrefixes worker.old.known worker.new.known }
     {
-        let mut heart = self.heart.lock(rt);
+        let mut heart = self.hold(rt);
         heart.answer(
             &self.chronicle,
             &self.ring,

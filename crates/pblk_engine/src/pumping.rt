@@ -36,7 +36,7 @@ impl<M: Mount, U: Unit> Engine<M, U> {
         ensures made { (more : List Made) → worker.new.made ≡ worker.old.made ++ more
             → AreOfRole role more }
     {
-        let mut heart = self.heart.lock(rt);
+        let mut heart = self.hold(rt);
         let beating = &mut *heart;
         beating.take_filled(&self.chronicle, &self.ring);
         self.tell(beating, worker);

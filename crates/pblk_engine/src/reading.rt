@@ -32,7 +32,7 @@ impl<M: Mount, U: Unit> Engine<M, U> {
         ensures same { IsNone result → worker.new ≡ worker.old }
         ensures size { length out.new ≡ length out.old }
     {
-        let mut heart = self.heart.lock(rt);
+        let mut heart = self.hold(rt);
         let beating = &mut *heart;
         beating.take_filled(&self.chronicle, &self.ring);
         if beating.front().position < seen {
@@ -208,7 +208,7 @@ impl<M: Mount, U: Unit> Engine<M, U> {
         ensures read { HasRead M.past M.handed worker.old worker.new seen lba out.new result }
         ensures size { length out.new ≡ length out.old }
     {
-        let mut heart = self.heart.lock(rt);
+        let mut heart = self.hold(rt);
         let beating = &mut *heart;
         beating.take_filled(&self.chronicle, &self.ring);
         self.tell(beating, worker);

@@ -49,7 +49,7 @@ impl<M: Mount, U: Unit> Engine<M, U> {
         ensures worn_asked { (wanted have : ℕ) → result ≡ Err (SettleErr.Worn wanted have)
             → worker.new.asked ≡ max worker.old.asked position }
     {
-        let mut heart = self.heart.lock(rt);
+        let mut heart = self.hold(rt);
         let beating = &mut *heart;
         let filled = beating.take_filled(&self.chronicle, &self.ring);
         self.tell(beating, worker);
@@ -88,7 +88,7 @@ impl<M: Mount, U: Unit> Engine<M, U> {
         ensures roomed { HasRoomed M.past.image M.handed wanted count worker.old worker.new
             result }
     {
-        let mut heart = self.heart.lock(rt);
+        let mut heart = self.hold(rt);
         let beating = &mut *heart;
         let filled = beating.take_filled(&self.chronicle, &self.ring);
         self.tell(beating, worker);
@@ -119,7 +119,7 @@ impl<M: Mount, U: Unit> Engine<M, U> {
         ensures taken { taken (logs_of worker.old.known 0) ≤ result }
         ensures same_worker { worker.new ≡ worker.old }
     {
-        let mut heart = self.heart.lock(rt);
+        let mut heart = self.hold(rt);
         let known = worker.note(&self.chronicle);
         heart.meet(&self.chronicle, known);
         heart.all_claimed(&self.ring, pass)

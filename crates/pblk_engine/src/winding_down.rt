@@ -81,7 +81,7 @@ impl<M: Mount, U: Unit> Engine<M, U> {
         ensures looked { HasLooked M.past.image M.key M.handed (pass_view pass.old).pass
             worker.old worker.new result }
     {
-        let mut heart = self.heart.lock(rt);
+        let mut heart = self.hold(rt);
         heart.take_filled(&self.chronicle, &self.ring);
         let claimed = heart.all_claimed(&self.ring, pass);
         self.tell(&mut heart, worker);
@@ -238,6 +238,7 @@ impl<M: Mount, U: Unit> Engine<M, U> {
                 ring,
                 chronicle,
                 heart,
+                queue,
                 arms,
             } = engine;
             let mut heart = heart.into_inner();
@@ -256,6 +257,7 @@ impl<M: Mount, U: Unit> Engine<M, U> {
                 ring,
                 chronicle,
                 heart: Mutex::new(heart),
+                queue,
                 arms,
             };
         }

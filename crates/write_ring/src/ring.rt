@@ -94,6 +94,7 @@ impl Ring {
                     size,
                     first,
                     sleepers: AtomicU64::new(0),
+                    waiters: AtomicU64::new(0),
                 };
                 let intake = Intake {
                     seat: intake,
@@ -204,6 +205,7 @@ impl Ring {
             size,
             first: _,
             sleepers: _,
+            waiters: _,
         } = self;
         let Pass { mut seat } = pass;
         let Intake {

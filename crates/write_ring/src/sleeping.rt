@@ -1,5 +1,5 @@
 // Threads that have nothing to do sleep until something is claimed.
-use crate::table::{CLAIMED, Ring};
+use crate::table::{CLAIMED, GRANTED, Ring};
 use std::sync::Wait;
 use std::sync::atomic::Ordering::SeqCst;
 use std::time::Duration;
@@ -26,6 +26,23 @@ impl Ring {
     pub fn wake(&self) {
         if self.sleepers.load(SeqCst) != 0 {
             self.table.shared.wake_all(CLAIMED);
+        }
+    }
+
+    /// Sleeps if what is granted ends at this position still: until more is granted, and for no
+    /// longer than the limit. Only the lowest 32 bits are compared. It may also end for no reason.
+    /// Nothing is promised of how long it sleeps, and nothing of what is granted afterwards.
+    pub fn await_grant<R: Wait>(&self, rt: &R, granted: u64, limit: Duration) {
+        self.waiters.fetch_add(1, SeqCst);
+        let low = (granted & 0xffff_ffff) as u32;
+        self.table.shared.park_timeout(rt, GRANTED, low, limit);
+        self.waiters.fetch_sub(1, SeqCst);
+    }
+
+    // Wakes one of those who wait for a grant. Where nobody waits it is one load.
+    pub(crate) fn wake_for_grant(&self) {
+        if self.waiters.load(SeqCst) != 0 {
+            self.table.shared.wake_one(GRANTED);
         }
     }
 }

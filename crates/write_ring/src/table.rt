@@ -29,6 +29,8 @@ pub struct Ring {
     pub(crate) first: u64,
     // How many threads doze.
     pub(crate) sleepers: AtomicU64,
+    // How many threads wait for a grant.
+    pub(crate) waiters: AtomicU64,
     ghost sized: { table.shared.key.size ≡ size },
     ghost begins: { table.shared.key.first ≡ first },
     ghost small: { size < 2 ^ 32 },

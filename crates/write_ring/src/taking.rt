@@ -144,5 +144,6 @@ impl Ring {
         self.table
             .shared
             .store::<Grant>(&mut intake.seat, GRANTED, to);
+        self.wake_for_grant();
     }
 }
