@@ -1,0 +1,30 @@
+use Rattle.std.proofs.Common.{map, sym, ap}
+use Rattle.std.proofs.lemmas.Result.{err_from_is_err_and}
+use Rattle.pblk_laws.specs.LineBlocks.{written_at}
+use Rattle.unit_port.proofs.Units.{kept_none}
+use Rattle.scan_recovery.specs.Units.{image_of}
+use Rattle.scan_recovery.proofs.FetchSteps.{none_fetched}
+use Rattle.stripe_parity.specs.Xors.{xor_given}
+use Rattle.stripe_parity.proofs.UnitSums.{given_block}
+use Rattle.stripe_parity.proofs.adding.add_block.Goals as goal
+
+pub returns-then-not-is_written-clause-sum : goal.returns-then-not-is_written-clause-sum
+returns-then-not-is_written-clause-sum g c =
+    ap (xor_given (record { sector = c.args.sum.now; mark = c.args.mark })) (sym (c.is_written.ensures.unwritten c.if-not-is_written.true))
+
+pub returns-then-not-is_written-clause-fetched : goal.returns-then-not-is_written-clause-fetched
+returns-then-not-is_written-clause-fetched g c = none_fetched c.args.shape.now (map g.U.Unit.model c.args.units.now)
+
+pub returns-then-not-is_written-clause-kept : goal.returns-then-not-is_written-clause-kept
+returns-then-not-is_written-clause-kept g c = kept_none (map g.U.Unit.model c.args.units.now)
+
+pub returns-in_err-found-clause-fetched : goal.returns-in_err-found-clause-fetched
+returns-in_err-found-clause-fetched g c =
+    let p = err_from_is_err_and c.from_residual.result c.from_residual.ensures.1 in
+    rw (p.1, p.2) c.in_err-found.ensures.fetched
+
+pub returns-clause-sum : goal.returns-clause-sum
+returns-clause-sum g c =
+    given_block c.args.sum.now c.fetch_into.new.out c.xor_bytes.new.out c.args.mark c.in_ok-found.found c.xor_marks.result
+    (written_at (image_of c.args.shape.now (map g.U.Unit.model c.args.units.now)) c.args.chunk (c.args.unit, c.args.block))
+    c.in_ok-found.ensures.block c.xor_bytes.ensures c.xor_marks.ensures

@@ -1,0 +1,76 @@
+use Rattle.std.proofs.Common.{◌≡◌, List, map, sym, ap, subst, ◌∙◌}
+use Rattle.std.specs.Prelude.{OnOk}
+use Rattle.std.specs.Vec.{with_items}
+use Rattle.pblk_model.specs.Accepted.{IsAccepted}
+use Rattle.pblk_model.specs.Contents.{contents, end}
+use Rattle.pblk_model.specs.Image.{Image}
+use Rattle.pblk_model.specs.Sealed.{IsSealed}
+use Rattle.unit_port.specs.Commands.{AreKept}
+use Rattle.world_laws.specs.Finding.{NoneOpen}
+use Rattle.ocssd_drive.specs.Drive.{DriveView, shape_of, with_units}
+use Rattle.ocssd_drive.specs.DriveFields.{drive_view}
+use Rattle.ocssd_drive.specs.Units.{WornUnit}
+use Rattle.scan_recovery.specs.Units.{image_of}
+use Rattle.scan_recovery.proofs.UnitsLemmas.{drive_fits}
+use Rattle.stripe_parity.specs.Rebuilding.{drive_image}
+use Rattle.stripe_parity.proofs.Refused.{image_from}
+use Rattle.stripe_parity.proofs.Wholes.{as_many, whole_after, written_over}
+use Rattle.stripe_parity.proofs.drives.pad_drive.Goals as goal
+use Rattle.stripe_parity.proofs.drives.pad_drive.Goals.{After-pad}
+
+-- as many units as before
+many : (c : After-pad) → (with_items c.drive.inside.units c.pad.new.units).items ≡ c.pad.new.units
+many c = written_over c.drive.inside.units c.pad.new.units (as_many (drive_view c.drive.inside) c.pad.new.units
+    (subst (λ (us : List WornUnit). AreKept (map (λ (u : WornUnit). u.unit) us) (map (λ (u : WornUnit). u.unit) c.pad.new.units)) c.deref_mut.ensures.value c.pad.ensures.kept))
+
+-- the drive's chunks before and after
+old_is : (c : After-pad) → image_of c.shape-shape.result (map (λ (u : WornUnit). u.unit) c.deref_mut.result.now) ≡ drive_image c.args.drive.now
+old_is c = image_from c.shape-shape.result c.args.drive.now c.deref_mut.result.now c.shape-shape.ensures.shape (c.deref_mut.ensures.value ∙ ap (λ (d : DriveView). d.units) c.drive.view_is)
+
+new_is : (c : After-pad) → image_of c.shape-shape.result (map (λ (u : WornUnit). u.unit) c.pad.new.units) ≡ drive_image (with_units (with_items c.drive.inside.units c.pad.new.units).items (drive_view c.drive.inside))
+new_is c = image_from c.shape-shape.result (with_units (with_items c.drive.inside.units c.pad.new.units).items (drive_view c.drive.inside)) c.pad.new.units
+    (c.shape-shape.ensures.shape ∙ sym (ap shape_of c.drive.view_is)) (sym (many c))
+
+pub pad-requires-clause-accepted : goal.pad-requires-clause-accepted
+pad-requires-clause-accepted c = subst IsAccepted (sym c.shape-shape.ensures.shape) c.shape-shape.ensures.whole.accepted
+
+pub pad-requires-clause-fit : goal.pad-requires-clause-fit
+pad-requires-clause-fit c =
+    rw c.deref_mut.ensures.value (drive_fits c.args.drive.now (drive_view c.drive.inside) c.shape-shape.result c.drive.view_is c.shape-shape.ensures.shape c.shape-shape.ensures.whole)
+
+pub invariant_of-drive : goal.invariant_of-drive
+invariant_of-drive c =
+    let at = (goal.at.invariant_of-drive c).After-pad in
+    let d : DriveView = drive_view c.drive.inside in
+    let kept = subst (λ (us : List WornUnit). AreKept (map (λ (u : WornUnit). u.unit) us) (map (λ (u : WornUnit). u.unit) c.pad.new.units)) c.deref_mut.ensures.value c.pad.ensures.kept in
+    rw (many at) (whole_after d c.pad.new.units c.drive.invariant kept (c.pad.ensures.wear ∙ ap (map (λ (u : WornUnit). u.wear)) c.deref_mut.ensures.value))
+
+pub returns-clause-closed : goal.returns-clause-closed
+returns-clause-closed c = subst (λ (i : Image). OnOk c.pad.result (NoneOpen i)) (new_is (goal.at.returns-clause-closed c).After-pad) c.pad.ensures.closed
+
+pub returns-clause-sealed : goal.returns-clause-sealed
+returns-clause-sealed c = λ was.
+    let at = (goal.at.returns-clause-sealed c).After-pad in
+    subst IsSealed (new_is at) (c.pad.ensures.sealed (subst IsSealed (sym (old_is at)) was))
+
+pub returns-clause-contents : goal.returns-clause-contents
+returns-clause-contents c = λ was.
+    let at = (goal.at.returns-clause-contents c).After-pad in
+    ap contents (sym (new_is at)) ∙ c.pad.ensures.contents (subst IsSealed (sym (old_is at)) was) ∙ ap contents (old_is at)
+
+pub returns-clause-end : goal.returns-clause-end
+returns-clause-end c = λ was.
+    let at = (goal.at.returns-clause-end c).After-pad in
+    ap end (sym (new_is at)) ∙ c.pad.ensures.end (subst IsSealed (sym (old_is at)) was) ∙ ap end (old_is at)
+
+pub returns-clause-wear : goal.returns-clause-wear
+returns-clause-wear c =
+    rw (many (goal.at.returns-clause-wear c).After-pad) (c.pad.ensures.wear ∙ ap (map (λ (u : WornUnit). u.wear)) (c.deref_mut.ensures.value ∙ ap (λ (v : DriveView). v.units) c.drive.view_is))
+
+pub returns-clause-numbers : goal.returns-clause-numbers
+returns-clause-numbers c =
+    let new = (with_items c.drive.inside.units c.pad.new.units).items in
+    ap (λ (v : DriveView). with_units new v) c.drive.view_is
+
+pub returns-clause-whole : goal.returns-clause-whole
+returns-clause-whole c = invariant_of-drive c
