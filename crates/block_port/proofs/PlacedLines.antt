@@ -77,7 +77,8 @@ none_covered x first (w ∷ writes) below above =
     let rest : covered x writes ≡ 0 = none_covered x first writes below above.1 in
     omega arith
 
-rise_from : (a b c : ℕ) (lines : List PlacedSector) → a ≤ b → Rise b c lines → Rise a c lines
+-- lines that rise from a position rise from a lower one
+pub rise_from : (a b c : ℕ) (lines : List PlacedSector) → a ≤ b → Rise b c lines → Rise a c lines
 rise_from a b c [] low rise = omega (arith, rise)
 rise_from a b c (line ∷ lines) low rise = (omega (arith, rise.0), rise.1)
 

@@ -30,7 +30,7 @@ use Rattle.prefix_law.proofs.Among.{behind}
 use Rattle.block_target.specs.Closes.{IsKept, joined, writes_from}
 use Rattle.block_target.specs.Sessions.{SessionView, history_lines, line_of, row_of}
 use Rattle.block_target.proofs.ClosingParts.{among_get, claims_are, get_among, line_put, put_line}
-use Rattle.block_target.proofs.LogLines.{rise_lower}
+use Rattle.block_port.proofs.PlacedLines.{rise_from}
 
 -- ---- rows at one position
 
@@ -152,7 +152,7 @@ rise_of (t ∷ ts) from at =
       omega (arith, here),
       subst (λ n. Rise (n + 1) (from + length (t ∷ ts)) (lines_in ts)) (sym here) rest,
     )
-    go here rest false = rise_lower from (from + 1) (from + length (t ∷ ts)) (lines_in ts) (omega arith) rest
+    go here rest false = rise_from from (from + 1) (from + length (t ∷ ts)) (lines_in ts) (omega arith) rest
 
 -- ---- lists
 

@@ -19,7 +19,7 @@ use Rattle.scan_recovery.specs.DriveFaults.{drive_faults_of, is_drive_fault, is_
 use Rattle.pblk_engine.specs.Workers.{Made, WasMade}
 use Rattle.pblk_engine.proofs.WorkersLists.{StandsNewly, number_below, stands}
 use Rattle.pblk_engine.proofs.EventNumbers.{events_count}
-use Rattle.chronicle.proofs.Rights.{others_count, own_count}
+use Rattle.pblk_world.proofs.RisingMakers.{others_count, own_count}
 use Rattle.block_target.specs.Closes.{lost_places}
 
 -- ---- lists

@@ -1,5 +1,5 @@
 -- The users' entries of an engine's log as lines of the history, and the fronts there.
-use Rattle.std.proofs.Common.{◌≡◌, ℕ, ◌+◌, ◌<◌, ◌≤◌, nat_lt, suc, Some, Option, Bool, true, false, cond, List, [], ◌∷◌, ◌++◌, length, take, refl, sym, ap, subst, ◌∙◌, arith, le_trans, length-append}
+use Rattle.std.proofs.Common.{◌≡◌, ℕ, ◌+◌, ◌<◌, ◌≤◌, nat_lt, suc, Some, Bool, true, false, cond, List, [], ◌∷◌, ◌++◌, length, refl, sym, ap, subst, ◌∙◌, arith, length-append}
 use Rattle.std.specs.Prelude.{map, slice_get}
 use Rattle.std.specs.List.{filter}
 use Rattle.std.proofs.lemmas.List.{map-append}
@@ -13,23 +13,18 @@ use Rattle.pblk_model.proofs.Tests.{lt_true}
 use Rattle.pblk_world.specs.EngineLog.{Begun, Taken, begun, takes}
 use Rattle.pblk_world.specs.Events.{Logged}
 use Rattle.pblk_world.specs.Fronts.{first_position, is_users, synced, taken, user_takes}
-use Rattle.pblk_world.proofs.EngineLogLemmas.{begun_of_first}
 use Rattle.core_laws.specs.Positions.{AreNumbered}
 use Rattle.core_laws.specs.WindowOf.{users_below}
 use Rattle.pblk_core.proofs.WaitingEntries.{numbered_at}
-use Rattle.chronicle.proofs.PrefixLemmas.{begins_take}
 use Rattle.block_port.specs.Own.{PlacedSector}
 use Rattle.block_port.specs.Port.{Rise, positions}
+use Rattle.block_port.proofs.PlacedLines.{rise_from}
 use Rattle.world_laws.proofs.Later.{takes_joined}
 use Rattle.world_laws.proofs.Fronts.{synced_later}
+use Rattle.world_laws.proofs.Positions.{first_same}
 use Rattle.block_target.specs.Sessions.{history_lines, line_of}
 
 -- ---- a longer log
-
--- lines that rise from a position rise from a lower one
-pub rise_lower : (a b to : ℕ) (xs : List PlacedSector) → a ≤ b → Rise b to xs → Rise a to xs
-rise_lower a b to [] le rise = le_trans le rise
-rise_lower a b to (x ∷ xs) le rise = (le_trans le rise.0, rise.1)
 
 -- with one entry more before them
 rise_one : (t : Taken) (ts : List Taken) (from to : ℕ) → t.entry.position ≡ from → Rise (from + 1) to (map line_of (filter (λ t. is_users t.entry.source) ts))
@@ -41,7 +36,7 @@ rise_one t ts from to here rest = go (is_users t.entry.source)
       omega (arith, here),
       subst (λ n. Rise (n + 1) to (map line_of (filter (λ t. is_users t.entry.source) ts))) (sym here) rest,
     )
-    go false = rise_lower from (from + 1) to (map line_of (filter (λ t. is_users t.entry.source) ts)) (omega arith) rest
+    go false = rise_from from (from + 1) to (map line_of (filter (λ t. is_users t.entry.source) ts)) (omega arith) rest
 
 rise_lines : (ts : List Taken) (from : ℕ) → ((k : ℕ) (t : Taken) → slice_get ts k ≡ Some t → t.entry.position ≡ from + k)
     → Rise from (from + length ts) (map line_of (filter (λ t. is_users t.entry.source) ts))
@@ -58,16 +53,6 @@ lines_both a b =
     ap (λ (ts : List Taken). map line_of (filter (λ t. is_users t.entry.source) ts)) (takes_joined a b)
     ∙ ap (map line_of) (filter_both (λ (t : Taken). is_users t.entry.source) (takes a) (takes b))
     ∙ map-append line_of (user_takes a) (user_takes b)
-
--- a log that has begun has its first position for good
-first_stays : (a b : List Logged) (first : Begun) → begun a ≡ Some first → first_position (a ++ b) ≡ first_position a
-first_stays a b first is =
-    let start : take (length a) (a ++ b) ≡ a = begins_take a (a ++ b) (b, refl) in
-    let same : begun (a ++ b) ≡ begun a = begun_of_first (length a) (a ++ b) first (ap begun start ∙ is) ∙ sym is in
-    ap first_in same
-  where
-    first_in : Option Begun → ℕ
-    first_in o = Rattle.std.specs.Option.option_map_or (λ (x : Begun). x.beginning.first) o 0
 
 get_behind : {X : Type 0} (xs ys : List X) (k : ℕ) (x : X) → slice_get ys k ≡ Some x → slice_get (xs ++ ys) (length xs + k) ≡ Some x
 get_behind [] ys k x there = let e : 0 + k ≡ k = omega arith in ap (slice_get ys) e ∙ there
@@ -91,7 +76,7 @@ more_lines early late first is begins numbered = record {
 }
   where
     start : first_position late ≡ first_position early
-    start = ap first_position (sym is.1) ∙ first_stays early is.0 first begins
+    start = ap first_position (sym is.1) ∙ first_same early is.0 first begins
 
     both : takes late ≡ takes early ++ takes is.0
     both = ap takes (sym is.1) ∙ takes_joined early is.0

@@ -56,23 +56,23 @@ asks_worn position a b c (inr before) more = omega (arith, before, more)
 
 -- ---- a wait
 
--- so far no command was lost
-pub record WentWell (old now : WorkerView) : Type 0 where
+-- so far no command was lost, and pads may have been asked for
+pub record WaitedWell (old now : WorkerView) : Type 0 where
   pub more : List Made
   pub on : WentOn old now more
   pub none : NoFaults more
 
-pub well_begins : (w : WorkerView) → WentWell w w
+pub well_begins : (w : WorkerView) → WaitedWell w w
 well_begins w = record { more = []; on = went_none w; none = tt }
 
-pub well_more : (a b c : WorkerView) (xs : List Made) → WentWell a b → WentOn b c xs → NoFaults xs → WentWell a c
+pub well_more : (a b c : WorkerView) (xs : List Made) → WaitedWell a b → WentOn b c xs → NoFaults xs → WaitedWell a c
 well_more a b c xs was on none = record {
   more = was.more ++ xs;
   on = went_then a b c was.more xs was.on on;
   none = none_of_both was.more xs was.none none;
 }
 
-went_on : (a b c : WorkerView) (xs : List Made) → WentWell a b → GoesOn b c xs → NoFaults xs → WentWell a c
+went_on : (a b c : WorkerView) (xs : List Made) → WaitedWell a b → GoesOn b c xs → NoFaults xs → WaitedWell a c
 went_on a b c xs was on none = well_more a b c xs was (went b c xs on) none
 
 -- no command was made
@@ -81,17 +81,17 @@ none_made xs is = subst (λ (ms : List Made). NoFaults ms) (sym is) tt
 
 -- ---- for room
 
-pub roomed_more : (i : Image) (handed : List ModelUnit) (wanted count : ℕ) (a b c : WorkerView) (r : Roomed) → WentWell a b
-    → HasRoomed i handed wanted count b c (Ok r) → WentWell a c
+pub roomed_more : (i : Image) (handed : List ModelUnit) (wanted count : ℕ) (a b c : WorkerView) (r : Roomed) → WaitedWell a b
+    → HasRoomed i handed wanted count b c (Ok r) → WaitedWell a c
 roomed_more i handed wanted count a b c roomed.There was is = went_on a b c is.more was is.on (none_made is.more is.tells.0)
 roomed_more i handed wanted count a b c (roomed.Pumped did) was is = went_on a b c is.more was is.on is.tells.1.0
 
 -- once it answered Worn, where others had claimed since
-pub roomed_again : (i : Image) (handed : List ModelUnit) (wanted count want have : ℕ) (a b c : WorkerView) → WentWell a b
-    → HasRoomed i handed wanted count b c (Err (errors.Worn want have)) → WentWell a c
+pub roomed_again : (i : Image) (handed : List ModelUnit) (wanted count want have : ℕ) (a b c : WorkerView) → WaitedWell a b
+    → HasRoomed i handed wanted count b c (Err (errors.Worn want have)) → WaitedWell a c
 roomed_again i handed wanted count want have a b c was is = went_on a b c is.more was is.on (none_made is.more is.tells.0)
 
-pub roomed_lost : (i : Image) (handed : List ModelUnit) (claimed count unit event : ℕ) (a b c : WorkerView) → WentWell a b
+pub roomed_lost : (i : Image) (handed : List ModelUnit) (claimed count unit event : ℕ) (a b c : WorkerView) → WaitedWell a b
     → HasRoomed i handed (claimed + count) count b c (Err (errors.Drive unit event))
     → HasCause a c (λ more. TellsPut i handed count claimed c more (Err (errors.Drive unit event)))
 roomed_lost i handed claimed count unit event a b c was is = record {
@@ -101,7 +101,7 @@ roomed_lost i handed claimed count unit event a b c was is = record {
 }
 
 -- where nobody had: what is wanted lies just behind all that was taken
-pub roomed_worn : (i : Image) (handed : List ModelUnit) (claimed count wanted have : ℕ) (a b c : WorkerView) → WentWell a b
+pub roomed_worn : (i : Image) (handed : List ModelUnit) (claimed count wanted have : ℕ) (a b c : WorkerView) → WaitedWell a b
     → HasRoomed i handed (claimed + count) count b c (Err (errors.Worn wanted have)) → taken (logs_of c.known 0) ≤ claimed
     → HasCause a c (λ more. TellsPut i handed count claimed c more (Err (errors.Worn wanted have)))
 roomed_worn i handed claimed count wanted have a b c was is most =
@@ -120,17 +120,17 @@ roomed_worn i handed claimed count wanted have a b c was is most =
 
 -- ---- for entries
 
-pub flushed_more : (i : Image) (handed : List ModelUnit) (position : ℕ) (a b c : WorkerView) (did : Did) → WentWell a b
-    → HasFlushed i handed position b c (Ok (flushed.Pumped did)) → WentWell a c
+pub flushed_more : (i : Image) (handed : List ModelUnit) (position : ℕ) (a b c : WorkerView) (did : Did) → WaitedWell a b
+    → HasFlushed i handed position b c (Ok (flushed.Pumped did)) → WaitedWell a c
 flushed_more i handed position a b c did was is = well_more a b c is.more was is.on is.tells.1.0
 
-pub flushed_all : (i : Image) (handed : List ModelUnit) (position : ℕ) (a b c : WorkerView) (front : Front) → WentWell a b
+pub flushed_all : (i : Image) (handed : List ModelUnit) (position : ℕ) (a b c : WorkerView) (front : Front) → WaitedWell a b
     → HasFlushed i handed position b c (Ok (flushed.Synced front)) → HasCause a c (λ more. TellsSync i handed position c more (Ok front))
 flushed_all i handed position a b c front was is =
     let all = well_more a b c is.more was is.on (none_made is.more is.tells.0) in
     record { more = all.more; on = all.on; tells = (all.none, is.tells.1, is.tells.2) }
 
-pub flushed_err : (i : Image) (handed : List ModelUnit) (position : ℕ) (a b c : WorkerView) (e : SettleErr) → WentWell a b
+pub flushed_err : (i : Image) (handed : List ModelUnit) (position : ℕ) (a b c : WorkerView) (e : SettleErr) → WaitedWell a b
     → HasFlushed i handed position b c (Err e) → HasCause a c (λ more. TellsSync i handed position c more (Err e))
 flushed_err i handed position a b c (errors.Drive unit event) was is = record {
   more = was.more ++ is.more;

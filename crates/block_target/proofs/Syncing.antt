@@ -17,7 +17,7 @@ use Rattle.pblk_engine.specs.declared.errors.SettleErr.TheVariants as errors
 use Rattle.pblk_engine.proofs.GoingOn.{all_known}
 use Rattle.pblk_engine.proofs.Settlings.{fault_then, none_of_both}
 use Rattle.block_target.specs.Causes.{HasCause, TellsSync}
-use Rattle.block_target.proofs.Putting.{WentWell, asks_then, went_then, well_more}
+use Rattle.block_target.proofs.Putting.{WaitedWell, asks_then, went_then, well_more}
 
 -- Pads were asked for up to an earlier position of the wait, which was answered Worn.
 pub record WasWorn (i : Image) (seen low high : ℕ) (old now : WorkerView) : Type 0 where
@@ -31,7 +31,7 @@ pub record WasWorn (i : Image) (seen low high : ℕ) (old now : WorkerView) : Ty
 
 -- so far no command was lost, and what was asked for is known
 pub record SoFar (i : Image) (seen low high : ℕ) (old now : WorkerView) : Type 0 where
-  pub well : WentWell old now
+  pub well : WaitedWell old now
   pub asked : (now.asked ≡ old.asked) ⊎ WasWorn i seen low high old now
 
 -- the answer of a wait for all that was seen or claimed

@@ -12,6 +12,8 @@ use mathlib.Core.List.{IsPrefix}
 use lib.ListN.{get_elem?}
 use Rattle.atomic_table.specs.Table.{State, Allows, Splits, Joins, keeps, opening}
 use Rattle.atomic_table.proofs.Lists.{at_set}
+use Rattle.pblk_model.proofs.Lists.{replicated}
+use Rattle.pblk_model.proofs.Parts.{only_one}
 use Rattle.pblk_model.proofs.Tests.{same_number, other_number}
 use Rattle.pblk_world.specs.Events.{Maker, Event, Logged}
 use Rattle.pblk_world.specs.Makers.{HasMakers, commands_of}
@@ -26,7 +28,7 @@ use Rattle.chronicle.proofs.PrefixLemmas.{nothing_begins, begins_longer, longer_
 use Rattle.chronicle.proofs.Parts.{next_step, nothing_part, later_part, moved_part, appended_part, own_begins, heard_own_begins, joined_part}
 use Rattle.chronicle.proofs.Rights.{moved_rights, next_is_named, next_is_own, next_numbered, no_rights}
 use Rattle.chronicle.proofs.Worlds.{whole_part, all_open, known_legal, known_whole, none_opened, opening_legal, step_legal}
-use Rattle.chronicle.proofs.Views.{each_changed, each_more, only_one, IsStale, stale, stale_changed}
+use Rattle.chronicle.proofs.Views.{each_changed, each_more, IsStale, stale, stale_changed}
 
 -- ---- where the world stays
 
@@ -142,8 +144,9 @@ parts_first by v log rest owned apart s h here =
     same_world s h owner h.few (views ++ first_of v ∷ [])
     (each_more P views (first_of v)
     (each_changed P s.views by (but_first v)
-    (λ seat u not_by there. let each =
-    h.views seat u there in record { mine = other seat u.mine not_by each.mine; heard = other seat u.heard not_by each.heard })
+    (λ seat u not_by there.
+    let each = h.views seat u there in
+    record { mine = other seat u.mine not_by each.mine; heard = other seat u.heard not_by each.heard })
     left) right)
     (each_more IsStale views (first_of v) (stale_changed s h by v (but_first v) here refl) (stale (length views) (first_of v) refl))
   where
@@ -189,8 +192,9 @@ meets by v other w s h here apart there =
     let views = set s.views by (with_heard v w) in
     let each : (seat : ℕ) (u : View) → seat ≢ other → get_elem? views seat ≡ some u → IsView h.past h.world owner seat u =
     λ seat u not_other at. each_changed (λ seat u. seat ≢ other → IsView h.past h.world owner seat u) s.views by (with_heard v w)
-    (λ seat u _ at not_other. let one =
-    h.views seat u at in record { mine = stays seat u.mine not_other one.mine; heard = stays seat u.heard not_other one.heard })
+    (λ seat u _ at not_other.
+    let one = h.views seat u at in
+    record { mine = stays seat u.mine not_other one.mine; heard = stays seat u.heard not_other one.heard })
     (λ _. both) seat u at not_other in
     same_world s h owner h.few (set views other spent)
     (each_changed P views other spent each (record { mine = none; heard = none }))
@@ -256,8 +260,9 @@ lends by v s h here =
     same_world s h owner h.few (views ++ lent v ∷ [])
     (each_more P views (lent v)
     (each_changed P s.views by (without_makers v)
-    (λ seat u not_by there. let each =
-    h.views seat u there in record { mine = stays seat u.mine not_by each.mine; heard = stays seat u.heard not_by each.heard })
+    (λ seat u not_by there.
+    let each = h.views seat u there in
+    record { mine = stays seat u.mine not_by each.mine; heard = stays seat u.heard not_by each.heard })
     left) right)
     (each_more IsStale views (lent v) (stale_changed s h by v (without_makers v) here refl) (stale (length views) (lent v) refl))
 
@@ -316,8 +321,9 @@ names by v n spare small s h here =
     same_world s h owner (omega arith) (views ++ named v ∷ [])
     (each_more P views (named v)
     (each_changed P s.views by (naming_next v)
-    (λ seat u not_by there. let each =
-    h.views seat u there in record { mine = stays seat u.mine not_by each.mine; heard = stays seat u.heard not_by each.heard })
+    (λ seat u not_by there.
+    let each = h.views seat u there in
+    record { mine = stays seat u.mine not_by each.mine; heard = stays seat u.heard not_by each.heard })
     left) right)
     (each_more IsStale views (named v) (stale_changed s h by v (naming_next v) here refl) (stale (length views) (named v) refl))
   where
@@ -398,8 +404,9 @@ appends by v c slots author n e has within allowed next count s h long here smal
         counts = counts_more s.words h.past h.world author (naming v.mine.known e) n
             (count ∙ ap (λ (x : List Logged × Past). (length x.0 + 1 - length (logs_of x.1.logs author)) % 2 ^ 64) (λ i. (own.1 i, past i))) h.counts;
         views = each_changed P s.views by (appended v author e)
-            (λ seat u apart there. let each =
-            h.views seat u there in record { mine = later seat u.mine apart each.mine; heard = later seat u.heard apart each.heard })
+            (λ seat u apart there.
+            let each = h.views seat u there in
+            record { mine = later seat u.mine apart each.mine; heard = later seat u.heard apart each.heard })
             (record { mine = appended_part h.past h.world h.owner by v.mine author e has within u.mine next; heard = nothing_part h.past w h.owner by });
         alone = λ seat u there fresh. absurd (stale_changed s h by v (appended v author e) here refl seat u there fresh);
       },
@@ -407,11 +414,6 @@ appends by v c slots author n e has within allowed next count s h long here smal
     )
 
 -- ---- a chronicle begins
-
-zeros : (n k : ℕ) → slice_index (replicate n 0) k ≡ 0
-zeros zero k = refl
-zeros (suc n) zero = refl
-zeros (suc n) (suc k) = zeros n k
 
 abbrev first_owners : Owners
 first_owners = record { log = λ _. 0; worker = λ _. 0; named = 0 }
@@ -426,7 +428,7 @@ opens count = record {
   numbered = tt;
   few = omega arith;
   opened = record { each = λ unit number l e m there. absurd (none-some l there) };
-  counts = λ author within. zeros count author;
+  counts = λ author within. replicated count author 0;
   views = λ seat u there. let one = only_one (starting count) seat u there in
       subst (λ (x : ℕ × View). IsView no_past [] first_owners x.0 x.1) (λ i. (sym one.0 i, one.1 i)) first;
   alone = λ seat u there fresh. (ap (λ (v : View). v ∷ []) (only_one (starting count) seat u there).1, refl);

@@ -1,6 +1,6 @@
 -- Who numbers the commands of a worker, and how many each worker has made.
-use Rattle.std.proofs.Common.{◌≡◌, ◌≢◌, ⊎_elim, ℕ, zero, suc, ◌+◌, ◌^◌, ◌==◌, ◌<◌, ◌≤◌, if◌then◌else◌, true, false, cond, Bool, None, Some, Option, List, [], ◌∷◌, ◌++◌, map, length, refl, sym, ap, ◌∙◌, subst, arith}
-use Rattle.std.specs.List.{Contains, filter}
+use Rattle.std.proofs.Common.{◌≡◌, ◌≢◌, ⊎_elim, ℕ, zero, suc, ◌+◌, ◌^◌, ◌==◌, ◌<◌, ◌≤◌, if◌then◌else◌, false, Bool, None, Some, Option, List, [], ◌∷◌, ◌++◌, map, refl, sym, ap, ◌∙◌, subst, arith}
+use Rattle.std.specs.List.{Contains}
 use Rattle.std.proofs.lemmas.Bool.{cases_eq}
 use Rattle.std.proofs.lemmas.List.Elements.{Contains-append_cases}
 use Rattle.std.proofs.lemmas.Option.{none-some}
@@ -9,23 +9,9 @@ use Rattle.pblk_model.proofs.Tests.{same_number, other_number}
 use Rattle.pblk_world.specs.Events.{Maker, Event, Decides, Does, Step}
 use Rattle.pblk_world.specs.Makers.{IsNumbered, commands_of, is_made_by}
 use Rattle.pblk_world.specs.World.{World}
+use Rattle.pblk_world.proofs.RisingMakers.{others_count, own_count}
 use Rattle.chronicle.specs.Prefixes.{IsNext, either, next_after}
 use Rattle.chronicle.specs.Rule.{HasRights, Owners}
-
--- ---- one step more
-
--- it isn't of this worker
-pub others_count : (worker : ℕ) (s : Step) (w : World) → is_made_by worker s.logged.event ≡ false → commands_of worker (s ∷ w) ≡ commands_of worker w
-others_count worker s w other =
-    ap (λ b. length (cond b (s ∷ filter (λ (step : Step). is_made_by worker step.logged.event) w)
-    (filter (λ (step : Step). is_made_by worker step.logged.event) w))) other
-
--- it is
-pub own_count : (worker : ℕ) (s : Step) (w : World) → is_made_by worker s.logged.event ≡ true → commands_of worker (s ∷ w) ≡ commands_of worker w + 1
-own_count worker s w own =
-    ap (λ b. length (cond b (s ∷ filter (λ (step : Step). is_made_by worker step.logged.event) w)
-    (filter (λ (step : Step). is_made_by worker step.logged.event) w))) own
-    ∙ (let one : suc (commands_of worker w) ≡ commands_of worker w + 1 = omega arith in one)
 
 -- ---- rights
 

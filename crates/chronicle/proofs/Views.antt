@@ -4,6 +4,7 @@ use mathlib.Core.Option.{some, some-ne-none, some-injective}
 use lib.ListN.{get_elem?}
 use Rattle.atomic_table.specs.Table.{State}
 use Rattle.atomic_table.proofs.Lists.{at_set}
+use Rattle.pblk_model.proofs.Parts.{only_one}
 use Rattle.chronicle.specs.Views.{View}
 use Rattle.chronicle.specs.Rule.{IsKept}
 
@@ -26,10 +27,6 @@ module _ (P : ℕ → View → Type 0) where
   each_more views w old new seat u there =
       ⊎_elim (λ was. old seat u was)
       (λ (last : (seat ≡ length views) × (w ≡ u)). subst (λ (x : ℕ × View). P x.0 x.1) (λ i. (sym last.0 i, last.1 i)) new) (at_last views w u seat there)
-
-pub only_one : (u : View) (seat : ℕ) (v : View) → get_elem? (u ∷ []) seat ≡ some v → (seat ≡ 0) × (u ≡ v)
-only_one u zero v there = (refl, some-injective u v there)
-only_one u (suc seat) v there = absurd (some-ne-none v (sym there))
 
 -- ---- no seat is fresh beside another
 

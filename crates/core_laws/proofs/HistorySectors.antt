@@ -15,14 +15,14 @@ use Rattle.pblk_world.specs.Fronts.{first_position, taken, is_users, user_takes,
 use Rattle.pblk_world.specs.Lines.{found_image}
 use Rattle.pblk_world.specs.LegalMounts.{IsLegalMount, NoneCopied}
 use Rattle.world_laws.proofs.Copies.{entries_follow}
-use Rattle.world_laws.proofs.HeldSectors.{all_pass, fold_holds, held_by}
+use Rattle.world_laws.proofs.HeldSectors.{fold_holds, held_by}
 use Rattle.world_laws.proofs.SectorValues.{found_capacity}
 use Rattle.core_laws.proofs.PlacedPositions.{numbered_below}
 use Rattle.core_laws.proofs.UsersEntries.{AreInOrder, IsUsers, in_order, users_entries}
 use Rattle.pblk_model.proofs.Lists.{all_imply}
 use Rattle.pblk_model.proofs.Parts.{get_set_same, got_else}
 use Rattle.pblk_model.proofs.Tests.{lt_true}
-use Rattle.pblk_model.proofs.Maps.{all_filter}
+use Rattle.pblk_model.proofs.Maps.{all_filter, filter_all}
 use Rattle.pblk_model.proofs.ContentsLemmas.{contents_count}
 use Rattle.pblk_model.proofs.MarksLemmas.{accepted_small}
 
@@ -93,7 +93,7 @@ latest_holds s first (t ∷ ts) sectors lba o all inside was = go (nat_eq t.mark
     go false e rest = rest o (still_holds first sectors lba o (write_of t) (λ same. eqb-false t.mark.lba lba e (all.0.sector ∙ sym same)) was)
 
 all_users : (s : Shape) (log : List Logged) → AllByRecursion (IsUsers s) (takes log) → user_takes log ≡ takes log
-all_users s log all = all_pass (λ (t : Taken). is_users t.entry.source) (takes log)
+all_users s log all = filter_all (λ (t : Taken). is_users t.entry.source) (takes log)
     (all_imply (IsUsers s) (λ (t : Taken). is_users t.entry.source ≡ true) (λ t is. is.users) (takes log) all)
 
 users_hold : (i : Image) (w : World) (before : List (List ℕ)) (lba : ℕ) → IsLegalMount i w → NoneCopied (log_of w 0) → lba < length before

@@ -16,7 +16,8 @@ any_later g a (suc n) =
     let next : suc a + 1 ≡ suc (a + 1) = omega arith in
     ap (λ b. g (suc a) || b) (ap (λ k. list_any g (range_with_len k n)) next ∙ any_later g (a + 1) n)
 
-pub any_numbered : (f : Stripe → Bool) (xs : List Stripe) → list_any (λ j. option_map_or f (slice_get xs j) false) (range_with_len 0 (length xs)) ≡ list_any f xs
+pub any_numbered : (f : Stripe → Bool) (xs : List Stripe)
+    → list_any (λ j. option_map_or f (slice_get xs j) false) (range_with_len 0 (length xs)) ≡ list_any f xs
 any_numbered f [] = refl
 any_numbered f (x ∷ xs) = ap (λ b. f x || b) (any_later (λ j. option_map_or f (slice_get (x ∷ xs) j) false) 0 (length xs) ∙ any_numbered f xs)
 

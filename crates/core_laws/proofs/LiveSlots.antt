@@ -22,7 +22,7 @@ use Rattle.pblk_world.specs.Victims.{is_live_in, line_of, line_of_position, line
 use Rattle.pblk_world.specs.World.{World, Logs, log_of, media}
 use Rattle.l2p_map.specs.declared.slot.Slot.TheVariants.{Cached, Media}
 use Rattle.pblk_model.proofs.Lists.{IsAmong, among_contained, last_in}
-use Rattle.pblk_model.proofs.Maps.{all_filter, all_mapped, any_found, any_member, enumerate_get, found_passes, in_filter}
+use Rattle.pblk_model.proofs.Maps.{all_filter, all_mapped, any_found, any_member, enumerate_get, filter_all, found_passes, in_filter}
 use Rattle.pblk_model.proofs.Options.{mapped_some, some_value}
 use Rattle.pblk_model.proofs.Parts.{all_by_get, contained_among, get_below, got_within}
 use Rattle.pblk_model.proofs.Tests.{and_both, both, not_both, or_left, or_right, same, same_number}
@@ -30,7 +30,6 @@ use Rattle.pblk_world.specs.LegalMounts.{IsLegalMount}
 use Rattle.world_laws.proofs.Begun.{IsBegunWith, begun_with}
 use Rattle.world_laws.proofs.FoundCounts.{front_low}
 use Rattle.world_laws.proofs.Fronts.{synced_from}
-use Rattle.world_laws.proofs.HeldSectors.{all_pass}
 use Rattle.world_laws.proofs.KeptEntries.{latest_kept, winner_kept}
 use Rattle.world_laws.proofs.LandedRecords.{freed_below_front}
 use Rattle.world_laws.proofs.LifePlaces.{HasPlace, have_places, has_place, units_now}
@@ -239,7 +238,7 @@ module _ (i : Image) (w : World) (mount : IsLegalMount i w) where
       all_landed : (unit : ℕ) → list_any (was_lost (log_of w 0)) (stripes_on (log_of w 0) o unit) ≡ false
           → filter (has_landed (log_of w 0)) (stripes_on (log_of w 0) o unit) ≡ stripes_on (log_of w 0) o unit
       all_landed unit none =
-          all_pass (has_landed log) (stripes_on log o unit) (all_by_get (λ (p : Placed). has_landed log p ≡ true) (stripes_on log o unit) (λ k p at.
+          filter_all (has_landed log) (stripes_on log o unit) (all_by_get (λ (p : Placed). has_landed log p ≡ true) (stripes_on log o unit) (λ k p at.
           landed_of_answered log p (over_answered i w mount o is_open over p (of_unit i w mount o is_open unit p (k, at)).0)
           (kept k p at (was_lost log p) refl)))
         where

@@ -7,7 +7,6 @@ use Rattle.pblk_model.specs.declared.shape.Shape.{Shape}
 use Rattle.pblk_world.specs.Events.{Stripe, Place, Decides, Logged}
 use Rattle.pblk_world.specs.EngineLog.{LineLife, Opened, is_life, life_of, Opening, Placed, placements, placed_on, Answer, DidLand, WasLost, answers, answer_of, stripes_of, turn}
 use Rattle.pblk_world.proofs.Appending.{placements_more}
-use Rattle.world_laws.proofs.HeldSectors.{all_pass}
 use Rattle.world_laws.proofs.LineStripes.{stripes_before}
 use Rattle.stripe_placer.specs.OpenLines.{OpenLine}
 use Rattle.stripe_placer.specs.OpenLines.Stripe.{Unplaced, Unanswered}
@@ -16,7 +15,7 @@ use Rattle.core_laws.proofs.Engine.{placements_before}
 use Rattle.core_laws.proofs.Taking.{filter_last}
 use Rattle.core_laws.proofs.StripesByPlace.{find_all, find_last, find_fails_last}
 use Rattle.pblk_model.proofs.Lists.{all_imply}
-use Rattle.pblk_model.proofs.Maps.{all_filter}
+use Rattle.pblk_model.proofs.Maps.{all_filter, filter_all}
 use Rattle.pblk_model.proofs.Tests.{lt_true}
 use Rattle.pblk_world.proofs.EngineLogLemmas.{answers_more}
 
@@ -80,7 +79,7 @@ answer_now log stripe knows o q opened before =
 
 -- all stripes of the unit were placed before it
 turn_of_new : (log : List Logged) (stripe : Stripe) (o : Opening) → turn log (new_placed log stripe o) ≡ length (placed_on log stripe.unit)
-turn_of_new log stripe o = ap length (all_pass (λ (r : Placed). nat_lt r.number (length log)) (placed_on log stripe.unit)
+turn_of_new log stripe o = ap length (filter_all (λ (r : Placed). nat_lt r.number (length log)) (placed_on log stripe.unit)
     (all_imply (λ (p : Placed). p.number < length log) (λ (p : Placed). nat_lt p.number (length log) ≡ true) (λ p h. lt_true p.number (length log) h)
     (placed_on log stripe.unit)
     (all_filter (λ (p : Placed). p.number < length log) (λ (p : Placed). p.stripe.unit == stripe.unit) (placements log) (placements_before log))))

@@ -1,7 +1,6 @@
 -- What was taken has positions in order.
-use Rattle.std.proofs.Common.{◌≡◌, ℕ, ◌+◌, Some, Option, List, [], ◌∷◌, ◌++◌, length, refl, sym, ap, ap₂, ◌∙◌, append-nil, length-append}
+use Rattle.std.proofs.Common.{◌≡◌, ℕ, ◌+◌, Some, List, [], ◌∷◌, ◌++◌, length, refl, sym, ap, ap₂, ◌∙◌, append-nil, length-append}
 use Rattle.std.specs.List.{range_with_len}
-use Rattle.std.specs.Option.{option_map_or}
 use Rattle.std.proofs.lemmas.Option.{none-some}
 use Rattle.pblk_model.specs.Image.{Image}
 use Rattle.pblk_world.specs.Events.{EngineEvent, Begin, Take, Decides, Logged}
@@ -14,13 +13,14 @@ use Rattle.core_laws.specs.Positions.{AreNumbered}
 use Rattle.core_laws.proofs.Taking.{positions_last}
 use Rattle.pblk_model.proofs.Maps.{range_last}
 use Rattle.pblk_world.proofs.EngineLogLemmas.{takes_more}
+use Rattle.world_laws.proofs.Positions.{first_same}
 
 pub begun_stays : (log : List Logged) (l : Logged) (b : Begun) → begun log ≡ Some b → begun (log ++ l ∷ []) ≡ begun log
 begun_stays [] l b e = absurd (none-some b e)
 begun_stays (m ∷ log) l b e = refl
 
 pub first_stays : (log : List Logged) (l : Logged) (b : Begun) → begun log ≡ Some b → first_position (log ++ l ∷ []) ≡ first_position log
-first_stays log l b e = ap (λ (x : Option Begun). option_map_or (λ (b : Begun). b.beginning.first) x 0) (begun_stays log l b e)
+first_stays log l b e = first_same log (l ∷ []) b e
 
 numbered_same : (a b : ℕ) (ts us : List Taken) → a ≡ b → ts ≡ us → positions_of us ≡ range_with_len b (length us)
     → positions_of ts ≡ range_with_len a (length ts)

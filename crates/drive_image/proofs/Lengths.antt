@@ -6,7 +6,7 @@ use Rattle.pblk_model.specs.Bytes.{le16, le32, zeros}
 use Rattle.pblk_model.specs.Chunk.{Block, pointer}
 use Rattle.pblk_model.specs.Geometry.{Geometry, geometry_bytes}
 use Rattle.pblk_model.specs.ImageFile.{StoredChunk, Drive, block_bytes, blocks_bytes, descriptor_bytes, descriptor_of, descriptors_bytes, header_bytes, image_bytes, unit_descriptors}
-use Rattle.ocssd_geometry.proofs.Spelling.{length-geometry_bytes}
+use Rattle.pblk_model.proofs.GeometryBytes.{geometry_length}
 use Rattle.drive_image.specs.Storing.{chunk_bytes, written_in}
 use Rattle.pblk_model.proofs.Lists.{all_everywhere, all_weaker}
 use Rattle.pblk_model.proofs.Maps.{all_enumerate, flat_length, length_of_sum}
@@ -50,7 +50,7 @@ pub image_long : (d : Drive) (n : ℕ) → IsEven d n → length (image_bytes d)
 image_long d n even =
     let h = header_bytes 1 d in
     let g = geometry_bytes d.geometry in
-    let head : length (h ++ g) ≡ 4128 = omega (arith, length-append h g, header_length d, length-geometry_bytes d.geometry) in
+    let head : length (h ++ g) ≡ 4128 = omega (arith, length-append h g, header_length d, geometry_length d.geometry) in
     let rows : length (descriptors_bytes d) ≡ 32 * n * length d.units = descriptors_length d n even in
     let same : 32 * n * length d.units ≡ 32 * (length d.units * n) = omega arith in
     let blocks : length (blocks_bytes d) ≡ (d.sector + 16) * sum_by written_in d.units = blocks_length d n even in

@@ -15,9 +15,9 @@ use Rattle.unit_port.specs.Unit.{ModelUnit, Takes}
 use Rattle.ocssd_drive.specs.Units.{WornUnit}
 use Rattle.unit_port.specs.Commands.{UnitCommand, IsTaken, AreTaken, AreUnitsOf}
 use Rattle.unit_port.specs.Did.{command_at}
+use Rattle.pblk_model.proofs.Maps.{map_back}
 use Rattle.vector_io.specs.Plans.{unit_of, read_of, reads, reset_of, writes, HaveSectors}
 use Rattle.vector_io.specs.Runs.{run_len}
-use Rattle.vector_io.proofs.Chunks.{map_back}
 use Rattle.vector_io.proofs.WriteSteps.{first_write, next_write, same_part}
 use Rattle.drive_tests.specs.Fits.{models, IsOf, Fit, CanReset, CanWrite}
 

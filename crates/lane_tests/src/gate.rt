@@ -58,7 +58,9 @@ impl Gate {
 /// A unit in memory that holds one of its programs.
 #[derive(Drop)]
 pub(crate) struct HeldUnit<'g> {
+    /// The unit in memory.
     pub(crate) unit: MemoryUnit,
+    /// Where the program is held.
     pub(crate) gate: &'g Gate,
     /// How many programs there are up to the one that is held; 0 once it was.
     pub(crate) programs: u32,

@@ -10,7 +10,9 @@ use std::thread::Threads;
 /// What a call of the program told.
 #[derive(Drop)]
 pub(crate) struct Told {
+    /// Its status.
     pub(crate) status: u8,
+    /// What it printed.
     pub(crate) text: String,
 }
 

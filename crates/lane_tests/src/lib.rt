@@ -1,4 +1,5 @@
-//! Tests of scripts of several threads, of lanes and of the collector, on the program's public calls.
+//! Tests of scripts of several threads, of lanes and of the collector, on the program's public
+//! calls.
 #![tactic(auto)]
 
 #[cfg(test)]

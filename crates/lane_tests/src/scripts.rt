@@ -21,8 +21,8 @@ const POSTS: &str =
 const POSTED: &str = "h 0 0 3 7\nh 1 1 3 8\nr 2 1 2 8\nkept 2\n";
 
 // A post that comes before its await, and one that a thread hears of itself.
-const HEARD: &str =
-    "thread\npost b\nawait b\nw 0 2 5\npost a\nawait a\nr 0 2\nf\npost c\nthread\nawait c\nr 1 1\nf\nthread\n";
+const HEARD: &str = "thread\npost b\nawait b\nw 0 2 5\npost a\nawait a\nr 0 2\nf\npost c\n\
+    thread\nawait c\nr 1 1\nf\nthread\n";
 
 const HEARD_TEXT: &str = "h 0 0 0 5\nh 1 0 1 5\nr 0 5 2 5 5\nf 0 6 2\nr 1 1 2 5\nf 1 2 2\nkept 2\n";
 

@@ -6,6 +6,7 @@ use Rattle.std.proofs.lemmas.List.{get_or-set_same, get_or-set_other}
 use Rattle.std.proofs.lemmas.Bool.{cases_lt, eqb-true, eqb-false}
 use Rattle.std.proofs.lemmas.Nat.{shr-shr}
 use Rattle.std.proofs.lemmas.Nat.Bits.{bit_at_above, bit_at_set_same, bit_at_set_other, bit_at_clear_same, bit_at_clear_other, bit_at-zero, bit_at-trailing_zeros, shr_and_one}
+use Rattle.pblk_model.proofs.Lists.{replicated}
 use Rattle.line_table.specs.LineSets.{is_set, has}
 
 pub bit_is_set : (word bit : ℕ) → bit < 64 → is_set (bit_or word (1 * 2 ^ bit % 2 ^ 64)) bit ≡ true
@@ -33,15 +34,10 @@ pub bit_tested : (words : List ℕ) (n : ℕ) → eqb (bit_and (slice_index_or w
 unfolding has is_set
 bit_tested words n = ap (λ b. eqb b 1) (shr_and_one (slice_index_or words (n / 64) 0) (n % 64))
 
--- the words of the empty set
-zeros : (k i : ℕ) → slice_index_or {A = ℕ} (replicate k 0) i 0 ≡ 0
-zeros zero i = refl
-zeros (suc k) zero = refl
-zeros (suc k) (suc i) = zeros k i
-
+-- the empty set
 pub empty_has_none : (k n : ℕ) → has (replicate k 0) n ≡ false
 unfolding has
-empty_has_none k n = ap (λ w. is_set w (n % 64)) (zeros k (n / 64)) ∙ none_in_zero (n % 64)
+empty_has_none k n = ap (λ w. is_set w (n % 64)) (replicated k (n / 64) 0) ∙ none_in_zero (n % 64)
 
 -- a word was put at the place of a line
 pub has_set : (words : List ℕ) (line word : ℕ) (to : Bool) → line / 64 < length words → is_set word (line % 64) ≡ to

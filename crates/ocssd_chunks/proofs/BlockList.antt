@@ -10,7 +10,8 @@ use Rattle.pblk_model.proofs.Numbers.{suc-times}
 use Rattle.pblk_model.proofs.Parts.{all_dropped, all_taken}
 
 -- the k-th block
-pub slice_get-blocks_of : (size : ℕ) (bytes : List ℕ) (marks : List Mark) (k : ℕ) (d : Mark) → k < length marks → slice_get (blocks_of size bytes marks) k ≡ Some (record { sector = take size (drop (k * size) bytes); mark = get_or marks k d })
+pub slice_get-blocks_of : (size : ℕ) (bytes : List ℕ) (marks : List Mark) (k : ℕ) (d : Mark) → k < length marks
+    → slice_get (blocks_of size bytes marks) k ≡ Some (record { sector = take size (drop (k * size) bytes); mark = get_or marks k d })
 slice_get-blocks_of size bytes [] k d below = absurd (omega arith)
 slice_get-blocks_of size bytes (m ∷ marks) zero d below =
     let none : 0 * size ≡ 0 = omega arith in
@@ -23,7 +24,8 @@ all_bytes [] fit = tt
 all_bytes (x ∷ bytes) fit = (fit 0, all_bytes bytes (λ k. fit (suc k)))
 
 -- blocks of whole sectors of bytes, with marks in range
-pub all_blocks : (s : Shape) (bytes : List ℕ) (marks : List Mark) → length bytes ≡ length marks * s.sector → AllByRecursion (λ x. x < 256) bytes → AllByRecursion IsMark marks → AllByRecursion (IsBlock s) (blocks_of s.sector bytes marks)
+pub all_blocks : (s : Shape) (bytes : List ℕ) (marks : List Mark) → length bytes ≡ length marks * s.sector → AllByRecursion (λ x. x < 256) bytes
+    → AllByRecursion IsMark marks → AllByRecursion (IsBlock s) (blocks_of s.sector bytes marks)
 all_blocks s bytes [] whole fit in_range = tt
 all_blocks s bytes (m ∷ marks) whole fit in_range =
     let split = suc-times (length marks) s.sector in

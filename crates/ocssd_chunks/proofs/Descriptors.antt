@@ -26,14 +26,16 @@ four_parts a b c d rest len_a len_b len_c len_d len_rest =
       append-nil,
     ) refl
 
-same_fields : (d : Descriptor) (slba cnlb wp : ℕ) → slba ≡ d.slba → cnlb ≡ d.cnlb → wp ≡ d.wp → ◌≡◌ {A = Descriptor} (record { state = d.state; wear = d.wear; slba = slba; cnlb = cnlb; wp = wp }) d
+same_fields : (d : Descriptor) (slba cnlb wp : ℕ) → slba ≡ d.slba → cnlb ≡ d.cnlb → wp ≡ d.wp
+    → ◌≡◌ {A = Descriptor} (record { state = d.state; wear = d.wear; slba = slba; cnlb = cnlb; wp = wp }) d
 same_fields d slba cnlb wp p q r = rw (p, q, r) refl
 
 holds_back : (d read : Descriptor) → read ≡ d → pointer_holds d.state d.cnlb d.wp ≡ true → unless_astray read ≡ Ok d
 holds_back d read same holds = rw (same, holds) refl
 
 -- what is spelled is read
-pub read_back : (d : Descriptor) → d.slba < 2 ^ 64 → d.cnlb < 2 ^ 64 → d.wp < 2 ^ 64 → pointer_holds d.state d.cnlb d.wp ≡ true → read_descriptor (spelled d) ≡ Ok d
+pub read_back : (d : Descriptor) → d.slba < 2 ^ 64 → d.cnlb < 2 ^ 64 → d.wp < 2 ^ 64 → pointer_holds d.state d.cnlb d.wp ≡ true
+    → read_descriptor (spelled d) ≡ Ok d
 unfolding zeros
 read_back d slba cnlb wp holds =
     let same = same_fields d _ _ _ (from_le_bytes-to_le_bytes_8 d.slba slba) (from_le_bytes-to_le_bytes_8 d.cnlb cnlb) (from_le_bytes-to_le_bytes_8 d.wp wp) in

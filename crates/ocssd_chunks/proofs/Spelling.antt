@@ -47,18 +47,22 @@ pub room_for_more : (n count size used room : ℕ) → n < count → used + (cou
 room_for_more n count size used room below h = omega (arith, h, room_for_next n count size ((count - n) * size) below refl)
 
 -- a block is its sector and the two numbers of its mark
-block_spelled : (size : ℕ) (block : List ℕ) (m : Mark) → length block ≡ size + 16 → le64 m.lba ≡ take 8 (drop size block) → le64 m.position ≡ take 8 (drop (size + 8) block)
+block_spelled : (size : ℕ) (block : List ℕ) (m : Mark) → length block ≡ size + 16 → le64 m.lba ≡ take 8 (drop size block)
+    → le64 m.position ≡ take 8 (drop (size + 8) block)
     → flat_map block_bytes (blocks_of size (take size block) (m ∷ [])) ≡ block
 block_spelled size block m long lba position =
     let d = drop size block in
     let long_d : length d ≡ 16 = length-drop size block ∙ omega (arith, long) in
     let front : take size (take size block) ≡ take size block = take-take size size block (omega arith) in
     let rest : drop 8 d ≡ drop (size + 8) block = drop-drop 8 size block in
-    let last : take 8 (drop (size + 8) block) ≡ drop (size + 8) block = take_all 8 (drop (size + 8) block) (omega (arith, long, length-drop (size + 8) block)) in
+    let last : take 8 (drop (size + 8) block) ≡ drop (size + 8) block =
+    take_all 8 (drop (size + 8) block) (omega (arith, long, length-drop (size + 8) block)) in
     append-nil (block_bytes (record { sector = take size (take size block); mark = m }))
-    ∙ rw (front, lba, position, last, ← rest) (append_assoc (take size block) (take 8 d) (drop 8 d) ∙ ap (λ r. take size block ++ r) (take-append-drop 8 d) ∙ take-append-drop size block)
+    ∙ rw (front, lba, position, last, ← rest)
+    (append_assoc (take size block) (take 8 d) (drop 8 d) ∙ ap (λ r. take size block ++ r) (take-append-drop 8 d) ∙ take-append-drop size block)
 
-pub spelling_goes_on : (size n : ℕ) (spelled rest block others old_bytes bytes new_bytes : List ℕ) (old_marks marks new_marks : List Mark) (m : Mark) → IsSpellingSoFar size n spelled rest old_bytes bytes old_marks marks
+pub spelling_goes_on : (size n : ℕ) (spelled rest block others old_bytes bytes new_bytes : List ℕ) (old_marks marks new_marks : List Mark) (m : Mark)
+    → IsSpellingSoFar size n spelled rest old_bytes bytes old_marks marks
     → rest ≡ block ++ others → length block ≡ size + 16 → le64 m.lba ≡ take 8 (drop size block) → le64 m.position ≡ take 8 (drop (size + 8) block)
     → new_bytes ≡ bytes ++ take size block → new_marks ≡ marks ++ (m ∷ []) → IsSpellingSoFar size (n + 1) spelled others old_bytes new_bytes old_marks new_marks
 spelling_goes_on size n spelled rest block others old_bytes bytes new_bytes old_marks marks new_marks m so split long lba position more_bytes more_marks =
@@ -85,7 +89,8 @@ pub record IsSpelled (size count : ℕ) (spelled bytes : List ℕ) (marks : List
   pub many : length marks ≡ count
   pub spelling : flat_map block_bytes (blocks_of size bytes marks) ≡ spelled
 
-pub added_alone : (size count : ℕ) (spelled old_bytes bytes : List ℕ) (old_marks marks : List Mark) → AddsSpelled size count spelled old_bytes bytes old_marks marks → old_bytes ≡ [] → old_marks ≡ [] → IsSpelled size count spelled bytes marks
+pub added_alone : (size count : ℕ) (spelled old_bytes bytes : List ℕ) (old_marks marks : List Mark)
+    → AddsSpelled size count spelled old_bytes bytes old_marks marks → old_bytes ≡ [] → old_marks ≡ [] → IsSpelled size count spelled bytes marks
 added_alone size count spelled old_bytes bytes old_marks marks a no_bytes no_marks =
     let bytes_are : bytes ≡ a.bytes = a.bytes_added ∙ ap (λ b. b ++ a.bytes) no_bytes in
     let marks_are : marks ≡ a.marks = a.marks_added ∙ ap (λ b. b ++ a.marks) no_marks in
@@ -95,7 +100,8 @@ added_alone size count spelled old_bytes bytes old_marks marks a no_bytes no_mar
       spelling = rw (bytes_are, marks_are) a.spelling;
     }
 
-pub spelled_chunk : (s : Shape) (state : ChunkState) (count : ℕ) (spelled bytes : List ℕ) (marks : List Mark) → IsSpelled s.sector count spelled bytes marks → PointerFits state s.clba count → count % s.ws_min ≡ 0
+pub spelled_chunk : (s : Shape) (state : ChunkState) (count : ℕ) (spelled bytes : List ℕ) (marks : List Mark) → IsSpelled s.sector count spelled bytes marks
+    → PointerFits state s.clba count → count % s.ws_min ≡ 0
     → AllByRecursion (IsBlock s) (blocks_of s.sector bytes marks) → IsChunk s (record { state = state; blocks = blocks_of s.sector bytes marks })
 spelled_chunk s state count spelled bytes marks is place multiple blocks =
     let count_is : length (blocks_of s.sector bytes marks) ≡ count = length-blocks_of s.sector bytes marks ∙ is.many in

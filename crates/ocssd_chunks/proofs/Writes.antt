@@ -45,7 +45,8 @@ mod-add : (a b m : ℕ) → a % m ≡ 0 → b % m ≡ 0 → (a + b) % m ≡ 0
 mod-add a b m first second = sym (mod-add-mod a m b) ∙ rw first (ap (λ (n : ℕ). n % m) (omega arith) ∙ second)
 
 -- a chunk with blocks appended, in a state that the new write pointer fits
-pub IsChunk-joined : (s : Shape) (c : Chunk) (state : ChunkState) (blocks : List Block) → IsChunk s c → PointerFits state s.clba (pointer c + length blocks) → length blocks % s.ws_min ≡ 0 → AllByRecursion (IsBlock s) blocks
+pub IsChunk-joined : (s : Shape) (c : Chunk) (state : ChunkState) (blocks : List Block) → IsChunk s c → PointerFits state s.clba (pointer c + length blocks)
+    → length blocks % s.ws_min ≡ 0 → AllByRecursion (IsBlock s) blocks
     → IsChunk s (record { state = state; blocks = c.blocks ++ blocks })
 IsChunk-joined s c state blocks fits place multiple all =
     let sum = length-append c.blocks blocks in
@@ -57,13 +58,15 @@ IsChunk-joined s c state blocks fits place multiple all =
     }
 
 -- the refusal by the lists' lengths is that by the blocks
-pub refusal-blocks_of : (s : Shape) (state : ChunkState) (bytes more : List ℕ) (marks others : List Mark) (wp at : ℕ) (answer : Option ChunkErr) → wp ≡ length marks → answer ≡ write_refusal_in s state wp at (length others)
+pub refusal-blocks_of : (s : Shape) (state : ChunkState) (bytes more : List ℕ) (marks others : List Mark) (wp at : ℕ) (answer : Option ChunkErr)
+    → wp ≡ length marks → answer ≡ write_refusal_in s state wp at (length others)
     → refusal s (chunk_of s state bytes marks) (Write at (blocks_of s.sector more others)) ≡ answer
 refusal-blocks_of s state bytes more marks others wp at answer wp_is answer_is =
     rw (length-blocks_of s.sector bytes marks, length-blocks_of s.sector more others, ← wp_is) (sym answer_is)
 
 -- blocks that are appended in a state that fits are within the chunk
-pub room : (s : Shape) (state : ChunkState) (bytes : List ℕ) (marks : List Mark) (n : ℕ) → PointerFits state s.clba (length (blocks_of s.sector bytes marks) + n) → length marks + n ≤ s.clba
+pub room : (s : Shape) (state : ChunkState) (bytes : List ℕ) (marks : List Mark) (n : ℕ)
+    → PointerFits state s.clba (length (blocks_of s.sector bytes marks) + n) → length marks + n ≤ s.clba
 room s state bytes marks n fits =
     let written = length-blocks_of s.sector bytes marks in
     let within = pointer_within state s.clba _ fits in

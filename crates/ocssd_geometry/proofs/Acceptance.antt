@@ -1,5 +1,5 @@
 -- What an accepted geometry's numbers keep, and what bytes are read as.
-use Rattle.std.proofs.Common.{◌≡◌, ◌≢◌, ℕ, ◌+◌, ◌^◌, ◌≤◌, Some, None, Ok, Err, List, length, refl, sym}
+use Rattle.std.proofs.Common.{◌≡◌, ◌≢◌, ℕ, ◌+◌, ◌^◌, ◌≤◌, Some, None, Err, List, length, refl, sym}
 use Rattle.std.proofs.lemmas.Bool.{leb-true, ne_eqb}
 use Rattle.std.specs.Prelude.{◌<◌}
 use Rattle.pblk_model.specs.declared.shape.GeometryErr.{GeometryErr}
@@ -60,12 +60,8 @@ accepted_counts g e =
 pub read_short : (bytes : List ℕ) → length bytes ≢ 4096 → Err Length ≡ read_geometry bytes
 read_short bytes short = rw (ne_eqb (length bytes) 4096 short) refl
 
-pub read_accepted : (bytes : List ℕ) (g : Geometry) → length bytes ≡ 4096 → g ≡ geometry_in bytes → None ≡ geometry_refusal g → Ok g ≡ read_geometry bytes
-read_accepted bytes g size is accepted =
-    let none : geometry_refusal (geometry_in bytes) ≡ None = rw is at (sym accepted) in
-    rw (size, is, none) refl
-
-pub read_refused : (bytes : List ℕ) (g : Geometry) (refusal : GeometryErr) → length bytes ≡ 4096 → g ≡ geometry_in bytes → Some refusal ≡ geometry_refusal g → Err refusal ≡ read_geometry bytes
+pub read_refused : (bytes : List ℕ) (g : Geometry) (refusal : GeometryErr) → length bytes ≡ 4096 → g ≡ geometry_in bytes → Some refusal ≡ geometry_refusal g
+    → Err refusal ≡ read_geometry bytes
 read_refused bytes g refusal size is refused =
     let some : geometry_refusal (geometry_in bytes) ≡ Some refusal = rw is at (sym refused) in
     rw (size, some) refl

@@ -88,7 +88,8 @@ missed_range : (size tag lba from count : ℕ) → (lba < from) ⊎ (from + coun
     → writes_on lba (map (λ at. record { lba = at; sector = tag_sector size tag }) (range_with_len from count)) ≡ []
 missed_range size tag lba from zero miss = refl
 missed_range size tag lba from (suc count) miss =
-    ap (λ b. cond b (record { lba = from; sector = tag_sector size tag } ∷ rest) rest) (other (from == lba) refl) ∙ missed_range size tag lba (from + 1) count (later miss)
+    ap (λ b. cond b (record { lba = from; sector = tag_sector size tag } ∷ rest) rest) (other (from == lba) refl)
+    ∙ missed_range size tag lba (from + 1) count (later miss)
   where
     rest : List SectorWrite
     rest = writes_on lba (map (λ at. record { lba = at; sector = tag_sector size tag }) (range_with_len (from + 1) count))
@@ -175,7 +176,8 @@ others_of lba thread j ne (o ∷ os) only = go (others_of lba thread j ne os (λ
 
 -- ---- a placed write is a command of its thread
 
-command_of : (thread : ℕ) (cs : List Command) (os : List Outcome) (k : ℕ) (w : PlacedWrite) → slice_get (filter_map (placed_write thread) (zip cs os)) k ≡ Some w
+command_of : (thread : ℕ) (cs : List Command) (os : List Outcome) (k : ℕ) (w : PlacedWrite)
+    → slice_get (filter_map (placed_write thread) (zip cs os)) k ≡ Some w
     → (c : ℕ) × (slice_get cs c ≡ Some (script.Write w.lba w.count w.tag))
 command_of thread [] os k w there = absurd (none-some w there)
 command_of thread (c ∷ cs) [] k w there = absurd (none-some w there)
@@ -287,4 +289,5 @@ in_thread_order size commands outcomes order sectors apart each written =
         let only : (v : PlacedWrite) → IsAmong order v → OnlyOf lba (length commands) v = (λ v at. inr (all_get (Misses lba) order at.0 v none at.1)) in
         all_missed size lba order none
         ∙ sym (one_thread size lba (length commands) commands (λ j ne. thread_misses lba (length commands) j only ne)
-        ∙ ap (λ (o : Option (List Command)). writes_on lba (flat_map (command_writes size) (unwrap_or o []))) (get_past commands (length commands) (le_refl (length commands))))
+        ∙ ap (λ (o : Option (List Command)). writes_on lba (flat_map (command_writes size) (unwrap_or o [])))
+        (get_past commands (length commands) (le_refl (length commands))))

@@ -152,7 +152,8 @@ thread_writes : (size thread : ℕ) (cs : List Command) (os : List Outcome) → 
 thread_writes size thread [] os e all = refl
 thread_writes size thread (c ∷ cs) [] e all = absurd (omega arith)
 thread_writes size thread (script.Write lba count tag ∷ cs) (o ∷ os) e all =
-    ap (λ x. flat_map (placed_sectors size) (cons_option (placed_write thread (script.Write lba count tag, x)) (filter_map (placed_write thread) (zip cs os)))) all.0
+    ap (λ x. flat_map (placed_sectors size) (cons_option (placed_write thread (script.Write lba count tag, x)) (filter_map (placed_write thread) (zip cs os))))
+    all.0
     ∙ ap (λ ws. command_writes size (script.Write lba count tag) ++ ws) (thread_writes size thread cs os (omega arith) all.1)
 thread_writes size thread (script.Read lba count ∷ cs) (o ∷ os) e all = thread_writes size thread cs os (omega arith) all.1
 thread_writes size thread (script.Flush ∷ cs) (o ∷ os) e all = thread_writes size thread cs os (omega arith) all.1

@@ -65,7 +65,8 @@ loss_disarmed handed units place h =
       lost = h.lost;
     }
 
-pub serving_disarmed : (i : Image) (handed : List ModelUnit) (units : List WornUnit) (script : List (List Command)) (helpers : ℕ) (records : Records) (w : World)
+pub serving_disarmed : (i : Image) (handed : List ModelUnit) (units : List WornUnit) (script : List (List Command)) (helpers : ℕ) (records : Records)
+    (w : World)
     → IsServing i handed (units_of units) script helpers records w → IsServing i handed (units_of (map disarmed units)) script helpers records w
 serving_disarmed i handed units script helpers records w h = record {
   legal = h.legal;

@@ -1,16 +1,10 @@
 -- What holds of each thread of a run, thread by thread.
-use Rattle.std.proofs.Common.{◌≡◌, ℕ, zero, suc, List, [], ◌∷◌, length, map, slice_get, Some, refl, subst, ap}
+use Rattle.std.proofs.Common.{◌≡◌, ℕ, zero, suc, List, [], ◌∷◌, length, slice_get, Some, refl, subst, ap}
 use Rattle.std.proofs.lemmas.Option.{none-some, same_Some}
 use Rattle.pblk_model.specs.declared.script.Command.{Command}
 use Rattle.block_port.specs.Port.{ModelPort}
 use Rattle.run_threads.specs.declared.records.Answer.{Answer}
 use Rattle.run_threads.specs.Run.{EachThread}
-
--- what stands at a place of a list's images is the image of what stands there
-pub mapped_at : {X Y : Type 0} (f : X → Y) (xs : List X) (k : ℕ) (y : Y) → slice_get (map f xs) k ≡ Some y → (x : X) × (slice_get xs k ≡ Some x) × (f x ≡ y)
-mapped_at f [] k y there = absurd (none-some y there)
-mapped_at f (x ∷ xs) zero y there = (x, refl, same_Some (f x) y there)
-mapped_at f (x ∷ xs) (suc k) y there = mapped_at f xs k y there
 
 -- A thread at a place: its commands, their answers, and its port before.
 pub record ThreadAt (Holds : List Command → List Answer → ModelPort → ModelPort → Type 0) (script : List (List Command)) (answers : List (List Answer))

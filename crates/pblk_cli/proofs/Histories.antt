@@ -17,7 +17,8 @@ use Rattle.world_laws.proofs.Positions.{position_below}
 use Rattle.block_port.specs.Own.{PlacedSector}
 use Rattle.block_port.specs.Port.{positions}
 use Rattle.block_target.specs.Sessions.{history_lines, line_of}
-use Rattle.block_target.proofs.LogLines.{IsMore, more_lines, positions_placed, rise_lower}
+use Rattle.block_port.proofs.PlacedLines.{rise_from}
+use Rattle.block_target.proofs.LogLines.{IsMore, more_lines, positions_placed}
 
 -- ---- a log
 
@@ -60,7 +61,7 @@ later_lines [] (l ∷ log) b prefix begins numbered =
       before = omega arith;
       more = more.more;
       lines = more.lines ∙ ap (λ (ts : List Taken). map line_of (filter (λ t. is_users t.entry.source) ts) ++ more.more) none;
-      rise = rise_lower (taken []) (taken (l ∷ [])) (taken (l ∷ log)) more.more (omega arith) more.rise;
+      rise = rise_from (taken []) (taken (l ∷ [])) (taken (l ∷ log)) more.more (omega arith) more.rise;
     }
 later_lines (e ∷ early) late b prefix begins numbered = more_lines (e ∷ early) late b prefix (first_of late prefix.0 prefix.1 ∙ begins) numbered
   where

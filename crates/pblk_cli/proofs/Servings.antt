@@ -13,7 +13,7 @@ use Rattle.pblk_model.specs.declared.script.Command.{Command}
 use Rattle.pblk_model.specs.declared.shape.Shape.{Shape}
 use Rattle.pblk_model.specs.Accepted.{IsAccepted}
 use Rattle.pblk_model.proofs.ContentsLemmas.{contents_count}
-use Rattle.pblk_model.proofs.Maps.{get_mapped}
+use Rattle.pblk_model.proofs.Maps.{get_mapped, map_back}
 use Rattle.pblk_model.proofs.MarksLemmas.{accepted_small}
 use Rattle.pblk_model.proofs.Parts.{all_by_get, all_get, get_past, get_whole, got_within, take_nothing}
 use Rattle.pblk_model.specs.Contents.{contents, end}
@@ -53,8 +53,8 @@ use Rattle.pblk_engine.specs.declared.errors.SettleErr.TheVariants as settle
 use Rattle.pblk_engine.proofs.RestingHearts.{empty_counts}
 use Rattle.block_target.specs.Closes as closes
 use Rattle.block_target.specs.Closes.{IsClosed, IsTold, TellsClosed, answer_at, close_faults, close_worns, lost_places}
-use Rattle.block_target.specs.Opened.{AreReadied, OpenCause, readied_world}
-use Rattle.block_target.specs.OpenedTargets.{OpenedView}
+use Rattle.block_target.specs.Opened.{AreReadied, CanOpen, OpenCause, readied_world}
+use Rattle.block_target.specs.OpenedTargets.{IsOpenedOn, OpenedView}
 use Rattle.block_target.specs.Refusals.{AreRefusals}
 use Rattle.block_target.specs.declared.opening.OpenErr.{OpenErr}
 use Rattle.block_target.specs.declared.opening.OpenErr.TheVariants as errors
@@ -70,14 +70,15 @@ use Rattle.run_threads.specs.Run as run
 use Rattle.run_threads.specs.Run.{EachThread, IsEvent, WasRun, faults_in}
 use Rattle.run_report.specs.Ports.{AreKeptBelow, IsRunOfPorts, IsTrouble, IsUnused, LearnsAll, event_of, events_of, writes_from}
 use Rattle.run_report.specs.Report.{closing_of, opening_of, outcome_of, transcript_of}
-use Rattle.run_report.proofs.Ports.{answer_events, no_more, ports_events, ports_history, ports_kept, ports_run, ports_told, runs_in, unopened}
+use Rattle.run_report.proofs.Loops.{no_more}
+use Rattle.run_report.proofs.Ports.{answer_events, ports_events, ports_history, ports_kept, ports_run, ports_told, runs_in, unopened}
 use Rattle.run_report.proofs.Recorded.{recorded}
 use Rattle.pblk_cli.specs.Serving.{AreBackAs, AreNewDriveFaults, IsOpening, IsOver, IsServed, IsServedOn, IsServing, sessions_for, transcript_by, trouble_of}
 use Rattle.pblk_cli.specs.Stops.{AreAllTold, HasBegun, names_after, thread_events}
 use Rattle.pblk_cli.specs.Synced.{AreFlushesSynced, synced_lines}
 use Rattle.pblk_cli.specs.Worn.{AreRefusedBetween, AreRefusedIn, closing_worn, thread_worns, threads_worns, worns_in, worns_of}
 use Rattle.pblk_cli.proofs.Backs.{back_of, left_by}
-use Rattle.pblk_cli.proofs.EachThreads.{ThreadAt, each_answers, each_at, mapped_at}
+use Rattle.pblk_cli.proofs.EachThreads.{ThreadAt, each_answers, each_at}
 use Rattle.pblk_cli.proofs.Histories.{later_lines, lines_taken, positions_are, writes_are}
 use Rattle.pblk_cli.proofs.Losses.{lasts_lost}
 use Rattle.pblk_cli.proofs.Names.{loss_at, losses_distinct}
@@ -286,7 +287,7 @@ module _ (s : Shape) (us : List ModelUnit) (wear : List (List ℕ)) (ready : Lis
 
   unused : AllByRecursion (IsUnused s.sector start) olds
   unused = all_by_get (IsUnused s.sector start) olds (λ k p there.
-      let at = mapped_at port firsts k p there in
+      let at = map_back port firsts k p there in
       let first = first_at past key us wear script k at.0 (get_whole (length script) (first_sessions past key (sessions_for (length script))) k at.0 at.1) in
       subst (IsUnused s.sector start) (ap port (sym first) ∙ at.2) (record { sector = refl; contents = refl; own = refl; faults = refl }))
 
@@ -327,7 +328,7 @@ module _ (s : Shape) (us : List ModelUnit) (wear : List (List ℕ)) (ready : Lis
     ran = runs_in served.ran.ran.told script records.threads olds news each_run;
     unused = unused;
     learned = all_by_get (LearnsAll known) news (λ k p there.
-        let at = mapped_at port ports k p there in
+        let at = map_back port ports k p there in
         subst (LearnsAll known) at.2 (learned k at.0 at.1));
     from = all_lines_rise.0;
     to = all_lines_rise.1;
@@ -352,7 +353,7 @@ module _ (s : Shape) (us : List ModelUnit) (wear : List (List ℕ)) (ready : Lis
   kept_below : (n : ℕ) → synced s (log_of w 0) ≤ n → AreKeptBelow records news known n
   kept_below n high = record {
     flushed = all_by_get (λ (p : ModelPort). p.flushed ≤ n) news (λ k p there.
-        let at = mapped_at port ports k p there in
+        let at = map_back port ports k p there in
         let rises : synced s (logs_of at.0.worker.known 0) ≤ synced s (log_of w 0) =
         synced_prefix s (logs_of at.0.worker.known 0) (log_of w 0) ((session k at.0 at.1).knew 0) in
         subst (λ (q : ModelPort). q.flushed ≤ n) at.2 (omega arith));
@@ -431,7 +432,8 @@ module _ (s : Shape) (us : List ModelUnit) (wear : List (List ℕ)) (ready : Lis
       (ap (λ (ts : List SessionView). slice_get ts 0) (sym (idle_last past key us wear script served.before served.lasts served.ran none)) ∙ first_last.1)
 
   busy_first : 0 < length script → slice_get ports 0 ≡ Some first_last.0
-  busy_first some = ap (λ (ts : List SessionView). slice_get ts 0) (sym (busy_lasts past key us wear script served.before served.lasts served.ran some)) ∙ first_last.1
+  busy_first some = ap (λ (ts : List SessionView). slice_get ts 0) (sym (busy_lasts past key us wear script served.before served.lasts served.ran some))
+      ∙ first_last.1
 
   first_named : thread_events t 0 ≡ map event_of first_last.0.faults
   first_named = by (cases_lt 0 (length script))
@@ -478,7 +480,7 @@ module _ (s : Shape) (us : List ModelUnit) (wear : List (List ℕ)) (ready : Lis
 
       old_worns : (p : ModelPort) → slice_get olds k ≡ Some p → p.worns ≡ []
       old_worns p there =
-          let was = mapped_at port firsts k p there in
+          let was = map_back port firsts k p there in
           ap (λ (q : ModelPort). q.worns) (sym was.2)
           ∙ ap (λ (y : SessionView). y.worns) (first_at past key us wear script k was.0
           (get_whole (length script) (first_sessions past key (sessions_for (length script))) k was.0 was.1))
@@ -598,6 +600,23 @@ module _ (s : Shape) (us : List ModelUnit) (wear : List (List ℕ)) (ready : Lis
         (ports_run s.sector start script records olds news known front run_of_ports (kept_below front (above sealed)));
   }
 
+-- a drive was opened on these units, for as many sessions and lanes as it says
+pub is_opening : (s : Shape) (old : List ModelUnit) (wear : List (List ℕ)) (sessions lanes : ℕ) (v : OpenedView) → CanOpen s old
+    → IsOpenedOn s old wear sessions lanes v → NoDriveFaults old v.units → IsOpening s old wear v
+is_opening s old wear sessions lanes v opens opened done = record {
+  opens = opens;
+  opened = record {
+    handed_are = opened.handed_are;
+    wear_is = opened.wear_is;
+    sessions_are = refl;
+    lanes_are = refl;
+    found = opened.found;
+    is = opened.is;
+    past_is = opened.past_is;
+  };
+  done = done;
+}
+
 -- A mount by its name, which has begun on an opened drive, and was served.
 module _ (s : Shape) (old : List ModelUnit) (wear : List (List ℕ)) (v : OpenedView) (opening : IsOpening s old wear v) (past : Past) (key : Key)
     (handed : List ModelUnit) (its_wear : List (List ℕ)) (past_is : v.past ≡ past) (handed_is : v.handed ≡ handed) (wear_is : v.wear ≡ its_wear) where
@@ -661,10 +680,10 @@ module _ (s : Shape) (old new : List ModelUnit) (refused : AreHandedBack s old n
     nothing_taken = ap user_positions readied.none
 
     nothing_written : (end : ℕ) → (transcript_of script records end).history ≡ []
-    nothing_written end = rw (threads, no_more script) refl
+    nothing_written end = rw (threads, no_more 0 script) refl
 
     nothing_kept : (end : ℕ) → (transcript_of script records end).kept ≡ 0
-    nothing_kept end = rw (threads, no_more script) refl
+    nothing_kept end = rw (threads, no_more 0 script) refl
 
     abbrev left_end : ℕ
     left_end = end (media as_it_was (log_of still))

@@ -8,7 +8,7 @@ use Rattle.std.proofs.lemmas.List.{length-map}
 use Rattle.std.proofs.lemmas.List.FromFn.{length-range_with_len}
 use Rattle.pblk_model.specs.declared.script.Command.{Command}
 use Rattle.pblk_model.specs.Script.{NeverStuck, ScriptFits}
-use Rattle.pblk_model.proofs.Maps.{all_mapped, get_mapped, row_at}
+use Rattle.pblk_model.proofs.Maps.{all_mapped, get_mapped, map_back, row_at}
 use Rattle.pblk_model.proofs.Parts.{all_by_get, drop_past, get_whole, take_all}
 use Rattle.unit_port.specs.Unit.{ModelUnit}
 use Rattle.block_port.specs.Port.{Footing, ModelPort}
@@ -21,7 +21,7 @@ use Rattle.block_target.specs.Targets.{first_session, first_sessions, first_work
 use Rattle.run_threads.specs.declared.records.Records.{Records}
 use Rattle.run_threads.specs.Run.{IsAcceptedFor, WasRun, WereRun}
 use Rattle.pblk_cli.specs.Serving.{AreNumbered, HaveGoneOn, HaveHelped, HaveRun, helpers_for, sessions_for}
-use Rattle.pblk_cli.proofs.EachThreads.{each_at, each_many, mapped_at}
+use Rattle.pblk_cli.proofs.EachThreads.{each_at, each_many}
 
 module _ (past : Past) (key : Key) (handed : List ModelUnit) (wear : List (List ℕ)) (script : List (List Command)) where
   abbrev port : SessionView → ModelPort
@@ -67,7 +67,9 @@ module _ (past : Past) (key : Key) (handed : List ModelUnit) (wear : List (List 
   ports_many = by (cases_lt 0 (length script))
     where
       by : (0 < length script) ⊎ (length script ≤ 0) → length (take (length script) firsts) ≡ length script
-      by (inl some) = let count : length firsts ≡ sessions_for (length script) = firsts_count in ap (λ (ts : List SessionView). length ts) (all_first some) ∙ omega (arith, count, some)
+      by (inl some) =
+          let count : length firsts ≡ sessions_for (length script) = firsts_count in
+          ap (λ (ts : List SessionView). length ts) (all_first some) ∙ omega (arith, count, some)
       by (inr none) =
           let zero_threads : length script ≡ 0 = omega arith in
           ap (λ n. length (take n firsts)) zero_threads ∙ sym zero_threads
@@ -91,7 +93,8 @@ module _ (past : Past) (key : Key) (handed : List ModelUnit) (wear : List (List 
 
     -- without a thread the one session is as it was
     pub idle_last : length script ≡ 0 → lasts ≡ first_sessions past key (sessions_for (length script))
-    idle_last none = h.lasts_are ∙ ap (λ n. drop n firsts ++ h.ports) none ∙ ap (λ (ts : List SessionView). firsts ++ ts) (empty_counts h.ports (ports_count ∙ none))
+    idle_last none = h.lasts_are ∙ ap (λ n. drop n firsts ++ h.ports) none
+        ∙ ap (λ (ts : List SessionView). firsts ++ ts) (empty_counts h.ports (ports_count ∙ none))
         ∙ append-nil firsts
 
     -- else they are the threads'
@@ -116,7 +119,7 @@ module _ (past : Past) (key : Key) (handed : List ModelUnit) (wear : List (List 
         seat : (old : ModelPort) (j : ℕ) → slice_get (map port (take (length script) firsts)) j ≡ Some old
             → option_map_or (λ (f : Footing). f.seat) old.footing 0 ≡ j
         seat old j is =
-            let was = mapped_at port (take (length script) firsts) j old is in
+            let was = map_back port (take (length script) firsts) j old is in
             ap (λ (p : ModelPort). option_map_or (λ (f : Footing). f.seat) p.footing 0) (sym was.2)
             ∙ first_numbered j was.0 (get_whole (length script) firsts j was.0 was.1)
 

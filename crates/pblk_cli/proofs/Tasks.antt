@@ -33,20 +33,34 @@ module _ {M U : Type 0} (model : SessionView → ModelPort) (helpers : ℕ) wher
   can_both a b p q (suc (suc i)) t at = absurd (none-some t at)
 
   -- Of two tasks that were done, the first and the second.
-  pub first_done : (a b x : Task M U) (rest : List (Task M U)) → HaveAllDone model helpers (a ∷ b ∷ []) (x ∷ rest) → HasDone model helpers a x
+  first_done : (a b x : Task M U) (rest : List (Task M U)) → HaveAllDone model helpers (a ∷ b ∷ []) (x ∷ rest) → HasDone model helpers a x
   first_done a b x rest h = h.done 0 a x refl refl
 
-  pub second_done : (a b x y : Task M U) (rest : List (Task M U)) → HaveAllDone model helpers (a ∷ b ∷ []) (x ∷ y ∷ rest) → HasDone model helpers b y
+  second_done : (a b x y : Task M U) (rest : List (Task M U)) → HaveAllDone model helpers (a ∷ b ∷ []) (x ∷ y ∷ rest) → HasDone model helpers b y
   second_done a b x y rest h = h.done 1 b y refl refl
 
-  -- and there is none besides
-  pub no_third : (a b x y : Task M U) (rest : List (Task M U)) → HaveAllDone model helpers (a ∷ b ∷ []) (x ∷ y ∷ rest) → rest ≡ []
-  no_third a b x y [] h = refl
-  no_third a b x y (z ∷ rest) h = absurd (let e = h.count in omega (arith, e))
+  -- two tasks that were put into a list, which was empty
+  put_both : (a b : Task M U) (none one two : List (Task M U)) → none ≡ [] → one ≡ none ++ a ∷ [] → two ≡ one ++ b ∷ [] → two ≡ a ∷ b ∷ []
+  put_both a b none one two empty put more = more ∙ ap (λ xs. xs ++ b ∷ []) (put ∙ ap (λ xs. xs ++ a ∷ []) empty)
+
+  -- They were done, and the first was taken out.
+  pub first_taken : (a b x : Task M U) (none one two done rest : List (Task M U)) → none ≡ [] → one ≡ none ++ a ∷ [] → two ≡ one ++ b ∷ []
+      → HaveAllDone model helpers two done → done ≡ x ∷ rest → HasDone model helpers a x
+  first_taken a b x none one two done rest empty put more have taken =
+      let both = subst (λ xs. HaveAllDone model helpers xs done) (put_both a b none one two empty put more) have in
+      first_done a b x rest (subst (HaveAllDone model helpers (a ∷ b ∷ [])) taken both)
+
+  -- and then the second
+  pub second_taken : (a b x y : Task M U) (none one two done left rest : List (Task M U)) → none ≡ [] → one ≡ none ++ a ∷ [] → two ≡ one ++ b ∷ []
+      → HaveAllDone model helpers two done → done ≡ x ∷ left → left ≡ y ∷ rest → HasDone model helpers b y
+  second_taken a b x y none one two done left rest empty put more have taken next =
+      let both = subst (λ xs. HaveAllDone model helpers xs done) (put_both a b none one two empty put more) have in
+      second_done a b x y rest (subst (HaveAllDone model helpers (a ∷ b ∷ [])) (taken ∙ ap (λ xs. x ∷ xs) next) both)
 
 -- The next of some values was taken.
 pub taken_first : {X : Type 0} (all : List X) (n : ℕ) (x : X) (rest : List X) → drop n all ≡ x ∷ rest
     → (take n all ++ x ∷ [] ≡ take (n + 1) all) × (rest ≡ drop (n + 1) all)
 taken_first all n x rest left =
-    let at : slice_get all n ≡ Some x = (let e : n + 0 ≡ n = omega arith in ap (slice_get all) (sym e)) ∙ sym (get_dropped n all 0) ∙ ap (λ xs. slice_get xs 0) left in
+    let same : n + 0 ≡ n = omega arith in
+    let at : slice_get all n ≡ Some x = ap (slice_get all) (sym same) ∙ sym (get_dropped n all 0) ∙ ap (λ xs. slice_get xs 0) left in
     (sym (take_more all n x at), ap (drop 1) (sym left) ∙ ap (drop 1) (drop_at all n x at))

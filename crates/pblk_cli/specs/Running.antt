@@ -17,8 +17,10 @@ use Rattle.pblk_cli.specs.Telling.{Reason, Script, Failed, Missing, Memory, IsTh
 
 -- one of both files could not be read, or there was no memory for their bytes
 abbrev pub CannotReadBoth : List ℕ → List ℕ → Reason → FilesView → FilesView → Type 0
-CannotReadBoth image script (Failed name) old new = ((name ≡ image) × FailsReading image old new) ⊎ ((name ≡ script) × IsThere image old × FailsReading script old new)
-CannotReadBoth image script (Missing name) old new = ((name ≡ image) × IsMissing image old new) ⊎ ((name ≡ script) × IsThere image old × IsMissing script old new)
+CannotReadBoth image script (Failed name) old new =
+    ((name ≡ image) × FailsReading image old new) ⊎ ((name ≡ script) × IsThere image old × FailsReading script old new)
+CannotReadBoth image script (Missing name) old new =
+    ((name ≡ image) × IsMissing image old new) ⊎ ((name ≡ script) × IsThere image old × IsMissing script old new)
 CannotReadBoth image script Memory old new = IsThere image old × AreUntouched old new
 CannotReadBoth image script reason old new = ⊥
 

@@ -29,10 +29,10 @@ use unit_port::Unit;
 ///
 /// The drive was opened for these lanes, and for as many sessions as the script has threads, but
 /// for one at least. The script was accepted for the drive's capacity. Each thread has a thread of
-/// its own where one can be made, and so has each lane and the collector. They work until all
-/// threads of the script have ended, or until a unit answers that it is stopped. Where no thread
-/// can be made the script's threads run one after another, and then an await of a post that is still
-/// to come waits for ever.
+/// its own where one can be made, and so has each lane and the collector. Lanes and the collector
+/// work until all threads of the script have ended, or until a unit answers that it is stopped.
+/// Where no thread can be made the script's threads run one after another, and then an await of a
+/// post that is still to come waits for ever.
 ///
 /// The units were armed, perhaps with nothing: plans may have commands of them fail, and a fuse may
 /// stop them. A program or a reset that fails is recorded nowhere. A fetch that fails, or a command

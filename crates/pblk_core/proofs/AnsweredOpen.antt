@@ -11,12 +11,12 @@ use Rattle.pblk_world.specs.World.{World, Logs, log_of}
 use Rattle.pblk_world.specs.EngineLog.{Opening}
 use Rattle.stripe_placer.specs.OpenLines.{Stripe, has_left, in_line, with_stripe}
 use Rattle.stripe_placer.specs.Placing.{Program}
+use Rattle.pblk_model.proofs.Maps.{filter_all}
 use Rattle.core_laws.specs.OpenedLines.{open_line, opened_units, standing, bits_of}
 use Rattle.core_laws.specs.LeftOpenings.{left_openings}
 use Rattle.core_laws.proofs.UnitTurns.{filtered_is}
 use Rattle.core_laws.proofs.LeftLines.{left_apart, left_before}
 use Rattle.core_laws.proofs.HistorySectors.{set_length}
-use Rattle.world_laws.proofs.HeldSectors.{all_pass as keeps_all}
 use Rattle.pblk_core.specs.LineRecords.{AreRecordsOf, RecordsView}
 use Rattle.pblk_core.specs.Answering.{IsLessIn, IsRemoved}
 use Rattle.pblk_core.specs.Slots.{IsSlot, answered_slot}
@@ -189,7 +189,7 @@ module _ (i : Image) (w : World) (logs : Logs) (unit : ℕ) (of : Program) (is :
   pub lines_stay : 0 < has.slot.stripes_left - count → AreOpenLines i logs mid
   lines_stay some =
       let left : left_openings i logs ≡ left_openings i (log_of w) =
-      answered.left ∙ keeps_all (has_more i w of to) (left_openings i (log_of w))
+      answered.left ∙ filter_all (has_more i w of to) (left_openings i (log_of w))
       (all_by_get (λ (x : Opening). has_more i w of to x ≡ true) (left_openings i (log_of w)) (λ m x e. more m x e (nat_eq m has.k) refl)) in
       record {
         two = ap length less.slots ∙ set_length old.slots.items has.k (answered_slot count has.slot) ∙ are.two;

@@ -13,11 +13,10 @@ use Rattle.stripe_placer.specs.OpenLines.Stripe.{Unplaced, Unanswered, Landed as
 use Rattle.core_laws.proofs.ChangedTables.{range_below}
 use Rattle.core_laws.proofs.HistorySectors.{set_length}
 use Rattle.core_laws.proofs.Opening.{replicated_gets}
-use Rattle.world_laws.proofs.HeldSectors.{all_pass as keeps_all}
 use Rattle.std.proofs.lemmas.List.FromFn.{length-range_with_len}
 use Rattle.core_laws.proofs.TakenSlots.{any_same}
 use Rattle.pblk_model.proofs.Lists.{IsAmong, all_imply, length_replicate}
-use Rattle.pblk_model.proofs.Maps.{filter_agree, none_any, range_get}
+use Rattle.pblk_model.proofs.Maps.{filter_agree, filter_all, none_any, range_get}
 use Rattle.pblk_model.proofs.Parts.{got_else, got_here}
 use Rattle.pblk_model.proofs.Tests.{and_both, either_false, lt_true, not_before, or_left, or_right, or_true, other_number, same_number}
 use Rattle.core_laws.proofs.LandedLines.{any_numbered}
@@ -64,7 +63,7 @@ replicated_there (suc n) (suc j) x test inside e = replicated_there n j x test (
 
 pub left_opened : (l : OpenLine) (n : ℕ) → l.stripes ≡ replicate n Unplaced → stripes_left l ≡ n
 left_opened l n e =
-    ap length (keeps_all (is_left l) (range_with_len 0 (length l.stripes))
+    ap length (filter_all (is_left l) (range_with_len 0 (length l.stripes))
     (all_imply (λ j. j < 0 + length l.stripes) (λ j. is_left l j ≡ true) each (range_with_len 0 (length l.stripes)) (range_below 0 (length l.stripes))))
     ∙ length-range_with_len 0 (length l.stripes) ∙ count
   where

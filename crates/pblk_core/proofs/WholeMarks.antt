@@ -17,13 +17,12 @@ use Rattle.pblk_world.specs.Placing.{data_marks, end_address}
 use Rattle.pblk_world.specs.World.{World, log_of}
 use Rattle.pblk_world.specs.LegalMounts.{IsLegalMount}
 use Rattle.world_laws.proofs.EndRecords.{part_of_front}
-use Rattle.world_laws.proofs.HeldSectors.{all_pass}
 use Rattle.world_laws.proofs.LineStripes.{IsSplit, stripes_before, stripes_split}
 use Rattle.core_laws.proofs.Placing.{new_placed, stripes_now, with_place}
 use Rattle.core_laws.proofs.StripeBlocks.{have_blocks, length_joined}
 use Rattle.core_laws.proofs.StripesInOrder.{whole_then}
 use Rattle.pblk_model.proofs.Lists.{all_front, all_imply}
-use Rattle.pblk_model.proofs.Maps.{all_filter, filter_agree}
+use Rattle.pblk_model.proofs.Maps.{all_filter, filter_agree, filter_all}
 use Rattle.pblk_model.proofs.Tests.{same_number}
 use Rattle.pblk_core.specs.LineRecords.{AreRecordsOf, AreOf, RecordsView, placed_whole, whole_marks}
 
@@ -154,7 +153,7 @@ module _ (i : Image) (w : World) (mount : IsLegalMount i w) (o : Opening) (n : �
   -- those of that log are all of them
   were_whole : filter (λ (p : Placed). not (has_failed (take p.number (log_of w 0)) o)) (stripes_of (take n (log_of w 0)) o)
       ≡ stripes_of (take n (log_of w 0)) o
-  were_whole = all_pass (λ (p : Placed). not (has_failed (take p.number log) o)) (stripes_of (take n log) o)
+  were_whole = filter_all (λ (p : Placed). not (has_failed (take p.number log) o)) (stripes_of (take n log) o)
       (all_imply (λ (p : Placed). p.number < length (take n log)) (λ (p : Placed). not (has_failed (take p.number log) o) ≡ true)
       (λ p before. ap not (ap (λ (xs : List Logged). has_failed xs o) (sym (take-take p.number n log (omega (arith, before, length-take n log))))
       ∙ whole_then (take n log) o p.number sound)) (stripes_of (take n log) o) (stripes_before (take n log) o))

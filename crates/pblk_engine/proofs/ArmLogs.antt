@@ -1,11 +1,10 @@
 -- A unit by the logs of a mount, as they grow by an event of its own, and by those of others.
-use Rattle.std.proofs.Common.{◌≡◌, ◌⊎◌, inl, inr, ℕ, suc, ◌+◌, ◌-◌, ◌≤◌, ◌||◌, true, false, Some, None, Option, List, [], ◌∷◌, ◌++◌, append_assoc, drop, length, length-append, refl, sym, subst, ap, ap₂, ◌∙◌, arith}
+use Rattle.std.proofs.Common.{◌≡◌, ◌⊎◌, inl, inr, ℕ, suc, ◌+◌, ◌-◌, ◌≤◌, ◌||◌, true, false, Some, List, [], ◌∷◌, ◌++◌, append_assoc, drop, length, length-append, sym, subst, ap, ap₂, ◌∙◌, arith}
 use Rattle.std.specs.List.{filter_map, list_any}
 use Rattle.std.specs.Option.{option_map, unwrap_or}
 use Rattle.std.specs.Prelude.{slice_get}
 use Rattle.std.proofs.lemmas.List.{drop-append-le}
 use Rattle.std.proofs.lemmas.List.Folds.{list_any-append}
-use Rattle.std.proofs.lemmas.List.Sums.{fold-append}
 use Rattle.pblk_model.specs.declared.shape.Shape.{Shape}
 use Rattle.pblk_model.specs.Chunk.{Chunk}
 use Rattle.pblk_model.specs.ChunkStep.{ChunkCommand}
@@ -21,6 +20,7 @@ use Rattle.unit_port.specs.Unit.{ModelUnit, IsFitUnit, IsStopped, Steps}
 use Rattle.unit_port.proofs.Units.{stays_stopped}
 use Rattle.step_laws.specs.NextEvents.{CanDo}
 use Rattle.step_laws.proofs.Readied.{stop_is}
+use Rattle.step_laws.proofs.UnitSteps.{after_last}
 use Rattle.pblk_model.proofs.Maps.{more}
 use Rattle.pblk_model.proofs.Parts.{get_last}
 use Rattle.pblk_model.proofs.Tests.{either, not_both, or_no, or_right}
@@ -45,11 +45,6 @@ arm_stays i logs next number handed u same arm =
     }
 
 -- ---- one event more
-
-after_last : (s : Shape) (es : List UnitEvent) (e : UnitEvent) (o : Option (List Chunk))
-    → option_map (λ cs. after_log s cs (es ++ e ∷ [])) o ≡ option_map (λ cs. after_event s cs e) (option_map (λ cs. after_log s cs es) o)
-after_last s es e None = refl
-after_last s es e (Some chunks) = ap (λ (cs : List Chunk). Some cs) (fold-append (after_event s) chunks es (e ∷ []))
 
 module _ (i : Image) (logs next : Logs) (number : ℕ) (handed old new : ModelUnit) (maker : Maker) (knows : List ℕ) (chunk : ℕ)
     (command : ChunkCommand) (outcome : UnitOutcome) (arm : IsArm i logs number handed old) (steps : Steps old chunk command outcome new) where

@@ -4,7 +4,7 @@ use Rattle.std.specs.Prelude.{not, length}
 use Rattle.atomic_table.specs.Seated.{TableId}
 use Rattle.pblk_model.specs.Image.{Image}
 use Rattle.pblk_model.specs.Shape.{units}
-use Rattle.pblk_model.proofs.Tests.{both}
+use Rattle.pblk_model.proofs.Tests.{both, not_true}
 use Rattle.pblk_world.specs.AtRest.{IsCopyDue}
 use Rattle.pblk_world.specs.Fronts.{first_position}
 use Rattle.pblk_world.specs.LegalMounts.{IsLegalMount}
@@ -99,10 +99,6 @@ copies false true false m true f e = refl
 copies false true false m false f e = absurd cc
 copies false false h m true f e = refl
 copies false false h m false f e = absurd cc
-
-not_true : (b : Bool) → not b ≡ true → b ≡ false
-not_true true e = absurd cc
-not_true false e = refl
 
 -- it is due, and none is under way
 pub copy_named : (i : Image) (w : World) (c : Core) → IsLegalMount i w → Stands i (log_of w) c → Collects i (log_of w) c → named c ≡ works.Copy

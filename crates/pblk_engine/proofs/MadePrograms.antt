@@ -78,7 +78,8 @@ module _ (i : Image) (handed : List ModelUnit) (old placed made new : WorkerView
   -- what it made is a program
   pub lane_made : (how : Ended) → HasMade handed placed made how event → (more : List Made) → new.made ≡ old.made ++ more → AreOfRole roles.Lane more
   lane_made how is =
-      grown_of_role roles.Lane old new (is.made ∷ []) (goes_one old placed made new is.made (goes_placed old placed place) is.on (goes_learned made new learns keeps))
+      grown_of_role roles.Lane old new (is.made ∷ [])
+      (goes_one old placed made new is.made (goes_placed old placed place) is.on (goes_learned made new learns keeps))
       (write_of_lane is.made.event is.command, tt)
 
   pub pumped_made : (how : Ended) → HasMade handed placed made how event → HasPumped i handed old new (answer_of how unit event)

@@ -50,7 +50,8 @@ pub cause_lost : (e : UnitEvent) (cause : UnitErr) → IsFetch e.command → Tel
 cause_lost e causes.Failed fetch is = fetch_lost e (ap is_fetch fetch.1) is
 cause_lost e causes.Stopped fetch is = stop_lost e is
 
-pub has_fetched : (handed : List ModelUnit) (old new : ArmView) (was now : WorkerView) (before : Prefixes) (line block unit : ℕ) (result : Result (Unit {0}) FetchErr)
+pub has_fetched : (handed : List ModelUnit) (old new : ArmView) (was now : WorkerView) (before : Prefixes) (line block unit : ℕ)
+    (result : Result (Unit {0}) FetchErr)
     → old.number ≡ unit
     → HasDone old new was now before line (Read block) (TellsFetch old.number (number_told handed old.number (length (logs_of before (suc old.number)))) result)
     → HasFetched handed unit was now result

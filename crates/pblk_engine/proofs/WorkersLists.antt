@@ -1,7 +1,6 @@
 -- The commands of a world by their makers: each stands once, and in its worker's list.
-use Rattle.std.proofs.Common.{◌≡◌, ◌⊎◌, inl, inr, ⊎_elim, ℕ, ◌+◌, ◌<◌, ◌≤◌, suc, Bool, true, false, Some, List, [], ◌∷◌, length, sym, subst, ap, ◌∙◌, arith}
-use Rattle.std.specs.Prelude.{slice_get, if◌then◌else◌}
-use Rattle.std.specs.List.{filter}
+use Rattle.std.proofs.Common.{◌≡◌, ◌⊎◌, inl, inr, ⊎_elim, ℕ, ◌+◌, ◌<◌, ◌≤◌, suc, true, Some, List, [], ◌∷◌, length, sym, subst, ap, ◌∙◌, arith}
+use Rattle.std.specs.Prelude.{slice_get}
 use Rattle.std.proofs.lemmas.Bool.{cases_eq}
 use Rattle.std.proofs.lemmas.Option.{none-some}
 use Rattle.pblk_model.specs.UnitLog.{UnitEvent}
@@ -12,7 +11,7 @@ use Rattle.pblk_world.specs.Makers.{HasMakers, IsNumbered, commands_of, is_made_
 use Rattle.pblk_world.specs.World.{World, log_of}
 use Rattle.pblk_world.proofs.Growing.{at_end}
 use Rattle.pblk_world.proofs.WorldLemmas.{log_elsewhere, log_here}
-use Rattle.chronicle.proofs.Rights.{own_count}
+use Rattle.pblk_world.proofs.RisingMakers.{more_made, own_count}
 use Rattle.pblk_engine.specs.Endings.{HasMadeAll}
 use Rattle.pblk_engine.specs.Workers.{Made, WasMade, WorkerView}
 
@@ -31,15 +30,6 @@ stands s w author n l there = ⊎_elim
     (at_end (log_of w author) s.logged l n (ap (λ (log : List Logged). slice_get log n) (sym (log_here s w author own)) ∙ there)))
     (λ other. inl (ap (λ (log : List Logged). slice_get log n) (sym (log_elsewhere s w author other)) ∙ there))
     (cases_eq s.author author)
-
--- how many commands a worker made
-more_made : (worker : ℕ) (s : Step) (w : World) → commands_of worker w ≤ commands_of worker (s ∷ w)
-more_made worker s w = go (is_made_by worker s.logged.event)
-  where
-    go : (b : Bool) → commands_of worker w ≤ length (if b then s ∷ filter (λ (step : Step). is_made_by worker step.logged.event) w
-        else filter (λ (step : Step). is_made_by worker step.logged.event) w)
-    go true = omega arith
-    go false = omega arith
 
 its_number : (s : Step) (w : World) (e : UnitEvent) (m : Maker) → IsNumbered s.logged.event w → s.logged.event ≡ Does e m → m.made ≡ commands_of m.worker w
 its_number s w e m is event = subst (λ (x : Event). IsNumbered x w) event is

@@ -29,10 +29,12 @@ no_block None k h = refl
 no_block (Some c) k h = ap (λ blocks. slice_get blocks k) h
 
 pub empty_line : (i : Image) (line : ℕ) → AllByRecursion (AllByRecursion IsEmpty) i.units → AllByRecursion IsEmpty (line_chunks i line)
-empty_line i line h = all_filter IsEmpty (λ c. is_online_in c.state) _ (all_filter_map IsEmpty (AllByRecursion IsEmpty) (λ unit. slice_get unit line) i.units (λ unit each. all_get_some IsEmpty unit line each) h)
+empty_line i line h = all_filter IsEmpty (λ c. is_online_in c.state) _
+    (all_filter_map IsEmpty (AllByRecursion IsEmpty) (λ unit. slice_get unit line) i.units (λ unit each. all_get_some IsEmpty unit line each) h)
 
 empty_block : (i : Image) (line a : ℕ) → AllByRecursion (AllByRecursion IsEmpty) i.units → block_at i line a ≡ None
-empty_block i line a h = no_block (slice_get (line_chunks i line) (column_of i.shape (width i line) a)) (block_of i.shape (width i line) a) (all_get_some IsEmpty (line_chunks i line) (column_of i.shape (width i line) a) (empty_line i line h))
+empty_block i line a h = no_block (slice_get (line_chunks i line) (column_of i.shape (width i line) a)) (block_of i.shape (width i line) a)
+    (all_get_some IsEmpty (line_chunks i line) (column_of i.shape (width i line) a) (empty_line i line h))
 
 pub blank_empty : (s : Shape) → AllByRecursion (AllByRecursion IsEmpty) (blank s).units
 unfolding IsEmpty
@@ -42,7 +44,8 @@ pub blank_fit : (s : Shape) → IsFit (blank s)
 blank_fit s = record {
   units = length-replicate (units s) (replicate s.chunks free_chunk);
   chunks = all_replicated (λ (unit : List Chunk). length unit ≡ s.chunks) (units s) (replicate s.chunks free_chunk) (length-replicate s.chunks free_chunk);
-  each = all_replicated (AllByRecursion (IsChunk s)) (units s) (replicate s.chunks free_chunk) (all_replicated (IsChunk s) s.chunks free_chunk (free_is_chunk s));
+  each = all_replicated (AllByRecursion (IsChunk s)) (units s) (replicate s.chunks free_chunk)
+      (all_replicated (IsChunk s) s.chunks free_chunk (free_is_chunk s));
 }
 
 pub blank_block : (s : Shape) (line a : ℕ) → block_at (blank s) line a ≡ None

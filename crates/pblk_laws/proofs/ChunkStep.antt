@@ -55,7 +55,8 @@ write_placed s states.Offline wp at n h = absurd (none-some errors.Offline (sym 
 pub same_appends : (old new : Chunk) → new ≡ old → (more : List Block) × (new.blocks ≡ old.blocks ++ more)
 same_appends old new h = ([], ap (λ (c : Chunk). c.blocks) h ∙ sym (append-nil old.blocks))
 
-pub step_appends : (s : Shape) (old new : Chunk) (command : ChunkCommand) (answer : ChunkAnswer) → command ≢ Reset → ChunkStep s old command answer new → (more : List Block) × (new.blocks ≡ old.blocks ++ more)
+pub step_appends : (s : Shape) (old new : Chunk) (command : ChunkCommand) (answer : ChunkAnswer) → command ≢ Reset → ChunkStep s old command answer new
+    → (more : List Block) × (new.blocks ≡ old.blocks ++ more)
 step_appends s old new (Write at blocks) Done other h = (blocks, ap (λ (c : Chunk). c.blocks) h.1)
 step_appends s old new (Write at blocks) (Refused e) other h = same_appends old new h.1
 step_appends s old new (Write at blocks) (Gave block) other h = absurd h
@@ -66,17 +67,20 @@ step_appends s old new (Read b) (Refused e) other h = same_appends old new h.1
 step_appends s old new (Read b) Done other h = absurd h
 step_appends s old new Reset answer other h = absurd (other refl)
 
-pub failure_appends : (s : Shape) (old new : Chunk) (command : ChunkCommand) → command ≢ Reset → ChunkFails s old command new → (more : List Block) × (new.blocks ≡ old.blocks ++ more)
+pub failure_appends : (s : Shape) (old new : Chunk) (command : ChunkCommand) → command ≢ Reset → ChunkFails s old command new
+    → (more : List Block) × (new.blocks ≡ old.blocks ++ more)
 failure_appends s old new (Write at blocks) other h = (take (h.1 * s.ws_min) blocks, ap (λ (c : Chunk). c.blocks) h.3)
 failure_appends s old new (Read b) other h = same_appends old new h.1
 failure_appends s old new Reset other h = absurd (other refl)
 
-within_appends : (s : Shape) (old new : Chunk) (command : ChunkCommand) → command ≢ Reset → StopsWithin s old command new → (more : List Block) × (new.blocks ≡ old.blocks ++ more)
+within_appends : (s : Shape) (old new : Chunk) (command : ChunkCommand) → command ≢ Reset → StopsWithin s old command new
+    → (more : List Block) × (new.blocks ≡ old.blocks ++ more)
 within_appends s old new (Write at blocks) other h = (take (h.0 * s.ws_min) blocks, ap (λ (c : Chunk). c.blocks) h.3)
 within_appends s old new (Read b) other h = absurd h
 within_appends s old new Reset other h = absurd (other refl)
 
-pub stop_appends : (s : Shape) (old new : Chunk) (command : ChunkCommand) → command ≢ Reset → ChunkStops s old command new → (more : List Block) × (new.blocks ≡ old.blocks ++ more)
+pub stop_appends : (s : Shape) (old new : Chunk) (command : ChunkCommand) → command ≢ Reset → ChunkStops s old command new
+    → (more : List Block) × (new.blocks ≡ old.blocks ++ more)
 stop_appends s old new command other h = elim h [ inl e ↦ same_appends old new e | inr p ↦ within_appends s old new command other p.1 ]
 
 -- What changes nothing.
@@ -100,10 +104,12 @@ read_stop_same s old new b h = elim h [ inl e ↦ e | inr p ↦ absurd p.1 ]
 apart : {A P : Type 0} (o : Option A) (x : A) → o ≡ None → o ≡ Some x → P
 apart o x h k = absurd (none-some x (sym h ∙ k))
 
-refused_alike : {A : Type 0} (o : Option ChunkErr) (e f : ChunkErr) (old new first : A) → o ≡ Some e → o ≡ Some f → first ≡ old → new ≡ old → (◌≡◌ {A = ChunkAnswer} (Refused e) (Refused f)) × (first ≡ new)
+refused_alike : {A : Type 0} (o : Option ChunkErr) (e f : ChunkErr) (old new first : A) → o ≡ Some e → o ≡ Some f → first ≡ old → new ≡ old
+    → (◌≡◌ {A = ChunkAnswer} (Refused e) (Refused f)) × (first ≡ new)
 refused_alike o e f old new first h k p q = (ap Refused (same_Some e f (sym h ∙ k)), p ∙ sym q)
 
-pub determined : (s : Shape) (old first second : Chunk) (command : ChunkCommand) (answer other : ChunkAnswer) → ChunkStep s old command answer first → ChunkStep s old command other second → (answer ≡ other) × (first ≡ second)
+pub determined : (s : Shape) (old first second : Chunk) (command : ChunkCommand) (answer other : ChunkAnswer) → ChunkStep s old command answer first
+    → ChunkStep s old command other second → (answer ≡ other) × (first ≡ second)
 determined s old first second (Write at blocks) Done Done h k = (refl, h.1 ∙ sym k.1)
 determined s old first second (Write at blocks) Done (Refused e) h k = apart _ e h.0 k.0
 determined s old first second (Write at blocks) Done (Gave b) h k = absurd k
@@ -144,9 +150,11 @@ pub add_multiples : (m a b : ℕ) → a % m ≡ 0 → b % m ≡ 0 → (a + b) % 
 add_multiples m a b h k = add-mod a b m ∙ rw (h, k) (zero-mod m)
 
 open_or_closed : (wp clba : ℕ) → 0 < wp → wp ≤ clba → PointerFits (cond (ltb wp clba) states.Open states.Closed) clba wp
-open_or_closed wp clba some inside = cond_both (ltb wp clba) states.Open states.Closed (λ state. PointerFits state clba wp) (λ e. (some, ltb-true wp clba e)) (λ e. inside)
+open_or_closed wp clba some inside =
+    cond_both (ltb wp clba) states.Open states.Closed (λ state. PointerFits state clba wp) (λ e. (some, ltb-true wp clba e)) (λ e. inside)
 
-pub appended_is_chunk : (s : Shape) (c : Chunk) (blocks : List Block) → IsChunk s c → AllByRecursion (IsBlock s) blocks → 0 < length blocks → length blocks % s.ws_min ≡ 0 → pointer c + length blocks ≤ s.clba → IsChunk s (appended s c blocks)
+pub appended_is_chunk : (s : Shape) (c : Chunk) (blocks : List Block) → IsChunk s c → AllByRecursion (IsBlock s) blocks → 0 < length blocks
+    → length blocks % s.ws_min ≡ 0 → pointer c + length blocks ≤ s.clba → IsChunk s (appended s c blocks)
 appended_is_chunk s c blocks chunk each some whole inside =
     let counted : length (c.blocks ++ blocks) ≡ pointer c + length blocks = length-append c.blocks blocks in
     record {
@@ -155,20 +163,24 @@ appended_is_chunk s c blocks chunk each some whole inside =
       blocks = all_append (IsBlock s) c.blocks blocks chunk.blocks each;
     }
 
-pub closed_is_chunk : (s : Shape) (c : Chunk) (blocks : List Block) (k : ℕ) → IsChunk s c → AllByRecursion (IsBlock s) blocks → k * s.ws_min < length blocks → pointer c + length blocks ≤ s.clba → IsChunk s (closed_after s c blocks k)
+pub closed_is_chunk : (s : Shape) (c : Chunk) (blocks : List Block) (k : ℕ) → IsChunk s c → AllByRecursion (IsBlock s) blocks → k * s.ws_min < length blocks
+    → pointer c + length blocks ≤ s.clba → IsChunk s (closed_after s c blocks k)
 closed_is_chunk s c blocks k chunk each few inside =
     let taken : length (take (k * s.ws_min) blocks) ≡ k * s.ws_min = length-take-le (k * s.ws_min) blocks (omega arith) in
-    let counted : length (c.blocks ++ take (k * s.ws_min) blocks) ≡ pointer c + k * s.ws_min = length-append c.blocks (take (k * s.ws_min) blocks) ∙ ap (λ x. pointer c + x) taken in
+    let counted : length (c.blocks ++ take (k * s.ws_min) blocks) ≡ pointer c + k * s.ws_min = length-append c.blocks (take (k * s.ws_min) blocks)
+    ∙ ap (λ x. pointer c + x) taken in
     record {
       place = rw counted (omega arith);
       multiple = rw counted (add_multiples s.ws_min (pointer c) (k * s.ws_min) chunk.multiple (mul-mod_left k s.ws_min));
       blocks = all_append (IsBlock s) c.blocks (take (k * s.ws_min) blocks) chunk.blocks (all_taken (IsBlock s) (k * s.ws_min) blocks each);
     }
 
-pub cut_is_chunk : (s : Shape) (c : Chunk) (blocks : List Block) (k : ℕ) → 0 < s.ws_min → IsChunk s c → AllByRecursion (IsBlock s) blocks → 0 < k → k * s.ws_min ≤ length blocks → pointer c + length blocks ≤ s.clba → IsChunk s (appended s c (take (k * s.ws_min) blocks))
+pub cut_is_chunk : (s : Shape) (c : Chunk) (blocks : List Block) (k : ℕ) → 0 < s.ws_min → IsChunk s c → AllByRecursion (IsBlock s) blocks → 0 < k
+    → k * s.ws_min ≤ length blocks → pointer c + length blocks ≤ s.clba → IsChunk s (appended s c (take (k * s.ws_min) blocks))
 cut_is_chunk s c blocks k minimum chunk each some few inside =
     let taken : length (take (k * s.ws_min) blocks) ≡ k * s.ws_min = length-take-le (k * s.ws_min) blocks few in
-    appended_is_chunk s c (take (k * s.ws_min) blocks) chunk (all_taken (IsBlock s) (k * s.ws_min) blocks each) (rw taken (mul-pos some minimum)) (rw taken (mul-mod_left k s.ws_min)) (rw taken (omega arith))
+    appended_is_chunk s c (take (k * s.ws_min) blocks) chunk (all_taken (IsBlock s) (k * s.ws_min) blocks each) (rw taken (mul-pos some minimum))
+    (rw taken (mul-mod_left k s.ws_min)) (rw taken (omega arith))
 
 pub offline_is_chunk : (s : Shape) → IsChunk s offline_chunk
 offline_is_chunk s = record { place = refl; multiple = zero-mod s.ws_min; blocks = tt }
@@ -182,7 +194,8 @@ reset_is_chunk s states.Offline wp = offline_is_chunk s
 chunk_at : (s : Shape) (c d : Chunk) → c ≡ d → IsChunk s d → IsChunk s c
 chunk_at s c d e h = subst (IsChunk s) (sym e) h
 
-pub step_is_chunk : (s : Shape) (old new : Chunk) (command : ChunkCommand) (answer : ChunkAnswer) → IsChunk s old → WritesBlocks s command → ChunkStep s old command answer new → IsChunk s new
+pub step_is_chunk : (s : Shape) (old new : Chunk) (command : ChunkCommand) (answer : ChunkAnswer) → IsChunk s old → WritesBlocks s command
+    → ChunkStep s old command answer new → IsChunk s new
 step_is_chunk s old new (Write at blocks) Done chunk each h =
     let place = write_placed s old.state (pointer old) at (length blocks) h.0 in
     chunk_at s new (appended s old blocks) h.1 (appended_is_chunk s old blocks chunk each place.some place.multiple (omega arith))
@@ -195,19 +208,23 @@ step_is_chunk s old new Reset (Refused e) chunk each h = chunk_at s new old h.1 
 step_is_chunk s old new Reset (Gave block) chunk each h = absurd h
 step_is_chunk s old new Reset Empty chunk each h = absurd h
 
-pub failure_is_chunk : (s : Shape) (old new : Chunk) (command : ChunkCommand) → IsChunk s old → WritesBlocks s command → ChunkFails s old command new → IsChunk s new
+pub failure_is_chunk : (s : Shape) (old new : Chunk) (command : ChunkCommand) → IsChunk s old → WritesBlocks s command → ChunkFails s old command new
+    → IsChunk s new
 failure_is_chunk s old new (Write at blocks) chunk each h =
     let place = write_placed s old.state (pointer old) at (length blocks) h.0 in
     chunk_at s new (closed_after s old blocks h.1) h.3 (closed_is_chunk s old blocks h.1 chunk each h.2 (omega arith))
 failure_is_chunk s old new (Read b) chunk each h = chunk_at s new old h.1 chunk
 failure_is_chunk s old new Reset chunk each h = chunk_at s new offline_chunk h.1 (offline_is_chunk s)
 
-within_is_chunk : (s : Shape) (old new : Chunk) (command : ChunkCommand) → 0 < s.ws_min → IsChunk s old → WritesBlocks s command → refusal s old command ≡ None → StopsWithin s old command new → IsChunk s new
+within_is_chunk : (s : Shape) (old new : Chunk) (command : ChunkCommand) → 0 < s.ws_min → IsChunk s old → WritesBlocks s command → refusal s old command ≡ None
+    → StopsWithin s old command new → IsChunk s new
 within_is_chunk s old new (Write at blocks) minimum chunk each free h =
     let place = write_placed s old.state (pointer old) at (length blocks) free in
     chunk_at s new (appended s old (take (h.0 * s.ws_min) blocks)) h.3 (cut_is_chunk s old blocks h.0 minimum chunk each h.1 h.2 (omega arith))
 within_is_chunk s old new (Read b) minimum chunk each free h = absurd h
 within_is_chunk s old new Reset minimum chunk each free h = chunk_at s new (after_reset s old) h (reset_is_chunk s old.state (pointer old))
 
-pub stop_is_chunk : (s : Shape) (old new : Chunk) (command : ChunkCommand) → 0 < s.ws_min → IsChunk s old → WritesBlocks s command → ChunkStops s old command new → IsChunk s new
-stop_is_chunk s old new command minimum chunk each h = elim h [ inl e ↦ chunk_at s new old e chunk | inr p ↦ within_is_chunk s old new command minimum chunk each p.0 p.1 ]
+pub stop_is_chunk : (s : Shape) (old new : Chunk) (command : ChunkCommand) → 0 < s.ws_min → IsChunk s old → WritesBlocks s command
+    → ChunkStops s old command new → IsChunk s new
+stop_is_chunk s old new command minimum chunk each h =
+    elim h [ inl e ↦ chunk_at s new old e chunk | inr p ↦ within_is_chunk s old new command minimum chunk each p.0 p.1 ]

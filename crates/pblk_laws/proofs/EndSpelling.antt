@@ -42,11 +42,13 @@ abbrev pub end_spelled : EndRecord → List ℕ
 end_spelled r = le32 magic ++ le16 1 ++ le16 2 ++ le32 r.line ++ le32 r.width ++ le64 r.seq ++ le32 (length r.pairs) ++ zeros 4
     ++ flat_map pair_bytes r.pairs
 
-same_end : (x : EndRecord) (line g seq : ℕ) (pairs : List Mark) → line ≡ x.line → g ≡ x.width → seq ≡ x.seq → pairs ≡ x.pairs → ◌≡◌ {A = EndRecord} (record { line = line; width = g; seq = seq; pairs = pairs }) x
+same_end : (x : EndRecord) (line g seq : ℕ) (pairs : List Mark) → line ≡ x.line → g ≡ x.width → seq ≡ x.seq → pairs ≡ x.pairs
+    → ◌≡◌ {A = EndRecord} (record { line = line; width = g; seq = seq; pairs = pairs }) x
 same_end x line g seq pairs p q r t = rw (p, q, r, t) refl
 
 -- the pairs stand behind the header
-pairs_place : (s : Shape) (line g seq : ℕ) (r : EndRecord) (pad : List ℕ) → (end_in s line g seq (end_spelled r ++ pad)).pairs ≡ pairs_in (data_len s g) (flat_map pair_bytes r.pairs ++ pad)
+pairs_place : (s : Shape) (line g seq : ℕ) (r : EndRecord) (pad : List ℕ)
+    → (end_in s line g seq (end_spelled r ++ pad)).pairs ≡ pairs_in (data_len s g) (flat_map pair_bytes r.pairs ++ pad)
 unfolding zeros
 pairs_place s line g seq r pad = refl
 
@@ -83,7 +85,8 @@ marks_fit : (pairs : List Mark) (rest : List ℕ) → pairs_in (length pairs) (f
 unfolding pairs_in
 marks_fit [] rest h = tt
 marks_fit (m ∷ ms) rest h =
-    let parts = same_heads m (record { lba = from_le_bytes w64 (to_le_bytes w64 m.lba); position = from_le_bytes w64 (to_le_bytes w64 m.position) }) ms (pairs_in (length ms) (flat_map pair_bytes ms ++ rest)) h in
+    let parts = same_heads m (record { lba = from_le_bytes w64 (to_le_bytes w64 m.lba); position = from_le_bytes w64 (to_le_bytes w64 m.position) }) ms
+    (pairs_in (length ms) (flat_map pair_bytes ms ++ rest)) h in
     (fits_of m _ _ parts.0 (eight_below m.lba) (eight_below m.position), marks_fit ms rest parts.1)
 
 pub record IsReadEnd (s : Shape) (line g seq : ℕ) (r : EndRecord) (bytes : List ℕ) : Type 0 where
@@ -98,7 +101,8 @@ read_fits s line g seq bytes same =
     let r : EndRecord = end_in s line g seq bytes in
     let pad : List ℕ = zeros (end_len s g * s.sector - length (end_spelled r)) in
     let count : length (pairs_in (data_len s g) (drop 32 bytes)) ≡ data_len s g = length-pairs_in (data_len s g) (drop 32 bytes) in
-    let back : pairs_in (data_len s g) (flat_map pair_bytes r.pairs ++ pad) ≡ r.pairs = sym (pairs_place s line g seq r pad) ∙ ap (λ (xs : List ℕ). pairs_in (data_len s g) (drop 32 xs)) same in
+    let back : pairs_in (data_len s g) (flat_map pair_bytes r.pairs ++ pad) ≡ r.pairs = sym (pairs_place s line g seq r pad)
+    ∙ ap (λ (xs : List ℕ). pairs_in (data_len s g) (drop 32 xs)) same in
     record {
       count = count;
       marks = marks_fit r.pairs pad (ap (λ n. pairs_in n (flat_map pair_bytes r.pairs ++ pad)) count ∙ back);
@@ -122,39 +126,50 @@ read_end_spelled s line g seq r bytes h =
 unfoldable end_with : Image → ℕ → StartRecord → List Block → Option EndRecord
 end_with i line start blocks = cond (have_meta start.seq blocks) (read_end i.shape line (width i line) start.seq (flat_map (λ b. b.sector) blocks)) None
 
-end_of_is : (i : Image) (line : ℕ) (start : StartRecord) → end_of i line start ≡ option_and_then (end_with i line start) (written_run i line (width i line * i.shape.clba - end_len i.shape (width i line)) (end_len i.shape (width i line)))
+end_of_is : (i : Image) (line : ℕ) (start : StartRecord)
+    → end_of i line start ≡ option_and_then (end_with i line start)
+    (written_run i line (width i line * i.shape.clba - end_len i.shape (width i line)) (end_len i.shape (width i line)))
 unfolding end_with
 end_of_is i line start = refl
 
-with_blocks : (i : Image) (line : ℕ) (start : StartRecord) (r : EndRecord) (blocks : List Block) → IsEndOf i line start r → AreEnd i line r blocks → end_with i line start blocks ≡ Some r
+with_blocks : (i : Image) (line : ℕ) (start : StartRecord) (r : EndRecord) (blocks : List Block) → IsEndOf i line start r → AreEnd i line r blocks
+    → end_with i line start blocks ≡ Some r
 unfolding end_with
 with_blocks i line start r blocks is are =
     let marks : have_meta start.seq blocks ≡ true = subst (λ (q : ℕ). have_meta q blocks ≡ true) is.seq_is (marked r.seq blocks are.marks) in
-    let own : read_end i.shape r.line r.width r.seq (flat_map (λ (b : Block). b.sector) blocks) ≡ Some r = ap (read_end i.shape r.line r.width r.seq) are.bytes ∙ read_end_back i.shape r is.fits in
-    let lines : read_end i.shape line r.width r.seq (flat_map (λ (b : Block). b.sector) blocks) ≡ Some r = subst (λ (l : ℕ). read_end i.shape l r.width r.seq (flat_map (λ (b : Block). b.sector) blocks) ≡ Some r) is.line_is own in
-    let widths : read_end i.shape line (width i line) r.seq (flat_map (λ (b : Block). b.sector) blocks) ≡ Some r = subst (λ (g : ℕ). read_end i.shape line g r.seq (flat_map (λ (b : Block). b.sector) blocks) ≡ Some r) is.width_is lines in
-    let seqs : read_end i.shape line (width i line) start.seq (flat_map (λ (b : Block). b.sector) blocks) ≡ Some r = subst (λ (q : ℕ). read_end i.shape line (width i line) q (flat_map (λ (b : Block). b.sector) blocks) ≡ Some r) is.seq_is widths in
+    let own : read_end i.shape r.line r.width r.seq (flat_map (λ (b : Block). b.sector) blocks) ≡ Some r = ap (read_end i.shape r.line r.width r.seq) are.bytes
+    ∙ read_end_back i.shape r is.fits in
+    let lines : read_end i.shape line r.width r.seq (flat_map (λ (b : Block). b.sector) blocks) ≡ Some r =
+    subst (λ (l : ℕ). read_end i.shape l r.width r.seq (flat_map (λ (b : Block). b.sector) blocks) ≡ Some r) is.line_is own in
+    let widths : read_end i.shape line (width i line) r.seq (flat_map (λ (b : Block). b.sector) blocks) ≡ Some r =
+    subst (λ (g : ℕ). read_end i.shape line g r.seq (flat_map (λ (b : Block). b.sector) blocks) ≡ Some r) is.width_is lines in
+    let seqs : read_end i.shape line (width i line) start.seq (flat_map (λ (b : Block). b.sector) blocks) ≡ Some r =
+    subst (λ (q : ℕ). read_end i.shape line (width i line) q (flat_map (λ (b : Block). b.sector) blocks) ≡ Some r) is.seq_is widths in
     ap (λ b. cond b (read_end i.shape line (width i line) start.seq (flat_map (λ (b : Block). b.sector) blocks)) None) marks ∙ seqs
 
-pub end_found : (i : Image) (line : ℕ) (start : StartRecord) (r : EndRecord) (blocks : List Block) → IsEndOf i line start r → AreEnd i line r blocks → end_of i line start ≡ Some r
+pub end_found : (i : Image) (line : ℕ) (start : StartRecord) (r : EndRecord) (blocks : List Block) → IsEndOf i line start r → AreEnd i line r blocks
+    → end_of i line start ≡ Some r
 end_found i line start r blocks is are =
     let first : ℕ = width i line * i.shape.clba - end_len i.shape (width i line) in
     let run : written_run i line first (length blocks) ≡ Some blocks = run_some i line first blocks (λ k below. are.written k (omega (arith, are.count))) in
     let whole : written_run i line first (end_len i.shape (width i line)) ≡ Some blocks = subst (λ n. written_run i line first n ≡ Some blocks) are.count run in
     end_of_is i line start ∙ ap (option_and_then (end_with i line start)) whole ∙ with_blocks i line start r blocks is are
 
-run_of : (f : List Block → Option EndRecord) (run : Option (List Block)) (r : EndRecord) → option_and_then f run ≡ Some r → (blocks : List Block) × (run ≡ Some blocks) × (f blocks ≡ Some r)
+run_of : (f : List Block → Option EndRecord) (run : Option (List Block)) (r : EndRecord) → option_and_then f run ≡ Some r
+    → (blocks : List Block) × (run ≡ Some blocks) × (f blocks ≡ Some r)
 run_of f None r h = absurd (none-some r h)
 run_of f (Some blocks) r h = (blocks, refl, h)
 
-pub end_written : (i : Image) (line : ℕ) (start : StartRecord) (r : EndRecord) → end_of i line start ≡ Some r → IsEndOf i line start r × (blocks : List Block) × AreEnd i line r blocks
+pub end_written : (i : Image) (line : ℕ) (start : StartRecord) (r : EndRecord) → end_of i line start ≡ Some r
+    → IsEndOf i line start r × (blocks : List Block) × AreEnd i line r blocks
 unfolding end_with
 end_written i line start r h =
     let first : ℕ = width i line * i.shape.clba - end_len i.shape (width i line) in
     let from = run_of (end_with i line start) (written_run i line first (end_len i.shape (width i line))) r (sym (end_of_is i line start) ∙ h) in
     let run = run_is i line first (end_len i.shape (width i line)) from.0 from.1 in
     let test = cond_read (have_meta start.seq from.0) (read_end i.shape line (width i line) start.seq (flat_map (λ (b : Block). b.sector) from.0)) r from.2 in
-    let read : IsReadEnd i.shape line (width i line) start.seq r (flat_map (λ (b : Block). b.sector) from.0) = read_end_spelled i.shape line (width i line) start.seq r (flat_map (λ (b : Block). b.sector) from.0) test.1 in (
+    let read : IsReadEnd i.shape line (width i line) start.seq r (flat_map (λ (b : Block). b.sector) from.0) =
+    read_end_spelled i.shape line (width i line) start.seq r (flat_map (λ (b : Block). b.sector) from.0) test.1 in (
       record { line_is = read.line_is; width_is = read.width_is; seq_is = read.seq_is; fits = read.fits },
       from.0,
       record {
@@ -176,7 +191,8 @@ end_spelled_length r = let pairs : length (flat_map pair_bytes r.pairs) ≡ 16 *
 
 pub end_bytes_length : (s : Shape) (r : EndRecord) → IsAccepted s → IsEndRecord s r → length (end_bytes s r) ≡ end_len s r.width * s.sector
 end_bytes_length s r accepted fits =
-    let holds : 32 + 16 * (r.width * s.clba - start_len s - end_len s r.width) ≤ end_len s r.width * s.sector = (end_len_least s r.width accepted.drive.ws_opt (omega (arith, sector_at_least s accepted))).holds in
+    let holds : 32 + 16 * (r.width * s.clba - start_len s - end_len s r.width) ≤ end_len s r.width * s.sector =
+    (end_len_least s r.width accepted.drive.ws_opt (omega (arith, sector_at_least s accepted))).holds in
     let few : length r.pairs ≤ r.width * s.clba - start_len s - end_len s r.width = data_within _ _ (length r.pairs) fits.count in
     padded_length (end_len s r.width * s.sector) (end_spelled r) (omega (arith, end_spelled_length r))
 
@@ -186,5 +202,8 @@ pairs_are (m ∷ ms) = (eight m.lba then eight m.position) then pairs_are ms
 
 pub end_bytes_are : (s : Shape) (r : EndRecord) → AllByRecursion (λ x. x < 256) (end_bytes s r)
 end_bytes_are s r =
-    let text : AreBytes (end_spelled r) = four magic then two 1 then two 2 then four r.line then four r.width then eight r.seq then four (length r.pairs) then some_zeros 4 then pairs_are r.pairs in
-    all_append (λ x. x < 256) (end_spelled r) (zeros (end_len s r.width * s.sector - length (end_spelled r))) text.each (some_zeros (end_len s r.width * s.sector - length (end_spelled r))).each
+    let text : AreBytes (end_spelled r) =
+    four magic then two 1 then two 2 then four r.line then four r.width then eight r.seq then four
+    (length r.pairs) then some_zeros 4 then pairs_are r.pairs in
+    all_append (λ x. x < 256) (end_spelled r) (zeros (end_len s r.width * s.sector - length (end_spelled r))) text.each
+    (some_zeros (end_len s r.width * s.sector - length (end_spelled r))).each

@@ -61,7 +61,8 @@ removed test (x ∷ xs) some =
       | inr e ↦ let more : list_any test xs ≡ true = (rw e at some) in rw e (omega (arith, removed test xs more))
     ]
 
-kept : {X : Type 0} (test other : X → Bool) (xs : List X) → ((x : X) → other x ≡ true → test x ≡ false) → list_any other xs ≡ true → list_any other (filter (λ x. not (test x)) xs) ≡ true
+kept : {X : Type 0} (test other : X → Bool) (xs : List X) → ((x : X) → other x ≡ true → test x ≡ false) → list_any other xs ≡ true
+    → list_any other (filter (λ x. not (test x)) xs) ≡ true
 kept test other [] apart some = some
 kept test other (x ∷ xs) apart some =
     elim (cases_Bool (other x)) [
@@ -79,7 +80,8 @@ bears_at first q r = leb first r.seq && eqb r.position q
 
 apart : (first p q : ℕ) (r : Record) → p < q → bears_at first q r ≡ true → bears_at first p r ≡ false
 unfolding bears_at
-apart first p q r less is = and_right (leb first r.seq) (eqb r.position p) (let at : r.position ≡ q = eqb-true r.position q (and_parts (leb first r.seq) (eqb r.position q) is).1 in ne_eqb r.position p (λ e. omega arith))
+apart first p q r less is = and_right (leb first r.seq) (eqb r.position p)
+    (let at : r.position ≡ q = eqb-true r.position q (and_parts (leb first r.seq) (eqb r.position q) is).1 in ne_eqb r.position p (λ e. omega arith))
 
 as_many : (first n p : ℕ) (rs : List Record) → ((q : ℕ) → p ≤ q → q < p + n → list_any (bears_at first q) rs ≡ true) → n ≤ length rs
 as_many first zero p rs each = omega arith
@@ -87,7 +89,8 @@ as_many first (suc n) p rs each =
     let test = bears_at first p in
     let fewer : length (filter (λ r. not (test r)) rs) < length rs = removed test rs (each p (omega arith) (omega arith)) in
     let rest : n ≤ length (filter (λ r. not (test r)) rs) =
-    as_many first n (p + 1) (filter (λ r. not (test r)) rs) (λ q low high. kept test (bears_at first q) rs (λ r is. apart first p q r (omega arith) is) (each q (omega arith) (omega arith))) in
+    as_many first n (p + 1) (filter (λ r. not (test r)) rs)
+    (λ q low high. kept test (bears_at first q) rs (λ r is. apart first p q r (omega arith) is) (each q (omega arith) (omega arith))) in
     omega arith
 
 -- The end.
@@ -121,8 +124,10 @@ borne : (rs : List Record) (h : StartRecord) (p : ℕ) (r : Record) → Contains
 borne [] h p r there bears = absurd (contains_none r there)
 borne (x ∷ rs) h p r there bears = elim (contains_cases x r rs there) [
   | inl same ↦
-      let here : (leb h.first_seq r.seq && (r.position == p)) ≡ true = and_from (leb h.first_seq r.seq) (r.position == p) (le-leb h.first_seq r.seq bears.mount) (eq-eqb r.position p bears.position) in
-      or_left (leb h.first_seq x.seq && (x.position == p)) (is_borne rs h p) (subst (λ (y : Record). (leb h.first_seq y.seq && (y.position == p)) ≡ true) (sym same) here)
+      let here : (leb h.first_seq r.seq && (r.position == p)) ≡ true =
+      and_from (leb h.first_seq r.seq) (r.position == p) (le-leb h.first_seq r.seq bears.mount) (eq-eqb r.position p bears.position) in
+      or_left (leb h.first_seq x.seq && (x.position == p)) (is_borne rs h p)
+      (subst (λ (y : Record). (leb h.first_seq y.seq && (y.position == p)) ≡ true) (sym same) here)
   | inr later ↦ or_right (leb h.first_seq x.seq && (x.position == p)) (is_borne rs h p) (borne rs h p r later bears)
 ]
 

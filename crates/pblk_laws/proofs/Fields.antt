@@ -33,14 +33,16 @@ after_fields : (fields : List (List ℕ)) (u : List ℕ) → IsAfter (spaced_out
 after_fields [] u = omega arith
 after_fields (f ∷ fields) u = omega arith
 
-same_fields : (fs gs : List (List ℕ)) (u v : List ℕ) → AllByRecursion IsPlain fs → AllByRecursion IsPlain gs → spaced_out fs ++ 10 ∷ u ≡ spaced_out gs ++ 10 ∷ v → (fs ≡ gs) × (u ≡ v)
+same_fields : (fs gs : List (List ℕ)) (u v : List ℕ) → AllByRecursion IsPlain fs → AllByRecursion IsPlain gs → spaced_out fs ++ 10 ∷ u ≡ spaced_out gs ++ 10 ∷ v
+    → (fs ≡ gs) × (u ≡ v)
 unfolding first_of
 same_fields [] [] u v hf hg e = (refl, cc)
 same_fields [] (g ∷ gs) u v hf hg e = let h : ◌≡◌ {A = ℕ} 10 32 = ap first_of e in absurd (omega arith)
 same_fields (f ∷ fs) [] u v hf hg e = let h : ◌≡◌ {A = ℕ} 32 10 = ap first_of e in absurd (omega arith)
 same_fields (f ∷ fs) (g ∷ gs) u v hf hg e =
     let tails : (f ++ spaced_out fs) ++ 10 ∷ u ≡ (g ++ spaced_out gs) ++ 10 ∷ v = cc in
-    let joined : f ++ (spaced_out fs ++ 10 ∷ u) ≡ g ++ (spaced_out gs ++ 10 ∷ v) = sym (append_assoc f (spaced_out fs) (10 ∷ u)) ∙ tails ∙ append_assoc g (spaced_out gs) (10 ∷ v) in
+    let joined : f ++ (spaced_out fs ++ 10 ∷ u) ≡ g ++ (spaced_out gs ++ 10 ∷ v) = sym (append_assoc f (spaced_out fs) (10 ∷ u)) ∙ tails
+    ∙ append_assoc g (spaced_out gs) (10 ∷ v) in
     let first = cut_word f g _ _ hf.0 hg.0 (after_fields fs u) (after_fields gs v) joined in
     let rest = same_fields fs gs u v hf.1 hg.1 first.1 in
     (cc, rest.1)
@@ -71,7 +73,12 @@ same_row a b u v ha hb e =
     (same, rest.1)
 
 some_text : (r : Row) (u : List ℕ) → [] ≡ row_text r ++ u → ⊥
-some_text r u e = omega (arith, ap length (e ∙ row_before r u), length-append r.word (spaced_out r.fields ++ 10 ∷ u), length-append (spaced_out r.fields) (10 ∷ u))
+some_text r u e = omega (
+  arith,
+  ap length (e ∙ row_before r u),
+  length-append r.word (spaced_out r.fields ++ 10 ∷ u),
+  length-append (spaced_out r.fields) (10 ∷ u),
+)
 
 -- Equal texts have equal lines.
 pub same_rows : (a b : List Row) → AllByRecursion IsPlainRow a → AllByRecursion IsPlainRow b → flat_map row_text a ≡ flat_map row_text b → a ≡ b

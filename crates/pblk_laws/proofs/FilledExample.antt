@@ -48,11 +48,13 @@ part_length k h = simp (length-take, length-drop) (omega (arith, spelling_length
 
 part_bytes : (k : ℕ) → AllByRecursion (λ x. x < 256) (part k)
 unfolding part spelling
-part_bytes k = all_taken (λ x. x < 256) 512 (drop k (start_bytes small first)) (all_dropped (λ x. x < 256) k (start_bytes small first) (start_bytes_are small first))
+part_bytes k = all_taken (λ x. x < 256) 512 (drop k (start_bytes small first))
+    (all_dropped (λ x. x < 256) k (start_bytes small first) (start_bytes_are small first))
 
 split_off : (k j : ℕ) → k + 512 ≡ j → part k ++ drop j spelling ≡ drop k spelling
 unfolding part
-split_off k j e = ap (λ xs. take 512 (drop k spelling) ++ xs) (ap (λ n. drop n spelling) (sym e) ∙ sym (drop-drop 512 k spelling)) ∙ take-append-drop 512 (drop k spelling)
+split_off k j e = ap (λ xs. take 512 (drop k spelling) ++ xs) (ap (λ n. drop n spelling) (sym e) ∙ sym (drop-drop 512 k spelling))
+    ∙ take-append-drop 512 (drop k spelling)
 
 past : (xs : List ℕ) (n : ℕ) → length xs ≤ n → drop n xs ≡ []
 past [] zero h = refl
@@ -107,7 +109,8 @@ front_written (suc (suc (suc (suc k)))) h = absurd (omega arith)
 
 read_first : read_start small 0 4 (part 0 ++ (part 512 ++ (part 1024 ++ (part 1536 ++ [])))) ≡ Some first
 unfolding spelling
-read_first = subst (λ bytes. read_start small 0 4 bytes ≡ Some first) (sym parts_are) (read_back small 0 4 first (fields_fit small 0 4 first small_accepted (lit< tt) (lit< tt) first_fits) first_fits)
+read_first = subst (λ bytes. read_start small 0 4 bytes ≡ Some first) (sym parts_are)
+    (read_back small 0 4 first (fields_fit small 0 4 first small_accepted (lit< tt) (lit< tt) first_fits) first_fits)
 
 starts : start_of image 0 ≡ Some first
 starts = found image 0 first meta_blocks refl front_written read_first (marked 1 meta_blocks (refl, (refl, (refl, (refl, tt)))))
@@ -125,12 +128,14 @@ others_empty k = all_filter IsEmpty (λ c. is_online_in c.state) _
 
 others : (line : ℕ) → 0 < line → line < 16 → start_of image line ≡ None
 others zero some h = absurd (omega arith)
-others (suc k) some h = start_none image (suc k) 0 (lit< tt) (no_block (slice_get (line_chunks image (suc k)) (column_of small (width image (suc k)) 0)) (block_of small (width image (suc k)) 0)
+others (suc k) some h = start_none image (suc k) 0 (lit< tt)
+    (no_block (slice_get (line_chunks image (suc k)) (column_of small (width image (suc k)) 0)) (block_of small (width image (suc k)) 0)
     (all_get_some IsEmpty (line_chunks image (suc k)) (column_of small (width image (suc k)) 0) (others_empty k)))
 
 -- Line 0 past the sector.
 
-data_there : (k : ℕ) (w : SectorWrite) → slice_get (write ∷ []) k ≡ Some w → block_at image 0 (start_len small + k) ≡ Some (record { sector = w.sector; mark = sector_mark w.lba k })
+data_there : (k : ℕ) (w : SectorWrite) → slice_get (write ∷ []) k ≡ Some w
+    → block_at image 0 (start_len small + k) ≡ Some (record { sector = w.sector; mark = sector_mark w.lba k })
 data_there zero w e = ap (λ (v : SectorWrite). Some (record { sector = v.sector; mark = sector_mark v.lba 0 })) (same_Some write w e)
 data_there (suc k) w e = absurd (none-some w e)
 

@@ -12,22 +12,27 @@ use Rattle.pblk_model.specs.Contents.{is_borne, least_missing, counts, is_newer,
 pub range_split : (a m n : ℕ) → range_with_len a (m + n) ≡ range_with_len a m ++ range_with_len (a + m) n
 range_split a zero n = ap (range_with_len a) (omega arith) ∙ ap (λ x. range_with_len x n) (sym (add-zero a))
 range_split a (suc m) n =
-    let rest : range_with_len (a + 1) (m + n) ≡ range_with_len (a + 1) m ++ range_with_len (a + suc m) n = range_split (a + 1) m n ∙ ap (λ x. range_with_len (a + 1) m ++ range_with_len x n) (omega arith) in
+    let rest : range_with_len (a + 1) (m + n) ≡ range_with_len (a + 1) m ++ range_with_len (a + suc m) n = range_split (a + 1) m n
+    ∙ ap (λ x. range_with_len (a + 1) m ++ range_with_len x n) (omega arith) in
     let more : suc m + n ≡ suc (m + n) = omega arith in
     ap (range_with_len a) more ∙ ap (λ xs. a ∷ xs) rest
 
 pub filter_map_range_none : {Y : Type 0} (f : ℕ → Option Y) (a n : ℕ) → ((k : ℕ) → a ≤ k → k < a + n → f k ≡ None) → filter_map f (range_with_len a n) ≡ []
 filter_map_range_none f a zero h = refl
-filter_map_range_none f a (suc n) h = ap (λ o. cons_option o (filter_map f (range_with_len (a + 1) n))) (h a (omega arith) (omega arith)) ∙ filter_map_range_none f (a + 1) n (λ k low high. h k (omega arith) (omega arith))
+filter_map_range_none f a (suc n) h = ap (λ o. cons_option o (filter_map f (range_with_len (a + 1) n))) (h a (omega arith) (omega arith))
+    ∙ filter_map_range_none f (a + 1) n (λ k low high. h k (omega arith) (omega arith))
 
 pub flat_map_range_nil : {Y : Type 0} (f : ℕ → List Y) (a n : ℕ) → ((k : ℕ) → a ≤ k → k < a + n → f k ≡ []) → flat_map f (range_with_len a n) ≡ []
 flat_map_range_nil f a zero h = refl
-flat_map_range_nil f a (suc n) h = ap (λ ys. ys ++ flat_map f (range_with_len (a + 1) n)) (h a (omega arith) (omega arith)) ∙ flat_map_range_nil f (a + 1) n (λ k low high. h k (omega arith) (omega arith))
+flat_map_range_nil f a (suc n) h = ap (λ ys. ys ++ flat_map f (range_with_len (a + 1) n)) (h a (omega arith) (omega arith))
+    ∙ flat_map_range_nil f (a + 1) n (λ k low high. h k (omega arith) (omega arith))
 
 -- where all but the first give nothing
-pub filter_map_first : {Y : Type 0} (f : ℕ → Option Y) (n : ℕ) (y : Y) → 0 < n → f 0 ≡ Some y → ((k : ℕ) → 0 < k → k < n → f k ≡ None) → filter_map f (range_with_len 0 n) ≡ y ∷ []
+pub filter_map_first : {Y : Type 0} (f : ℕ → Option Y) (n : ℕ) (y : Y) → 0 < n → f 0 ≡ Some y → ((k : ℕ) → 0 < k → k < n → f k ≡ None)
+    → filter_map f (range_with_len 0 n) ≡ y ∷ []
 filter_map_first f zero y some here none = absurd (omega arith)
-filter_map_first f (suc n) y some here none = ap (λ o. cons_option o (filter_map f (range_with_len 1 n))) here ∙ ap (λ ys. y ∷ ys) (filter_map_range_none f 1 n (λ k low high. none k (omega arith) (omega arith)))
+filter_map_first f (suc n) y some here none = ap (λ o. cons_option o (filter_map f (range_with_len 1 n))) here
+    ∙ ap (λ ys. y ∷ ys) (filter_map_range_none f 1 n (λ k low high. none k (omega arith) (omega arith)))
 
 pub flat_map_first : {Y : Type 0} (f : ℕ → List Y) (n : ℕ) → 0 < n → ((k : ℕ) → 0 < k → k < n → f k ≡ []) → flat_map f (range_with_len 0 n) ≡ f 0
 flat_map_first f zero some none = absurd (omega arith)
@@ -54,8 +59,10 @@ records_by_place f seq first k [] h = refl
 records_by_place f seq first k (w ∷ ws) h =
     let here : f (first + k) ≡ Some (record_of seq first k w) = subst (λ x. f (first + x) ≡ Some (record_of seq first x w)) (add-zero k) (h 0 w refl) in
     let rest : filter_map f (range_with_len (first + (k + 1)) (length ws)) ≡ records_of seq first (k + 1) ws =
-    records_by_place f seq first (k + 1) ws (λ j v e. let same : k + suc j ≡ k + 1 + j = omega arith in subst (λ x. f (first + x) ≡ Some (record_of seq first x v)) same (h (suc j) v e)) in
-    let shifted : range_with_len (first + k + 1) (length ws) ≡ range_with_len (first + (k + 1)) (length ws) = ap (λ x. range_with_len x (length ws)) (omega arith) in
+    records_by_place f seq first (k + 1) ws
+    (λ j v e. let same : k + suc j ≡ k + 1 + j = omega arith in subst (λ x. f (first + x) ≡ Some (record_of seq first x v)) same (h (suc j) v e)) in
+    let shifted : range_with_len (first + k + 1) (length ws) ≡ range_with_len (first + (k + 1)) (length ws) =
+    ap (λ x. range_with_len x (length ws)) (omega arith) in
     ap (λ o. cons_option o (filter_map f (range_with_len (first + k + 1) (length ws)))) here
     ∙ ap (λ rs. record_of seq first k w ∷ rs) (ap (filter_map f) shifted ∙ rest)
 
@@ -66,19 +73,26 @@ missing_after borne (suc n) p h =
     let more : least_missing borne n (p + 1) ≡ p + suc n = missing_after borne n (p + 1) (λ q low high. h q (omega arith) (omega arith)) ∙ omega arith in
     ap (λ b. cond b (least_missing borne n (p + 1)) p) (h p (omega arith) (omega arith)) ∙ more
 
-pub each_borne : (h : StartRecord) (seq first k q : ℕ) (ws : List SectorWrite) → h.first_seq ≤ seq → k ≤ q → q < k + length ws → is_borne (records_of seq first k ws) h q ≡ true
+pub each_borne : (h : StartRecord) (seq first k q : ℕ) (ws : List SectorWrite) → h.first_seq ≤ seq → k ≤ q → q < k + length ws
+    → is_borne (records_of seq first k ws) h q ≡ true
 each_borne h seq first k q [] mount low high = absurd (omega arith)
 each_borne h seq first k q (w ∷ ws) mount low high =
     elim (cases_eq k q) [
-      | inl e ↦ or_left (leb h.first_seq seq && eqb k q) (is_borne (records_of seq first (k + 1) ws) h q) (and_from (leb h.first_seq seq) (eqb k q) (le-leb h.first_seq seq mount) (eq-eqb k q e))
-      | inr ne ↦ or_right (leb h.first_seq seq && eqb k q) (is_borne (records_of seq first (k + 1) ws) h q) (each_borne h seq first (k + 1) q ws mount (omega arith) (omega arith))
+      | inl e ↦ or_left (leb h.first_seq seq && eqb k q) (is_borne (records_of seq first (k + 1) ws) h q)
+          (and_from (leb h.first_seq seq) (eqb k q) (le-leb h.first_seq seq mount) (eq-eqb k q e))
+      | inr ne ↦ or_right (leb h.first_seq seq && eqb k q) (is_borne (records_of seq first (k + 1) ws) h q)
+          (each_borne h seq first (k + 1) q ws mount (omega arith) (omega arith))
     ]
 
-pub each_counts : (h : StartRecord) (seq first k p : ℕ) (ws : List SectorWrite) → h.first_seq ≤ seq → k + length ws ≤ p → filter (counts h p) (records_of seq first k ws) ≡ records_of seq first k ws
+pub each_counts : (h : StartRecord) (seq first k p : ℕ) (ws : List SectorWrite) → h.first_seq ≤ seq → k + length ws ≤ p
+    → filter (counts h p) (records_of seq first k ws) ≡ records_of seq first k ws
 each_counts h seq first k p [] mount room = refl
 each_counts h seq first k p (w ∷ ws) mount room =
-    let here : counts h p (record_of seq first k w) ≡ true = or_left (leb h.first_seq seq && ltb k p) (list_any (λ row. (row.line == 0) && (row.seq == seq) && ltb k row.bound) h.rows) (and_from (leb h.first_seq seq) (ltb k p) (le-leb h.first_seq seq mount) (lt-ltb k p (omega arith))) in
-    ap (λ b. cond b (record_of seq first k w ∷ filter (counts h p) (records_of seq first (k + 1) ws)) (filter (counts h p) (records_of seq first (k + 1) ws))) here
+    let here : counts h p (record_of seq first k w) ≡ true =
+    or_left (leb h.first_seq seq && ltb k p) (list_any (λ row. (row.line == 0) && (row.seq == seq) && ltb k row.bound) h.rows)
+    (and_from (leb h.first_seq seq) (ltb k p) (le-leb h.first_seq seq mount) (lt-ltb k p (omega arith))) in
+    ap (λ b. cond b (record_of seq first k w ∷ filter (counts h p) (records_of seq first (k + 1) ws)) (filter (counts h p) (records_of seq first (k + 1) ws)))
+    here
     ∙ ap (λ rs. record_of seq first k w ∷ rs) (each_counts h seq first (k + 1) p ws mount (omega arith))
 
 -- The newest record of a sector is its last write.
@@ -100,11 +114,16 @@ newer_is : (k : ℕ) (o : Option Record) (r : Record) → IsBefore k o → r.pos
 unfolding IsBefore
 newer_is k None r h e = refl
 newer_is k (Some best) r h e =
-    let later : is_newer best r ≡ true = or_left (ltb best.position r.position) ((best.position == r.position) && (ltb best.seq r.seq || ((best.seq == r.seq) && (ltb best.at r.at || ((best.at == r.at) && ltb r.line best.line))))) (lt-ltb best.position r.position (omega arith)) in
+    let later : is_newer best r ≡ true =
+    or_left (ltb best.position r.position)
+    ((best.position == r.position) && (ltb best.seq r.seq || ((best.seq == r.seq) && (ltb best.at r.at || ((best.at == r.at) && ltb r.line best.line)))))
+    (lt-ltb best.position r.position (omega arith)) in
     ap (λ b. cond b (Some r) (Some best)) later
 
-last_write : (seq first lba : ℕ) (z d : List ℕ) (k : ℕ) (ws : List SectorWrite) (best : Option Record) (sectors : List (List ℕ)) → IsBefore k best → lba < length sectors
-    → sector_or z best ≡ get_or sectors lba d → sector_or z (fold newer best (filter (λ r. is_of lba r.lba) (records_of seq first k ws))) ≡ get_or (after sectors ws) lba d
+last_write : (seq first lba : ℕ) (z d : List ℕ) (k : ℕ) (ws : List SectorWrite) (best : Option Record) (sectors : List (List ℕ)) → IsBefore k best
+    → lba < length sectors
+    → sector_or z best ≡ get_or sectors lba d
+    → sector_or z (fold newer best (filter (λ r. is_of lba r.lba) (records_of seq first k ws))) ≡ get_or (after sectors ws) lba d
 unfolding IsBefore sector_or
 last_write seq first lba z d k [] best sectors before inside same = same
 last_write seq first lba z d k (w ∷ ws) best sectors before inside same =
@@ -113,7 +132,8 @@ last_write seq first lba z d k (w ∷ ws) best sectors before inside same =
     let long : lba < length (set sectors w.lba w.sector) = omega (arith, length-set sectors w.lba w.sector) in
     elim (cases_eq w.lba lba) [
       | inl e ↦
-          let placed : w.sector ≡ get_or (set sectors w.lba w.sector) lba d = sym (ap (λ x. get_or (set sectors x w.sector) lba d) e ∙ get_or-set_same sectors lba w.sector d inside) in
+          let placed : w.sector ≡ get_or (set sectors w.lba w.sector) lba d =
+          sym (ap (λ x. get_or (set sectors x w.sector) lba d) e ∙ get_or-set_same sectors lba w.sector d inside) in
           let taken : newer best mine ≡ Some mine = newer_is k best mine before refl in
           ap (λ b. sector_or z (fold newer best (cond b (mine ∷ rest) rest))) (eq-eqb w.lba lba e)
           ∙ ap (λ o. sector_or z (fold newer o rest)) taken

@@ -13,7 +13,8 @@ IsBestBelow f a None = (k : ℕ) → k < a → f k ≡ None
 IsBestBelow f a (Some b) = (line : ℕ) × (line < a) × (f line ≡ Some b)
     × ((other : ℕ) (r : StartRecord) → other < a → f other ≡ Some r → (r.seq < b.seq) ⊎ ((r.seq ≡ b.seq) × (line ≤ other)))
 
-best_here : (f : ℕ → Option StartRecord) (a : ℕ) (best : Option StartRecord) (o : Option StartRecord) → f a ≡ o → IsBestBelow f a best → IsBestBelow f (a + 1) (fold later_start best (cons_option o []))
+best_here : (f : ℕ → Option StartRecord) (a : ℕ) (best : Option StartRecord) (o : Option StartRecord) → f a ≡ o → IsBestBelow f a best
+    → IsBestBelow f (a + 1) (fold later_start best (cons_option o []))
 unfolding IsBestBelow
 best_here f a None None e is = λ k h. elim (cases_eq k a) [ inl same ↦ subst (λ x. f x ≡ None) (sym same) e | inr other ↦ is k (omega arith) ]
 best_here f a None (Some r) e is = (
@@ -40,7 +41,9 @@ best_here f a (Some b) (Some r) e is = elim (cases_lt b.seq r.seq) [
     omega arith,
     e,
     λ other q h there. elim (cases_eq other a) [
-      | inl same ↦ let one : r ≡ q = same_Some r q (sym e ∙ subst (λ x. f x ≡ Some q) same there) in inr (ap (λ (x : StartRecord). x.seq) (sym one), omega arith)
+      | inl same ↦
+          let one : r ≡ q = same_Some r q (sym e ∙ subst (λ x. f x ≡ Some q) same there) in
+          inr (ap (λ (x : StartRecord). x.seq) (sym one), omega arith)
       | inr less ↦ inl (elim (is.3 other q (omega arith) there) [ inl below ↦ omega arith | inr as_late ↦ omega arith ])
     ],
   )
@@ -58,17 +61,21 @@ best_here f a (Some b) (Some r) e is = elim (cases_lt b.seq r.seq) [
   )
 ]
 
-fold_option : (best : Option StartRecord) (o : Option StartRecord) (rs : List StartRecord) → fold later_start best (cons_option o rs) ≡ fold later_start (fold later_start best (cons_option o [])) rs
+fold_option : (best : Option StartRecord) (o : Option StartRecord) (rs : List StartRecord)
+    → fold later_start best (cons_option o rs) ≡ fold later_start (fold later_start best (cons_option o [])) rs
 fold_option best None rs = refl
 fold_option best (Some r) rs = refl
 
-best_is : (f : ℕ → Option StartRecord) (a n : ℕ) (best : Option StartRecord) → IsBestBelow f a best → IsBestBelow f (a + n) (fold later_start best (filter_map f (range_with_len a n)))
+best_is : (f : ℕ → Option StartRecord) (a n : ℕ) (best : Option StartRecord) → IsBestBelow f a best
+    → IsBestBelow f (a + n) (fold later_start best (filter_map f (range_with_len a n)))
 best_is f a zero best is = subst (λ x. IsBestBelow f x best) (sym (add-zero a)) is
 best_is f a (suc n) best is =
     let rest = filter_map f (range_with_len (a + 1) n) in
     let here : IsBestBelow f (a + 1) (fold later_start best (cons_option (f a) [])) = best_here f a best (f a) refl is in
-    let last : IsBestBelow f (a + 1 + n) (fold later_start (fold later_start best (cons_option (f a) [])) rest) = best_is f (a + 1) n (fold later_start best (cons_option (f a) [])) here in
-    let joined : IsBestBelow f (a + 1 + n) (fold later_start best (cons_option (f a) rest)) = subst (IsBestBelow f (a + 1 + n)) (sym (fold_option best (f a) rest)) last in
+    let last : IsBestBelow f (a + 1 + n) (fold later_start (fold later_start best (cons_option (f a) [])) rest) =
+    best_is f (a + 1) n (fold later_start best (cons_option (f a) [])) here in
+    let joined : IsBestBelow f (a + 1 + n) (fold later_start best (cons_option (f a) rest)) =
+    subst (IsBestBelow f (a + 1 + n)) (sym (fold_option best (f a) rest)) last in
     subst (λ x. IsBestBelow f x (fold later_start best (cons_option (f a) rest))) (omega arith) joined
 
 head_best : (i : Image) → IsBestBelow (start_of i) i.shape.chunks (head i)

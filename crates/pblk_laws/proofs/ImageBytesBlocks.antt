@@ -112,7 +112,8 @@ pub record Spans (b bytes : List ℕ) (from to : ℕ) : Type 0 where
   pub order : from ≤ to
   pub is : bytes ≡ slice_range b from to
 
-pub spans_range : {X : Type 0} (b : List ℕ) (at : ℕ → ℕ) (g : X → List ℕ) (f : ℕ → X) (a n : ℕ) → ((m : ℕ) → a ≤ m → m < a + n → Spans b (g (f m)) (at m) (at (m + 1)))
+pub spans_range : {X : Type 0} (b : List ℕ) (at : ℕ → ℕ) (g : X → List ℕ) (f : ℕ → X) (a n : ℕ)
+    → ((m : ℕ) → a ≤ m → m < a + n → Spans b (g (f m)) (at m) (at (m + 1)))
     → Spans b (flat_map g (map f (range_with_len a n))) (at a) (at (a + n))
 spans_range b at g f a zero each =
     let here : a ≡ a + zero = omega arith in

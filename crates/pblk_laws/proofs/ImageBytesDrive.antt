@@ -70,7 +70,8 @@ blocks_further b n (suc k) =
 blocks_within : (b : List ℕ) (n : ℕ) → IsTaken b → n < chunks_at b → blocks_at b n + ((shape_at b).sector + 16) * pointer_at b n ≤ length b
 blocks_within b n taken inside =
     let all : n + 1 + (chunks_at b - (n + 1)) ≡ chunks_at b = omega arith in
-    let further : blocks_at b (n + 1) ≤ blocks_at b (chunks_at b) = subst (λ m. blocks_at b (n + 1) ≤ blocks_at b m) all (blocks_further b (n + 1) (chunks_at b - (n + 1))) in
+    let further : blocks_at b (n + 1) ≤ blocks_at b (chunks_at b) =
+    subst (λ m. blocks_at b (n + 1) ≤ blocks_at b m) all (blocks_further b (n + 1) (chunks_at b - (n + 1))) in
     omega (arith, further, blocks_next b n, taken.blocks)
 
 blocks_left : (b : List ℕ) (n : ℕ) → IsTaken b → n < chunks_at b → ((shape_at b).sector + 16) * pointer_at b n ≤ length (drop (blocks_at b n) b)
@@ -86,7 +87,8 @@ chunk_spans b n bytes taken inside =
     let end : rows ≡ blocks_at b (n + 1) - at = omega (arith, blocks_next b n) in
     record {
       order = omega (arith, blocks_next b n);
-      is = blocks_back (shape_at b).sector (pointer_at b n) (drop at b) (all_dropped (λ x. x < 256) at b bytes) (blocks_left b n taken inside) ∙ ap (λ m. take m (drop at b)) end;
+      is = blocks_back (shape_at b).sector (pointer_at b n) (drop at b) (all_dropped (λ x. x < 256) at b bytes) (blocks_left b n taken inside)
+          ∙ ap (λ m. take m (drop at b)) end;
     }
 
 -- the chunks of a unit are among all
@@ -130,14 +132,16 @@ chunk_fits b n bytes taken inside =
       blocks = blocks_are (shape_at b) (pointer_at b n) (drop at b) (all_dropped (λ x. x < 256) at b bytes) (blocks_left b n taken inside);
     }
 
-unit_fits : (b : List ℕ) (unit : ℕ) → AreBytes b → IsTaken b → unit < units (shape_at b) → AllByRecursion (λ (k : StoredChunk). IsChunk (shape_at b) k.chunk) (unit_in b unit)
+unit_fits : (b : List ℕ) (unit : ℕ) → AreBytes b → IsTaken b → unit < units (shape_at b)
+    → AllByRecursion (λ (k : StoredChunk). IsChunk (shape_at b) k.chunk) (unit_in b unit)
 unit_fits b unit bytes taken high =
     all_of_range (λ (k : StoredChunk). IsChunk (shape_at b) k.chunk) (chunk_in b) (unit * (geometry_at b).chunks) (geometry_at b).chunks
     (λ n low within. chunk_fits b n bytes taken (chunk_inside b unit n high within))
 
 units_fit : (b : List ℕ) → AreBytes b → IsTaken b → AllByRecursion (AllByRecursion (λ (k : StoredChunk). IsChunk (shape_at b) k.chunk)) (drive_in b).units
 units_fit b bytes taken =
-    all_of_range (AllByRecursion (λ (k : StoredChunk). IsChunk (shape_at b) k.chunk)) (unit_in b) 0 (units (shape_at b)) (λ unit low high. unit_fits b unit bytes taken (omega arith))
+    all_of_range (AllByRecursion (λ (k : StoredChunk). IsChunk (shape_at b) k.chunk)) (unit_in b) 0 (units (shape_at b))
+    (λ unit low high. unit_fits b unit bytes taken (omega arith))
 
 unit_length : (b : List ℕ) (unit : ℕ) → length (unit_in b unit) ≡ (geometry_at b).chunks
 unit_length b unit =
@@ -145,7 +149,8 @@ unit_length b unit =
     length-map (range_with_len (unit * c) c) (chunk_in b) ∙ length-range_with_len (unit * c) c
 
 unit_lengths : (b : List ℕ) → AllByRecursion (λ (kept : List StoredChunk). length kept ≡ (geometry_at b).chunks) (drive_in b).units
-unit_lengths b = all_of_range (λ (kept : List StoredChunk). length kept ≡ (geometry_at b).chunks) (unit_in b) 0 (units (shape_at b)) (λ unit low high. unit_length b unit)
+unit_lengths b = all_of_range (λ (kept : List StoredChunk). length kept ≡ (geometry_at b).chunks) (unit_in b) 0 (units (shape_at b))
+    (λ unit low high. unit_length b unit)
 
 units_length : (b : List ℕ) → length (drive_in b).units ≡ units (shape_at b)
 units_length b = length-map (range_with_len 0 (units (shape_at b))) (unit_in b) ∙ length-range_with_len 0 (units (shape_at b))
@@ -158,7 +163,8 @@ drive_fits b bytes taken =
     record {
       units = length-map us (map chunk) ∙ units_length b;
       chunks = all_mapped (λ (unit : List Chunk). length unit ≡ s.chunks) (map chunk) us
-          (all_weaker (λ (kept : List StoredChunk). length kept ≡ s.chunks) (λ (kept : List StoredChunk). length (map chunk kept) ≡ s.chunks) us (λ kept count. length-map kept chunk ∙ count) (unit_lengths b));
+          (all_weaker (λ (kept : List StoredChunk). length kept ≡ s.chunks) (λ (kept : List StoredChunk). length (map chunk kept) ≡ s.chunks) us
+          (λ kept count. length-map kept chunk ∙ count) (unit_lengths b));
       each = all_mapped (AllByRecursion (IsChunk s)) (map chunk) us
           (all_weaker (AllByRecursion (λ (k : StoredChunk). IsChunk s k.chunk)) (λ (kept : List StoredChunk). AllByRecursion (IsChunk s) (map chunk kept)) us
           (λ kept all. all_mapped (IsChunk s) chunk kept all) (units_fit b bytes taken));
@@ -171,12 +177,15 @@ row_back : (b : List ℕ) (n unit chunk : ℕ) → IsTaken b → n < chunks_at b
 row_back b n unit chunk taken inside p q =
     let g = geometry_at b in
     let d = descriptor_at b n in
-    let made : ℕ → ℕ → ℕ → Descriptor = λ u c wp. record { state = state_of d; wear = number_at w8 2 d; slba = packed g (first_address g u c); cnlb = g.clba; wp = wp } in
+    let made : ℕ → ℕ → ℕ → Descriptor =
+    λ u c wp. record { state = state_of d; wear = number_at w8 2 d; slba = packed g (first_address g u c); cnlb = g.clba; wp = wp } in
     let count = blocks_count (shape_at b).sector (pointer_at b n) (drop (blocks_at b n) b) in
     (row_is b n taken inside).read
-    ∙ (ap (λ u. Ok (made u (n % g.chunks) (pointer_at b n))) p ∙ (ap (λ c. Ok (made unit c (pointer_at b n))) q ∙ ap (λ wp. Ok (made unit chunk wp)) (sym count)))
+    ∙ (ap (λ u. Ok (made u (n % g.chunks) (pointer_at b n))) p
+    ∙ (ap (λ c. Ok (made unit c (pointer_at b n))) q ∙ ap (λ wp. Ok (made unit chunk wp)) (sym count)))
 
-descriptors_back : (b : List ℕ) (unit chunk : ℕ) (kept : List StoredChunk) (k : StoredChunk) → IsTaken b → slice_get (drive_in b).units unit ≡ Some kept → slice_get kept chunk ≡ Some k
+descriptors_back : (b : List ℕ) (unit chunk : ℕ) (kept : List StoredChunk) (k : StoredChunk) → IsTaken b → slice_get (drive_in b).units unit ≡ Some kept
+    → slice_get kept chunk ≡ Some k
     → read_descriptor (descriptor_at b (unit * (geometry_at b).chunks + chunk)) ≡ Ok (descriptor_of (geometry_at b) unit chunk k)
 descriptors_back b unit chunk kept k taken p q =
     let g = geometry_at b in
@@ -197,10 +206,13 @@ drive_is b bytes taken = record {
   geometry = refl;
   count = units_length b;
   chunks = unit_lengths b;
-  sectors = all_weaker (AllByRecursion (λ (k : StoredChunk). IsChunk (shape_at b) k.chunk)) (AllByRecursion (λ (k : StoredChunk). AllByRecursion (λ (x : Block). length x.sector ≡ (shape_at b).sector) k.chunk.blocks))
+  sectors = all_weaker (AllByRecursion (λ (k : StoredChunk). IsChunk (shape_at b) k.chunk))
+      (AllByRecursion (λ (k : StoredChunk). AllByRecursion (λ (x : Block). length x.sector ≡ (shape_at b).sector) k.chunk.blocks))
       (drive_in b).units
-      (λ kept all. all_weaker (λ (k : StoredChunk). IsChunk (shape_at b) k.chunk) (λ (k : StoredChunk). AllByRecursion (λ (x : Block). length x.sector ≡ (shape_at b).sector) k.chunk.blocks) kept
-      (λ k is. all_weaker (IsBlock (shape_at b)) (λ (x : Block). length x.sector ≡ (shape_at b).sector) k.chunk.blocks (λ x block. block.size) is.blocks) all) (units_fit b bytes taken);
+      (λ kept all. all_weaker (λ (k : StoredChunk). IsChunk (shape_at b) k.chunk)
+      (λ (k : StoredChunk). AllByRecursion (λ (x : Block). length x.sector ≡ (shape_at b).sector) k.chunk.blocks) kept
+      (λ k is. all_weaker (IsBlock (shape_at b)) (λ (x : Block). length x.sector ≡ (shape_at b).sector) k.chunk.blocks (λ x block. block.size) is.blocks) all)
+      (units_fit b bytes taken);
   descriptors = λ unit chunk kept k p q. descriptors_back b unit chunk kept k taken p q;
   blocks = drive_spans b bytes taken;
 }

@@ -112,7 +112,8 @@ drive_fits = record {
 pub drive_wears : AllByRecursion (AllByRecursion (λ k. k.wear < 256)) drive.units
 drive_wears = (
   (lit< tt, all_replicated (λ (k : StoredChunk). k.wear < 256) 15 untouched (lit< tt)),
-  all_replicated (AllByRecursion (λ (k : StoredChunk). k.wear < 256)) 3 (replicate 16 untouched) (all_replicated (λ (k : StoredChunk). k.wear < 256) 16 untouched (lit< tt)),
+  all_replicated (AllByRecursion (λ (k : StoredChunk). k.wear < 256)) 3 (replicate 16 untouched)
+      (all_replicated (λ (k : StoredChunk). k.wear < 256) 16 untouched (lit< tt)),
 )
 
 pub drive_blocks : blocks_bytes drive ≡ [] → ⊥

@@ -44,7 +44,8 @@ pub record IsFlatAt {X : Type 0} (c : ℕ) (xss : List (List X)) (n : ℕ) (x : 
   pub there : slice_get xss (n / c) ≡ Some list
   pub is : slice_get list (n % c) ≡ Some x
 
-pub flat_at : {X : Type 0} (c : ℕ) (xss : List (List X)) (n : ℕ) (x : X) → AllByRecursion (λ xs. length xs ≡ c) xss → 0 < c → n < length xss * c → slice_get (flat xss) n ≡ Some x
+pub flat_at : {X : Type 0} (c : ℕ) (xss : List (List X)) (n : ℕ) (x : X) → AllByRecursion (λ xs. length xs ≡ c) xss → 0 < c → n < length xss * c
+    → slice_get (flat xss) n ≡ Some x
     → IsFlatAt c xss n x
 flat_at c xss n x all some inside is =
     let low : n / c < length xss = div_below n c (length xss) some inside in
@@ -54,21 +55,25 @@ flat_at c xss n x all some inside is =
     let within : n % c < length list = subst (λ m. n % c < m) (sym count) (mod_below n c some) in
     let found : slice_get list (n % c) ≡ Some (get_or list (n % c) x) = slice_get-get_or list (n % c) x within in
     let place : n / c * c + n % c ≡ n = div-add-mod' n c in
-    let same : get_or list (n % c) x ≡ x = same_Some _ x (sym (flat_get c xss (n / c) (n % c) list (get_or list (n % c) x) all there found) ∙ (ap (slice_get (flat xss)) place ∙ is)) in
+    let same : get_or list (n % c) x ≡ x =
+    same_Some _ x (sym (flat_get c xss (n / c) (n % c) list (get_or list (n % c) x) all there found) ∙ (ap (slice_get (flat xss)) place ∙ is)) in
     record { list = list; there = there; is = found ∙ ap (λ y. Some y) same }
 
 -- Sums.
 
-sum_from : {X : Type 0} (g : X → ℕ) (f : ℕ → ℕ) (a : ℕ) (xs : List X) → ((n : ℕ) (x : X) → slice_get xs n ≡ Some x → f (a + n) ≡ g x) → sum_by f (range_with_len a (length xs)) ≡ sum_by g xs
+sum_from : {X : Type 0} (g : X → ℕ) (f : ℕ → ℕ) (a : ℕ) (xs : List X) → ((n : ℕ) (x : X) → slice_get xs n ≡ Some x → f (a + n) ≡ g x)
+    → sum_by f (range_with_len a (length xs)) ≡ sum_by g xs
 sum_from g f a [] each = refl
 sum_from g f a (x ∷ xs) each =
     let here : a + 0 ≡ a = omega arith in
     let first : f a ≡ g x = ap f (sym here) ∙ each 0 x refl in
     let rest : sum_by f (range_with_len (a + 1) (length xs)) ≡ sum_by g xs =
     sum_from g f (a + 1) xs (λ n y is. let next : a + 1 + n ≡ a + suc n = omega arith in ap f next ∙ each (suc n) y is) in
-    let left : sum_by f (range_with_len a (length (x ∷ xs))) ≡ f a + sum_by f (range_with_len (a + 1) (length xs)) = sum_by-cons f a (range_with_len (a + 1) (length xs)) in
+    let left : sum_by f (range_with_len a (length (x ∷ xs))) ≡ f a + sum_by f (range_with_len (a + 1) (length xs)) =
+    sum_by-cons f a (range_with_len (a + 1) (length xs)) in
     let right : sum_by g (x ∷ xs) ≡ g x + sum_by g xs = sum_by-cons g x xs in
     omega arith
 
-pub sum_of_range : {X : Type 0} (g : X → ℕ) (f : ℕ → ℕ) (xs : List X) → ((n : ℕ) (x : X) → slice_get xs n ≡ Some x → f n ≡ g x) → sum_by f (range_with_len 0 (length xs)) ≡ sum_by g xs
+pub sum_of_range : {X : Type 0} (g : X → ℕ) (f : ℕ → ℕ) (xs : List X) → ((n : ℕ) (x : X) → slice_get xs n ≡ Some x → f n ≡ g x)
+    → sum_by f (range_with_len 0 (length xs)) ≡ sum_by g xs
 sum_of_range g f xs each = sum_from g f 0 xs (λ n x is. let same : 0 + n ≡ n = omega arith in ap f same ∙ each n x is)

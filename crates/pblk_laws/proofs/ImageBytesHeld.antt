@@ -7,7 +7,6 @@ use Rattle.std.specs.Option.{is_some, option_map_or}
 use Rattle.std.proofs.lemmas.Bool.{and_parts, eqb-true, leb-true, or_cases}
 use Rattle.pblk_model.specs.declared.chunk.ChunkState.{ChunkState}
 use Rattle.pblk_model.specs.declared.chunk.ChunkState.TheVariants.{Free}
-use Rattle.pblk_model.specs.declared.chunk.DescriptorErr.TheVariants as astray
 use Rattle.pblk_model.specs.declared.image.ImageErr.{ImageErr}
 use Rattle.pblk_model.specs.declared.image.ImageErr.TheVariants as errors
 use Rattle.pblk_model.specs.declared.shape.Shape.{Shape}
@@ -82,7 +81,8 @@ pub taken_of : (b : List ℕ) → image_refusal b ≡ None → IsTaken b
 taken_of b is =
     let all = none_each (image_refusals b) is in
     let five = all.1.1.1.1 in
-    let short : descriptors_end b ≤ length b = leb-true (descriptors_end b) (length b) (kept_of (leb (descriptors_end b) (length b)) (errors.Short (length b)) five.1.1.0) in
+    let short : descriptors_end b ≤ length b =
+    leb-true (descriptors_end b) (length b) (kept_of (leb (descriptors_end b) (length b)) (errors.Short (length b)) five.1.1.0) in
     let low : blocks_end b ≤ length b = leb-true (blocks_end b) (length b) (kept_of (leb (blocks_end b) (length b)) (errors.Short (length b)) five.1.1.1.1.0) in
     let high : length b ≤ blocks_end b = leb-true (length b) (blocks_end b) (kept_of (leb (length b) (blocks_end b)) errors.Long five.1.1.1.1.1.0) in
     let geometry : geometry_refusal (geometry_at b) ≡ None = none_of_map errors.Geometry (geometry_refusal (geometry_at b)) five.0 in
@@ -110,11 +110,13 @@ known (Some s) some = refl
 
 -- the bytes are a descriptor of this chunk
 pub record IsDescriptorOf (g : Geometry) (unit chunk : ℕ) (d : List ℕ) : Type 0 where
-  pub read : read_descriptor d ≡ Ok (record { state = state_of d; wear = number_at w8 2 d; slba = packed g (first_address g unit chunk); cnlb = g.clba; wp = number_at w64 24 d })
+  pub read : read_descriptor d ≡ Ok
+      (record { state = state_of d; wear = number_at w8 2 d; slba = packed g (first_address g unit chunk); cnlb = g.clba; wp = number_at w64 24 d })
   pub place : PointerFits (state_of d) g.clba (number_at w64 24 d)
   pub multiple : number_at w64 24 d % g.ws_min ≡ 0
 
-pub descriptor_is : (g : Geometry) (unit chunk : ℕ) (d : List ℕ) → length d ≡ 32 → first_failing (chunk_checks g unit chunk d) ≡ None → IsDescriptorOf g unit chunk d
+pub descriptor_is : (g : Geometry) (unit chunk : ℕ) (d : List ℕ) → length d ≡ 32 → first_failing (chunk_checks g unit chunk d) ≡ None
+    → IsDescriptorOf g unit chunk d
 descriptor_is g unit chunk d size passes =
     let checks = none_fails (chunk_checks g unit chunk d) passes in
     let state = known (state_in (slice_index d 0)) checks.0 in
@@ -126,13 +128,17 @@ descriptor_is g unit chunk d size passes =
     let holds : pointer_holds (state_of d) g.clba wp ≡ true = sym (ap (λ o. option_map_or (λ state. pointer_holds state g.clba wp) o true) state) ∙ last.1 in
     let made : ℕ → ℕ → Descriptor = λ n m. record { state = state_of d; wear = number_at w8 2 d; slba = n; cnlb = m; wp = wp } in
     record {
-      read = reads d (state_of d) g.clba size state kind cnlb holds ∙ (ap (λ n. Ok (made n (number_at w64 16 d))) slba ∙ ap (λ n. Ok (made (packed g (first_address g unit chunk)) n)) cnlb);
+      read = reads d (state_of d) g.clba size state kind cnlb holds
+          ∙ (ap (λ n. Ok (made n (number_at w64 16 d))) slba ∙ ap (λ n. Ok (made (packed g (first_address g unit chunk)) n)) cnlb);
       place = pointer_fits (state_of d) g.clba wp holds;
       multiple = eqb-true (wp % g.ws_min) 0 last.0;
     }
 
-pub row_is : (b : List ℕ) (n : ℕ) → IsTaken b → n < chunks_at b → IsDescriptorOf (geometry_at b) (n / (geometry_at b).chunks) (n % (geometry_at b).chunks) (descriptor_at b n)
+pub row_is : (b : List ℕ) (n : ℕ) → IsTaken b → n < chunks_at b
+    → IsDescriptorOf (geometry_at b) (n / (geometry_at b).chunks) (n % (geometry_at b).chunks) (descriptor_at b n)
 row_is b n taken inside =
     let g = geometry_at b in
-    descriptor_is g (n / g.chunks) (n % g.chunks) (descriptor_at b n) (slice_length b (4128 + 32 * n) (4128 + 32 * n + 32) 32 refl (omega (arith, taken.descriptors)))
-    (none_of_map (errors.Chunk (n / g.chunks) (n % g.chunks)) (first_failing (chunk_checks g (n / g.chunks) (n % g.chunks) (descriptor_at b n))) (taken.each n inside))
+    descriptor_is g (n / g.chunks) (n % g.chunks) (descriptor_at b n)
+    (slice_length b (4128 + 32 * n) (4128 + 32 * n + 32) 32 refl (omega (arith, taken.descriptors)))
+    (none_of_map (errors.Chunk (n / g.chunks) (n % g.chunks)) (first_failing (chunk_checks g (n / g.chunks) (n % g.chunks) (descriptor_at b n)))
+    (taken.each n inside))

@@ -47,8 +47,10 @@ same_block a b p q r =
 
 block_cut : (n : ℕ) (a b : Block) (r t : List ℕ) → AreBlocks n a b → block_bytes a ++ r ≡ block_bytes b ++ t → (a ≡ b) × (r ≡ t)
 block_cut n a b r t h e =
-    let c = three_cut a.sector (le64 a.mark.lba) (le64 a.mark.position) r b.sector (le64 b.mark.lba) (le64 b.mark.position) t (h.left ∙ sym h.right) refl refl e in (
-      same_block a b c.0 (le64_same a.mark.lba b.mark.lba h.left_lba h.right_lba c.1) (le64_same a.mark.position b.mark.position h.left_position h.right_position c.2),
+    let c = three_cut a.sector (le64 a.mark.lba) (le64 a.mark.position) r b.sector (le64 b.mark.lba) (le64 b.mark.position) t
+    (h.left ∙ sym h.right) refl refl e in (
+      same_block a b c.0 (le64_same a.mark.lba b.mark.lba h.left_lba h.right_lba c.1)
+          (le64_same a.mark.position b.mark.position h.left_position h.right_position c.2),
       c.3,
     )
 
@@ -65,18 +67,21 @@ same_chunk a b p q r =
     let made : ChunkState → List Block → ℕ → StoredChunk = λ s bs w. record { chunk = record { state = s; blocks = bs }; wear = w } in
     ap (λ s. made s a.chunk.blocks a.wear) p ∙ (ap (λ bs. made b.chunk.state bs a.wear) q ∙ ap (λ w. made b.chunk.state b.chunk.blocks w) r)
 
-chunk_cut : (n : ℕ) (a b : StoredChunk) (r t : List ℕ) → AreAlike n a b → flat_map block_bytes a.chunk.blocks ++ r ≡ flat_map block_bytes b.chunk.blocks ++ t → (a ≡ b) × (r ≡ t)
+chunk_cut : (n : ℕ) (a b : StoredChunk) (r t : List ℕ) → AreAlike n a b → flat_map block_bytes a.chunk.blocks ++ r ≡ flat_map block_bytes b.chunk.blocks ++ t
+    → (a ≡ b) × (r ≡ t)
 chunk_cut n a b r t h e =
     let c = cut_flat (AreBlocks n) block_bytes (block_cut n) a.chunk.blocks b.chunk.blocks r t h.blocks e in
     (same_chunk a b h.state c.0 h.wear, c.1)
 
 unit_cut : (n : ℕ) (a b : List StoredChunk) (r t : List ℕ) → Paired (AreAlike n) a b
-    → flat_map (λ (k : StoredChunk). flat_map block_bytes k.chunk.blocks) a ++ r ≡ flat_map (λ (k : StoredChunk). flat_map block_bytes k.chunk.blocks) b ++ t → (a ≡ b) × (r ≡ t)
+    → flat_map (λ (k : StoredChunk). flat_map block_bytes k.chunk.blocks) a ++ r ≡ flat_map (λ (k : StoredChunk). flat_map block_bytes k.chunk.blocks) b ++ t
+    → (a ≡ b) × (r ≡ t)
 unit_cut n a b r t h e = cut_flat (AreAlike n) (λ (k : StoredChunk). flat_map block_bytes k.chunk.blocks) (chunk_cut n) a b r t h e
 
 units_same : (n : ℕ) (d e : Drive) → Paired (Paired (AreAlike n)) d.units e.units → blocks_bytes d ≡ blocks_bytes e → d.units ≡ e.units
 units_same n d e h same =
-    (cut_flat (Paired (AreAlike n)) (flat_map (λ (k : StoredChunk). flat_map block_bytes k.chunk.blocks)) (unit_cut n) d.units e.units [] [] h (ap (λ (w : List ℕ). w ++ []) same)).0
+    (cut_flat (Paired (AreAlike n)) (flat_map (λ (k : StoredChunk). flat_map block_bytes k.chunk.blocks)) (unit_cut n) d.units e.units [] [] h
+    (ap (λ (w : List ℕ). w ++ []) same)).0
 
 -- Two drives that bytes are images of.
 
@@ -100,7 +105,8 @@ alike_drives bytes d e p q =
       ring = ap (λ (s : Shape). s.ring) shape;
     }
 
-blocks_paired : (d e : Drive) (a b : StoredChunk) → d.sector ≡ e.sector → IsChunk (shape_of d) a.chunk → IsChunk (shape_of e) b.chunk → pointer a.chunk ≡ pointer b.chunk
+blocks_paired : (d e : Drive) (a b : StoredChunk) → d.sector ≡ e.sector → IsChunk (shape_of d) a.chunk → IsChunk (shape_of e) b.chunk
+    → pointer a.chunk ≡ pointer b.chunk
     → Paired (AreBlocks e.sector) a.chunk.blocks b.chunk.blocks
 blocks_paired d e a b same p q count = paired_from (AreBlocks e.sector) a.chunk.blocks b.chunk.blocks count (λ k x y i j.
     let left : IsBlock (shape_of d) x = all_get (IsBlock (shape_of d)) a.chunk.blocks k x p.blocks i in
@@ -114,7 +120,8 @@ blocks_paired d e a b same p q count = paired_from (AreBlocks e.sector) a.chunk.
       right_position = right.position;
     })
 
-descriptors_same : (bytes : List ℕ) (d e : Drive) (unit chunk : ℕ) (us vs : List StoredChunk) (a b : StoredChunk) → IsImage bytes d → IsImage bytes e → d.geometry ≡ e.geometry
+descriptors_same : (bytes : List ℕ) (d e : Drive) (unit chunk : ℕ) (us vs : List StoredChunk) (a b : StoredChunk) → IsImage bytes d → IsImage bytes e
+    → d.geometry ≡ e.geometry
     → slice_get d.units unit ≡ Some us → slice_get us chunk ≡ Some a → slice_get e.units unit ≡ Some vs → slice_get vs chunk ≡ Some b
     → descriptor_of d.geometry unit chunk a ≡ descriptor_of e.geometry unit chunk b
 descriptors_same bytes d e unit chunk us vs a b p q same i j k l =
@@ -123,19 +130,23 @@ descriptors_same bytes d e unit chunk us vs a b p q same i j k l =
     ∙ (ap (λ (g : Geometry). read_descriptor (slice_range bytes (4128 + 32 * (unit * g.chunks + chunk)) (4128 + 32 * (unit * g.chunks + chunk) + 32))) same
     ∙ q.of.descriptors unit chunk vs b k l))
 
-units_paired : (bytes : List ℕ) (d e : Drive) → IsImage bytes d → IsImage bytes e → IsFit (image_of d) → IsFit (image_of e) → AreLike d e → Paired (Paired (AreAlike e.sector)) d.units e.units
+units_paired : (bytes : List ℕ) (d e : Drive) → IsImage bytes d → IsImage bytes e → IsFit (image_of d) → IsFit (image_of e) → AreLike d e
+    → Paired (Paired (AreAlike e.sector)) d.units e.units
 units_paired bytes d e p q here there like =
     let left : HasUnits d = units_of d here in
     let right : HasUnits e = units_of e there in
-    paired_from (Paired (AreAlike e.sector)) d.units e.units (left.count ∙ (ap (λ (g : Geometry). g.groups * g.pus) like.geometry ∙ sym right.count)) (λ unit us vs i k.
+    paired_from (Paired (AreAlike e.sector)) d.units e.units (left.count ∙ (ap (λ (g : Geometry). g.groups * g.pus) like.geometry ∙ sym right.count))
+    (λ unit us vs i k.
     let count : length us ≡ d.geometry.chunks = all_get (λ (us : List StoredChunk). length us ≡ d.geometry.chunks) d.units unit us left.chunks i in
     let other : length vs ≡ e.geometry.chunks = all_get (λ (vs : List StoredChunk). length vs ≡ e.geometry.chunks) e.units unit vs right.chunks k in
     paired_from (AreAlike e.sector) us vs (count ∙ (ap (λ (g : Geometry). g.chunks) like.geometry ∙ sym other)) (λ chunk a b j l.
-    let same : descriptor_of d.geometry unit chunk a ≡ descriptor_of e.geometry unit chunk b = descriptors_same bytes d e unit chunk us vs a b p q like.geometry i j k l in
+    let same : descriptor_of d.geometry unit chunk a ≡ descriptor_of e.geometry unit chunk b =
+    descriptors_same bytes d e unit chunk us vs a b p q like.geometry i j k l in
     record {
       state = ap (λ (x : Descriptor). x.state) same;
       wear = ap (λ (x : Descriptor). x.wear) same;
-      blocks = blocks_paired d e a b like.sector (chunk_is d unit chunk us a left i j) (chunk_is e unit chunk vs b right k l) (ap (λ (x : Descriptor). x.wp) same);
+      blocks = blocks_paired d e a b like.sector (chunk_is d unit chunk us a left i j) (chunk_is e unit chunk vs b right k l)
+          (ap (λ (x : Descriptor). x.wp) same);
     }))
 
 same_drive : (d e : Drive) → AreLike d e → d.units ≡ e.units → d ≡ e

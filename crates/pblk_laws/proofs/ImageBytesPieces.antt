@@ -43,9 +43,11 @@ slice_of_piece whole piece i n m p e h = ap (λ w. slice_range w n m) p.is ∙ s
 
 -- The pieces of one length that stand behind each other.
 
-pub piece_of_flat : {X : Type 0} (f : X → List ℕ) (n : ℕ) (xs : List X) (k : ℕ) (x : X) → AllByRecursion (λ x. length (f x) ≡ n) xs → slice_get xs k ≡ Some x → Piece (flat_map f xs) (f x) (n * k)
+pub piece_of_flat : {X : Type 0} (f : X → List ℕ) (n : ℕ) (xs : List X) (k : ℕ) (x : X) → AllByRecursion (λ x. length (f x) ≡ n) xs → slice_get xs k ≡ Some x
+    → Piece (flat_map f xs) (f x) (n * k)
 piece_of_flat f n [] k x h e = absurd (none-some x e)
-piece_of_flat f n (y ∷ ys) zero x h e = record { before = []; after = flat_map f ys; is = ap (λ z. f z ++ flat_map f ys) (same_Some y x e); count = omega arith }
+piece_of_flat f n (y ∷ ys) zero x h e =
+    record { before = []; after = flat_map f ys; is = ap (λ z. f z ++ flat_map f ys) (same_Some y x e); count = omega arith }
 piece_of_flat f n (y ∷ ys) (suc k) x h e =
     let p : Piece (flat_map f ys) (f x) (n * k) = piece_of_flat f n ys k x h.1 e in
     let first : length (f y) ≡ n = h.0 in
@@ -71,7 +73,8 @@ Paired R [] (y ∷ ys) = ⊥
 Paired R (x ∷ xs) [] = ⊥
 Paired R (x ∷ xs) (y ∷ ys) = R x y × Paired R xs ys
 
-pub paired_from : {X : Type 0} (R : X → X → Type 0) (xs ys : List X) → length xs ≡ length ys → ((k : ℕ) (x y : X) → slice_get xs k ≡ Some x → slice_get ys k ≡ Some y → R x y) → Paired R xs ys
+pub paired_from : {X : Type 0} (R : X → X → Type 0) (xs ys : List X) → length xs ≡ length ys
+    → ((k : ℕ) (x y : X) → slice_get xs k ≡ Some x → slice_get ys k ≡ Some y → R x y) → Paired R xs ys
 paired_from R [] [] e h = tt
 paired_from R [] (y ∷ ys) e h = omega arith
 paired_from R (x ∷ xs) [] e h = omega arith
@@ -84,6 +87,7 @@ cut_flat R f each [] [] r t p e = (refl, e)
 cut_flat R f each [] (y ∷ ys) r t p e = absurd p
 cut_flat R f each (x ∷ xs) [] r t p e = absurd p
 cut_flat R f each (x ∷ xs) (y ∷ ys) r t p e =
-    let first = each x y (flat_map f xs ++ r) (flat_map f ys ++ t) p.0 (sym (append_assoc (f x) (flat_map f xs) r) ∙ (e ∙ append_assoc (f y) (flat_map f ys) t)) in
+    let first = each x y (flat_map f xs ++ r) (flat_map f ys ++ t) p.0
+    (sym (append_assoc (f x) (flat_map f xs) r) ∙ (e ∙ append_assoc (f y) (flat_map f ys) t)) in
     let rest = cut_flat R f each xs ys r t p.1 first.1 in
     (ap (λ z. z ∷ xs) first.0 ∙ ap (λ zs. y ∷ zs) rest.0, rest.1)

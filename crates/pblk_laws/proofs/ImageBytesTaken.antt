@@ -20,7 +20,8 @@ use Rattle.pblk_model.specs.Image.{IsFit}
 use Rattle.pblk_model.specs.ImageFile.{StoredChunk, Drive, IsImage, block_bytes, blocks_bytes, blocks_end, chunk_checks, chunk_refusal, chunks_at, descriptor_at, descriptor_bytes, descriptor_of, descriptors_bytes, descriptors_end, geometry_at, header_bytes, image_bytes, image_of, image_refusal, image_refusals, pointer_at, shape_at, shape_of}
 use Rattle.pblk_model.specs.Shape.{units}
 use Rattle.pblk_laws.specs.GeometryFields.{FitsFields}
-use Rattle.pblk_laws.proofs.ImageBytes.{geometry_in_back, geometry_length}
+use Rattle.pblk_model.proofs.GeometryBytes.{bytes_back, geometry_length}
+use Rattle.pblk_laws.proofs.ImageBytes.{words_fit}
 use Rattle.pblk_laws.proofs.ImageBytesFlat.{IsFlatAt, all_flat, flat, flat_at, flat_of_flat, length_of_flat, sum_of_range}
 use Rattle.pblk_laws.proofs.ImageBytesPieces.{Piece, piece_in_piece, slice_of, slice_of_piece}
 use Rattle.pblk_laws.proofs.ImageBytesRead.{HasUnits, chunk_is, descriptor_read, descriptor_stands, descriptors_length, packs_below, pointer_from, second_part, third_part, units_of}
@@ -63,7 +64,8 @@ wp_back : (d : Descriptor) → FitsRow d → number_at w64 24 (spelled d) ≡ d.
 unfolding zeros
 wp_back d fits = from_le_bytes-to_le_bytes_8 d.wp fits.wp
 
-row_passes : (g : Geometry) (unit chunk : ℕ) (k : StoredChunk) → FitsRow (descriptor_of g unit chunk k) → pointer_holds k.chunk.state g.clba (pointer k.chunk) ≡ true → pointer k.chunk % g.ws_min ≡ 0
+row_passes : (g : Geometry) (unit chunk : ℕ) (k : StoredChunk) → FitsRow (descriptor_of g unit chunk k)
+    → pointer_holds k.chunk.state g.clba (pointer k.chunk) ≡ true → pointer k.chunk % g.ws_min ≡ 0
     → first_failing (chunk_checks g unit chunk (descriptor_bytes g unit chunk k)) ≡ None
 row_passes g unit chunk k fits holds multiple =
     let d = descriptor_of g unit chunk k in
@@ -103,7 +105,8 @@ record IsNthOf (d : Drive) (n : ℕ) (k : StoredChunk) : Type 0 where
   holds : pointer_holds k.chunk.state d.geometry.clba (pointer k.chunk) ≡ true
   multiple : pointer k.chunk % d.geometry.ws_min ≡ 0
 
-row_stands : (d : Drive) (unit chunk n : ℕ) (kept : List StoredChunk) (k : StoredChunk) → HasUnits d → slice_get d.units unit ≡ Some kept → slice_get kept chunk ≡ Some k → unit * d.geometry.chunks + chunk ≡ n
+row_stands : (d : Drive) (unit chunk n : ℕ) (kept : List StoredChunk) (k : StoredChunk) → HasUnits d → slice_get d.units unit ≡ Some kept
+    → slice_get kept chunk ≡ Some k → unit * d.geometry.chunks + chunk ≡ n
     → descriptor_at (image_bytes d) n ≡ descriptor_bytes d.geometry unit chunk k
 row_stands d unit chunk n kept k h p q is =
     let g = d.geometry in
@@ -112,9 +115,11 @@ row_stands d unit chunk n kept k h p q is =
     (third_part (header_bytes 1 d) (geometry_bytes g) (descriptors_bytes d) (blocks_bytes d) 4128 (omega (arith, header_length d, geometry_length g)))
     (descriptor_stands d unit chunk kept k h p q) in
     let place : 4128 + (32 * g.chunks * unit + 32 * chunk) ≡ 4128 + 32 * n = omega arith in
-    slice_of_piece (image_bytes d) (descriptor_bytes g unit chunk k) (4128 + (32 * g.chunks * unit + 32 * chunk)) (4128 + 32 * n) (4128 + 32 * n + 32) stands place (ap (λ m. 4128 + 32 * n + m) (descriptor_length (descriptor_of g unit chunk k)))
+    slice_of_piece (image_bytes d) (descriptor_bytes g unit chunk k) (4128 + (32 * g.chunks * unit + 32 * chunk)) (4128 + 32 * n)
+    (4128 + 32 * n + 32) stands place (ap (λ m. 4128 + 32 * n + m) (descriptor_length (descriptor_of g unit chunk k)))
 
-nth_is : (d : Drive) (n : ℕ) (k : StoredChunk) → IsSpellable d → HasUnits d → slice_get (flat d.units) n ≡ Some k → n < length d.units * d.geometry.chunks → IsNthOf d n k
+nth_is : (d : Drive) (n : ℕ) (k : StoredChunk) → IsSpellable d → HasUnits d → slice_get (flat d.units) n ≡ Some k → n < length d.units * d.geometry.chunks
+    → IsNthOf d n k
 nth_is d n k good h is inside =
     let g = d.geometry in
     let some : 8 ≤ g.chunks = good.accepted.drive.lines_low in
@@ -136,8 +141,9 @@ nth_is d n k good h is inside =
 
 geometry_same : (d : Drive) → IsSpellable d → geometry_at (image_bytes d) ≡ d.geometry
 geometry_same d good =
-    ap geometry_in (second_part (header_bytes 1 d) (geometry_bytes d.geometry) (descriptors_bytes d) (blocks_bytes d) 32 4128 (header_length d) (ap (λ n. 32 + n) (geometry_length d.geometry)))
-    ∙ geometry_in_back d.geometry 3948 good.fields
+    ap geometry_in (second_part (header_bytes 1 d) (geometry_bytes d.geometry) (descriptors_bytes d) (blocks_bytes d) 32 4128 (header_length d)
+    (ap (λ n. 32 + n) (geometry_length d.geometry)))
+    ∙ bytes_back d.geometry (words_fit d.geometry good.fields)
 
 shape_same : (d : Drive) → IsSpellable d → shape_at (image_bytes d) ≡ shape_of d
 shape_same d good =
@@ -153,9 +159,11 @@ shape_same d good =
 count_same : (d : Drive) → IsSpellable d → HasUnits d → chunks_at (image_bytes d) ≡ length d.units * d.geometry.chunks
 count_same d good h = ap (λ (s : Shape). units s * s.chunks) (shape_same d good) ∙ ap (λ n. n * d.geometry.chunks) (sym h.count)
 
-refused_as : (b : List ℕ) (g : Geometry) (n : ℕ) (r : List ℕ) → geometry_at b ≡ g → descriptor_at b n ≡ r → first_failing (chunk_checks g (n / g.chunks) (n % g.chunks) r) ≡ None → chunk_refusal b n ≡ None
+refused_as : (b : List ℕ) (g : Geometry) (n : ℕ) (r : List ℕ) → geometry_at b ≡ g → descriptor_at b n ≡ r
+    → first_failing (chunk_checks g (n / g.chunks) (n % g.chunks) r) ≡ None → chunk_refusal b n ≡ None
 refused_as b g n r is row none =
-    let refusal : Geometry → List ℕ → Option ImageErr = λ g r. option_map (errors.Chunk (n / g.chunks) (n % g.chunks)) (first_failing (chunk_checks g (n / g.chunks) (n % g.chunks) r)) in
+    let refusal : Geometry → List ℕ → Option ImageErr =
+    λ g r. option_map (errors.Chunk (n / g.chunks) (n % g.chunks)) (first_failing (chunk_checks g (n / g.chunks) (n % g.chunks) r)) in
     ap (λ g. refusal g (descriptor_at b n)) is ∙ (ap (refusal g) row ∙ ap (option_map (errors.Chunk (n / g.chunks) (n % g.chunks))) none)
 
 found : (d : Drive) (n : ℕ) → IsSpellable d → HasUnits d → n < length d.units * d.geometry.chunks → (k : StoredChunk) × (slice_get (flat d.units) n ≡ Some k)
@@ -168,7 +176,8 @@ chunk_none : (d : Drive) (n : ℕ) → IsSpellable d → HasUnits d → n < leng
 chunk_none d n good h inside =
     let k = found d n good h inside in
     let nth = nth_is d n k.0 good h k.1 inside in
-    refused_as (image_bytes d) d.geometry n _ (geometry_same d good) nth.row (row_passes d.geometry (n / d.geometry.chunks) (n % d.geometry.chunks) k.0 nth.fits nth.holds nth.multiple)
+    refused_as (image_bytes d) d.geometry n _ (geometry_same d good) nth.row
+    (row_passes d.geometry (n / d.geometry.chunks) (n % d.geometry.chunks) k.0 nth.fits nth.holds nth.multiple)
 
 none_of_range : (f : ℕ → Option ImageErr) (a n : ℕ) → ((m : ℕ) → m < a + n → f m ≡ None) → AllByRecursion (λ r. r ≡ None) (map f (range_with_len a n))
 none_of_range f a zero each = tt
@@ -176,21 +185,25 @@ none_of_range f a (suc n) each = (each a (omega arith), none_of_range f (a + 1) 
 
 -- Ends.
 
-pointers_sum : (d : Drive) → IsSpellable d → HasUnits d → sum_by (pointer_at (image_bytes d)) (range_with_len 0 (length (flat d.units))) ≡ sum_by (λ (k : StoredChunk). pointer k.chunk) (flat d.units)
+pointers_sum : (d : Drive) → IsSpellable d → HasUnits d
+    → sum_by (pointer_at (image_bytes d)) (range_with_len 0 (length (flat d.units))) ≡ sum_by (λ (k : StoredChunk). pointer k.chunk) (flat d.units)
 pointers_sum d good h = sum_of_range (λ (k : StoredChunk). pointer k.chunk) (pointer_at (image_bytes d)) (flat d.units) (λ n k is.
-    let inside : n < length d.units * d.geometry.chunks = subst (λ m. n < m) (length_of_flat d.geometry.chunks d.units h.chunks) (slice_get_within (flat d.units) n k is) in
+    let inside : n < length d.units * d.geometry.chunks =
+    subst (λ m. n < m) (length_of_flat d.geometry.chunks d.units h.chunks) (slice_get_within (flat d.units) n k is) in
     let nth = nth_is d n k good h is inside in
     ap (number_at w64 24) nth.row ∙ wp_back (descriptor_of d.geometry (n / d.geometry.chunks) (n % d.geometry.chunks) k) nth.fits)
 
 chunk_length : (s : Shape) (k : StoredChunk) → IsChunk s k.chunk → length (flat_map block_bytes k.chunk.blocks) ≡ (s.sector + 16) * pointer k.chunk
-chunk_length s k is = flat_length block_bytes (s.sector + 16) k.chunk.blocks (all_weaker (IsBlock s) (λ (b : Block). length (block_bytes b) ≡ s.sector + 16) k.chunk.blocks (λ b block. block_length s.sector b block.size) is.blocks)
+chunk_length s k is = flat_length block_bytes (s.sector + 16) k.chunk.blocks
+    (all_weaker (IsBlock s) (λ (b : Block). length (block_bytes b) ≡ s.sector + 16) k.chunk.blocks (λ b block. block_length s.sector b block.size) is.blocks)
 
 blocks_length : (d : Drive) → HasUnits d → length (blocks_bytes d) ≡ (d.sector + 16) * sum_by (λ (k : StoredChunk). pointer k.chunk) (flat d.units)
 blocks_length d h =
     let bytes : StoredChunk → List ℕ = λ k. flat_map block_bytes k.chunk.blocks in
     ap length (flat_of_flat bytes d.units)
     ∙ length_of_sum bytes (d.sector + 16) (λ (k : StoredChunk). pointer k.chunk) (flat d.units)
-    (all_weaker (λ (k : StoredChunk). IsChunk (shape_of d) k.chunk) (λ k. length (bytes k) ≡ (d.sector + 16) * pointer k.chunk) (flat d.units) (λ k is. chunk_length (shape_of d) k is)
+    (all_weaker (λ (k : StoredChunk). IsChunk (shape_of d) k.chunk) (λ k. length (bytes k) ≡ (d.sector + 16) * pointer k.chunk) (flat d.units)
+    (λ k is. chunk_length (shape_of d) k is)
     (all_flat (λ (k : StoredChunk). IsChunk (shape_of d) k.chunk) d.units h.each))
 
 descriptors_end_is : (d : Drive) → IsSpellable d → HasUnits d → descriptors_end (image_bytes d) ≡ 4128 + length (descriptors_bytes d)
@@ -200,7 +213,8 @@ blocks_end_is : (d : Drive) → IsSpellable d → HasUnits d → blocks_end (ima
 blocks_end_is d good h =
     let b = image_bytes d in
     let count : chunks_at b ≡ length (flat d.units) = count_same d good h ∙ sym (length_of_flat d.geometry.chunks d.units h.chunks) in
-    let sum : sum_by (pointer_at b) (range_with_len 0 (chunks_at b)) ≡ sum_by (λ (k : StoredChunk). pointer k.chunk) (flat d.units) = ap (λ n. sum_by (pointer_at b) (range_with_len 0 n)) count ∙ pointers_sum d good h in
+    let sum : sum_by (pointer_at b) (range_with_len 0 (chunks_at b)) ≡ sum_by (λ (k : StoredChunk). pointer k.chunk) (flat d.units) =
+    ap (λ n. sum_by (pointer_at b) (range_with_len 0 n)) count ∙ pointers_sum d good h in
     ap (λ n. n + ((shape_at b).sector + 16) * sum_by (pointer_at b) (range_with_len 0 (chunks_at b))) (descriptors_end_is d good h)
     ∙ (ap (λ (s : Shape). 4128 + length (descriptors_bytes d) + (s.sector + 16) * sum_by (pointer_at b) (range_with_len 0 (chunks_at b))) (shape_same d good)
     ∙ (ap (λ n. 4128 + length (descriptors_bytes d) + (d.sector + 16) * n) sum ∙ ap (λ n. 4128 + length (descriptors_bytes d) + n) (sym (blocks_length d h))))
@@ -209,7 +223,14 @@ long : (d : Drive) → length (image_bytes d) ≡ 4128 + length (descriptors_byt
 long d =
     let h = header_bytes 1 d in
     let g = geometry_bytes d.geometry in
-    omega (arith, length-append (h ++ g ++ descriptors_bytes d) (blocks_bytes d), length-append (h ++ g) (descriptors_bytes d), length-append h g, header_length d, geometry_length d.geometry)
+    omega (
+      arith,
+      length-append (h ++ g ++ descriptors_bytes d) (blocks_bytes d),
+      length-append (h ++ g) (descriptors_bytes d),
+      length-append h g,
+      header_length d,
+      geometry_length d.geometry,
+    )
 
 taken : (d : Drive) → IsSpellable d → HasUnits d → image_refusal (image_bytes d) ≡ None
 taken d good h =
@@ -248,12 +269,19 @@ taken d good h =
       ),
     )
 
-blocks_stand : (d : Drive) → IsSpellable d → HasUnits d → slice_range (image_bytes d) (descriptors_end (image_bytes d)) (blocks_end (image_bytes d)) ≡ blocks_bytes d
+blocks_stand : (d : Drive) → IsSpellable d → HasUnits d
+    → slice_range (image_bytes d) (descriptors_end (image_bytes d)) (blocks_end (image_bytes d)) ≡ blocks_bytes d
 blocks_stand d good h =
     let b = image_bytes d in
     let front = header_bytes 1 d ++ geometry_bytes d.geometry ++ descriptors_bytes d in
     let size : length front ≡ 4128 + length (descriptors_bytes d) =
-    omega (arith, length-append (header_bytes 1 d ++ geometry_bytes d.geometry) (descriptors_bytes d), length-append (header_bytes 1 d) (geometry_bytes d.geometry), header_length d, geometry_length d.geometry) in
+    omega (
+      arith,
+      length-append (header_bytes 1 d ++ geometry_bytes d.geometry) (descriptors_bytes d),
+      length-append (header_bytes 1 d) (geometry_bytes d.geometry),
+      header_length d,
+      geometry_length d.geometry,
+    ) in
     let ends : descriptors_end b + length (blocks_bytes d) ≡ blocks_end b = omega (arith, descriptors_end_is d good h, blocks_end_is d good h) in
     ap (λ w. slice_range w (descriptors_end b) (blocks_end b)) (sym (append-nil b))
     ∙ slice_of front (blocks_bytes d) [] (descriptors_end b) (blocks_end b) (size ∙ sym (descriptors_end_is d good h)) ends
@@ -268,9 +296,12 @@ spelled_is_image d good =
         geometry = sym (geometry_same d good);
         count = h.count;
         chunks = h.chunks;
-        sectors = all_weaker (AllByRecursion (λ (k : StoredChunk). IsChunk (shape_of d) k.chunk)) (AllByRecursion (λ (k : StoredChunk). AllByRecursion (λ (b : Block). length b.sector ≡ d.sector) k.chunk.blocks)) d.units
-            (λ ks all. all_weaker (λ (k : StoredChunk). IsChunk (shape_of d) k.chunk) (λ (k : StoredChunk). AllByRecursion (λ (b : Block). length b.sector ≡ d.sector) k.chunk.blocks) ks
-            (λ k is. all_weaker (IsBlock (shape_of d)) (λ (b : Block). length b.sector ≡ d.sector) k.chunk.blocks (λ b block. block.size) is.blocks) all) h.each;
+        sectors = all_weaker (AllByRecursion (λ (k : StoredChunk). IsChunk (shape_of d) k.chunk))
+            (AllByRecursion (λ (k : StoredChunk). AllByRecursion (λ (b : Block). length b.sector ≡ d.sector) k.chunk.blocks)) d.units
+            (λ ks all. all_weaker (λ (k : StoredChunk). IsChunk (shape_of d) k.chunk)
+            (λ (k : StoredChunk). AllByRecursion (λ (b : Block). length b.sector ≡ d.sector) k.chunk.blocks) ks
+            (λ k is. all_weaker (IsBlock (shape_of d)) (λ (b : Block). length b.sector ≡ d.sector) k.chunk.blocks (λ b block. block.size) is.blocks) all)
+            h.each;
         descriptors = λ unit chunk kept k p q. descriptor_read d unit chunk kept k good.fields good.taken good.accepted h good.wears p q;
         blocks = blocks_stand d good h;
       };

@@ -1,5 +1,5 @@
 -- Lemmas on the words of LineBlocks.
-use Rattle.std.proofs.Common.{List, None, Option, Some, ap, refl, ℕ, ◌-◌, ◌≡◌}
+use Rattle.std.proofs.Common.{List, None, Option, Some, ap, refl, ℕ, ◌≡◌}
 use Rattle.std.proofs.lemmas.Option.{none-some, same_Some}
 use Rattle.std.specs.List.{AllByRecursion, slice_get}
 use Rattle.std.specs.Option.{option_and_then, option_map}
@@ -14,7 +14,8 @@ chunk_fits i l u c fit is = by (slice_get i.units u) refl is where
   by None e h = absurd (none-some c h)
   by (Some cs) e h = all_get (IsChunk i.shape) cs l c (all_get (AllByRecursion (IsChunk i.shape)) i.units u cs fit.each e) h
 
-pub from_chunk : (i : Image) (line b : ℕ) (o : Option ℕ) (unit block : ℕ) → option_map {U = ℕ × ℕ} (λ u. (u, b)) o ≡ Some (unit, block) → option_and_then (λ (c : Chunk). slice_get c.blocks b) (option_and_then (chunk_in i line) o) ≡ written_at i line (unit, block)
+pub from_chunk : (i : Image) (line b : ℕ) (o : Option ℕ) (unit block : ℕ) → option_map {U = ℕ × ℕ} (λ u. (u, b)) o ≡ Some (unit, block)
+    → option_and_then (λ (c : Chunk). slice_get c.blocks b) (option_and_then (chunk_in i line) o) ≡ written_at i line (unit, block)
 from_chunk i line b None unit block h = absurd (none-some (unit, block) h)
 from_chunk i line b (Some u) unit block h =
     let same : (u, b) ≡ (unit, block) = same_Some (u, b) (unit, block) h in

@@ -42,16 +42,20 @@ unfolding with_unit
 by_chunk None n us = refl
 by_chunk (Some c) n us = refl
 
-units_more : (line n : ℕ) (unit : List Chunk) (units : List (List Chunk)) → units_of line n (unit ∷ units) ≡ with_unit (slice_get unit line) n (units_of line (n + 1) units)
+units_more : (line n : ℕ) (unit : List Chunk) (units : List (List Chunk))
+    → units_of line n (unit ∷ units) ≡ with_unit (slice_get unit line) n (units_of line (n + 1) units)
 unfolding units_of
-units_more line n unit units = map_cond (is_on line (n, unit)) (n, unit) (filter (is_on line) (enumerate_from (n + 1) units)) ∙ by_chunk (slice_get unit line) n (units_of line (n + 1) units)
+units_more line n unit units = map_cond (is_on line (n, unit)) (n, unit) (filter (is_on line) (enumerate_from (n + 1) units))
+    ∙ by_chunk (slice_get unit line) n (units_of line (n + 1) units)
 
-by_option : (o : Option Chunk) (cs : List Chunk) → filter (λ (c : Chunk). is_online_in c.state) (cons_option o cs) ≡ with_chunk o (filter (λ (c : Chunk). is_online_in c.state) cs)
+by_option : (o : Option Chunk) (cs : List Chunk)
+    → filter (λ (c : Chunk). is_online_in c.state) (cons_option o cs) ≡ with_chunk o (filter (λ (c : Chunk). is_online_in c.state) cs)
 unfolding with_chunk
 by_option None cs = refl
 by_option (Some c) cs = refl
 
-chunks_more : (line : ℕ) (unit : List Chunk) (units : List (List Chunk)) → chunks_of line (unit ∷ units) ≡ with_chunk (slice_get unit line) (chunks_of line units)
+chunks_more : (line : ℕ) (unit : List Chunk) (units : List (List Chunk))
+    → chunks_of line (unit ∷ units) ≡ with_chunk (slice_get unit line) (chunks_of line units)
 unfolding chunks_of
 chunks_more line unit units = by_option (slice_get unit line) (filter_map (λ (unit : List Chunk). slice_get unit line) units)
 
@@ -69,13 +73,17 @@ count_of : (line n : ℕ) (units : List (List Chunk)) → length (units_of line 
 unfolding units_of chunks_of
 count_of line n [] = refl
 count_of line n (unit ∷ units) =
-    ap length (units_more line n unit units) ∙ same_length (slice_get unit line) n (units_of line (n + 1) units) (chunks_of line units) (count_of line (n + 1) units) ∙ ap length (sym (chunks_more line unit units))
+    ap length (units_more line n unit units)
+    ∙ same_length (slice_get unit line) n (units_of line (n + 1) units) (chunks_of line units) (count_of line (n + 1) units)
+    ∙ ap length (sym (chunks_more line unit units))
 
 -- a unit's chunk of the line, among all units
 chunk_at : ℕ → List (List Chunk) → ℕ → Option Chunk
 chunk_at line all unit = option_and_then (λ (chunks : List Chunk). slice_get chunks line) (slice_get all unit)
 
-same_chunks : (o : Option Chunk) (f : ℕ → Option Chunk) (n : ℕ) (us : List ℕ) (cs : List Chunk) → f n ≡ o → ((k : ℕ) → slice_get cs k ≡ option_and_then f (slice_get us k)) → (k : ℕ) → slice_get (with_chunk o cs) k ≡ option_and_then f (slice_get (with_unit o n us) k)
+same_chunks : (o : Option Chunk) (f : ℕ → Option Chunk) (n : ℕ) (us : List ℕ) (cs : List Chunk) → f n ≡ o
+    → ((k : ℕ) → slice_get cs k ≡ option_and_then f (slice_get us k)) → (k : ℕ)
+    → slice_get (with_chunk o cs) k ≡ option_and_then f (slice_get (with_unit o n us) k)
 unfolding with_unit with_chunk
 same_chunks None f n us cs here rest k = rest k
 same_chunks (Some c) f n us cs here rest k = both (is_online_in c.state) k where
@@ -84,7 +92,8 @@ same_chunks (Some c) f n us cs here rest k = both (is_online_in c.state) k where
   both true (suc k) = rest k
   both false k = rest k
 
-chunks_are : (line : ℕ) (all : List (List Chunk)) (n : ℕ) (units : List (List Chunk)) → ((u : ℕ) → slice_get all (n + u) ≡ slice_get units u) → (k : ℕ) → slice_get (chunks_of line units) k ≡ option_and_then (chunk_at line all) (slice_get (units_of line n units) k)
+chunks_are : (line : ℕ) (all : List (List Chunk)) (n : ℕ) (units : List (List Chunk)) → ((u : ℕ) → slice_get all (n + u) ≡ slice_get units u) → (k : ℕ)
+    → slice_get (chunks_of line units) k ≡ option_and_then (chunk_at line all) (slice_get (units_of line n units) k)
 unfolding units_of chunks_of chunk_at
 chunks_are line all n [] h k = refl
 chunks_are line all n (unit ∷ units) h k =
@@ -100,7 +109,8 @@ chunks_are line all n (unit ∷ units) h k =
 
 -- they rise
 
-unit_bound : (o : Option Chunk) (n : ℕ) (us : List ℕ) → ((k : ℕ) → k < length us → n + 1 ≤ slice_index us k) → (k : ℕ) → k < length (with_unit o n us) → n ≤ slice_index (with_unit o n us) k
+unit_bound : (o : Option Chunk) (n : ℕ) (us : List ℕ) → ((k : ℕ) → k < length us → n + 1 ≤ slice_index us k) → (k : ℕ) → k < length (with_unit o n us)
+    → n ≤ slice_index (with_unit o n us) k
 unfolding with_unit
 unit_bound None n us h k below = omega (arith, h k below)
 unit_bound (Some c) n us h k below = both (is_online_in c.state) k below where
@@ -114,7 +124,8 @@ unfolding units_of
 bounded line n [] k below = absurd (omega arith)
 bounded line n (unit ∷ units) k below =
     subst (λ (us : List ℕ). n ≤ slice_index us k) (sym (units_more line n unit units))
-    (unit_bound (slice_get unit line) n (units_of line (n + 1) units) (λ j l. bounded line (n + 1) units j l) k (subst (λ (us : List ℕ). k < length us) (units_more line n unit units) below))
+    (unit_bound (slice_get unit line) n (units_of line (n + 1) units) (λ j l. bounded line (n + 1) units j l) k
+    (subst (λ (us : List ℕ). k < length us) (units_more line n unit units) below))
 
 one_more : (n : ℕ) (us : List ℕ) → ((k : ℕ) → k < length us → n + 1 ≤ slice_index us k) → IsStrictlyIncreasing us → IsStrictlyIncreasing (n ∷ us)
 one_more n us h rising zero below = let more : n + 1 ≤ slice_index us 0 = h 0 (omega arith) in omega arith
@@ -123,7 +134,8 @@ one_more n us h rising (suc k) below =
     let here : slice_index us k < slice_index us (k + 1) = rising k (omega arith) in
     subst (λ (j : ℕ). slice_index us k < slice_index (n ∷ us) j) (sym place) here
 
-rise_more : (o : Option Chunk) (n : ℕ) (us : List ℕ) → ((k : ℕ) → k < length us → n + 1 ≤ slice_index us k) → IsStrictlyIncreasing us → IsStrictlyIncreasing (with_unit o n us)
+rise_more : (o : Option Chunk) (n : ℕ) (us : List ℕ) → ((k : ℕ) → k < length us → n + 1 ≤ slice_index us k) → IsStrictlyIncreasing us
+    → IsStrictlyIncreasing (with_unit o n us)
 unfolding with_unit
 rise_more None n us h rising = rising
 rise_more (Some c) n us h rising = both (is_online_in c.state) where
@@ -135,7 +147,8 @@ rises : (line n : ℕ) (units : List (List Chunk)) → IsStrictlyIncreasing (uni
 unfolding units_of
 rises line n [] = λ k below. absurd (omega arith)
 rises line n (unit ∷ units) =
-    subst IsStrictlyIncreasing (sym (units_more line n unit units)) (rise_more (slice_get unit line) n (units_of line (n + 1) units) (λ j l. bounded line (n + 1) units j l) (rises line (n + 1) units))
+    subst IsStrictlyIncreasing (sym (units_more line n unit units))
+    (rise_more (slice_get unit line) n (units_of line (n + 1) units) (λ j l. bounded line (n + 1) units j l) (rises line (n + 1) units))
 
 -- The laws.
 
@@ -161,10 +174,13 @@ unfolding block_with
 block_named i line a place some whole h =
     let us : List ℕ = line_units i line in
     let inside : a < length us * i.shape.clba = omega (arith, slice_get_within (line_order i.shape us) a place h, order_length i.shape us some whole) in
-    let named : option_map {U = ℕ × ℕ} (λ u. (u, block_of i.shape (length us) a)) (slice_get us (column_of i.shape (length us) a)) ≡ Some place = sym (order_block i.shape us a some whole inside) ∙ h in
-    let chunk : slice_get (line_chunks i line) (column_of i.shape (length us) a) ≡ option_and_then (chunk_in i line) (slice_get us (column_of i.shape (length us) a)) = line_units_chunks i line (column_of i.shape (length us) a) in
+    let named : option_map {U = ℕ × ℕ} (λ u. (u, block_of i.shape (length us) a)) (slice_get us (column_of i.shape (length us) a)) ≡ Some place =
+    sym (order_block i.shape us a some whole inside) ∙ h in
+    let chunk : slice_get (line_chunks i line) (column_of i.shape (length us) a) ≡ option_and_then (chunk_in i line)
+    (slice_get us (column_of i.shape (length us) a)) = line_units_chunks i line (column_of i.shape (length us) a) in
     let there : block_with i line (length us) a ≡ written_at i line place =
-    ap (option_and_then (λ (c : Chunk). slice_get c.blocks (block_of i.shape (length us) a))) chunk ∙ from_chunk i line (block_of i.shape (length us) a) (slice_get us (column_of i.shape (length us) a)) place.0 place.1 named in
+    ap (option_and_then (λ (c : Chunk). slice_get c.blocks (block_of i.shape (length us) a))) chunk
+    ∙ from_chunk i line (block_of i.shape (length us) a) (slice_get us (column_of i.shape (length us) a)) place.0 place.1 named in
     ap (λ g. block_with i line g a) (sym (line_units_count i line)) ∙ there
 
 -- Past the end of the line.
@@ -180,7 +196,8 @@ block_past w g c a some whole wide past =
     let blocks : (c / w) * w ≤ (a / w) / g * w = mul-le-mul_right w row in
     omega arith
 
-no_block : (s : Shape) (b : ℕ) (o : Option Chunk) → IfSome o (IsChunk s) → IfSome o (λ _. s.clba ≤ b) → option_and_then (λ (c : Chunk). slice_get c.blocks b) o ≡ None
+no_block : (s : Shape) (b : ℕ) (o : Option Chunk) → IfSome o (IsChunk s) → IfSome o (λ _. s.clba ≤ b)
+    → option_and_then (λ (c : Chunk). slice_get c.blocks b) o ≡ None
 no_block s b None fits past = refl
 no_block s b (Some c) fits past = get_past c.blocks b (let few = pointer_within c.state s.clba (length c.blocks) fits.place in omega arith)
 
@@ -188,7 +205,8 @@ line_chunks_fit : (i : Image) (line k : ℕ) → IsFit i → IfSome (slice_get (
 line_chunks_fit i line k fit =
     all_get_some (IsChunk i.shape) (line_chunks i line) k
     (all_filter (IsChunk i.shape) (λ (c : Chunk). is_online_in c.state) (filter_map (λ (unit : List Chunk). slice_get unit line) i.units)
-    (all_filter_map (IsChunk i.shape) (AllByRecursion (IsChunk i.shape)) (λ (unit : List Chunk). slice_get unit line) i.units (λ unit each. all_get_some (IsChunk i.shape) unit line each) fit.each))
+    (all_filter_map (IsChunk i.shape) (AllByRecursion (IsChunk i.shape)) (λ (unit : List Chunk). slice_get unit line) i.units
+    (λ unit each. all_get_some (IsChunk i.shape) unit line each) fit.each))
 
 if_there : {X : Type 0} (xs : List X) (k : ℕ) (P : Type 0) → (0 < length xs → P) → IfSome (slice_get xs k) (λ _. P)
 if_there [] k P h = tt
@@ -199,6 +217,9 @@ pub no_block_past : (i : Image) (line a : ℕ) → IsFit i → 0 < i.shape.ws_op
     → slice_get (line_order i.shape (line_units i line)) a ≡ None → block_at i line a ≡ None
 no_block_past i line a fit some whole h =
     let g : ℕ = width i line in
-    let past : width i line * i.shape.clba ≤ a = subst (λ n. n * i.shape.clba ≤ a) (line_units_count i line) (omega (arith, none_past (line_order i.shape (line_units i line)) a h, order_length i.shape (line_units i line) some whole)) in
+    let past : width i line * i.shape.clba ≤ a =
+    subst (λ n. n * i.shape.clba ≤ a) (line_units_count i line)
+    (omega (arith, none_past (line_order i.shape (line_units i line)) a h, order_length i.shape (line_units i line) some whole)) in
     no_block i.shape (block_of i.shape g a) (slice_get (line_chunks i line) (column_of i.shape g a)) (line_chunks_fit i line (column_of i.shape g a) fit)
-    (if_there (line_chunks i line) (column_of i.shape g a) (i.shape.clba ≤ block_of i.shape g a) (λ wide. block_past i.shape.ws_opt g i.shape.clba a some whole wide past))
+    (if_there (line_chunks i line) (column_of i.shape g a) (i.shape.clba ≤ block_of i.shape g a)
+    (λ wide. block_past i.shape.ws_opt g i.shape.clba a some whole wide past))

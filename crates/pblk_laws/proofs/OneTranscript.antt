@@ -30,7 +30,8 @@ other_outcome a b c d (Flushed front) other = (other, tt)
 other_outcome a b c d (Drive unit event) other = (other, tt)
 other_outcome a b c d (Worn wanted have) other = (other, tt)
 
-later_commands : (thread c n : ℕ) (os : List Outcome) → c < n → n + length os ≤ 10 ^ 64 → AllByRecursion (NotOf thread c) (flat_map (outcome_rows thread) (enumerate_from n os))
+later_commands : (thread c n : ℕ) (os : List Outcome) → c < n → n + length os ≤ 10 ^ 64
+    → AllByRecursion (NotOf thread c) (flat_map (outcome_rows thread) (enumerate_from n os))
 later_commands thread c n [] less hn = tt
 later_commands thread c n (o ∷ os) less hn =
     all_append (NotOf thread c) (outcome_rows thread (n, o)) _
@@ -46,7 +47,9 @@ other_commands a n c d (o ∷ os) ha less =
 
 later_threads : (c d n : ℕ) (outcomes : List (List Outcome)) → c < n → n + length outcomes ≤ 10 ^ 64 → AllByRecursion (NotOf c d) (threads_rows n outcomes)
 later_threads c d n [] less hn = tt
-later_threads c d n (os ∷ outcomes) less hn = all_append (NotOf c d) (thread_rows (n, os)) _ (other_commands n 0 c d os (omega arith) less) (later_threads c d (n + 1) outcomes (omega arith) (omega arith))
+later_threads c d n (os ∷ outcomes) less hn =
+    all_append (NotOf c d) (thread_rows (n, os)) _ (other_commands n 0 c d os (omega arith) less)
+    (later_threads c d (n + 1) outcomes (omega arith) (omega arith))
 
 closing_not : (c d : ℕ) (closing : Closing) (kept : ℕ) → c < 10 ^ 64 → AllByRecursion (NotOf c d) (closing_rows closing ++ kept_rows kept)
 unfolding IsKeyOf
@@ -91,7 +94,8 @@ words_of : List Row → List (List ℕ)
 words_of [] = []
 words_of (r ∷ rows) = r.fields
 
-same_outcome : (thread n : ℕ) (x y : Outcome) (u v : List Row) → OutcomeFits x → OutcomeFits y → AllByRecursion (NotOf thread n) u → AllByRecursion (NotOf thread n) v
+same_outcome : (thread n : ℕ) (x y : Outcome) (u v : List Row) → OutcomeFits x → OutcomeFits y → AllByRecursion (NotOf thread n) u
+    → AllByRecursion (NotOf thread n) v
     → outcome_rows thread (n, x) ++ u ≡ outcome_rows thread (n, y) ++ v → (x ≡ y) × (u ≡ v)
 unfolding IsKeyOf letter byte words_of
 same_outcome thread n Silent Silent u v hx hy hu hv e = (refl, e)
@@ -144,7 +148,8 @@ same_outcome thread n (Worn a_wanted a_have) (Worn b_wanted b_have) u v hx hy hu
 
 -- One thread.
 
-same_outcomes : (thread n : ℕ) (a b : List Outcome) (u v : List Row) → n + length a ≤ 10 ^ 64 → length a ≡ length b → AllByRecursion OutcomeFits a → AllByRecursion OutcomeFits b
+same_outcomes : (thread n : ℕ) (a b : List Outcome) (u v : List Row) → n + length a ≤ 10 ^ 64 → length a ≡ length b → AllByRecursion OutcomeFits a
+    → AllByRecursion OutcomeFits b
     → ((c : ℕ) → AllByRecursion (NotOf thread c) u) → ((c : ℕ) → AllByRecursion (NotOf thread c) v)
     → flat_map (outcome_rows thread) (enumerate_from n a) ++ u ≡ flat_map (outcome_rows thread) (enumerate_from n b) ++ v → (a ≡ b) × (u ≡ v)
 same_outcomes thread n [] [] u v hn long ha hb hu hv e = (refl, e)
@@ -179,7 +184,8 @@ same_threads n (x ∷ a) (y ∷ b) u v hn long short ha hb hu hv e =
     let here : length x ≡ length y = cc in
     let lengths : map length a ≡ map length b = cc in
     let counts : length a ≡ length b = sym (length-map a length) ∙ ap length lengths ∙ length-map b length in
-    let joined : thread_rows (n, x) ++ (before ++ u) ≡ thread_rows (n, y) ++ (bs ++ v) = sym (append_assoc (thread_rows (n, x)) before u) ∙ e ∙ append_assoc (thread_rows (n, y)) bs v in
+    let joined : thread_rows (n, x) ++ (before ++ u) ≡ thread_rows (n, y) ++ (bs ++ v) = sym (append_assoc (thread_rows (n, x)) before u) ∙ e
+    ∙ append_assoc (thread_rows (n, y)) bs v in
     let first = same_outcomes n 0 x y (before ++ u) (bs ++ v) (omega (arith, short.0)) here ha.0 hb.0
     (λ c. all_append (NotOf n c) before u (later_threads n c (n + 1) a (omega arith) (omega arith)) (hu n c (omega arith)))
     (λ c. all_append (NotOf n c) bs v (later_threads n c (n + 1) b (omega arith) (omega arith)) (hv n c (omega arith))) joined in
@@ -210,11 +216,13 @@ outcome_not_open thread n (Worn wanted have) h = (no_open thread h, tt)
 
 outcomes_not_open : (thread n : ℕ) (os : List Outcome) → thread < 10 ^ 64 → AllByRecursion NotOpen (flat_map (outcome_rows thread) (enumerate_from n os))
 outcomes_not_open thread n [] h = tt
-outcomes_not_open thread n (o ∷ os) h = all_append NotOpen (outcome_rows thread (n, o)) _ (outcome_not_open thread n o h) (outcomes_not_open thread (n + 1) os h)
+outcomes_not_open thread n (o ∷ os) h =
+    all_append NotOpen (outcome_rows thread (n, o)) _ (outcome_not_open thread n o h) (outcomes_not_open thread (n + 1) os h)
 
 threads_not_open : (n : ℕ) (outcomes : List (List Outcome)) → n + length outcomes ≤ 10 ^ 64 → AllByRecursion NotOpen (threads_rows n outcomes)
 threads_not_open n [] h = tt
-threads_not_open n (os ∷ outcomes) h = all_append NotOpen (thread_rows (n, os)) _ (outcomes_not_open n 0 os (omega arith)) (threads_not_open (n + 1) outcomes (omega arith))
+threads_not_open n (os ∷ outcomes) h =
+    all_append NotOpen (thread_rows (n, os)) _ (outcomes_not_open n 0 os (omega arith)) (threads_not_open (n + 1) outcomes (omega arith))
 
 closing_not_open : (closing : Closing) (kept : ℕ) → kept < 10 ^ 64 → AllByRecursion NotOpen (closing_rows closing ++ kept_rows kept)
 unfolding IsOpenOf byte
@@ -273,24 +281,30 @@ abbrev pub rows_after : Transcript → List Row
 rows_after t = threads_rows 0 t.outcomes ++ last_rows t
 
 plain_after : (t : Transcript) → TextFits t → AllByRecursion IsPlainRow (rows_after t)
-plain_after t fits = all_append IsPlainRow (threads_rows 0 t.outcomes) (last_rows t) (plain_threads 0 t.outcomes (omega (arith, fits.few)) fits.short fits.outcomes) (plain_last t fits.opening fits.closing fits.kept)
+plain_after t fits = all_append IsPlainRow (threads_rows 0 t.outcomes) (last_rows t)
+    (plain_threads 0 t.outcomes (omega (arith, fits.few)) fits.short fits.outcomes) (plain_last t fits.opening fits.closing fits.kept)
 
 same_after : (t u : Transcript) → TextFits t → TextFits u → text_of t ≡ text_of u → rows_after t ≡ rows_after u
 same_after t u ft fu e =
     let history : Transcript → List ℕ = λ w. flat_map history_line (enumerate_from 0 w.history) in
-    let split : (w : Transcript) → text_of w ≡ history w ++ (flat_map thread_text (enumerate_from 0 w.outcomes) ++ (opening_line w.opening ++ (closing_line w.closing ++ kept_line w.kept))) = λ w. simp append_assoc in
+    let split : (w : Transcript) → text_of w ≡ history w
+    ++ (flat_map thread_text (enumerate_from 0 w.outcomes) ++ (opening_line w.opening ++ (closing_line w.closing ++ kept_line w.kept))) =
+    λ w. simp append_assoc in
     let parts : (w : Transcript) → text_of w ≡ history w ++ flat_map row_text (rows_after w) = λ w. split w ∙ ap (λ x. history w ++ x) (rows_text w) in
     let first : t.history ≡ u.history = same_history t u ft.history fu.history e in
     let begun : history u ≡ history t = ap (λ h. flat_map history_line (enumerate_from 0 h)) (sym first) in
-    let joined : history t ++ flat_map row_text (rows_after t) ≡ history t ++ flat_map row_text (rows_after u) = sym (parts t) ∙ e ∙ parts u ∙ ap (λ x. x ++ flat_map row_text (rows_after u)) begun in
+    let joined : history t ++ flat_map row_text (rows_after t) ≡ history t ++ flat_map row_text (rows_after u) = sym (parts t) ∙ e ∙ parts u
+    ∙ ap (λ x. x ++ flat_map row_text (rows_after u)) begun in
     same_rows (rows_after t) (rows_after u) (plain_after t ft) (plain_after u fu) (append_cancel_left (history t) _ _ joined)
 
 not_opened : (t : Transcript) → TextFits t → t.opening ≡ None → AllByRecursion NotOpen (rows_after t)
 not_opened t fits none =
     subst (λ o. AllByRecursion NotOpen (threads_rows 0 t.outcomes ++ (opening_rows o ++ (closing_rows t.closing ++ kept_rows t.kept)))) (sym none)
-    (all_append NotOpen (threads_rows 0 t.outcomes) (closing_rows t.closing ++ kept_rows t.kept) (threads_not_open 0 t.outcomes (omega (arith, fits.few))) (closing_not_open t.closing t.kept fits.kept))
+    (all_append NotOpen (threads_rows 0 t.outcomes) (closing_rows t.closing ++ kept_rows t.kept) (threads_not_open 0 t.outcomes (omega (arith, fits.few)))
+    (closing_not_open t.closing t.kept fits.kept))
 
-opened : (t : Transcript) (e : ℕ × ℕ) → t.opening ≡ Some e → t.outcomes ≡ [] → rows_after t ≡ opening_rows (Some e) ++ (closing_rows t.closing ++ kept_rows t.kept)
+opened : (t : Transcript) (e : ℕ × ℕ) → t.opening ≡ Some e → t.outcomes ≡ []
+    → rows_after t ≡ opening_rows (Some e) ++ (closing_rows t.closing ++ kept_rows t.kept)
 opened t e is none = ap (λ os. threads_rows 0 os ++ last_rows t) none ∙ ap (λ o. opening_rows o ++ (closing_rows t.closing ++ kept_rows t.kept)) is
 
 -- that a transcript did open, and one did not, their texts tell
@@ -307,17 +321,22 @@ all_same t u a b c d e = let same : made t.history t.outcomes t.opening t.closin
 module _ (script : List (List Command)) (t u : Transcript) (ft : TextFits t) (fu : TextFits u) (e : text_of t ≡ text_of u) where
   by_opening : (o p : Option (ℕ × ℕ)) → t.opening ≡ o → u.opening ≡ p → Ran script t o → Ran script u p → t ≡ u
   by_opening None None to uo rt ru =
-      let rows : (w : Transcript) → w.opening ≡ None → rows_after w ≡ threads_rows 0 w.outcomes ++ (closing_rows w.closing ++ kept_rows w.kept) = λ w none. ap (λ o. threads_rows 0 w.outcomes ++ (opening_rows o ++ (closing_rows w.closing ++ kept_rows w.kept))) none in
+      let rows : (w : Transcript) → w.opening ≡ None → rows_after w ≡ threads_rows 0 w.outcomes ++ (closing_rows w.closing ++ kept_rows w.kept) =
+      λ w none. ap (λ o. threads_rows 0 w.outcomes ++ (opening_rows o ++ (closing_rows w.closing ++ kept_rows w.kept))) none in
       let joined = sym (rows t to) ∙ same_after t u ft fu e ∙ rows u uo in
-      let parts = same_threads 0 t.outcomes u.outcomes (closing_rows t.closing ++ kept_rows t.kept) (closing_rows u.closing ++ kept_rows u.kept) (omega (arith, ft.few)) (rt ∙ sym ru) ft.short ft.outcomes fu.outcomes
+      let parts = same_threads 0 t.outcomes u.outcomes (closing_rows t.closing ++ kept_rows t.kept) (closing_rows u.closing ++ kept_rows u.kept)
+      (omega (arith, ft.few)) (rt ∙ sym ru) ft.short ft.outcomes fu.outcomes
       (λ c d h. closing_not c d t.closing t.kept h) (λ c d h. closing_not c d u.closing u.kept h) joined in
-      all_same t u (same_history t u ft.history fu.history e) parts.0 (to ∙ sym uo) (same_closing t.closing u.closing t.kept u.kept ft.closing fu.closing parts.1) (same_kept t u ft.kept fu.kept e)
+      all_same t u (same_history t u ft.history fu.history e) parts.0 (to ∙ sym uo)
+      (same_closing t.closing u.closing t.kept u.kept ft.closing fu.closing parts.1) (same_kept t u ft.kept fu.kept e)
   by_opening None (Some f) to uo rt ru = absurd (openings_apart t u f ft to uo ru.0 (same_after t u ft fu e))
   by_opening (Some f) None to uo rt ru = absurd (openings_apart u t f fu uo to rt.0 (sym (same_after t u ft fu e)))
   by_opening (Some f) (Some g) to uo rt ru =
       let joined = sym (opened t f to rt.0) ∙ same_after t u ft fu e ∙ opened u g uo ru.0 in
-      let event : f ≡ g = same_opening f g (closing_rows t.closing ++ kept_rows t.kept) (closing_rows u.closing ++ kept_rows u.kept) (subst OpeningFits to ft.opening) (subst OpeningFits uo fu.opening) joined in
-      all_same t u (same_history t u ft.history fu.history e) (rt.0 ∙ sym ru.0) (to ∙ ap Some event ∙ sym uo) (rt.1 ∙ sym ru.1) (same_kept t u ft.kept fu.kept e)
+      let event : f ≡ g = same_opening f g (closing_rows t.closing ++ kept_rows t.kept) (closing_rows u.closing ++ kept_rows u.kept)
+      (subst OpeningFits to ft.opening) (subst OpeningFits uo fu.opening) joined in
+      all_same t u (same_history t u ft.history fu.history e) (rt.0 ∙ sym ru.0) (to ∙ ap Some event ∙ sym uo) (rt.1 ∙ sym ru.1)
+      (same_kept t u ft.kept fu.kept e)
 
   pub one_transcript : Ran script t t.opening → Ran script u u.opening → t ≡ u
   one_transcript rt ru = by_opening t.opening u.opening refl refl rt ru

@@ -78,10 +78,12 @@ outcome_text thread (command, Flushed front) = sym (append-nil (outcome_line thr
 outcome_text thread (command, Drive unit event) = sym (append-nil (outcome_line thread (command, Drive unit event)))
 outcome_text thread (command, Worn wanted have) = sym (append-nil (outcome_line thread (command, Worn wanted have)))
 
-texts_joined : {X : Type 0} (f : X → List ℕ) (g : X → List Row) → ((x : X) → f x ≡ flat_map row_text (g x)) → (xs : List X) → flat_map f xs ≡ flat_map row_text (flat_map g xs)
+texts_joined : {X : Type 0} (f : X → List ℕ) (g : X → List Row) → ((x : X) → f x ≡ flat_map row_text (g x)) → (xs : List X)
+    → flat_map f xs ≡ flat_map row_text (flat_map g xs)
 texts_joined f g each [] = refl
 texts_joined f g each (x ∷ xs) =
-    ap (λ u. u ++ flat_map f xs) (each x) ∙ ap (λ u. flat_map row_text (g x) ++ u) (texts_joined f g each xs) ∙ sym (flat_map-append row_text (g x) (flat_map g xs))
+    ap (λ u. u ++ flat_map f xs) (each x) ∙ ap (λ u. flat_map row_text (g x) ++ u) (texts_joined f g each xs)
+    ∙ sym (flat_map-append row_text (g x) (flat_map g xs))
 
 thread_text_is : (t : ℕ × List Outcome) → thread_text t ≡ flat_map row_text (thread_rows t)
 thread_text_is t = texts_joined (outcome_line t.0) (outcome_rows t.0) (outcome_text t.0) (enumerate_from 0 t.1)
@@ -98,10 +100,12 @@ closing_text (ClosedWorn wanted have) = sym (append-nil (closing_line (ClosedWor
 kept_text : (kept : ℕ) → kept_line kept ≡ flat_map row_text (kept_rows kept)
 kept_text kept = sym (append-nil (kept_line kept))
 
-pub rows_text : (t : Transcript) → flat_map thread_text (enumerate_from 0 t.outcomes) ++ (opening_line t.opening ++ (closing_line t.closing ++ kept_line t.kept))
+pub rows_text : (t : Transcript)
+    → flat_map thread_text (enumerate_from 0 t.outcomes) ++ (opening_line t.opening ++ (closing_line t.closing ++ kept_line t.kept))
     ≡ flat_map row_text (threads_rows 0 t.outcomes ++ last_rows t)
 rows_text t =
-    let threads : flat_map thread_text (enumerate_from 0 t.outcomes) ≡ flat_map row_text (threads_rows 0 t.outcomes) = texts_joined thread_text thread_rows thread_text_is (enumerate_from 0 t.outcomes) in
+    let threads : flat_map thread_text (enumerate_from 0 t.outcomes) ≡ flat_map row_text (threads_rows 0 t.outcomes) =
+    texts_joined thread_text thread_rows thread_text_is (enumerate_from 0 t.outcomes) in
     let last : opening_line t.opening ++ (closing_line t.closing ++ kept_line t.kept) ≡ flat_map row_text (last_rows t) =
     ap (λ u. u ++ (closing_line t.closing ++ kept_line t.kept)) (opening_text t.opening)
     ∙ ap (λ u. flat_map row_text (opening_rows t.opening) ++ (u ++ kept_line t.kept)) (closing_text t.closing)
@@ -119,35 +123,79 @@ plain_words [] h = tt
 plain_words (Tag t ∷ words) h = (plain_decimal t h.0, plain_words words h.1)
 plain_words (Mixed ∷ words) h = ((omega arith, (omega arith, (omega arith, (omega arith, (omega arith, tt))))), plain_words words h.1)
 
-plain_outcome : (thread command : ℕ) (o : Outcome) → thread < 10 ^ 64 → command < 10 ^ 64 → OutcomeFits o → AllByRecursion IsPlainRow (outcome_rows thread (command, o))
+plain_outcome : (thread command : ℕ) (o : Outcome) → thread < 10 ^ 64 → command < 10 ^ 64 → OutcomeFits o
+    → AllByRecursion IsPlainRow (outcome_rows thread (command, o))
 plain_outcome thread command Silent ht hc h = tt
-plain_outcome thread command (Words front words) ht hc h = (record { word = (omega arith, tt); fields = (plain_decimal thread ht, (plain_decimal command hc, (plain_decimal front h.0, plain_words words h.1))) }, tt)
-plain_outcome thread command (Flushed front) ht hc h = (record { word = (omega arith, tt); fields = (plain_decimal thread ht, (plain_decimal command hc, (plain_decimal front h, tt))) }, tt)
-plain_outcome thread command (Drive unit event) ht hc h = (record { word = (omega arith, tt); fields = (plain_decimal thread ht, (plain_decimal command hc, (plain_decimal unit h.0, (plain_decimal event h.1, tt)))) }, tt)
-plain_outcome thread command (Worn wanted have) ht hc h = (record { word = (omega arith, (omega arith, (omega arith, (omega arith, tt)))); fields = (plain_decimal thread ht, (plain_decimal command hc, (plain_decimal wanted h.0, (plain_decimal have h.1, tt)))) }, tt)
+plain_outcome thread command (Words front words) ht hc h =
+    (record { word = (omega arith, tt); fields = (plain_decimal thread ht, (plain_decimal command hc, (plain_decimal front h.0, plain_words words h.1))) }, tt)
+plain_outcome thread command (Flushed front) ht hc h =
+    (record { word = (omega arith, tt); fields = (plain_decimal thread ht, (plain_decimal command hc, (plain_decimal front h, tt))) }, tt)
+plain_outcome thread command (Drive unit event) ht hc h = (
+  record {
+    word = (omega arith, tt);
+    fields =
+        (plain_decimal thread ht, (plain_decimal command hc, (plain_decimal unit h.0, (plain_decimal event h.1, tt))));
+  },
+  tt,
+)
+plain_outcome thread command (Worn wanted have) ht hc h = (
+  record {
+    word = (omega arith, (omega arith, (omega arith, (omega arith, tt))));
+    fields =
+        (plain_decimal thread ht, (plain_decimal command hc, (plain_decimal wanted h.0, (plain_decimal have h.1, tt))));
+  },
+  tt,
+)
 
-plain_outcomes : (thread n : ℕ) (os : List Outcome) → thread < 10 ^ 64 → n + length os ≤ 10 ^ 64 → AllByRecursion OutcomeFits os → AllByRecursion IsPlainRow (flat_map (outcome_rows thread) (enumerate_from n os))
+plain_outcomes : (thread n : ℕ) (os : List Outcome) → thread < 10 ^ 64 → n + length os ≤ 10 ^ 64 → AllByRecursion OutcomeFits os
+    → AllByRecursion IsPlainRow (flat_map (outcome_rows thread) (enumerate_from n os))
 plain_outcomes thread n [] ht hn h = tt
-plain_outcomes thread n (o ∷ os) ht hn h = all_append IsPlainRow (outcome_rows thread (n, o)) _ (plain_outcome thread n o ht (omega arith) h.0) (plain_outcomes thread (n + 1) os ht (omega arith) h.1)
+plain_outcomes thread n (o ∷ os) ht hn h =
+    all_append IsPlainRow (outcome_rows thread (n, o)) _ (plain_outcome thread n o ht (omega arith) h.0) (plain_outcomes thread (n + 1) os ht (omega arith) h.1)
 
 abbrev pub AreShort : List (List Outcome) → Type 0
 AreShort outcomes = AllByRecursion (λ os. length os ≤ 10 ^ 64) outcomes
 
-pub plain_threads : (n : ℕ) (outcomes : List (List Outcome)) → n + length outcomes ≤ 10 ^ 64 → AreShort outcomes → AllByRecursion (AllByRecursion OutcomeFits) outcomes → AllByRecursion IsPlainRow (threads_rows n outcomes)
+pub plain_threads : (n : ℕ) (outcomes : List (List Outcome)) → n + length outcomes ≤ 10 ^ 64 → AreShort outcomes
+    → AllByRecursion (AllByRecursion OutcomeFits) outcomes → AllByRecursion IsPlainRow (threads_rows n outcomes)
 plain_threads n [] hn hs h = tt
-plain_threads n (os ∷ outcomes) hn hs h = all_append IsPlainRow (thread_rows (n, os)) _ (plain_outcomes n 0 os (omega arith) (omega (arith, hs.0)) h.0) (plain_threads (n + 1) outcomes (omega arith) hs.1 h.1)
+plain_threads n (os ∷ outcomes) hn hs h =
+    all_append IsPlainRow (thread_rows (n, os)) _ (plain_outcomes n 0 os (omega arith) (omega (arith, hs.0)) h.0)
+    (plain_threads (n + 1) outcomes (omega arith) hs.1 h.1)
 
 plain_opening : (o : Option (ℕ × ℕ)) → OpeningFits o → AllByRecursion IsPlainRow (opening_rows o)
 plain_opening None h = tt
-plain_opening (Some e) h = (record { word = (omega arith, tt); fields = ((omega arith, (omega arith, (omega arith, (omega arith, tt)))), (plain_decimal e.0 h.0, (plain_decimal e.1 h.1, tt))) }, tt)
+plain_opening (Some e) h = (
+  record {
+    word = (omega arith, tt);
+    fields =
+        ((omega arith, (omega arith, (omega arith, (omega arith, tt)))), (plain_decimal e.0 h.0, (plain_decimal e.1 h.1, tt)));
+  },
+  tt,
+)
 
 plain_closing : (c : Closing) → ClosingFits c → AllByRecursion IsPlainRow (closing_rows c)
 plain_closing Closed h = tt
-plain_closing (ClosedByDrive unit event) h = (record { word = (omega arith, tt); fields = ((omega arith, (omega arith, (omega arith, (omega arith, (omega arith, tt))))), (plain_decimal unit h.0, (plain_decimal event h.1, tt))) }, tt)
-plain_closing (ClosedWorn wanted have) h = (record { word = (omega arith, (omega arith, (omega arith, (omega arith, tt)))); fields = ((omega arith, (omega arith, (omega arith, (omega arith, (omega arith, tt))))), (plain_decimal wanted h.0, (plain_decimal have h.1, tt))) }, tt)
+plain_closing (ClosedByDrive unit event) h = (
+  record {
+    word = (omega arith, tt);
+    fields =
+        ((omega arith, (omega arith, (omega arith, (omega arith, (omega arith, tt))))), (plain_decimal unit h.0, (plain_decimal event h.1, tt)));
+  },
+  tt,
+)
+plain_closing (ClosedWorn wanted have) h = (
+  record {
+    word = (omega arith, (omega arith, (omega arith, (omega arith, tt))));
+    fields =
+        ((omega arith, (omega arith, (omega arith, (omega arith, (omega arith, tt))))), (plain_decimal wanted h.0, (plain_decimal have h.1, tt)));
+  },
+  tt,
+)
 
 plain_kept : (kept : ℕ) → kept < 10 ^ 64 → AllByRecursion IsPlainRow (kept_rows kept)
 plain_kept kept h = (record { word = (omega arith, (omega arith, (omega arith, (omega arith, tt)))); fields = (plain_decimal kept h, tt) }, tt)
 
 pub plain_last : (t : Transcript) → OpeningFits t.opening → ClosingFits t.closing → t.kept < 10 ^ 64 → AllByRecursion IsPlainRow (last_rows t)
-plain_last t ho hc hk = all_append IsPlainRow (opening_rows t.opening) _ (plain_opening t.opening ho) (all_append IsPlainRow (closing_rows t.closing) (kept_rows t.kept) (plain_closing t.closing hc) (plain_kept t.kept hk))
+plain_last t ho hc hk = all_append IsPlainRow (opening_rows t.opening) _ (plain_opening t.opening ho)
+    (all_append IsPlainRow (closing_rows t.closing) (kept_rows t.kept) (plain_closing t.closing hc) (plain_kept t.kept hk))

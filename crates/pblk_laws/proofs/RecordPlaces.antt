@@ -17,7 +17,8 @@ use Rattle.pblk_model.proofs.Maps.{all_filter, all_filter_map, all_flat_map}
 IsOfPlace : ℕ → ℕ → Record → Type 0
 IsOfPlace line a r = (r.line ≡ line) × (r.at ≡ a)
 
-named_place : (line seq a position : ℕ) (sector : List ℕ) (o : Option (Option ℕ)) → IfSome (option_map (λ lba. record { line = line; seq = seq; at = a; position = position; lba = lba; sector = sector }) o) (IsOfPlace line a)
+named_place : (line seq a position : ℕ) (sector : List ℕ) (o : Option (Option ℕ))
+    → IfSome (option_map (λ lba. record { line = line; seq = seq; at = a; position = position; lba = lba; sector = sector }) o) (IsOfPlace line a)
 unfolding IsOfPlace
 named_place line seq a position sector None = tt
 named_place line seq a position sector (Some lba) = (refl, refl)
@@ -35,7 +36,8 @@ block_place i line a start e (Some block) = mark_place i.shape line start.seq a 
 abbrev IsThere : Image → Record → Type 0
 IsThere i r = (start : StartRecord) × (start_of i r.line ≡ Some start) × (record_at i r.line start r.at ≡ Some r)
 
-there_is : (i : Image) (line a : ℕ) (start : StartRecord) (o : Option Record) → start_of i line ≡ Some start → record_at i line start a ≡ o → IfSome o (IsOfPlace line a) → IfSome o (IsThere i)
+there_is : (i : Image) (line a : ℕ) (start : StartRecord) (o : Option Record) → start_of i line ≡ Some start → record_at i line start a ≡ o
+    → IfSome o (IsOfPlace line a) → IfSome o (IsThere i)
 unfolding IsOfPlace
 there_is i line a start None e f place = tt
 there_is i line a start (Some r) e f place = (

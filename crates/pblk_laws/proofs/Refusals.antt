@@ -1,5 +1,5 @@
 -- No refusal of an image, or of the numbers of one that is to be made, is want of memory.
-use Rattle.std.proofs.Common.{◌≡◌, ℕ, suc, zero, Bool, true, false, List, [], ◌∷◌, map, Option, Some, None, refl, subst}
+use Rattle.std.proofs.Common.{◌≡◌, ℕ, Bool, true, false, List, [], ◌∷◌, map, Option, Some, None, refl, subst}
 use Rattle.std.specs.List.{AllByRecursion, range_with_len}
 use Rattle.std.specs.Option.{option_map}
 use Rattle.std.specs.Prelude.{◌≢◌, ⊤}
@@ -8,7 +8,7 @@ use Rattle.pblk_model.specs.declared.image.ImageErr.TheVariants as errors
 use Rattle.pblk_model.specs.Checks.{first_failing, first_refusal, unless}
 use Rattle.pblk_model.specs.CommandText.{CreateNumbers, created_geometry, created_refusal}
 use Rattle.pblk_model.specs.Geometry.{geometry_refusal, shape_with}
-use Rattle.pblk_model.specs.ImageFile.{blocks_end, chunk_checks, chunk_refusal, chunks_at, descriptor_at, descriptors_end, geometry_at, image_refusal, image_refusals, shape_at, short_of}
+use Rattle.pblk_model.specs.ImageFile.{chunk_refusal, chunks_at, geometry_at, image_refusal, image_refusals, shape_at}
 use Rattle.pblk_model.specs.Accepted.{settings_checks}
 
 -- what holds of a refusal, if there is one

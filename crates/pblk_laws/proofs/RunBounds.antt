@@ -29,11 +29,13 @@ record WriteFits (w : PlacedWrite) : Type 0 where
 holds_own : (P : PlacedWrite → Type 0) (w : PlacedWrite) (kept : List PlacedWrite) → AllByRecursion P (cond (w.thread == w.thread) (w ∷ kept) kept) → P w
 holds_own P w kept h = (rw (eq-eqb w.thread w.thread refl) at h).0
 
-holds_rest : (P : PlacedWrite → Type 0) (b : Bool) (w : PlacedWrite) (kept : List PlacedWrite) → AllByRecursion P (cond b (w ∷ kept) kept) → AllByRecursion P kept
+holds_rest : (P : PlacedWrite → Type 0) (b : Bool) (w : PlacedWrite) (kept : List PlacedWrite) → AllByRecursion P (cond b (w ∷ kept) kept)
+    → AllByRecursion P kept
 holds_rest P true w kept h = h.1
 holds_rest P false w kept h = h
 
-holds_by_thread : (P : PlacedWrite → Type 0) (order : List PlacedWrite) → ((i : ℕ) → AllByRecursion P (filter (λ w. w.thread == i) order)) → AllByRecursion P order
+holds_by_thread : (P : PlacedWrite → Type 0) (order : List PlacedWrite) → ((i : ℕ) → AllByRecursion P (filter (λ w. w.thread == i) order))
+    → AllByRecursion P order
 holds_by_thread P [] each = tt
 holds_by_thread P (w ∷ order) each =
     (holds_own P w _ (each w.thread), holds_by_thread P order (λ i. holds_rest P (w.thread == i) w _ (each i)))
@@ -54,7 +56,8 @@ filter_twice p q (w ∷ order) =
     let more = filter_twice p q order in
     elim (cases_Bool (q w)) [ inl e ↦ rw e (longer_both (p w) w _ _ more) | inr e ↦ rw e (longer_one (p w) w _ _ more) ]
 
-below_last : (n : ℕ) (order : List PlacedWrite) → AllByRecursion (λ w. w.thread < suc n) order → AllByRecursion (λ w. w.thread < n) (filter (λ w. not (w.thread == n)) order)
+below_last : (n : ℕ) (order : List PlacedWrite) → AllByRecursion (λ w. w.thread < suc n) order
+    → AllByRecursion (λ w. w.thread < n) (filter (λ w. not (w.thread == n)) order)
 below_last n [] h = tt
 below_last n (w ∷ order) h =
     elim (cases_Bool (w.thread == n)) [
@@ -62,12 +65,14 @@ below_last n (w ∷ order) h =
       | inr e ↦ let other = eqb-false w.thread n e in rw e (omega (arith, h.0), below_last n order h.1)
     ]
 
-length_by_thread : (k n : ℕ) (order : List PlacedWrite) → AllByRecursion (λ w. w.thread < n) order → ((i : ℕ) → length (filter (λ w. w.thread == i) order) ≤ k) → length order ≤ n * k
+length_by_thread : (k n : ℕ) (order : List PlacedWrite) → AllByRecursion (λ w. w.thread < n) order → ((i : ℕ) → length (filter (λ w. w.thread == i) order) ≤ k)
+    → length order ≤ n * k
 length_by_thread k zero [] h each = omega arith
 length_by_thread k zero (w ∷ order) h each = absurd (omega (arith, h.0))
 length_by_thread k (suc n) order h each =
     let others = filter (λ (w : PlacedWrite). not (w.thread == n)) order in
-    let less = length_by_thread k n others (below_last n order h) (λ i. let twice = filter_twice (λ w. w.thread == i) (λ w. not (w.thread == n)) order in omega (arith, twice, each i)) in
+    let less = length_by_thread k n others (below_last n order h)
+    (λ i. let twice = filter_twice (λ w. w.thread == i) (λ w. not (w.thread == n)) order in omega (arith, twice, each i)) in
     let both = length-filter_both (λ (w : PlacedWrite). w.thread == n) (λ w. not (w.thread == n)) (λ w. refl) order in
     omega (arith, less, both, each n)
 
@@ -85,17 +90,20 @@ one_fits capacity i Flush o more l fits h = h
 one_fits capacity i (Post name) o more l fits h = h
 one_fits capacity i (Await name) o more l fits h = h
 
-commands_fit : (capacity i : ℕ) (cs : List Command) (os : List Outcome) → i < 16 → AllByRecursion (CommandFits capacity) cs → AllByRecursion WriteFits (filter_map (placed_write i) (zip cs os))
+commands_fit : (capacity i : ℕ) (cs : List Command) (os : List Outcome) → i < 16 → AllByRecursion (CommandFits capacity) cs
+    → AllByRecursion WriteFits (filter_map (placed_write i) (zip cs os))
 commands_fit capacity i [] os l fits = tt
 commands_fit capacity i (c ∷ cs) [] l fits = tt
 commands_fit capacity i (c ∷ cs) (o ∷ os) l fits = one_fits capacity i c o _ l fits.0 (commands_fit capacity i cs os l fits.1)
 
-thread_fits : (capacity : ℕ) (script : List (List Command)) (i : ℕ) → AllByRecursion (AllByRecursion (CommandFits capacity)) script → AllByRecursion (CommandFits capacity) (unwrap_or (slice_get script i) [])
+thread_fits : (capacity : ℕ) (script : List (List Command)) (i : ℕ) → AllByRecursion (AllByRecursion (CommandFits capacity)) script
+    → AllByRecursion (CommandFits capacity) (unwrap_or (slice_get script i) [])
 thread_fits capacity [] i fits = tt
 thread_fits capacity (cs ∷ script) zero fits = fits.0
 thread_fits capacity (cs ∷ script) (suc i) fits = thread_fits capacity script i fits.1
 
-placed_fit : (capacity : ℕ) (script : List (List Command)) (t : Transcript) (i : ℕ) → ScriptFits capacity script → AllByRecursion WriteFits (placed_by script t i)
+placed_fit : (capacity : ℕ) (script : List (List Command)) (t : Transcript) (i : ℕ) → ScriptFits capacity script
+    → AllByRecursion WriteFits (placed_by script t i)
 placed_fit capacity script t i fits =
     elim (cases_lt i 16) [
       | inl l ↦ commands_fit capacity i _ _ l (thread_fits capacity script i fits.each)
@@ -114,17 +122,29 @@ thread_length (cs ∷ script) (suc i) = omega (arith, sum_by-cons length cs scri
 
 -- The rows of the writes.
 
-sectors_fit : (thread tag lba count : ℕ) → thread < 16 → tag < 2 ^ 64 → lba + count < 2 ^ 65 → AllByRecursion RowFits (map (λ at. record { thread = thread; lba = at; tag = tag }) (range_with_len lba count))
+sectors_fit : (thread tag lba count : ℕ) → thread < 16 → tag < 2 ^ 64 → lba + count < 2 ^ 65
+    → AllByRecursion RowFits (map (λ at. record { thread = thread; lba = at; tag = tag }) (range_with_len lba count))
 sectors_fit thread tag lba zero h k l = tt
-sectors_fit thread tag lba (suc count) h k l = (record { thread = omega arith; lba = omega arith; tag = omega arith }, sectors_fit thread tag (lba + 1) count h k (omega arith))
+sectors_fit thread tag lba (suc count) h k l =
+    (record { thread = omega arith; lba = omega arith; tag = omega arith }, sectors_fit thread tag (lba + 1) count h k (omega arith))
 
 rows_fit : (order : List PlacedWrite) → AllByRecursion WriteFits order → AllByRecursion RowFits (flat_map rows_of order)
 rows_fit [] h = tt
-rows_fit (w ∷ order) h = let f = h.0 in all_append RowFits (rows_of w) (flat_map rows_of order) (sectors_fit w.thread w.tag w.lba w.count f.thread f.tag (omega arith)) (rows_fit order h.1)
+rows_fit (w ∷ order) h =
+    let f = h.0 in
+    all_append RowFits (rows_of w) (flat_map rows_of order) (sectors_fit w.thread w.tag w.lba w.count f.thread f.tag (omega arith)) (rows_fit order h.1)
 
 rows_length : (order : List PlacedWrite) → AllByRecursion WriteFits order → length (flat_map rows_of order) ≤ length order * 16
 rows_length [] h = omega arith
-rows_length (w ∷ order) h = let f = h.0 in omega (arith, length-append (rows_of w) (flat_map rows_of order), length-map (range_with_len w.lba w.count) (λ lba. row_of w.thread lba w.tag), length-range_with_len w.lba w.count, rows_length order h.1)
+rows_length (w ∷ order) h =
+    let f = h.0 in
+    omega (
+      arith,
+      length-append (rows_of w) (flat_map rows_of order),
+      length-map (range_with_len w.lba w.count) (λ lba. row_of w.thread lba w.tag),
+      length-range_with_len w.lba w.count,
+      rows_length order h.1,
+    )
 
 threads_fit : (order : List PlacedWrite) → AllByRecursion WriteFits order → AllByRecursion (λ w. w.thread < 16) order
 threads_fit [] h = tt
@@ -132,7 +152,8 @@ threads_fit (w ∷ order) h = (h.0.thread, threads_fit order h.1)
 
 -- The history of a run.
 
-module _ (size capacity : ℕ) (script : List (List Command)) (before : List (List ℕ)) (t : Transcript) (fits : ScriptFits capacity script) (run : IsTranscript size script before t) where
+module _ (size capacity : ℕ) (script : List (List Command)) (before : List (List ℕ)) (t : Transcript) (fits : ScriptFits capacity script)
+    (run : IsTranscript size script before t) where
   order_fits : AllByRecursion WriteFits run.order
   order_fits = holds_by_thread WriteFits run.order (λ i. subst (AllByRecursion WriteFits) (sym (run.each i)) (placed_fit capacity script t i fits))
 
@@ -140,7 +161,8 @@ module _ (size capacity : ℕ) (script : List (List Command)) (before : List (Li
   history_fits = subst (AllByRecursion RowFits) (sym run.history) (rows_fit run.order order_fits)
 
   thread_short : (i : ℕ) → length (filter (λ w. w.thread == i) run.order) ≤ 200000
-  thread_short i = rw (run.each i) (omega (arith, commands_length i (unwrap_or (slice_get script i) []) (unwrap_or (slice_get t.outcomes i) []), thread_length script i, fits.commands))
+  thread_short i = rw (run.each i)
+      (omega (arith, commands_length i (unwrap_or (slice_get script i) []) (unwrap_or (slice_get t.outcomes i) []), thread_length script i, fits.commands))
 
   pub history_short : length t.history < 10 ^ 64
   history_short =

@@ -12,7 +12,8 @@ and_then_all_none : {A B : Type 0} (f : A → Option B) (o : Option A) → ((x :
 and_then_all_none f None h = refl
 and_then_all_none f (Some x) h = h x
 
-more : (i : Image) (line a n : ℕ) (b : Block) (bs : List Block) → block_at i line a ≡ Some b → ((k : ℕ) → k < n → block_at i line (a + 1 + k) ≡ slice_get bs k) → (k : ℕ) → k < suc n → block_at i line (a + k) ≡ slice_get (b ∷ bs) k
+more : (i : Image) (line a n : ℕ) (b : Block) (bs : List Block) → block_at i line a ≡ Some b → ((k : ℕ) → k < n → block_at i line (a + 1 + k) ≡ slice_get bs k)
+    → (k : ℕ) → k < suc n → block_at i line (a + k) ≡ slice_get (b ∷ bs) k
 more i line a n b bs here rest zero below = subst (λ x. block_at i line x ≡ Some b) (sym (add-zero a)) here
 more i line a n b bs here rest (suc k) below = subst (λ x. block_at i line x ≡ slice_get bs k) (omega arith) (rest k (omega arith))
 
@@ -26,19 +27,23 @@ run_none i line a (suc n) zero h none =
 run_none i line a (suc n) (suc k) h none =
     let there : block_at i line ((a + 1) + k) ≡ None = subst (λ x. block_at i line x ≡ None) (omega arith) none in
     let rest : written_run i line (a + 1) n ≡ None = run_none i line (a + 1) n k (omega arith) there in
-    and_then_all_none (λ block. option_map (λ blocks. block ∷ blocks) (written_run i line (a + 1) n)) (block_at i line a) (λ block. ap (option_map (λ blocks. block ∷ blocks)) rest)
+    and_then_all_none (λ block. option_map (λ blocks. block ∷ blocks) (written_run i line (a + 1) n)) (block_at i line a)
+    (λ block. ap (option_map (λ blocks. block ∷ blocks)) rest)
 
 -- a run of written blocks is those blocks
-pub run_some : (i : Image) (line a : ℕ) (blocks : List Block) → ((k : ℕ) → k < length blocks → block_at i line (a + k) ≡ slice_get blocks k) → written_run i line a (length blocks) ≡ Some blocks
+pub run_some : (i : Image) (line a : ℕ) (blocks : List Block) → ((k : ℕ) → k < length blocks → block_at i line (a + k) ≡ slice_get blocks k)
+    → written_run i line a (length blocks) ≡ Some blocks
 unfolding written_run
 run_some i line a [] h = refl
 run_some i line a (b ∷ bs) h =
     let here : block_at i line a ≡ Some b = subst (λ x. block_at i line x ≡ Some b) (add-zero a) (h 0 (omega arith)) in
     let rest : written_run i line (a + 1) (length bs) ≡ Some bs =
     run_some i line (a + 1) bs (λ k below. subst (λ x. block_at i line x ≡ slice_get bs k) (omega arith) (h (suc k) (omega arith))) in
-    ap (option_and_then (λ block. option_map (λ blocks. block ∷ blocks) (written_run i line (a + 1) (length bs)))) here ∙ ap (option_map (λ blocks. b ∷ blocks)) rest
+    ap (option_and_then (λ block. option_map (λ blocks. block ∷ blocks) (written_run i line (a + 1) (length bs)))) here
+    ∙ ap (option_map (λ blocks. b ∷ blocks)) rest
 
-cons_run : (o : Option Block) (rest : Option (List Block)) (blocks : List Block) → option_and_then (λ b. option_map (λ bs. b ∷ bs) rest) o ≡ Some blocks → (b : Block) × (bs : List Block) × (o ≡ Some b) × (rest ≡ Some bs) × (b ∷ bs ≡ blocks)
+cons_run : (o : Option Block) (rest : Option (List Block)) (blocks : List Block) → option_and_then (λ b. option_map (λ bs. b ∷ bs) rest) o ≡ Some blocks
+    → (b : Block) × (bs : List Block) × (o ≡ Some b) × (rest ≡ Some bs) × (b ∷ bs ≡ blocks)
 cons_run None rest blocks h = absurd (none-some blocks h)
 cons_run (Some b) None blocks h = absurd (none-some blocks h)
 cons_run (Some b) (Some bs) blocks h = (b, bs, refl, refl, same_Some (b ∷ bs) blocks h)
@@ -65,4 +70,5 @@ run_is i line a (suc n) blocks h =
 pub start_none : (i : Image) (line k : ℕ) → k < start_len i.shape → block_at i line k ≡ None → start_of i line ≡ None
 start_none i line k h none =
     let there : block_at i line (0 + k) ≡ None = subst (λ x. block_at i line x ≡ None) (omega arith) none in
-    ap (option_and_then (λ blocks. marked_start blocks (read_start i.shape line (width i line) (flat_map (λ (b : Block). b.sector) blocks)))) (run_none i line 0 (start_len i.shape) k h there)
+    ap (option_and_then (λ blocks. marked_start blocks (read_start i.shape line (width i line) (flat_map (λ (b : Block). b.sector) blocks))))
+    (run_none i line 0 (start_len i.shape) k h there)

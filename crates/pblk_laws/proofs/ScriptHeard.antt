@@ -27,7 +27,8 @@ pub record IsHeard (capacity : ℕ) (before : List Said) (line : Line) (x : ℕ 
   pub limit : limit_holds before x.1 ≡ true
   pub range : range_holds capacity x.1 ≡ true
 
-by_tests : {A : Type 0} (f e l r : Bool) (form limit range : ScriptErr) (y x : A) → option_map_or Err (first_refusal (unless f form ∷ unless (e && l) limit ∷ unless r range ∷ [])) (Ok y) ≡ Ok x
+by_tests : {A : Type 0} (f e l r : Bool) (form limit range : ScriptErr) (y x : A)
+    → option_map_or Err (first_refusal (unless f form ∷ unless (e && l) limit ∷ unless r range ∷ [])) (Ok y) ≡ Ok x
     → (f ≡ true) × (e ≡ true) × (l ≡ true) × (r ≡ true) × (y ≡ x)
 by_tests false e l r form limit range y x h = absurd (cc)
 by_tests true false l r form limit range y x h = absurd (cc)
@@ -35,11 +36,13 @@ by_tests true true false r form limit range y x h = absurd (cc)
 by_tests true true true false form limit range y x h = absurd (cc)
 by_tests true true true true form limit range y x h = (refl, refl, refl, refl, cc)
 
-heard_is : (capacity : ℕ) (before : List Said) (line : Line) (o : Option Said) (x : ℕ × Said) → said_in line.bytes ≡ o → placed capacity before line o ≡ Ok x → IsHeard capacity before line x
+heard_is : (capacity : ℕ) (before : List Said) (line : Line) (o : Option Said) (x : ℕ × Said) → said_in line.bytes ≡ o → placed capacity before line o ≡ Ok x
+    → IsHeard capacity before line x
 heard_is capacity before line None x says e = absurd (cc)
 heard_is capacity before line (Some said) x says e =
     let n = line_number line.number in
-    let t = by_tests (form_holds before said) (nat_lt line.offset 4194304) (limit_holds before said) (range_holds capacity said) (errors.Form n) (errors.Limit n) (errors.Range n) (n, said) x e in
+    let t = by_tests (form_holds before said) (nat_lt line.offset 4194304) (limit_holds before said) (range_holds capacity said) (errors.Form n)
+    (errors.Limit n) (errors.Range n) (n, said) x e in
     let same : said ≡ x.1 = ap (λ y. y.1) t.4 in
     record {
       says = says ∙ ap Some same;
@@ -54,11 +57,13 @@ tests_pass : {A : Type 0} (f e l r : Bool) (form limit range : ScriptErr) (y : A
     → option_map_or Err (first_refusal (unless f form ∷ unless (e && l) limit ∷ unless r range ∷ [])) (Ok y) ≡ Ok y
 tests_pass f e l r form limit range y hf he hl hr = rw hf (rw he (rw hl (rw hr refl)))
 
-is_heard : (capacity : ℕ) (before : List Said) (line : Line) (x : ℕ × Said) → IsHeard capacity before line x → placed capacity before line (said_in line.bytes) ≡ Ok x
+is_heard : (capacity : ℕ) (before : List Said) (line : Line) (x : ℕ × Said) → IsHeard capacity before line x
+    → placed capacity before line (said_in line.bytes) ≡ Ok x
 is_heard capacity before line x h =
     let n = line_number line.number in
     ap (placed capacity before line) h.says
-    ∙ tests_pass (form_holds before x.1) (nat_lt line.offset 4194304) (limit_holds before x.1) (range_holds capacity x.1) (errors.Form n) (errors.Limit n) (errors.Range n) (n, x.1) h.form h.early h.limit h.range
+    ∙ tests_pass (form_holds before x.1) (nat_lt line.offset 4194304) (limit_holds before x.1) (range_holds capacity x.1) (errors.Form n) (errors.Limit n)
+    (errors.Range n) (n, x.1) h.form h.early h.limit h.range
     ∙ ap (λ m. Ok (m, x.1)) (sym h.number)
 
 -- Lines that are heard, one after another.
@@ -72,15 +77,20 @@ then_ok : {A B : Type 0} (r : Result A ScriptErr) (f : A → Result B ScriptErr)
 then_ok (Ok x) f y e = (x, refl, e)
 then_ok (Err d) f y e = absurd (cc)
 
-pub lines_heard : (capacity : ℕ) (before : Heard) (lines : List Line) (heard : Heard) → heard_after capacity before lines ≡ Ok heard → (more : Heard) × (heard ≡ before ++ more) × AreHeard capacity before lines more
+pub lines_heard : (capacity : ℕ) (before : Heard) (lines : List Line) (heard : Heard) → heard_after capacity before lines ≡ Ok heard
+    → (more : Heard) × (heard ≡ before ++ more) × AreHeard capacity before lines more
 unfolding heard_after
 lines_heard capacity before [] heard e = ([], (let same : before ≡ heard = cc in sym same ∙ sym (append-nil before)), tt)
 lines_heard capacity before (line ∷ lines) heard e =
     let first = then_ok (placed capacity (saids before) line (said_in line.bytes)) (λ x. heard_after capacity (before ++ x ∷ []) lines) heard e in
-    let rest = lines_heard capacity (before ++ first.0 ∷ []) lines heard first.2 in
-    (first.0 ∷ rest.0, rest.1 ∙ append_assoc before (first.0 ∷ []) rest.0, (heard_is capacity (saids before) line (said_in line.bytes) first.0 refl first.1, rest.2))
+    let rest = lines_heard capacity (before ++ first.0 ∷ []) lines heard first.2 in (
+      first.0 ∷ rest.0,
+      rest.1 ∙ append_assoc before (first.0 ∷ []) rest.0,
+      (heard_is capacity (saids before) line (said_in line.bytes) first.0 refl first.1, rest.2),
+    )
 
-pub heard_lines : (capacity : ℕ) (before : Heard) (lines : List Line) (more : Heard) → AreHeard capacity before lines more → heard_after capacity before lines ≡ Ok (before ++ more)
+pub heard_lines : (capacity : ℕ) (before : Heard) (lines : List Line) (more : Heard) → AreHeard capacity before lines more
+    → heard_after capacity before lines ≡ Ok (before ++ more)
 unfolding heard_after
 heard_lines capacity before [] [] h = ap Ok (sym (append-nil before))
 heard_lines capacity before [] (x ∷ more) h = absurd h
@@ -90,18 +100,22 @@ heard_lines capacity before (line ∷ lines) (x ∷ more) h =
     ∙ heard_lines capacity (before ++ x ∷ []) lines more h.1 ∙ ap Ok (append_assoc before (x ∷ []) more)
 
 -- the bytes and the places of lines that are heard
-pub heard_bytes : (capacity : ℕ) (before : Heard) (lines : List Line) (more : Heard) → AreHeard capacity before lines more → map (λ line. line.bytes) lines ≡ map said_line (saids more)
+pub heard_bytes : (capacity : ℕ) (before : Heard) (lines : List Line) (more : Heard) → AreHeard capacity before lines more
+    → map (λ line. line.bytes) lines ≡ map said_line (saids more)
 heard_bytes capacity before [] [] h = refl
 heard_bytes capacity before [] (x ∷ more) h = absurd h
 heard_bytes capacity before (line ∷ lines) [] h = absurd h
 heard_bytes capacity before (line ∷ lines) (x ∷ more) h =
-    ap (λ b. b ∷ map (λ line. line.bytes) lines) (said_is_spelled line.bytes x.1 h.0.says).0 ∙ ap (λ bs. said_line x.1 ∷ bs) (heard_bytes capacity (before ++ x ∷ []) lines more h.1)
+    ap (λ b. b ∷ map (λ line. line.bytes) lines) (said_is_spelled line.bytes x.1 h.0.says).0
+    ∙ ap (λ bs. said_line x.1 ∷ bs) (heard_bytes capacity (before ++ x ∷ []) lines more h.1)
 
-pub heard_early : (capacity : ℕ) (before : Heard) (lines : List Line) (more : Heard) → AreHeard capacity before lines more → AllByRecursion (λ line. line.offset < 4194304) lines
+pub heard_early : (capacity : ℕ) (before : Heard) (lines : List Line) (more : Heard) → AreHeard capacity before lines more
+    → AllByRecursion (λ line. line.offset < 4194304) lines
 heard_early capacity before [] [] h = tt
 heard_early capacity before [] (x ∷ more) h = absurd h
 heard_early capacity before (line ∷ lines) [] h = absurd h
-heard_early capacity before (line ∷ lines) (x ∷ more) h = ((Decides-ltb line.offset 4194304).0 h.0.early, heard_early capacity (before ++ x ∷ []) lines more h.1)
+heard_early capacity before (line ∷ lines) (x ∷ more) h =
+    ((Decides-ltb line.offset 4194304).0 h.0.early, heard_early capacity (before ++ x ∷ []) lines more h.1)
 
 -- What a command may be.
 
@@ -116,7 +130,9 @@ name_bytes (b ∷ name) e = let both = both_hold (is_name_byte b) (list_all is_n
     name_byte : (b : ℕ) → is_name_byte b ≡ true → IsNameByte b
     name_byte b e = elim (cases_Bool (nat_le 48 b && nat_le b 57)) [
       | inl digit ↦ let both = both_hold (nat_le 48 b) (nat_le b 57) digit in inl (within_is 48 b both.0, within_is b 57 both.1)
-      | inr other ↦ let letter : (nat_le 97 b && nat_le b 122) ≡ true = (rw other at e) in let both = both_hold (nat_le 97 b) (nat_le b 122) letter in inr (within_is 97 b both.0, within_is b 122 both.1)
+      | inr other ↦ let letter : (nat_le 97 b && nat_le b 122) ≡ true = (rw other at e) in
+          let both = both_hold (nat_le 97 b) (nat_le b 122) letter in
+          inr (within_is 97 b both.0, within_is b 122 both.1)
     ]
 
 bytes_name : (name : List ℕ) → AllByRecursion IsNameByte name → list_all is_name_byte name ≡ true
@@ -143,7 +159,8 @@ name_fits name e = elim (cases_Bool (nat_le 1 (length name) && nat_le (length na
 fits_name : (name : List ℕ) → IsName name → name_of name ≡ Some name
 fits_name name h = rw (le_true 1 (length name) h.some) (rw (le_true (length name) 16 h.short) (rw (bytes_name name h.bytes) refl))
 
-said_fits : (capacity : ℕ) (before : List Said) (said : Said) → Spells said → limit_holds before said ≡ true → range_holds capacity said ≡ true → SaidFits capacity said
+said_fits : (capacity : ℕ) (before : List Said) (said : Said) → Spells said → limit_holds before said ≡ true → range_holds capacity said ≡ true
+    → SaidFits capacity said
 said_fits capacity before Thread s l r = tt
 said_fits capacity before (Commands (Write lba count tag)) s l r =
     let counted = both_hold (nat_le 1 count) (nat_le count 16) (both_hold _ _ l).1 in
@@ -208,7 +225,12 @@ pushed_threads s (Commands c) h l = omega (arith, threads_in-append s (Commands 
 
 pushed_commands : (s : List Said) (x : Said) → commands_in s ≤ 200000 → limit_holds s x ≡ true → commands_in (s ++ x ∷ []) ≤ 200000
 pushed_commands s Thread h l = omega (arith, commands_in-append s (Thread ∷ []), h)
-pushed_commands s (Commands c) h l = omega (arith, commands_in-append s (Commands c ∷ []), (Decides-ltb (commands_in s) 200000).0 (both_hold (nat_lt (commands_in s) 200000) (count_holds (count_of c)) l).0)
+pushed_commands s (Commands c) h l =
+    omega (
+      arith,
+      commands_in-append s (Commands c ∷ []),
+      (Decides-ltb (commands_in s) 200000).0 (both_hold (nat_lt (commands_in s) 200000) (count_holds (count_of c)) l).0,
+    )
 
 sound-push : (capacity : ℕ) (s : List Said) (line : Line) (x : ℕ × Said) → IsSound capacity s → IsHeard capacity s line x → IsSound capacity (s ++ x.1 ∷ [])
 sound-push capacity s line x h is = record {
@@ -222,7 +244,8 @@ sound-push capacity s line x h is = record {
 saids-append : (a b : Heard) → saids (a ++ b) ≡ saids a ++ saids b
 saids-append a b = map-append (λ x. x.1) a b
 
-pub sound_heard : (capacity : ℕ) (before : Heard) (lines : List Line) (more : Heard) → IsSound capacity (saids before) → AreHeard capacity before lines more → IsSound capacity (saids (before ++ more))
+pub sound_heard : (capacity : ℕ) (before : Heard) (lines : List Line) (more : Heard) → IsSound capacity (saids before) → AreHeard capacity before lines more
+    → IsSound capacity (saids (before ++ more))
 sound_heard capacity before [] [] s h = subst (λ b. IsSound capacity (saids b)) (sym (append-nil before)) s
 sound_heard capacity before [] (x ∷ more) s h = absurd h
 sound_heard capacity before (line ∷ lines) [] s h = absurd h
@@ -232,7 +255,8 @@ sound_heard capacity before (line ∷ lines) (x ∷ more) s h =
 
 -- The script that fits.
 
-each_fits : (capacity : ℕ) (s : List Said) → AllByRecursion (SaidFits capacity) s → AllByRecursion (CommandFits capacity) (leading_said s) × AllByRecursion (AllByRecursion (CommandFits capacity)) (threads_said s)
+each_fits : (capacity : ℕ) (s : List Said) → AllByRecursion (SaidFits capacity) s
+    → AllByRecursion (CommandFits capacity) (leading_said s) × AllByRecursion (AllByRecursion (CommandFits capacity)) (threads_said s)
 each_fits capacity [] h = (tt, tt)
 each_fits capacity (Thread ∷ s) h = let rest = each_fits capacity s h.1 in (tt, rest)
 each_fits capacity (Commands c ∷ s) h = let rest = each_fits capacity s h.1 in ((h.0, rest.0), rest.1)
@@ -243,13 +267,15 @@ awaited name s e = elim (cases_Bool (list_any (posts name) s)) [
   | inr none ↦ absurd (true≢false (sym (ap not none) ∙ e))
 ]
 
-posted_at : (name : List ℕ) (s : List Said) → BeginsSaid s → list_any (posts name) s ≡ true → (i : ℕ) × (c : ℕ) × (command_at (threads_said s) i c ≡ Some (Post name))
+posted_at : (name : List ℕ) (s : List Said) → BeginsSaid s → list_any (posts name) s ≡ true
+    → (i : ℕ) × (c : ℕ) × (command_at (threads_said s) i c ≡ Some (Post name))
 posted_at name s b e = elim (post_at name s e) [
   | inl w ↦ absurd (let none : None ≡ Some (Post name) = (rw (no_leading s b) at w.1) in cc)
   | inr w ↦ w
 ]
 
-pub sound_fits : (capacity : ℕ) (s : List Said) → IsSound capacity s → AllByRecursion (λ x. awaits_unposted s x ≡ false) s → ScriptFits capacity (threads_said s)
+pub sound_fits : (capacity : ℕ) (s : List Said) → IsSound capacity s → AllByRecursion (λ x. awaits_unposted s x ≡ false) s
+    → ScriptFits capacity (threads_said s)
 sound_fits capacity s h awaits = record {
   threads = omega (arith, threads_counted s, h.threads);
   commands = omega (arith, commands_counted s h.begins, h.commands);
@@ -260,11 +286,13 @@ sound_fits capacity s h awaits = record {
 
 -- What was said of a script that fits.
 
-fits_each : (capacity : ℕ) (t : List Command) (ts : List (List Command)) → AllByRecursion (CommandFits capacity) t → AllByRecursion (SaidFits capacity) (saids_of ts) → AllByRecursion (SaidFits capacity) (map Commands t ++ saids_of ts)
+fits_each : (capacity : ℕ) (t : List Command) (ts : List (List Command)) → AllByRecursion (CommandFits capacity) t
+    → AllByRecursion (SaidFits capacity) (saids_of ts) → AllByRecursion (SaidFits capacity) (map Commands t ++ saids_of ts)
 fits_each capacity [] ts h k = k
 fits_each capacity (c ∷ t) ts h k = (h.0, fits_each capacity t ts h.1 k)
 
-all_fit : (capacity : ℕ) (script : List (List Command)) → AllByRecursion (AllByRecursion (CommandFits capacity)) script → AllByRecursion (SaidFits capacity) (saids_of script)
+all_fit : (capacity : ℕ) (script : List (List Command)) → AllByRecursion (AllByRecursion (CommandFits capacity)) script
+    → AllByRecursion (SaidFits capacity) (saids_of script)
 all_fit capacity [] h = tt
 all_fit capacity (t ∷ ts) h = (tt, fits_each capacity t ts h.0 (all_fit capacity ts h.1))
 
@@ -285,7 +313,8 @@ fits_sound capacity script h =
       })));
     }
 
-pub fits_awaits : (capacity : ℕ) (script : List (List Command)) → ScriptFits capacity script → AllByRecursion (λ x. awaits_unposted (saids_of script) x ≡ false) (saids_of script)
+pub fits_awaits : (capacity : ℕ) (script : List (List Command)) → ScriptFits capacity script
+    → AllByRecursion (λ x. awaits_unposted (saids_of script) x ≡ false) (saids_of script)
 fits_awaits capacity script h =
     let s = saids_of script in
     let is = script_said script in
@@ -293,7 +322,8 @@ fits_awaits capacity script h =
     (λ c command e. absurd (let none : None ≡ Some command = (rw (no_leading s (begins_of script)) at e) in cc))
     (λ i c command e. await_posted capacity script h s is i c command (subst (λ ts. command_at ts i c ≡ Some command) is e))
   where
-    await_posted : (capacity : ℕ) (script : List (List Command)) → ScriptFits capacity script → (s : List Said) → threads_said s ≡ script → (i c : ℕ) (command : Command) → command_at script i c ≡ Some command → awaits_unposted s (Commands command) ≡ false
+    await_posted : (capacity : ℕ) (script : List (List Command)) → ScriptFits capacity script → (s : List Said) → threads_said s ≡ script
+        → (i c : ℕ) (command : Command) → command_at script i c ≡ Some command → awaits_unposted s (Commands command) ≡ false
     await_posted capacity script h s is i c (Write lba count tag) e = refl
     await_posted capacity script h s is i c (Read lba count) e = refl
     await_posted capacity script h s is i c Flush e = refl
@@ -330,7 +360,8 @@ limit_passes capacity a (Commands c) b h =
     let fits : CommandFits capacity c = (all-later (SaidFits capacity) a (Commands c ∷ b) h.each).0 in
     rw ((Decides-ltb (commands_in a) 200000).1 (omega (arith, h.commands, commands_in-append a (Commands c ∷ b)))) (fits_count capacity c fits)
 
-pub hears : (capacity : ℕ) (before : Heard) (lines : List Line) (s : List Said) → IsSound capacity (saids before ++ s) → map (λ line. line.bytes) lines ≡ map said_line s → AllByRecursion (λ line. line.offset < 4194304) lines
+pub hears : (capacity : ℕ) (before : Heard) (lines : List Line) (s : List Said) → IsSound capacity (saids before ++ s)
+    → map (λ line. line.bytes) lines ≡ map said_line s → AllByRecursion (λ line. line.offset < 4194304) lines
     → (more : Heard) × (saids more ≡ s) × AreHeard capacity before lines more
 hears capacity before [] [] h e early = ([], refl, tt)
 hears capacity before [] (x ∷ s) h e early = absurd (cc)
@@ -340,7 +371,8 @@ hears capacity before (line ∷ lines) (x ∷ s) h e early =
     let others : map (λ line. line.bytes) lines ≡ map said_line s = cc in
     let fits : SaidFits capacity x = (all-later (SaidFits capacity) (saids before) (x ∷ s) h.each).0 in
     let this : ℕ × Said = (line_number line.number, x) in
-    let regroup : saids before ++ x ∷ s ≡ saids (before ++ this ∷ []) ++ s = sym (append_assoc (saids before) (x ∷ []) s) ∙ ap (λ b. b ++ s) (sym (saids-append before (this ∷ []))) in
+    let regroup : saids before ++ x ∷ s ≡ saids (before ++ this ∷ []) ++ s = sym (append_assoc (saids before) (x ∷ []) s)
+    ∙ ap (λ b. b ++ s) (sym (saids-append before (this ∷ []))) in
     let rest = hears capacity (before ++ this ∷ []) lines s (subst (IsSound capacity) regroup h) others early.1 in (
       this ∷ rest.0,
       ap (λ t. x ∷ t) rest.1,
@@ -359,7 +391,8 @@ hears capacity before (line ∷ lines) (x ∷ s) h e early =
 
 -- What is read.
 
-told_parts : {A : Type 0} (u k : Option ℕ) (x y : A) → option_map_or Err (first_refusal (option_map errors.NeverPosted u ∷ option_map errors.Stuck k ∷ [])) (Ok x) ≡ Ok y → (u ≡ None) × (k ≡ None) × (x ≡ y)
+told_parts : {A : Type 0} (u k : Option ℕ) (x y : A)
+    → option_map_or Err (first_refusal (option_map errors.NeverPosted u ∷ option_map errors.Stuck k ∷ [])) (Ok x) ≡ Ok y → (u ≡ None) × (k ≡ None) × (x ≡ y)
 told_parts None None x y e = (refl, refl, cc)
 told_parts None (Some n) x y e = absurd (cc)
 told_parts (Some n) k x y e = absurd (cc)
@@ -390,13 +423,15 @@ read capacity bytes script e =
       script_of_heard = told.2;
     }
 
-pub read_is_spelled : (capacity : ℕ) (bytes : List ℕ) (script : List (List Command)) → IsScript capacity bytes script → map (λ line. line.bytes) (spoken bytes) ≡ flat_map thread_lines script
+pub read_is_spelled : (capacity : ℕ) (bytes : List ℕ) (script : List (List Command)) → IsScript capacity bytes script
+    → map (λ line. line.bytes) (spoken bytes) ≡ flat_map thread_lines script
 read_is_spelled capacity bytes script e =
     let r = read capacity bytes script e in
     let is : saids_of script ≡ saids r.heard = sym (said_is (saids r.heard) r.sound.begins ∙ ap saids_of (sym (script_is r.heard) ∙ r.script_of_heard)) in
     heard_bytes capacity [] (spoken bytes) r.heard r.lines ∙ ap (map said_line) (sym is) ∙ lines_said script
 
-pub read_is_early : (capacity : ℕ) (bytes : List ℕ) (script : List (List Command)) → IsScript capacity bytes script → AllByRecursion (λ line. line.offset < 4194304) (spoken bytes)
+pub read_is_early : (capacity : ℕ) (bytes : List ℕ) (script : List (List Command)) → IsScript capacity bytes script
+    → AllByRecursion (λ line. line.offset < 4194304) (spoken bytes)
 read_is_early capacity bytes script e = let r = read capacity bytes script e in heard_early capacity [] (spoken bytes) r.heard r.lines
 
 pub read_fits : (capacity : ℕ) (bytes : List ℕ) (script : List (List Command)) → IsScript capacity bytes script → ScriptFits capacity script
@@ -404,17 +439,20 @@ read_fits capacity bytes script e =
     let r = read capacity bytes script e in
     subst (ScriptFits capacity) (sym (script_is r.heard) ∙ r.script_of_heard) (sound_fits capacity (saids r.heard) r.sound r.awaits)
 
-tell : {A : Type 0} (u k : Option ℕ) (x : A) → u ≡ None → k ≡ None → option_map_or Err (first_refusal (option_map errors.NeverPosted u ∷ option_map errors.Stuck k ∷ [])) (Ok x) ≡ Ok x
+tell : {A : Type 0} (u k : Option ℕ) (x : A) → u ≡ None → k ≡ None
+    → option_map_or Err (first_refusal (option_map errors.NeverPosted u ∷ option_map errors.Stuck k ∷ [])) (Ok x) ≡ Ok x
 tell u k x e f = rw e (rw f refl)
 
 -- what is spelled so is read, where its threads are not stuck, however their lines are numbered
-pub spelled_is_read_by : (capacity : ℕ) (bytes : List ℕ) (script : List (List Command)) → map (λ line. line.bytes) (spoken bytes) ≡ flat_map thread_lines script → AllByRecursion (λ line. line.offset < 4194304) (spoken bytes) → ScriptFits capacity script
+pub spelled_is_read_by : (capacity : ℕ) (bytes : List ℕ) (script : List (List Command)) → map (λ line. line.bytes) (spoken bytes) ≡ flat_map thread_lines script
+    → AllByRecursion (λ line. line.offset < 4194304) (spoken bytes) → ScriptFits capacity script
     → ((heard : Heard) → script_of heard ≡ script → stuck_at (threads_of heard) ≡ None) → IsScript capacity bytes script
 spelled_is_read_by capacity bytes script e early fits flows =
     let s = saids_of script in
     let more = hears capacity [] (spoken bytes) s (fits_sound capacity script fits) (e ∙ sym (lines_said script)) early in
     let made : script_of more.0 ≡ script = script_is more.0 ∙ ap threads_said more.1 ∙ script_said script in
-    let awaits : unposted (saids more.0) more.0 ≡ None = all_unposted (saids more.0) more.0 (subst (λ s. AllByRecursion (λ x. awaits_unposted s x ≡ false) s) (sym more.1) (fits_awaits capacity script fits)) in
+    let awaits : unposted (saids more.0) more.0 ≡ None =
+    all_unposted (saids more.0) more.0 (subst (λ s. AllByRecursion (λ x. awaits_unposted s x ≡ false) s) (sym more.1) (fits_awaits capacity script fits)) in
     ap (λ r. then_heard r (λ heard. option_map_or Err (posts_refusal heard) (Ok (script_of heard)))) (heard_lines capacity [] (spoken bytes) more.0 more.2)
     ∙ tell (unposted (saids more.0) more.0) (stuck_at (threads_of more.0)) (script_of more.0) awaits (flows more.0 made)
     ∙ ap Ok made

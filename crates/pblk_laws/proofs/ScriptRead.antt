@@ -22,7 +22,8 @@ read_flows capacity bytes script e =
     let fits = subst (ScriptFits capacity) (sym r.script_of_heard) (read_fits capacity bytes script e) in
     subst NeverStuck r.script_of_heard (times_of r.heard fits.once r.flows)
 
-pub lines_read : (capacity : ℕ) (bytes : List ℕ) (script : List (List Command)) → AreLinesOf bytes script → ScriptFits capacity script → NeverStuck script → IsScript capacity bytes script
+pub lines_read : (capacity : ℕ) (bytes : List ℕ) (script : List (List Command)) → AreLinesOf bytes script → ScriptFits capacity script → NeverStuck script
+    → IsScript capacity bytes script
 lines_read capacity bytes script lines fits never = spelled_is_read_by capacity bytes script lines.lines lines.early fits
     (λ heard made.
     let fits' = subst (ScriptFits capacity) (sym made) fits in
@@ -33,12 +34,16 @@ one_script capacity bytes a b e k = let both : Ok a ≡ Ok b = sym e ∙ k in cc
 
 -- where threads are refused as stuck, their lines were heard
 
-told_stuck : {A : Type 0} (u k : Option ℕ) (x : A) (line : ℕ) → option_map_or Err (first_refusal (option_map errors.NeverPosted u ∷ option_map errors.Stuck k ∷ [])) (Ok x) ≡ Err (errors.Stuck line) → (u ≡ None) × (k ≡ Some line)
+told_stuck : {A : Type 0} (u k : Option ℕ) (x : A) (line : ℕ)
+    → option_map_or Err (first_refusal (option_map errors.NeverPosted u ∷ option_map errors.Stuck k ∷ [])) (Ok x) ≡ Err (errors.Stuck line)
+    → (u ≡ None) × (k ≡ Some line)
 told_stuck None None x line e = absurd (cc)
 told_stuck None (Some n) x line e = (refl, cc)
 told_stuck (Some n) k x line e = absurd (cc)
 
-not_stuck : {A : Type 0} (f e l r : Bool) (n line : ℕ) (y : A) → option_map_or Err (first_refusal (unless f (errors.Form n) ∷ unless (e && l) (errors.Limit n) ∷ unless r (errors.Range n) ∷ [])) (Ok y) ≡ Err (errors.Stuck line) → ⊥
+not_stuck : {A : Type 0} (f e l r : Bool) (n line : ℕ) (y : A)
+    → option_map_or Err (first_refusal (unless f (errors.Form n) ∷ unless (e && l) (errors.Limit n) ∷ unless r (errors.Range n) ∷ [])) (Ok y) ≡ Err
+    (errors.Stuck line) → ⊥
 not_stuck false e l r n line y h = cc
 not_stuck true false l r n line y h = cc
 not_stuck true true false r n line y h = cc
@@ -47,37 +52,50 @@ not_stuck true true true true n line y h = cc
 
 never_placed : (capacity : ℕ) (before : List Said) (line : Line) (o : Option Said) (n : ℕ) → placed capacity before line o ≡ Err (errors.Stuck n) → ⊥
 never_placed capacity before line None n e = cc
-never_placed capacity before line (Some said) n e = not_stuck (form_holds before said) (nat_lt line.offset 4194304) (limit_holds before said) (range_holds capacity said) (line_number line.number) n (line_number line.number, said) e
+never_placed capacity before line (Some said) n e =
+    not_stuck (form_holds before said) (nat_lt line.offset 4194304) (limit_holds before said) (range_holds capacity said) (line_number line.number) n
+    (line_number line.number, said) e
 
-then_err : {A B : Type 0} (r : Result A ScriptErr) (f : A → Result B ScriptErr) (e : ScriptErr) → then_heard r f ≡ Err e → (r ≡ Err e) ⊎ ((x : A) × (r ≡ Ok x) × (f x ≡ Err e))
+then_err : {A B : Type 0} (r : Result A ScriptErr) (f : A → Result B ScriptErr) (e : ScriptErr) → then_heard r f ≡ Err e
+    → (r ≡ Err e) ⊎ ((x : A) × (r ≡ Ok x) × (f x ≡ Err e))
 then_err (Ok x) f e h = inr (x, refl, h)
 then_err (Err d) f e h = inl (let same : d ≡ e = cc in ap Err same)
 
 never_heard : (capacity : ℕ) (before : Heard) (lines : List Line) (n : ℕ) → heard_after capacity before lines ≡ Err (errors.Stuck n) → ⊥
 unfolding heard_after
 never_heard capacity before [] n e = cc
-never_heard capacity before (line ∷ lines) n e = elim (then_err (placed capacity (saids before) line (said_in line.bytes)) (λ x. heard_after capacity (before ++ x ∷ []) lines) (errors.Stuck n) e) [
-  | inl here ↦ never_placed capacity (saids before) line (said_in line.bytes) n here
-  | inr later ↦ never_heard capacity (before ++ later.0 ∷ []) lines n later.2
-]
+never_heard capacity before (line ∷ lines) n e =
+    elim (then_err (placed capacity (saids before) line (said_in line.bytes)) (λ x. heard_after capacity (before ++ x ∷ []) lines) (errors.Stuck n) e) [
+      | inl here ↦ never_placed capacity (saids before) line (said_in line.bytes) n here
+      | inr later ↦ never_heard capacity (before ++ later.0 ∷ []) lines n later.2
+    ]
 
-stuck_heard : (capacity : ℕ) (bytes : List ℕ) (line : ℕ) → read_script capacity bytes ≡ Err (errors.Stuck line) → (heard : Heard) × (heard_after capacity [] (spoken bytes) ≡ Ok heard) × (unposted (saids heard) heard ≡ None) × (stuck_at (threads_of heard) ≡ Some line)
-stuck_heard capacity bytes line e = elim (then_err (heard_after capacity [] (spoken bytes)) (λ heard. option_map_or Err (posts_refusal heard) (Ok (script_of heard))) (errors.Stuck line) e) [
-  | inl early ↦ absurd (never_heard capacity [] (spoken bytes) line early)
-  | inr w ↦ let told = told_stuck (unposted (saids w.0) w.0) (stuck_at (threads_of w.0)) (script_of w.0) line w.2 in (w.0, w.1, told.0, told.1)
-]
+stuck_heard : (capacity : ℕ) (bytes : List ℕ) (line : ℕ) → read_script capacity bytes ≡ Err (errors.Stuck line)
+    → (heard : Heard) × (heard_after capacity [] (spoken bytes) ≡ Ok heard) × (unposted (saids heard) heard ≡ None) × (stuck_at (threads_of heard) ≡ Some line)
+stuck_heard capacity bytes line e =
+    elim (then_err (heard_after capacity [] (spoken bytes)) (λ heard. option_map_or Err (posts_refusal heard) (Ok (script_of heard))) (errors.Stuck line) e) [
+      | inl early ↦ absurd (never_heard capacity [] (spoken bytes) line early)
+      | inr w ↦ let told = told_stuck (unposted (saids w.0) w.0) (stuck_at (threads_of w.0)) (script_of w.0) line w.2 in (w.0, w.1, told.0, told.1)
+    ]
 
-pub stuck_has_no_times : (capacity : ℕ) (bytes : List ℕ) (line : ℕ) → read_script capacity bytes ≡ Err (errors.Stuck line) → (script : List (List Command)) × AreLinesOf bytes script × ScriptFits capacity script × ¬ NeverStuck script
+pub stuck_has_no_times : (capacity : ℕ) (bytes : List ℕ) (line : ℕ) → read_script capacity bytes ≡ Err (errors.Stuck line)
+    → (script : List (List Command)) × AreLinesOf bytes script × ScriptFits capacity script × ¬ NeverStuck script
 stuck_has_no_times capacity bytes line e =
     let h = stuck_heard capacity bytes line e in
     let all = lines_heard capacity [] (spoken bytes) h.0 h.1 in
     let heard = h.0 in
     let are : AreHeard capacity [] (spoken bytes) heard = subst (AreHeard capacity [] (spoken bytes)) (sym all.1) all.2 in
-    let sound : IsSound capacity (saids heard) = subst (λ h. IsSound capacity (saids h)) (sym all.1) (sound_heard capacity [] (spoken bytes) all.0 (nothing_sound capacity) all.2) in
-    let fits : ScriptFits capacity (script_of heard) = subst (ScriptFits capacity) (sym (script_is heard)) (sound_fits capacity (saids heard) sound (unposted_all (saids heard) heard h.2)) in
+    let sound : IsSound capacity (saids heard) =
+    subst (λ h. IsSound capacity (saids h)) (sym all.1) (sound_heard capacity [] (spoken bytes) all.0 (nothing_sound capacity) all.2) in
+    let fits : ScriptFits capacity (script_of heard) =
+    subst (ScriptFits capacity) (sym (script_is heard)) (sound_fits capacity (saids heard) sound (unposted_all (saids heard) heard h.2)) in
     let said : saids heard ≡ saids_of (script_of heard) = said_is (saids heard) sound.begins ∙ ap saids_of (sym (script_is heard)) in (
       script_of heard,
-      record { lines = heard_bytes capacity [] (spoken bytes) heard are ∙ ap (map said_line) said ∙ lines_said (script_of heard); early = heard_early capacity [] (spoken bytes) heard are },
+      record {
+        lines = heard_bytes capacity [] (spoken bytes) heard are ∙ ap (map said_line) said ∙ lines_said (script_of heard);
+        early =
+            heard_early capacity [] (spoken bytes) heard are;
+      },
       fits,
       λ never. let flows = flows_on heard never fits.posted in let both : None ≡ Some line = sym flows ∙ h.3 in absurd (cc),
     )

@@ -84,7 +84,9 @@ command_lines (c ∷ t) = ap (λ ls. command_line c ∷ ls) (command_lines t)
 
 pub lines_said : (script : List (List Command)) → map said_line (saids_of script) ≡ flat_map thread_lines script
 lines_said [] = refl
-lines_said (t ∷ ts) = ap (λ ls. thread_line ∷ ls) (map-append said_line (map Commands t) (saids_of ts) ∙ ap (λ ls. ls ++ map said_line (saids_of ts)) (command_lines t) ∙ ap (λ ls. map command_line t ++ ls) (lines_said ts))
+lines_said (t ∷ ts) = ap (λ ls. thread_line ∷ ls)
+    (map-append said_line (map Commands t) (saids_of ts) ∙ ap (λ ls. ls ++ map said_line (saids_of ts)) (command_lines t)
+    ∙ ap (λ ls. map command_line t ++ ls) (lines_said ts))
 
 -- The counts.
 
@@ -121,20 +123,23 @@ pub all-later : (P : Said → Type 0) (a b : List Said) → AllByRecursion P (a 
 all-later P [] b h = h
 all-later P (x ∷ a) b h = all-later P a b h.1
 
-pub leading_all : (P : Said → Type 0) (s : List Said) → AllByRecursion P s → (c : ℕ) (command : Command) → slice_get (leading_said s) c ≡ Some command → P (Commands command)
+pub leading_all : (P : Said → Type 0) (s : List Said) → AllByRecursion P s → (c : ℕ) (command : Command) → slice_get (leading_said s) c ≡ Some command
+    → P (Commands command)
 leading_all P [] h c command e = absurd (cc)
 leading_all P (Thread ∷ s) h c command e = absurd (cc)
 leading_all P (Commands x ∷ s) h zero command e = let same : x ≡ command = cc in subst (λ x. P (Commands x)) same h.0
 leading_all P (Commands x ∷ s) h (suc c) command e = leading_all P s h.1 c command e
 
-pub threads_all : (P : Said → Type 0) (s : List Said) → AllByRecursion P s → (i c : ℕ) (command : Command) → command_at (threads_said s) i c ≡ Some command → P (Commands command)
+pub threads_all : (P : Said → Type 0) (s : List Said) → AllByRecursion P s → (i c : ℕ) (command : Command) → command_at (threads_said s) i c ≡ Some command
+    → P (Commands command)
 threads_all P [] h i c command e = absurd (cc)
 threads_all P (Thread ∷ s) h zero c command e = leading_all P s h.1 c command e
 threads_all P (Thread ∷ s) h (suc i) c command e = threads_all P s h.1 i c command e
 threads_all P (Commands x ∷ s) h i c command e = threads_all P s h.1 i c command e
 
 -- and what holds of each command
-pub all_threads : (P : Said → Type 0) (s : List Said) → P Thread → ((c : ℕ) (command : Command) → slice_get (leading_said s) c ≡ Some command → P (Commands command))
+pub all_threads : (P : Said → Type 0) (s : List Said) → P Thread
+    → ((c : ℕ) (command : Command) → slice_get (leading_said s) c ≡ Some command → P (Commands command))
     → ((i c : ℕ) (command : Command) → command_at (threads_said s) i c ≡ Some command → P (Commands command)) → AllByRecursion P s
 all_threads P [] t l h = tt
 all_threads P (Thread ∷ s) t l h = (t, all_threads P s t (h zero) (λ i. h (suc i)))
@@ -228,22 +233,31 @@ pub record OnceAt (first : List Command) (threads : List (List Command)) : Type 
   pub apart : (c j d : ℕ) (name : List ℕ) → slice_get first c ≡ Some (Post name) → command_at threads j d ≡ Some (Post name) → ⊥
   pub later : (i c j d : ℕ) (name : List ℕ) → command_at threads i c ≡ Some (Post name) → command_at threads j d ≡ Some (Post name) → (i ≡ j) × (c ≡ d)
 
-once_threads : (first : List Command) (threads : List (List Command)) → OnceAt first threads → (i c j d : ℕ) (name : List ℕ) → command_at (first ∷ threads) i c ≡ Some (Post name) → command_at (first ∷ threads) j d ≡ Some (Post name) → (i ≡ j) × (c ≡ d)
+once_threads : (first : List Command) (threads : List (List Command)) → OnceAt first threads → (i c j d : ℕ) (name : List ℕ)
+    → command_at (first ∷ threads) i c ≡ Some (Post name) → command_at (first ∷ threads) j d ≡ Some (Post name) → (i ≡ j) × (c ≡ d)
 once_threads first threads h zero c zero d name e k = (refl, h.inside c d name e k)
 once_threads first threads h zero c (suc j) d name e k = absurd (h.apart c j d name e k)
 once_threads first threads h (suc i) c zero d name e k = absurd (h.apart d i c name k e)
 once_threads first threads h (suc i) c (suc j) d name e k = let both = h.later i c j d name e k in (ap suc both.0, both.1)
 
-once_inside : (x : Command) (s : List Said) → ((name : List ℕ) → posts name (Commands x) ≡ true → list_any (posts name) s ≡ false) → OnceAt (leading_said s) (threads_said s)
+once_inside : (x : Command) (s : List Said) → ((name : List ℕ) → posts name (Commands x) ≡ true → list_any (posts name) s ≡ false)
+    → OnceAt (leading_said s) (threads_said s)
     → (c d : ℕ) (name : List ℕ) → slice_get (x ∷ leading_said s) c ≡ Some (Post name) → slice_get (x ∷ leading_said s) d ≡ Some (Post name) → c ≡ d
 once_inside x s new h zero zero name e k = refl
-once_inside x s new h zero (suc d) name e k = let is : x ≡ Post name = cc in absurd (none_leading name s (new name (ap (λ x. posts name (Commands x)) is ∙ posts_self name)) d k)
-once_inside x s new h (suc c) zero name e k = let is : x ≡ Post name = cc in absurd (none_leading name s (new name (ap (λ x. posts name (Commands x)) is ∙ posts_self name)) c e)
+once_inside x s new h zero (suc d) name e k =
+    let is : x ≡ Post name = cc in
+    absurd (none_leading name s (new name (ap (λ x. posts name (Commands x)) is ∙ posts_self name)) d k)
+once_inside x s new h (suc c) zero name e k =
+    let is : x ≡ Post name = cc in
+    absurd (none_leading name s (new name (ap (λ x. posts name (Commands x)) is ∙ posts_self name)) c e)
 once_inside x s new h (suc c) (suc d) name e k = ap suc (h.inside c d name e k)
 
-once_apart : (x : Command) (s : List Said) → ((name : List ℕ) → posts name (Commands x) ≡ true → list_any (posts name) s ≡ false) → OnceAt (leading_said s) (threads_said s)
+once_apart : (x : Command) (s : List Said) → ((name : List ℕ) → posts name (Commands x) ≡ true → list_any (posts name) s ≡ false)
+    → OnceAt (leading_said s) (threads_said s)
     → (c j d : ℕ) (name : List ℕ) → slice_get (x ∷ leading_said s) c ≡ Some (Post name) → command_at (threads_said s) j d ≡ Some (Post name) → ⊥
-once_apart x s new h zero j d name e k = let is : x ≡ Post name = cc in none_threads name s (new name (ap (λ x. posts name (Commands x)) is ∙ posts_self name)) j d k
+once_apart x s new h zero j d name e k =
+    let is : x ≡ Post name = cc in
+    none_threads name s (new name (ap (λ x. posts name (Commands x)) is ∙ posts_self name)) j d k
 once_apart x s new h (suc c) j d name e k = h.apart c j d name e k
 
 pub once_at : (s : List Said) → Once s → OnceAt (leading_said s) (threads_said s)

@@ -109,17 +109,21 @@ read_parts a b = ap (λ t. 114 ∷ (32 ∷ t)) (joined_two a b)
 
 -- What is spelled so is read so.
 
-said_write : (a b c : List ℕ) (lba count tag : ℕ) → number_of a ≡ Some lba → number_of b ≡ Some count → number_of c ≡ Some tag → said_by (codes "w" ∷ a ∷ b ∷ c ∷ []) ≡ Some (Commands (Write lba count tag))
+said_write : (a b c : List ℕ) (lba count tag : ℕ) → number_of a ≡ Some lba → number_of b ≡ Some count → number_of c ≡ Some tag
+    → said_by (codes "w" ∷ a ∷ b ∷ c ∷ []) ≡ Some (Commands (Write lba count tag))
 said_write a b c lba count tag ea eb ec = by_parts (number_of a) (number_of b) (number_of c) ea eb ec
   where
     by_parts : (oa ob oc : Option ℕ) → oa ≡ Some lba → ob ≡ Some count → oc ≡ Some tag
-        → option_and_then (λ lba. option_and_then (λ count. option_map (λ tag. Commands (Write lba count tag)) oc) ob) oa ≡ Some (Commands (Write lba count tag))
+        → option_and_then (λ lba. option_and_then (λ count. option_map (λ tag. Commands (Write lba count tag)) oc) ob) oa ≡ Some
+        (Commands (Write lba count tag))
     by_parts oa ob oc ea eb ec = rw ea (rw eb (rw ec refl))
 
-said_read : (a b : List ℕ) (lba count : ℕ) → number_of a ≡ Some lba → number_of b ≡ Some count → said_by (codes "r" ∷ a ∷ b ∷ []) ≡ Some (Commands (Read lba count))
+said_read : (a b : List ℕ) (lba count : ℕ) → number_of a ≡ Some lba → number_of b ≡ Some count
+    → said_by (codes "r" ∷ a ∷ b ∷ []) ≡ Some (Commands (Read lba count))
 said_read a b lba count ea eb = by_parts (number_of a) (number_of b) ea eb
   where
-    by_parts : (oa ob : Option ℕ) → oa ≡ Some lba → ob ≡ Some count → option_and_then (λ lba. option_map (λ count. Commands (Read lba count)) ob) oa ≡ Some (Commands (Read lba count))
+    by_parts : (oa ob : Option ℕ) → oa ≡ Some lba → ob ≡ Some count
+        → option_and_then (λ lba. option_map (λ count. Commands (Read lba count)) ob) oa ≡ Some (Commands (Read lba count))
     by_parts oa ob ea eb = rw ea (rw eb refl)
 
 said_post : (name : List ℕ) → name_of name ≡ Some name → said_by (codes "post" ∷ name ∷ []) ≡ Some (Commands (Post name))
@@ -148,10 +152,12 @@ spelled_is_said (Commands (Read lba count)) s =
     ∙ said_read (decimal lba) (decimal count) lba count (number_spelled lba s.0) (number_spelled count s.1)
 spelled_is_said (Commands Flush) s = refl
 spelled_is_said (Commands (Post name)) s =
-    ap said_by (cut (codes "post") name (not_space 112 refl, (not_space 111 refl, (not_space 115 refl, (not_space 116 refl, tt)))) ∙ ap (λ ws. codes "post" ∷ ws) (uncut name (lacks_name name s)))
+    ap said_by (cut (codes "post") name (not_space 112 refl, (not_space 111 refl, (not_space 115 refl, (not_space 116 refl, tt))))
+    ∙ ap (λ ws. codes "post" ∷ ws) (uncut name (lacks_name name s)))
     ∙ said_post name s
 spelled_is_said (Commands (Await name)) s =
-    ap said_by (cut (codes "await") name (not_space 97 refl, (not_space 119 refl, (not_space 97 refl, (not_space 105 refl, (not_space 116 refl, tt))))) ∙ ap (λ ws. codes "await" ∷ ws) (uncut name (lacks_name name s)))
+    ap said_by (cut (codes "await") name (not_space 97 refl, (not_space 119 refl, (not_space 97 refl, (not_space 105 refl, (not_space 116 refl, tt)))))
+    ∙ ap (λ ws. codes "await" ∷ ws) (uncut name (lacks_name name s)))
     ∙ said_await name s
 
 -- What is read is spelled so.
@@ -175,12 +181,14 @@ two_words w a said e = elim (cases_Bool (bytes_eq w (codes "post"))) [
   | inl is ↦
       let found = map_some (λ name. Commands (Post name)) (name_of a) said (rw is at e) in
       let name = name_is a found.0 found.1 in
-      line_as (w ∷ a ∷ []) (Commands (Post found.0)) said (ap (λ x. x ++ 32 ∷ a) (same_bytes w (codes "post") is) ∙ ap (λ x. codes "post " ++ x) name.0, name.1) found.2
+      line_as (w ∷ a ∷ []) (Commands (Post found.0)) said
+      (ap (λ x. x ++ 32 ∷ a) (same_bytes w (codes "post") is) ∙ ap (λ x. codes "post " ++ x) name.0, name.1) found.2
   | inr other ↦ elim (cases_Bool (bytes_eq w (codes "await"))) [
     | inl is ↦
         let found = map_some (λ name. Commands (Await name)) (name_of a) said (rw is at (rw other at e)) in
         let name = name_is a found.0 found.1 in
-        line_as (w ∷ a ∷ []) (Commands (Await found.0)) said (ap (λ x. x ++ 32 ∷ a) (same_bytes w (codes "await") is) ∙ ap (λ x. codes "await " ++ x) name.0, name.1) found.2
+        line_as (w ∷ a ∷ []) (Commands (Await found.0)) said
+        (ap (λ x. x ++ 32 ∷ a) (same_bytes w (codes "await") is) ∙ ap (λ x. codes "await " ++ x) name.0, name.1) found.2
     | inr none ↦ absurd (let found : None ≡ Some said = (rw none at (rw other at e)) in cc)
   ]
 ]
@@ -192,23 +200,29 @@ three_words w a b said e = elim (cases_Bool (bytes_eq w (codes "r"))) [
       let second = map_some (λ count. Commands (Read first.0 count)) (number_of b) said first.2 in
       let lba = number_is a first.0 first.1 in
       let count = number_is b second.0 second.1 in
-      line_as (w ∷ a ∷ b ∷ []) (Commands (Read first.0 second.0)) said
-      (ap (λ x. x ++ 32 ∷ (a ++ 32 ∷ b)) (same_bytes w (codes "r") is) ∙ ap (λ x. 114 ∷ 32 ∷ (x ++ 32 ∷ b)) lba.0 ∙ ap (λ x. 114 ∷ 32 ∷ (decimal first.0 ++ 32 ∷ x)) count.0 ∙ sym (read_parts (decimal first.0) (decimal second.0)), (lba.1, count.1)) second.2
+      line_as (w ∷ a ∷ b ∷ []) (Commands (Read first.0 second.0)) said (
+        ap (λ x. x ++ 32 ∷ (a ++ 32 ∷ b)) (same_bytes w (codes "r") is) ∙ ap (λ x. 114 ∷ 32 ∷ (x ++ 32 ∷ b)) lba.0
+            ∙ ap (λ x. 114 ∷ 32 ∷ (decimal first.0 ++ 32 ∷ x)) count.0 ∙ sym (read_parts (decimal first.0) (decimal second.0)),
+        (lba.1, count.1),
+      ) second.2
   | inr none ↦ absurd (let found : None ≡ Some said = (rw none at e) in cc)
 ]
 
 four_words : (w a b c : List ℕ) (said : Said) → said_by (w ∷ a ∷ b ∷ c ∷ []) ≡ Some said → IsLine (w ∷ a ∷ b ∷ c ∷ []) said
 four_words w a b c said e = elim (cases_Bool (bytes_eq w (codes "w"))) [
   | inl is ↦
-      let first = split_then (λ lba. option_and_then (λ count. option_map (λ tag. Commands (Write lba count tag)) (number_of c)) (number_of b)) (number_of a) said (rw is at e) in
+      let first = split_then (λ lba. option_and_then (λ count. option_map (λ tag. Commands (Write lba count tag)) (number_of c)) (number_of b))
+      (number_of a) said (rw is at e) in
       let second = split_then (λ count. option_map (λ tag. Commands (Write first.0 count tag)) (number_of c)) (number_of b) said first.2 in
       let third = map_some (λ tag. Commands (Write first.0 second.0 tag)) (number_of c) said second.2 in
       let lba = number_is a first.0 first.1 in
       let count = number_is b second.0 second.1 in
       let tag = number_is c third.0 third.1 in
       line_as (w ∷ a ∷ b ∷ c ∷ []) (Commands (Write first.0 second.0 third.0)) said (
-        ap (λ x. x ++ 32 ∷ (a ++ 32 ∷ (b ++ 32 ∷ c))) (same_bytes w (codes "w") is) ∙ ap (λ x. 119 ∷ 32 ∷ (x ++ 32 ∷ (b ++ 32 ∷ c))) lba.0 ∙ ap (λ x. 119 ∷ 32 ∷ (decimal first.0 ++ 32 ∷ (x ++ 32 ∷ c))) count.0
-            ∙ ap (λ x. 119 ∷ 32 ∷ (decimal first.0 ++ 32 ∷ (decimal second.0 ++ 32 ∷ x))) tag.0 ∙ sym (write_parts (decimal first.0) (decimal second.0) (decimal third.0)),
+        ap (λ x. x ++ 32 ∷ (a ++ 32 ∷ (b ++ 32 ∷ c))) (same_bytes w (codes "w") is) ∙ ap (λ x. 119 ∷ 32 ∷ (x ++ 32 ∷ (b ++ 32 ∷ c))) lba.0
+            ∙ ap (λ x. 119 ∷ 32 ∷ (decimal first.0 ++ 32 ∷ (x ++ 32 ∷ c))) count.0
+            ∙ ap (λ x. 119 ∷ 32 ∷ (decimal first.0 ++ 32 ∷ (decimal second.0 ++ 32 ∷ x))) tag.0
+            ∙ sym (write_parts (decimal first.0) (decimal second.0) (decimal third.0)),
         (lba.1, count.1, tag.1),
       ) third.2
   | inr none ↦ absurd (let found : None ≡ Some said = (rw none at e) in cc)

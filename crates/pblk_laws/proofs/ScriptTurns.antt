@@ -23,7 +23,8 @@ passed posted (Await name) = if list_any (bytes_eq name) posted then Some posted
 
 -- A command that a thread goes past, and one that it stands at.
 
-pub run_on-past : (posted more : List (List ℕ)) (n : ℕ) (c : Command) (thread : Numbered) → passed posted c ≡ Some more → run_on posted ((n, c) ∷ thread) ≡ run_on more thread
+pub run_on-past : (posted more : List (List ℕ)) (n : ℕ) (c : Command) (thread : Numbered) → passed posted c ≡ Some more
+    → run_on posted ((n, c) ∷ thread) ≡ run_on more thread
 unfolding run_on
 run_on-past posted more n (Write lba count tag) thread e = let same : posted ≡ more = cc in rw same refl
 run_on-past posted more n (Read lba count) thread e = let same : posted ≡ more = cc in rw same refl
@@ -34,7 +35,8 @@ run_on-past posted more n (Await name) thread e = elim (cases_Bool (list_any (by
   | inr fails_so ↦ let none : None ≡ Some more = (rw fails_so at e) in absurd (cc)
 ]
 
-pub run_on-stands : (posted : List (List ℕ)) (n : ℕ) (c : Command) (thread : Numbered) → passed posted c ≡ None → run_on posted ((n, c) ∷ thread) ≡ (posted, (n, c) ∷ thread)
+pub run_on-stands : (posted : List (List ℕ)) (n : ℕ) (c : Command) (thread : Numbered) → passed posted c ≡ None
+    → run_on posted ((n, c) ∷ thread) ≡ (posted, (n, c) ∷ thread)
 unfolding run_on
 run_on-stands posted n (Write lba count tag) thread e = absurd (cc)
 run_on-stands posted n (Read lba count) thread e = absurd (cc)
@@ -57,16 +59,19 @@ pub run_on-stays : (posted : List (List ℕ)) (thread : Numbered) → length (ru
 run_on-stays posted [] e = run_on-end posted
 run_on-stays posted ((n, c) ∷ thread) e = elim (cases_passed (passed posted c)) [
   | inl none ↦ run_on-stands posted n c thread none
-  | inr some ↦ absurd (let moved : length (run_on some.0 thread).1 ≡ suc (length thread) = sym (ap (λ r. length r.1) (run_on-past posted some.0 n c thread some.1)) ∙ e in omega (arith, run_on-length some.0 thread, moved))
+  | inr some ↦ absurd (let moved : length (run_on some.0 thread).1 ≡ suc (length thread) =
+      sym (ap (λ r. length r.1) (run_on-past posted some.0 n c thread some.1)) ∙ e in omega (arith, run_on-length some.0 thread, moved))
 ]
 
 -- Turns in which nothing moves.
 
-pub turn-stays : (posted : List (List ℕ)) (threads : List Numbered) → map length (turn posted threads).1 ≡ map length threads → turn posted threads ≡ (posted, threads)
+pub turn-stays : (posted : List (List ℕ)) (threads : List Numbered) → map length (turn posted threads).1 ≡ map length threads
+    → turn posted threads ≡ (posted, threads)
 turn-stays posted [] e = turn-end posted
 turn-stays posted (thread ∷ threads) e =
     let next = turn-next posted thread threads in
-    let lengths : map length ((run_on posted thread).1 ∷ (turn (run_on posted thread).0 threads).1) ≡ map length (thread ∷ threads) = ap (λ r. map length r.1) (sym next) ∙ e in
+    let lengths : map length ((run_on posted thread).1 ∷ (turn (run_on posted thread).0 threads).1) ≡ map length (thread ∷ threads) =
+    ap (λ r. map length r.1) (sym next) ∙ e in
     let first : length (run_on posted thread).1 ≡ length thread = cc in
     let others : map length (turn (run_on posted thread).0 threads).1 ≡ map length threads = cc in
     let stays = run_on-stays posted thread first in
@@ -89,7 +94,9 @@ passed-keeps : (posted more : List (List ℕ)) (c : Command) (name : List ℕ) �
 passed-keeps posted more (Write lba count tag) name e h = let same : posted ≡ more = cc in subst (λ p. IsListed p name) same h
 passed-keeps posted more (Read lba count) name e h = let same : posted ≡ more = cc in subst (λ p. IsListed p name) same h
 passed-keeps posted more Flush name e h = let same : posted ≡ more = cc in subst (λ p. IsListed p name) same h
-passed-keeps posted more (Post post) name e h = let same : post ∷ posted ≡ more = cc in subst (λ p. IsListed p name) same (or_right (bytes_eq name post) (list_any (bytes_eq name) posted) h)
+passed-keeps posted more (Post post) name e h =
+    let same : post ∷ posted ≡ more = cc in
+    subst (λ p. IsListed p name) same (or_right (bytes_eq name post) (list_any (bytes_eq name) posted) h)
 passed-keeps posted more (Await await) name e h = elim (cases_Bool (list_any (bytes_eq await) posted)) [
   | inl there ↦ let some : Some posted ≡ Some more = (rw there at e) in let same : posted ≡ more = cc in subst (λ p. IsListed p name) same h
   | inr absent ↦ absurd (let none : None ≡ Some more = (rw absent at e) in cc)
@@ -105,7 +112,8 @@ passed-await posted more name e = elim (cases_Bool (list_any (bytes_eq name) pos
 ]
 
 -- a name that is posted then was posted before, or by the command
-passed-by : (posted more : List (List ℕ)) (c : Command) (name : List ℕ) → passed posted c ≡ Some more → IsListed more name → IsListed posted name ⊎ (c ≡ Post name)
+passed-by : (posted more : List (List ℕ)) (c : Command) (name : List ℕ) → passed posted c ≡ Some more → IsListed more name
+    → IsListed posted name ⊎ (c ≡ Post name)
 passed-by posted more (Write lba count tag) name e h = let same : more ≡ posted = cc in inl (subst (λ p. IsListed p name) same h)
 passed-by posted more (Read lba count) name e h = let same : more ≡ posted = cc in inl (subst (λ p. IsListed p name) same h)
 passed-by posted more Flush name e h = let same : more ≡ posted = cc in inl (subst (λ p. IsListed p name) same h)
@@ -139,7 +147,8 @@ shift zero (suc j) d = d
 shift (suc k) zero d = d
 shift (suc k) (suc j) d = shift k j d
 
-at-shift : (front : List (List Command)) (c : Command) (t : List Command) (back : List (List Command)) (j d : ℕ) → command_at (front ++ t ∷ back) j d ≡ command_at (front ++ (c ∷ t) ∷ back) j (shift (length front) j d)
+at-shift : (front : List (List Command)) (c : Command) (t : List Command) (back : List (List Command)) (j d : ℕ)
+    → command_at (front ++ t ∷ back) j d ≡ command_at (front ++ (c ∷ t) ∷ back) j (shift (length front) j d)
 unfolding shift
 at-shift [] c t back zero d = refl
 at-shift [] c t back (suc j) d = refl
@@ -165,14 +174,17 @@ shifted (suc k) (suc j) d = elim (shifted k j d) [
   | inr w ↦ inr (w.0, w.1)
 ]
 
-at-first : (front : List (List Command)) (c : Command) (t : List Command) (back : List (List Command)) → command_at (front ++ (c ∷ t) ∷ back) (length front) 0 ≡ Some c
+at-first : (front : List (List Command)) (c : Command) (t : List Command) (back : List (List Command))
+    → command_at (front ++ (c ∷ t) ∷ back) (length front) 0 ≡ Some c
 at-first [] c t back = refl
 at-first (u ∷ front) c t back = at-first front c t back
 
 -- a place of the k-th thread, or of the others, by what is known of it
-first-is : (front : List (List Command)) (c : Command) (t : List Command) (back : List (List Command)) (i d : ℕ) (x : Command) → i ≡ length front → d ≡ 0 → command_at (front ++ (c ∷ t) ∷ back) i d ≡ Some x → c ≡ x
+first-is : (front : List (List Command)) (c : Command) (t : List Command) (back : List (List Command)) (i d : ℕ) (x : Command) → i ≡ length front → d ≡ 0
+    → command_at (front ++ (c ∷ t) ∷ back) i d ≡ Some x → c ≡ x
 first-is front c t back i d x ei ed e =
-    let both : Some c ≡ Some x = sym (at-first front c t back) ∙ ap (λ i. command_at (front ++ (c ∷ t) ∷ back) i 0) (sym ei) ∙ ap (command_at (front ++ (c ∷ t) ∷ back) i) (sym ed) ∙ e in
+    let both : Some c ≡ Some x = sym (at-first front c t back) ∙ ap (λ i. command_at (front ++ (c ∷ t) ∷ back) i 0) (sym ei)
+    ∙ ap (command_at (front ++ (c ∷ t) ∷ back) i) (sym ed) ∙ e in
     cc
 
 -- Threads that can go on, by a time for each command.
@@ -180,9 +192,11 @@ pub record AreLive (posted : List (List ℕ)) (threads : List (List Command)) : 
   pub time : ℕ → ℕ → ℕ
   pub rises : (i c : ℕ) → time i c < time i (c + 1)
   pub order : (i c j d : ℕ) (name : List ℕ) → command_at threads i c ≡ Some (Post name) → command_at threads j d ≡ Some (Await name) → time i c < time j d
-  pub heard : (j d : ℕ) (name : List ℕ) → command_at threads j d ≡ Some (Await name) → IsListed posted name ⊎ ((i : ℕ) × (c : ℕ) × (command_at threads i c ≡ Some (Post name)))
+  pub heard : (j d : ℕ) (name : List ℕ) → command_at threads j d ≡ Some (Await name)
+      → IsListed posted name ⊎ ((i : ℕ) × (c : ℕ) × (command_at threads i c ≡ Some (Post name)))
 
-live-step : (posted more : List (List ℕ)) (front : List (List Command)) (c : Command) (t : List Command) (back : List (List Command)) → passed posted c ≡ Some more → AreLive posted (front ++ (c ∷ t) ∷ back) → AreLive more (front ++ t ∷ back)
+live-step : (posted more : List (List ℕ)) (front : List (List Command)) (c : Command) (t : List Command) (back : List (List Command))
+    → passed posted c ≡ Some more → AreLive posted (front ++ (c ∷ t) ∷ back) → AreLive more (front ++ t ∷ back)
 live-step posted more front c t back e h =
     let k = length front in record {
       time = λ i d. h.time i (shift k i d);
@@ -191,28 +205,34 @@ live-step posted more front c t back e h =
       heard = λ j d name a. elim (h.heard j (shift k j d) name (sym (at-shift front c t back j d) ∙ a)) [
         | inl listed ↦ inl (passed-keeps posted more c name e listed)
         | inr w ↦ elim (shifted k w.0 w.1) [
-          | inl first ↦ let is = first-is front c t back w.0 w.1 (Post name) first.0 first.1 w.2 in inl (passed-post posted more name (ap (passed posted) (sym is) ∙ e))
+          | inl first ↦ let is = first-is front c t back w.0 w.1 (Post name) first.0 first.1 w.2 in inl
+              (passed-post posted more name (ap (passed posted) (sym is) ∙ e))
           | inr later ↦ inr (w.0, later.0, at-shift front c t back w.0 later.0 ∙ ap (command_at (front ++ (c ∷ t) ∷ back) w.0) (sym later.1) ∙ w.2)
         ]
       ];
     }
 
-live-run : (posted : List (List ℕ)) (front : List (List Command)) (t : Numbered) (back : List (List Command)) → AreLive posted (front ++ map (λ x. x.1) t ∷ back) → AreLive (run_on posted t).0 (front ++ map (λ x. x.1) (run_on posted t).1 ∷ back)
+live-run : (posted : List (List ℕ)) (front : List (List Command)) (t : Numbered) (back : List (List Command))
+    → AreLive posted (front ++ map (λ x. x.1) t ∷ back) → AreLive (run_on posted t).0 (front ++ map (λ x. x.1) (run_on posted t).1 ∷ back)
 live-run posted front [] back h = subst (λ r. AreLive r.0 (front ++ map (λ x. x.1) r.1 ∷ back)) (sym (run_on-end posted)) h
 live-run posted front ((n, c) ∷ t) back h = elim (cases_passed (passed posted c)) [
   | inl none ↦ subst (λ r. AreLive r.0 (front ++ map (λ x. x.1) r.1 ∷ back)) (sym (run_on-stands posted n c t none)) h
-  | inr some ↦ subst (λ r. AreLive r.0 (front ++ map (λ x. x.1) r.1 ∷ back)) (sym (run_on-past posted some.0 n c t some.1)) (live-run some.0 front t back (live-step posted some.0 front c (map (λ x. x.1) t) back some.1 h))
+  | inr some ↦ subst (λ r. AreLive r.0 (front ++ map (λ x. x.1) r.1 ∷ back)) (sym (run_on-past posted some.0 n c t some.1))
+      (live-run some.0 front t back (live-step posted some.0 front c (map (λ x. x.1) t) back some.1 h))
 ]
 
-live-turn : (posted : List (List ℕ)) (front : List (List Command)) (ts : List Numbered) → AreLive posted (front ++ plain ts) → AreLive (turn posted ts).0 (front ++ plain (turn posted ts).1)
+live-turn : (posted : List (List ℕ)) (front : List (List Command)) (ts : List Numbered) → AreLive posted (front ++ plain ts)
+    → AreLive (turn posted ts).0 (front ++ plain (turn posted ts).1)
 live-turn posted front [] h = subst (λ r. AreLive r.0 (front ++ plain r.1)) (sym (turn-end posted)) h
 live-turn posted front (t ∷ ts) h =
     let r = run_on posted t in
     let first = live-run posted front t (plain ts) h in
-    let regroup : front ++ map (λ x. x.1) r.1 ∷ plain ts ≡ (front ++ map (λ x. x.1) r.1 ∷ []) ++ plain ts = sym (append_assoc front (map (λ x. x.1) r.1 ∷ []) (plain ts)) in
+    let regroup : front ++ map (λ x. x.1) r.1 ∷ plain ts ≡ (front ++ map (λ x. x.1) r.1 ∷ []) ++ plain ts =
+    sym (append_assoc front (map (λ x. x.1) r.1 ∷ []) (plain ts)) in
     let later = turn r.0 ts in
     let rest = live-turn r.0 (front ++ map (λ x. x.1) r.1 ∷ []) ts (subst (AreLive r.0) regroup first) in
-    subst (λ q. AreLive q.0 (front ++ plain q.1)) (sym (turn-next posted t ts)) (subst (AreLive later.0) (append_assoc front (map (λ x. x.1) r.1 ∷ []) (plain later.1)) rest)
+    subst (λ q. AreLive q.0 (front ++ plain q.1)) (sym (turn-next posted t ts))
+    (subst (AreLive later.0) (append_assoc front (map (λ x. x.1) r.1 ∷ []) (plain later.1)) rest)
 
 -- A turn moves a thread, or nothing.
 
@@ -225,7 +245,9 @@ same_or_less (suc a) (suc b) h = elim (same_or_less a b (omega (arith, h))) [
   | inr l ↦ inr (omega (arith, l))
 ]
 
-turn-moves : (posted : List (List ℕ)) (ts : List Numbered) → (sum_by length (turn posted ts).1 ≤ sum_by length ts) × ((map length (turn posted ts).1 ≡ map length ts) ⊎ (sum_by length (turn posted ts).1 < sum_by length ts))
+turn-moves : (posted : List (List ℕ)) (ts : List Numbered)
+    → (sum_by length (turn posted ts).1 ≤ sum_by length ts)
+    × ((map length (turn posted ts).1 ≡ map length ts) ⊎ (sum_by length (turn posted ts).1 < sum_by length ts))
 turn-moves posted [] = rw (turn-end posted) (omega arith, inl refl)
 turn-moves posted (t ∷ ts) =
     let r = run_on posted t in
@@ -235,14 +257,16 @@ turn-moves posted (t ∷ ts) =
     let sum = sum_by-cons length t ts in
     let sum' = sum_by-cons length r.1 later.1 in
     let fewer : sum_by length (r.1 ∷ later.1) ≤ sum_by length (t ∷ ts) = omega (arith, sum, sum', short, rest.0) in
-    let moves : (map length (r.1 ∷ later.1) ≡ map length (t ∷ ts)) ⊎ (sum_by length (r.1 ∷ later.1) < sum_by length (t ∷ ts)) = elim (same_or_less (length r.1) (length t) short) [
+    let moves : (map length (r.1 ∷ later.1) ≡ map length (t ∷ ts)) ⊎ (sum_by length (r.1 ∷ later.1) < sum_by length (t ∷ ts)) =
+    elim (same_or_less (length r.1) (length t) short) [
       | inl same ↦ elim rest.1 [
         | inl others ↦ inl (ap (λ n. n ∷ map length later.1) same ∙ ap (λ ns. length t ∷ ns) others)
         | inr less ↦ inr (omega (arith, sum, sum', same, less))
       ]
       | inr less ↦ inr (omega (arith, sum, sum', less, rest.0))
     ] in
-    subst (λ q. (sum_by length q.1 ≤ sum_by length (t ∷ ts)) × ((map length q.1 ≡ map length (t ∷ ts)) ⊎ (sum_by length q.1 < sum_by length (t ∷ ts)))) (sym (turn-next posted t ts)) (fewer, moves)
+    subst (λ q. (sum_by length q.1 ≤ sum_by length (t ∷ ts)) × ((map length q.1 ≡ map length (t ∷ ts)) ⊎ (sum_by length q.1 < sum_by length (t ∷ ts))))
+    (sym (turn-next posted t ts)) (fewer, moves)
 
 -- Live threads that have taken their turns, and move no more.
 record AreSettled (threads : List Numbered) : Type 0 where
@@ -264,17 +288,20 @@ settle (suc n) posted ts h live = elim (turn-moves posted ts).1 [
   | inr less ↦ settle n (turn posted ts).0 (turn posted ts).1 (omega (arith, h, less)) (live-turn posted [] ts live)
 ]
 
-stands : (posted : List (List ℕ)) (t : Numbered) → (run_on posted t).1 ≡ t → (ts : List (List Command)) (c : Command) → command_at (map (λ x. x.1) t ∷ ts) 0 0 ≡ Some c → passed posted c ≡ None
+stands : (posted : List (List ℕ)) (t : Numbered) → (run_on posted t).1 ≡ t → (ts : List (List Command)) (c : Command)
+    → command_at (map (λ x. x.1) t ∷ ts) 0 0 ≡ Some c → passed posted c ≡ None
 stands posted [] e ts c at = absurd (cc)
 stands posted ((n, d) ∷ t) e ts c at =
     let same : d ≡ c = cc in
     elim (cases_passed (passed posted d)) [
       | inl none ↦ ap (passed posted) (sym same) ∙ none
-      | inr some ↦ absurd (let moved : length (run_on some.0 t).1 ≡ suc (length t) = sym (ap (λ r. length r.1) (run_on-past posted some.0 n d t some.1)) ∙ ap length e in omega (arith, run_on-length some.0 t, moved))
+      | inr some ↦ absurd (let moved : length (run_on some.0 t).1 ≡ suc (length t) = sym (ap (λ r. length r.1) (run_on-past posted some.0 n d t some.1))
+          ∙ ap length e in omega (arith, run_on-length some.0 t, moved))
     ]
 
 -- where a turn moves nothing, neither does the first thread, nor the others
-turn-parts : (posted : List (List ℕ)) (t : Numbered) (ts : List Numbered) → turn posted (t ∷ ts) ≡ (posted, t ∷ ts) → ((run_on posted t).1 ≡ t) × (turn posted ts ≡ (posted, ts))
+turn-parts : (posted : List (List ℕ)) (t : Numbered) (ts : List Numbered) → turn posted (t ∷ ts) ≡ (posted, t ∷ ts)
+    → ((run_on posted t).1 ≡ t) × (turn posted ts ≡ (posted, ts))
 turn-parts posted t ts e =
     let both = sym (turn-next posted t ts) ∙ e in
     let whole = ap (λ r. r.1) both in
@@ -284,7 +311,8 @@ turn-parts posted t ts e =
     (first, ap (λ r. turn r.0 ts) (sym stays) ∙ ap (λ p. (p, (turn (run_on posted t).0 ts).1)) (ap (λ r. r.0) both) ∙ ap (λ us. (posted, us)) later)
 
 -- where nothing moves each thread stands at a command that it can't pass
-heads : (posted : List (List ℕ)) (ts : List Numbered) → turn posted ts ≡ (posted, ts) → (j : ℕ) (c : Command) → command_at (plain ts) j 0 ≡ Some c → passed posted c ≡ None
+heads : (posted : List (List ℕ)) (ts : List Numbered) → turn posted ts ≡ (posted, ts) → (j : ℕ) (c : Command) → command_at (plain ts) j 0 ≡ Some c
+    → passed posted c ≡ None
 heads posted [] e j c at = absurd (cc)
 heads posted (t ∷ ts) e zero c at = stands posted t (turn-parts posted t ts e).0 (plain ts) c at
 heads posted (t ∷ ts) e (suc j) c at = heads posted ts (turn-parts posted t ts e).1 j c at
@@ -299,7 +327,8 @@ first_of ([] ∷ threads) zero c x e = absurd (cc)
 first_of ((y ∷ t) ∷ threads) zero c x e = (y, refl)
 first_of (t ∷ threads) (suc i) c x e = first_of threads i c x e
 
-none_stands : (posted : List (List ℕ)) (threads : List (List Command)) → (live : AreLive posted threads) → ((j : ℕ) (c : Command) → command_at threads j 0 ≡ Some c → passed posted c ≡ None)
+none_stands : (posted : List (List ℕ)) (threads : List (List Command)) → (live : AreLive posted threads)
+    → ((j : ℕ) (c : Command) → command_at threads j 0 ≡ Some c → passed posted c ≡ None)
     → (k j : ℕ) (c : Command) → command_at threads j 0 ≡ Some c → live.time j 0 < k → ⊥
 none_stands posted threads live stand zero j c at h = omega (arith, h)
 none_stands posted threads live stand (suc k) j c at h =
@@ -321,11 +350,14 @@ all_done ((x ∷ t) ∷ ts) h = absurd (h 0 x.1 refl)
 
 -- where there is a time for each command, and each name that is awaited is posted, no thread is
 -- stuck
-pub flows_on : (heard : Heard) → NeverStuck (script_of heard) → ((j d : ℕ) (name : List ℕ) → command_at (script_of heard) j d ≡ Some (Await name) → (i : ℕ) × (c : ℕ) × (command_at (script_of heard) i c ≡ Some (Post name)))
+pub flows_on : (heard : Heard) → NeverStuck (script_of heard)
+    → ((j d : ℕ) (name : List ℕ) → command_at (script_of heard) j d ≡ Some (Await name)
+    → (i : ℕ) × (c : ℕ) × (command_at (script_of heard) i c ≡ Some (Post name)))
     → stuck_at (threads_of heard) ≡ None
 flows_on heard never posted =
     let ts = threads_of heard in
-    let end = settle (sum_by length ts) [] ts (omega arith) (record { time = never.0; rises = never.1; order = never.2; heard = λ j d name a. inr (posted j d name a) }) in
+    let end = settle (sum_by length ts) [] ts (omega arith)
+    (record { time = never.0; rises = never.1; order = never.2; heard = λ j d name a. inr (posted j d name a) }) in
     let left = turns (sum_by length ts) [] ts in
     all_done left (λ j c at. none_stands end.posted (plain left) end.live (heads end.posted left end.stays) (end.live.time j 0 + 1) j c at (omega arith))
 
@@ -356,7 +388,8 @@ shift-injective zero (suc i) d e h = h
 shift-injective (suc k) zero d e h = h
 shift-injective (suc k) (suc i) d e h = shift-injective k i d e h
 
-fresh-step : (posted more : List (List ℕ)) (front : List (List Command)) (c : Command) (t : List Command) (back : List (List Command)) → passed posted c ≡ Some more → AreFresh posted (front ++ (c ∷ t) ∷ back) → AreFresh more (front ++ t ∷ back)
+fresh-step : (posted more : List (List ℕ)) (front : List (List Command)) (c : Command) (t : List Command) (back : List (List Command))
+    → passed posted c ≡ Some more → AreFresh posted (front ++ (c ∷ t) ∷ back) → AreFresh more (front ++ t ∷ back)
 fresh-step posted more front c t back e h =
     let k = length front in record {
       new = λ i d name listed p.
@@ -404,7 +437,8 @@ lift-rises zero f h (suc i) c = omega (arith, h (suc i) c)
 lift-rises (suc k) f h zero c = omega (arith, h 0 c)
 lift-rises (suc k) f h (suc i) c = lift-rises k (λ j. f (suc j)) (λ j. h (suc j)) i c
 
-timed-step : (posted more : List (List ℕ)) (front : List (List Command)) (c : Command) (t : List Command) (back : List (List Command)) → passed posted c ≡ Some more → AreFresh posted (front ++ (c ∷ t) ∷ back) → AreTimed (front ++ t ∷ back) → AreTimed (front ++ (c ∷ t) ∷ back)
+timed-step : (posted more : List (List ℕ)) (front : List (List Command)) (c : Command) (t : List Command) (back : List (List Command))
+    → passed posted c ≡ Some more → AreFresh posted (front ++ (c ∷ t) ∷ back) → AreTimed (front ++ t ∷ back) → AreTimed (front ++ (c ∷ t) ∷ back)
 timed-step posted more front c t back e fresh h =
     let k = length front in record {
       time = lift k h.time;
@@ -421,7 +455,8 @@ timed-step posted more front c t back e fresh h =
                   omega (arith, start, after)
               | inr before ↦
                   let start : lift k h.time i d ≡ suc (h.time i before.0) = ap (lift k h.time i) before.1 ∙ lift-shift k h.time i before.0 in
-                  let less = h.order i before.0 j later.0 name (at-shift front c t back i before.0 ∙ ap (command_at (front ++ (c ∷ t) ∷ back) i) (sym before.1) ∙ p)
+                  let less = h.order i before.0 j later.0 name
+                  (at-shift front c t back i before.0 ∙ ap (command_at (front ++ (c ∷ t) ∷ back) i) (sym before.1) ∙ p)
                   (at-shift front c t back j later.0 ∙ ap (command_at (front ++ (c ∷ t) ∷ back) j) (sym later.1) ∙ a) in
                   omega (arith, start, after, less)
             ]
@@ -433,25 +468,32 @@ record AreBehind (threads : List (List Command)) (posted : List (List ℕ)) (lef
   fresh : AreFresh posted left
   times : AreTimed left → AreTimed threads
 
-behind-run : (posted : List (List ℕ)) (front : List (List Command)) (t : Numbered) (back : List (List Command)) → AreFresh posted (front ++ map (λ x. x.1) t ∷ back)
+behind-run : (posted : List (List ℕ)) (front : List (List Command)) (t : Numbered) (back : List (List Command))
+    → AreFresh posted (front ++ map (λ x. x.1) t ∷ back)
     → AreBehind (front ++ map (λ x. x.1) t ∷ back) (run_on posted t).0 (front ++ map (λ x. x.1) (run_on posted t).1 ∷ back)
-behind-run posted front [] back h = subst (λ r. AreBehind (front ++ [] ∷ back) r.0 (front ++ map (λ x. x.1) r.1 ∷ back)) (sym (run_on-end posted)) (record { fresh = h; times = λ times. times })
+behind-run posted front [] back h =
+    subst (λ r. AreBehind (front ++ [] ∷ back) r.0 (front ++ map (λ x. x.1) r.1 ∷ back)) (sym (run_on-end posted))
+    (record { fresh = h; times = λ times. times })
 behind-run posted front ((n, c) ∷ t) back h =
     let all = front ++ (c ∷ map (λ x. x.1) t) ∷ back in
     elim (cases_passed (passed posted c)) [
-      | inl none ↦ subst (λ r. AreBehind all r.0 (front ++ map (λ x. x.1) r.1 ∷ back)) (sym (run_on-stands posted n c t none)) (record { fresh = h; times = λ times. times })
+      | inl none ↦ subst (λ r. AreBehind all r.0 (front ++ map (λ x. x.1) r.1 ∷ back)) (sym (run_on-stands posted n c t none))
+          (record { fresh = h; times = λ times. times })
       | inr some ↦
           let rest = behind-run some.0 front t back (fresh-step posted some.0 front c (map (λ x. x.1) t) back some.1 h) in
           subst (λ r. AreBehind all r.0 (front ++ map (λ x. x.1) r.1 ∷ back)) (sym (run_on-past posted some.0 n c t some.1))
           (record { fresh = rest.fresh; times = λ times. timed-step posted some.0 front c (map (λ x. x.1) t) back some.1 h (rest.times times) })
     ]
 
-behind-turn : (posted : List (List ℕ)) (front : List (List Command)) (ts : List Numbered) → AreFresh posted (front ++ plain ts) → AreBehind (front ++ plain ts) (turn posted ts).0 (front ++ plain (turn posted ts).1)
-behind-turn posted front [] h = subst (λ r. AreBehind (front ++ []) r.0 (front ++ plain r.1)) (sym (turn-end posted)) (record { fresh = h; times = λ times. times })
+behind-turn : (posted : List (List ℕ)) (front : List (List Command)) (ts : List Numbered) → AreFresh posted (front ++ plain ts)
+    → AreBehind (front ++ plain ts) (turn posted ts).0 (front ++ plain (turn posted ts).1)
+behind-turn posted front [] h =
+    subst (λ r. AreBehind (front ++ []) r.0 (front ++ plain r.1)) (sym (turn-end posted)) (record { fresh = h; times = λ times. times })
 behind-turn posted front (t ∷ ts) h =
     let r = run_on posted t in
     let first = behind-run posted front t (plain ts) h in
-    let regroup : front ++ map (λ x. x.1) r.1 ∷ plain ts ≡ (front ++ map (λ x. x.1) r.1 ∷ []) ++ plain ts = sym (append_assoc front (map (λ x. x.1) r.1 ∷ []) (plain ts)) in
+    let regroup : front ++ map (λ x. x.1) r.1 ∷ plain ts ≡ (front ++ map (λ x. x.1) r.1 ∷ []) ++ plain ts =
+    sym (append_assoc front (map (λ x. x.1) r.1 ∷ []) (plain ts)) in
     let later = turn r.0 ts in
     let rest = behind-turn r.0 (front ++ map (λ x. x.1) r.1 ∷ []) ts (subst (AreFresh r.0) regroup first.fresh) in
     let ungroup = append_assoc front (map (λ x. x.1) r.1 ∷ []) (plain later.1) in
@@ -475,7 +517,9 @@ none_left ([] ∷ ts) e (suc i) c x at = none_left ts e i c x at
 none_left ((y ∷ t) ∷ ts) e i c x at = absurd (cc)
 
 -- where no thread is stuck there is a time for each command
-pub times_of : (heard : Heard) → ((i c j d : ℕ) (name : List ℕ) → command_at (script_of heard) i c ≡ Some (Post name) → command_at (script_of heard) j d ≡ Some (Post name) → (i ≡ j) × (c ≡ d))
+pub times_of : (heard : Heard)
+    → ((i c j d : ℕ) (name : List ℕ) → command_at (script_of heard) i c ≡ Some (Post name) → command_at (script_of heard) j d ≡ Some (Post name)
+    → (i ≡ j) × (c ≡ d))
     → stuck_at (threads_of heard) ≡ None → NeverStuck (script_of heard)
 times_of heard once flows =
     let ts = threads_of heard in

@@ -31,7 +31,8 @@ use Rattle.pblk_model.proofs.ImageLemmas.{line_fit}
 
 -- A chunk without blocks.
 
-pub empty_begins : (g k : ℕ) (chunks : List Chunk) (c : Chunk) (b : Block) → AllByRecursion IsEmpty chunks → slice_get chunks k ≡ Some c → slice_get c.blocks 0 ≡ Some b → BeginsNarrower g b → ⊥
+pub empty_begins : (g k : ℕ) (chunks : List Chunk) (c : Chunk) (b : Block) → AllByRecursion IsEmpty chunks → slice_get chunks k ≡ Some c
+    → slice_get c.blocks 0 ≡ Some b → BeginsNarrower g b → ⊥
 unfolding IsEmpty
 empty_begins g k chunks c b empty there first begins =
     let none : c.blocks ≡ [] = all_at IsEmpty chunks k c empty there in
@@ -40,7 +41,8 @@ empty_begins g k chunks c b empty there first begins =
 pub blank_sealed : (s : Shape) → IsAccepted s → IsSealed (blank s)
 blank_sealed s accepted = record {
   ends = λ line start e inside whole ended. absurd (none-some start (sym (blank_start s line accepted) ∙ whole));
-  begins = λ line k c b inside there first begins. empty_begins (width (blank s) line) k (line_chunks (blank s) line) c b (empty_line (blank s) line (blank_empty s)) there first begins;
+  begins = λ line k c b inside there first begins. empty_begins (width (blank s) line) k (line_chunks (blank s) line) c b
+      (empty_line (blank s) line (blank_empty s)) there first begins;
 }
 
 -- The blocks of a line are those of its chunks.
@@ -51,14 +53,16 @@ in_chunk s n (Some c) b h e = all_at (IsBlock s) c.blocks n b h.blocks e
 
 block_fit : (i : Image) (line a : ℕ) (b : Block) → IsFit i → block_at i line a ≡ Some b → IsBlock i.shape b
 block_fit i line a b fit e =
-    in_chunk i.shape (block_of i.shape (width i line) a) (slice_get (line_chunks i line) (column_of i.shape (width i line) a)) b (all_get_some (IsChunk i.shape) (line_chunks i line) (column_of i.shape (width i line) a) (line_fit i line fit)) e
+    in_chunk i.shape (block_of i.shape (width i line) a) (slice_get (line_chunks i line) (column_of i.shape (width i line) a)) b
+    (all_get_some (IsChunk i.shape) (line_chunks i line) (column_of i.shape (width i line) a) (line_fit i line fit)) e
 
 -- A block of a run of blocks is a part of their bytes.
 
 HasSize : ℕ → Block → Type 0
 HasSize n b = length b.sector ≡ n
 
-part_of : (n : ℕ) (blocks : List Block) (a : ℕ) (b : Block) → AllByRecursion (HasSize n) blocks → slice_get blocks a ≡ Some b → b.sector ≡ take n (drop (a * n) (flat_map (λ (x : Block). x.sector) blocks))
+part_of : (n : ℕ) (blocks : List Block) (a : ℕ) (b : Block) → AllByRecursion (HasSize n) blocks → slice_get blocks a ≡ Some b
+    → b.sector ≡ take n (drop (a * n) (flat_map (λ (x : Block). x.sector) blocks))
 unfolding HasSize
 part_of n [] a b sizes e = absurd (none-some b e)
 part_of n (x ∷ blocks) zero b sizes e =
@@ -75,7 +79,8 @@ part_of n (x ∷ blocks) (suc a) b sizes e =
     let far : suc a * n ≡ length x.sector + a * n = omega arith in
     part_of n blocks a b sizes.1 e ∙ ap (take n) (sym (ap (λ m. drop m (x.sector ++ rest)) far ∙ drop-append-add x.sector rest (a * n)))
 
-pub found_begins_once : (i : Image) (line a : ℕ) (r : StartRecord) (b : Block) → IsAccepted i.shape → IsFit i → start_of i line ≡ Some r → a < start_len i.shape → block_at i line a ≡ Some b → BeginsNarrower (width i line) b → ⊥
+pub found_begins_once : (i : Image) (line a : ℕ) (r : StartRecord) (b : Block) → IsAccepted i.shape → IsFit i → start_of i line ≡ Some r → a < start_len i.shape
+    → block_at i line a ≡ Some b → BeginsNarrower (width i line) b → ⊥
 unfolding HasSize
 found_begins_once i line a r b accepted fit whole inside there begins =
     let found = found_is i line r whole in
@@ -89,7 +94,8 @@ found_begins_once i line a r b accepted fit whole inside there begins =
     part_of i.shape.sector blocks a b sizes here ∙ ap (λ xs. take i.shape.sector (drop (a * i.shape.sector) xs)) are.bytes in
     let mark : b.mark ≡ meta_mark r.seq = all_at (λ (x : Block). x.mark ≡ meta_mark r.seq) blocks a b are.marks here in
     let few : units i.shape ≤ 64 = accepted.drive.few_units in
-    spelled_begins_once i.shape line (width i line) (width i line) a r b accepted (omega (arith, width_within i line fit)) (omega arith) found.0 part mark begins
+    spelled_begins_once i.shape line (width i line) (width i line) a r b accepted (omega (arith, width_within i line fit))
+    (omega arith) found.0 part mark begins
 
 -- An image that is filled from the front of its line 0.
 
@@ -97,7 +103,8 @@ found_begins_once i line a r b accepted fit whole inside there begins =
 abbrev first_address : Shape → ℕ → ℕ → ℕ
 first_address s g k = address_of s g k 0
 
-module _ (i : Image) (start : StartRecord) (writes : List SectorWrite) (accepted : IsAccepted i.shape) (fit : IsFit i) (filled : IsFilledLine i start writes) where
+module _ (i : Image) (start : StartRecord) (writes : List SectorWrite) (accepted : IsAccepted i.shape) (fit : IsFit i)
+    (filled : IsFilledLine i start writes) where
   first_at : (k : ℕ) (c : Chunk) (b : Block) → slice_get (line_chunks i 0) k ≡ Some c → slice_get c.blocks 0 ≡ Some b
       → (first_address i.shape (width i 0) k < width i 0 * i.shape.clba) × (block_at i 0 (first_address i.shape (width i 0) k) ≡ Some b)
   first_at k c b there first =
@@ -142,25 +149,39 @@ module _ (i : Image) (start : StartRecord) (writes : List SectorWrite) (accepted
         ]
       ]
 
-  filled_ends : (line : ℕ) (s : StartRecord) (e : EndRecord) → line < i.shape.chunks → start_of i line ≡ Some s → end_of i line s ≡ Some e → AgreesWithLine i line e
+  filled_ends : (line : ℕ) (s : StartRecord) (e : EndRecord) → line < i.shape.chunks → start_of i line ≡ Some s → end_of i line s ≡ Some e
+      → AgreesWithLine i line e
   filled_ends zero s e inside whole ended =
       let same : start ≡ s = same_Some start s (sym filled.start_is ∙ whole) in
       absurd (none-some e (sym filled.not_full ∙ ap (end_of i 0) same ∙ ended))
   filled_ends (suc line) s e inside whole ended = absurd (none-some s (sym (filled.others (suc line) (omega arith) inside) ∙ whole))
 
-  filled_begins : ((line k : ℕ) (c : Chunk) (b : Block) → 0 < line → line < i.shape.chunks → slice_get (line_chunks i line) k ≡ Some c → slice_get c.blocks 0 ≡ Some b → BeginsNarrower (width i line) b → ⊥)
-      → (line k : ℕ) (c : Chunk) (b : Block) → line < i.shape.chunks → slice_get (line_chunks i line) k ≡ Some c → slice_get c.blocks 0 ≡ Some b → BeginsNarrower (width i line) b → ⊥
+  filled_begins : ((line k : ℕ) (c : Chunk) (b : Block) → 0 < line → line < i.shape.chunks → slice_get (line_chunks i line) k ≡ Some c
+      → slice_get c.blocks 0 ≡ Some b → BeginsNarrower (width i line) b → ⊥)
+      → (line k : ℕ) (c : Chunk) (b : Block) → line < i.shape.chunks → slice_get (line_chunks i line) k ≡ Some c → slice_get c.blocks 0 ≡ Some b
+      → BeginsNarrower (width i line) b → ⊥
   filled_begins others zero k c b inside there first begins = line_begins k c b there first begins
   filled_begins others (suc line) k c b inside there first begins = others (suc line) k c b (omega arith) inside there first begins
 
-  pub filled_sealed : ((line k : ℕ) (c : Chunk) (b : Block) → 0 < line → line < i.shape.chunks → slice_get (line_chunks i line) k ≡ Some c → slice_get c.blocks 0 ≡ Some b → BeginsNarrower (width i line) b → ⊥) → IsSealed i
+  pub filled_sealed : ((line k : ℕ) (c : Chunk) (b : Block) → 0 < line → line < i.shape.chunks → slice_get (line_chunks i line) k ≡ Some c
+      → slice_get c.blocks 0 ≡ Some b → BeginsNarrower (width i line) b → ⊥) → IsSealed i
   filled_sealed others = record { ends = filled_ends; begins = filled_begins others }
 
 -- The example is sealed.
 
-others_begin : (line k : ℕ) (c : Chunk) (b : Block) → 0 < line → line < image.shape.chunks → slice_get (line_chunks image line) k ≡ Some c → slice_get c.blocks 0 ≡ Some b → BeginsNarrower (width image line) b → ⊥
+others_begin : (line k : ℕ) (c : Chunk) (b : Block) → 0 < line → line < image.shape.chunks → slice_get (line_chunks image line) k ≡ Some c
+    → slice_get c.blocks 0 ≡ Some b → BeginsNarrower (width image line) b → ⊥
 others_begin zero k c b some inside there first begins = absurd (omega arith)
-others_begin (suc line) k c b some inside there first begins = empty_begins (width image (suc line)) k (line_chunks image (suc line)) c b (others_empty line) there first begins
+others_begin (suc line) k c b some inside there first begins =
+    empty_begins (width image (suc line)) k (line_chunks image (suc line)) c b (others_empty line) there first begins
 
 pub sealed_there : (i : Image) × (start : StartRecord) × (w : SectorWrite) × IsAccepted i.shape × IsFit i × IsFilledLine i start (w ∷ []) × IsSealed i
-sealed_there = (image, first, write, small_accepted, image_fit, is_filled, filled_sealed image first (write ∷ []) small_accepted image_fit is_filled others_begin)
+sealed_there = (
+  image,
+  first,
+  write,
+  small_accepted,
+  image_fit,
+  is_filled,
+  filled_sealed image first (write ∷ []) small_accepted image_fit is_filled others_begin,
+)

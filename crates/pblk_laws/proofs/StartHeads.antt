@@ -101,7 +101,8 @@ at_bound seq bound rows n e f g = let some : 1 ≤ number_at w32 4 (row_tail row
 no_head : (seq : ℕ) (rows : List Row) (n q : ℕ) → AllByRecursion (IsOlder seq) rows → NoHead seq (drop (8 * q) (row_tail rows n))
 unfolding zeros
 no_head seq [] n q h = dropped_no_head seq (8 * q) n
-no_head seq (row ∷ rows) n zero h = subst (NoHead seq) (sym (append_assoc (row_bytes row) (flat_map row_bytes rows) (zeros n))) (at_line seq row (row_tail rows n))
+no_head seq (row ∷ rows) n zero h =
+    subst (NoHead seq) (sym (append_assoc (row_bytes row) (flat_map row_bytes rows) (zeros n))) (at_line seq row (row_tail rows n))
 no_head seq (row ∷ rows) n (suc zero) h = at_seq seq row rows n h.0
 no_head seq (row ∷ rows) n (suc (suc zero)) h = at_bound seq row.bound rows n
 no_head seq (row ∷ rows) n (suc (suc (suc q))) h =
@@ -123,7 +124,8 @@ front_no_head seq n h xs b long none same mark begins =
 
 -- The blocks of a spelling.
 
-rows_older : (s : Shape) (r : StartRecord) (least : ℕ) (rows : List Row) → s.chunks < 2 ^ 32 → r.first_seq ≤ r.seq → r.seq < 2 ^ 64 → rows_fit s r least rows ≡ true → AllByRecursion (IsOlder r.seq) rows
+rows_older : (s : Shape) (r : StartRecord) (least : ℕ) (rows : List Row) → s.chunks < 2 ^ 32 → r.first_seq ≤ r.seq → r.seq < 2 ^ 64
+    → rows_fit s r least rows ≡ true → AllByRecursion (IsOlder r.seq) rows
 rows_older s r least [] lines first low h = tt
 rows_older s r least (row ∷ rows) lines first low h =
     let p6 = and_parts _ (rows_fit s r (row.line + 1) rows) h in
@@ -140,15 +142,19 @@ past_header : (s : Shape) (r : StartRecord) → drop 64 (start_bytes s r) ≡ ro
 unfolding zeros
 past_header s r = refl
 
-first_block : (s : Shape) (g h : ℕ) (r : StartRecord) (b : Block) → 24 ≤ s.sector → g < 2 ^ 32 → h ≤ g → r.width ≡ g → b.sector ≡ take s.sector (drop 0 (start_bytes s r)) → BeginsNarrower h b → ⊥
+first_block : (s : Shape) (g h : ℕ) (r : StartRecord) (b : Block) → 24 ≤ s.sector → g < 2 ^ 32 → h ≤ g → r.width ≡ g
+    → b.sector ≡ take s.sector (drop 0 (start_bytes s r)) → BeginsNarrower h b → ⊥
 first_block s g h r b long wide less same sector begins =
-    let read : number_at w32 12 b.sector ≡ r.width = ap (number_at w32 12) sector ∙ number_front w32 12 s.sector (start_bytes s r) (omega arith) ∙ width_there s r (omega arith) in
+    let read : number_at w32 12 b.sector ≡ r.width = ap (number_at w32 12) sector ∙ number_front w32 12 s.sector (start_bytes s r) (omega arith)
+    ∙ width_there s r (omega arith) in
     omega (arith, begins.narrower)
 
-later_block : (s : Shape) (h q : ℕ) (r : StartRecord) (b : Block) → 24 ≤ s.sector → AllByRecursion (IsOlder r.seq) r.rows → b.sector ≡ take s.sector (drop (64 + 8 * q) (start_bytes s r)) → b.mark ≡ meta_mark r.seq → BeginsNarrower h b → ⊥
+later_block : (s : Shape) (h q : ℕ) (r : StartRecord) (b : Block) → 24 ≤ s.sector → AllByRecursion (IsOlder r.seq) r.rows
+    → b.sector ≡ take s.sector (drop (64 + 8 * q) (start_bytes s r)) → b.mark ≡ meta_mark r.seq → BeginsNarrower h b → ⊥
 later_block s h q r b long older sector mark begins =
     let n = start_len s * s.sector - length (spelled r) in
-    let there : drop (64 + 8 * q) (start_bytes s r) ≡ drop (8 * q) (row_tail r.rows n) = sym (drop-drop (8 * q) 64 (start_bytes s r)) ∙ ap (drop (8 * q)) (past_header s r) in
+    let there : drop (64 + 8 * q) (start_bytes s r) ≡ drop (8 * q) (row_tail r.rows n) = sym (drop-drop (8 * q) 64 (start_bytes s r))
+    ∙ ap (drop (8 * q)) (past_header s r) in
     let none : NoHead r.seq (drop (64 + 8 * q) (start_bytes s r)) = subst (NoHead r.seq) (sym there) (no_head r.seq r.rows n q older) in
     front_no_head r.seq s.sector h (drop (64 + 8 * q) (start_bytes s r)) b long none sector (ap (λ (m : Mark). m.position) mark) begins
 

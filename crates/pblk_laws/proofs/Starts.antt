@@ -75,7 +75,8 @@ numbers s line g r h =
       rows = p8.1;
     }
 
-pub rows_fit_fields : (s : Shape) (r : StartRecord) (least : ℕ) (rows : List Row) → s.chunks < 2 ^ 32 → r.first_seq < 2 ^ 64 → r.front < 2 ^ 64 → rows_fit s r least rows ≡ true → AllByRecursion RowFits rows
+pub rows_fit_fields : (s : Shape) (r : StartRecord) (least : ℕ) (rows : List Row) → s.chunks < 2 ^ 32 → r.first_seq < 2 ^ 64 → r.front < 2 ^ 64
+    → rows_fit s r least rows ≡ true → AllByRecursion RowFits rows
 rows_fit_fields s r least [] lines first front h = tt
 rows_fit_fields s r least (row ∷ rows) lines first front h =
     let p6 = and_parts _ (rows_fit s r (row.line + 1) rows) h in
@@ -116,10 +117,13 @@ pub rows_back : (rows : List Row) (rest : List ℕ) → AllByRecursion RowFits r
 unfolding rows_in zeros
 rows_back [] rest h = refl
 rows_back (row ∷ rows) rest h =
-    let first = same_row row _ _ _ (from_le_bytes-to_le_bytes_4 row.line h.0.line) (from_le_bytes-to_le_bytes_8 row.seq h.0.seq) (from_le_bytes-to_le_bytes_8 row.bound h.0.bound) in
+    let first = same_row row _ _ _ (from_le_bytes-to_le_bytes_4 row.line h.0.line) (from_le_bytes-to_le_bytes_8 row.seq h.0.seq)
+    (from_le_bytes-to_le_bytes_8 row.bound h.0.bound) in
     ap (λ x. x ∷ rows_in (length rows) (flat_map row_bytes rows ++ rest)) first ∙ ap (λ xs. row ∷ xs) (rows_back rows rest h.1)
 
-same_start : (x : StartRecord) (line width seq first_seq front capacity : ℕ) (rows : List Row) → line ≡ x.line → width ≡ x.width → seq ≡ x.seq → first_seq ≡ x.first_seq → front ≡ x.front → capacity ≡ x.capacity → rows ≡ x.rows → ◌≡◌ {A = StartRecord} (record { line = line; width = width; seq = seq; first_seq = first_seq; front = front; capacity = capacity; rows = rows }) x
+same_start : (x : StartRecord) (line width seq first_seq front capacity : ℕ) (rows : List Row) → line ≡ x.line → width ≡ x.width → seq ≡ x.seq
+    → first_seq ≡ x.first_seq → front ≡ x.front → capacity ≡ x.capacity → rows ≡ x.rows
+    → ◌≡◌ {A = StartRecord} (record { line = line; width = width; seq = seq; first_seq = first_seq; front = front; capacity = capacity; rows = rows }) x
 same_start x line width seq first_seq front capacity rows p q r s t u v = rw (p, q, r, s, t, u, v) refl
 
 -- the record's spelling, before what fills up its blocks
@@ -156,7 +160,8 @@ read_back s line g r fields fits =
     chosen (start_fits s line g) (λ x. bytes_eq (start_bytes s x) (start_bytes s r)) (start_in (start_bytes s r)) r
     (start_back r (zeros (start_len s * s.sector - length (spelled r))) fields) fits ((bytes_eq-Decides (start_bytes s r) (start_bytes s r)).1 refl)
 
-pub read_spelled : (s : Shape) (line g : ℕ) (r : StartRecord) (bytes : List ℕ) → read_start s line g bytes ≡ Some r → (bytes ≡ start_bytes s r) × (start_fits s line g r ≡ true)
+pub read_spelled : (s : Shape) (line g : ℕ) (r : StartRecord) (bytes : List ℕ) → read_start s line g bytes ≡ Some r
+    → (bytes ≡ start_bytes s r) × (start_fits s line g r ≡ true)
 read_spelled s line g r bytes h =
     let read = cond_some (start_fits s line g (start_in bytes) && bytes_eq (start_bytes s (start_in bytes)) bytes) (start_in bytes) r h in
     let tests = and_parts (start_fits s line g (start_in bytes)) (bytes_eq (start_bytes s (start_in bytes)) bytes) read.0 in (
@@ -203,12 +208,15 @@ marked_is blocks (Some x) r h =
     let parts = cond_some (have_meta x.seq blocks) x r h in
     (ap Some parts.1, subst (λ (y : StartRecord). have_meta y.seq blocks ≡ true) parts.1 parts.0)
 
-start_from : (i : Image) (line : ℕ) (r : StartRecord) (run : Option (List Block)) → option_and_then (λ blocks. marked_start blocks (read_start i.shape line (width i line) (flat_map (λ (b : Block). b.sector) blocks))) run ≡ Some r
-    → (blocks : List Block) × (run ≡ Some blocks) × (marked_start blocks (read_start i.shape line (width i line) (flat_map (λ (b : Block). b.sector) blocks)) ≡ Some r)
+start_from : (i : Image) (line : ℕ) (r : StartRecord) (run : Option (List Block))
+    → option_and_then (λ blocks. marked_start blocks (read_start i.shape line (width i line) (flat_map (λ (b : Block). b.sector) blocks))) run ≡ Some r
+    → (blocks : List Block) × (run ≡ Some blocks)
+    × (marked_start blocks (read_start i.shape line (width i line) (flat_map (λ (b : Block). b.sector) blocks)) ≡ Some r)
 start_from i line r None h = absurd (none-some r h)
 start_from i line r (Some blocks) h = (blocks, refl, h)
 
-pub found_is : (i : Image) (line : ℕ) (r : StartRecord) → start_of i line ≡ Some r → (start_fits i.shape line (width i line) r ≡ true) × (blocks : List Block) × AreStart i line r blocks
+pub found_is : (i : Image) (line : ℕ) (r : StartRecord) → start_of i line ≡ Some r
+    → (start_fits i.shape line (width i line) r ≡ true) × (blocks : List Block) × AreStart i line r blocks
 found_is i line r h =
     let from = start_from i line r (written_run i line 0 (start_len i.shape)) h in
     let run = run_is i line 0 (start_len i.shape) from.0 from.1 in
@@ -239,10 +247,12 @@ pub padded_length : (n : ℕ) (bytes : List ℕ) → length bytes ≤ n → leng
 unfolding zeros
 padded_length n bytes h = simp (length-append, length-replicate) (omega arith)
 
-pub start_bytes_length : (s : Shape) (line g : ℕ) (r : StartRecord) → IsAccepted s → start_fits s line g r ≡ true → length (start_bytes s r) ≡ start_len s * s.sector
+pub start_bytes_length : (s : Shape) (line g : ℕ) (r : StartRecord) → IsAccepted s → start_fits s line g r ≡ true
+    → length (start_bytes s r) ≡ start_len s * s.sector
 start_bytes_length s line g r accepted fits =
     let n = numbers s line g r fits in
-    let holds : 64 + 24 * (s.chunks - 1) ≤ start_len s * s.sector = (start_len_least s accepted.drive.ws_opt (omega (arith, sector_at_least s accepted))).holds in
+    let holds : 64 + 24 * (s.chunks - 1) ≤ start_len s * s.sector =
+    (start_len_least s accepted.drive.ws_opt (omega (arith, sector_at_least s accepted))).holds in
     let few : length r.rows ≤ s.chunks - 1 = n.few in
     padded_length (start_len s * s.sector) (spelled r) (omega (arith, spelled_length r))
 
@@ -277,6 +287,8 @@ rows_are (row ∷ rows) = (four row.line then some_zeros 4 then eight row.seq th
 
 pub start_bytes_are : (s : Shape) (r : StartRecord) → AllByRecursion (λ x. x < 256) (start_bytes s r)
 start_bytes_are s r =
-    let text : AreBytes (spelled r) = four magic then two 1 then two 1 then four r.line then four r.width then eight r.seq then eight r.first_seq then eight r.front
+    let text : AreBytes (spelled r) =
+    four magic then two 1 then two 1 then four r.line then four r.width then eight r.seq then eight r.first_seq then eight r.front
     then eight r.capacity then four (length r.rows) then some_zeros 12 then rows_are r.rows in
-    all_append (λ x. x < 256) (spelled r) (zeros (start_len s * s.sector - length (spelled r))) text.each (some_zeros (start_len s * s.sector - length (spelled r))).each
+    all_append (λ x. x < 256) (spelled r) (zeros (start_len s * s.sector - length (spelled r))) text.each
+    (some_zeros (start_len s * s.sector - length (spelled r))).each

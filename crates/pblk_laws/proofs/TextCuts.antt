@@ -62,4 +62,6 @@ same_decimal m n h k e = sym (decimal_is_IsNumeral_wide m h).1 ∙ ap (digits_va
 
 -- a number and what follows it, behind a byte that is no digit
 pub cut_decimal : (c m n : ℕ) (u v : List ℕ) → c < 48 → m < 10 ^ 64 → n < 10 ^ 64 → decimal m ++ c ∷ u ≡ decimal n ++ c ∷ v → (m ≡ n) × (u ≡ v)
-cut_decimal c m n u v l h k e = let parts = cut_first c (decimal m) (decimal n) u v (lacks_decimal c m l h) (lacks_decimal c n l k) e in (same_decimal m n h k parts.0, parts.1)
+cut_decimal c m n u v l h k e =
+    let parts = cut_first c (decimal m) (decimal n) u v (lacks_decimal c m l h) (lacks_decimal c n l k) e in
+    (same_decimal m n h k parts.0, parts.1)

@@ -8,7 +8,8 @@ use Rattle.pblk_laws.proofs.TextCuts.{Lacks, cut_last, Ended, Ended-append, Ende
 
 -- what holds of the empty text, of a text and one behind it, and of each piece, holds of the pieces
 -- together
-flat_map_holds : {X : Type 0} (P : List ℕ → Type 0) (f : X → List ℕ) → P [] → ((u v : List ℕ) → P u → P v → P (u ++ v)) → ((x : X) → P (f x)) → (xs : List X) → P (flat_map f xs)
+flat_map_holds : {X : Type 0} (P : List ℕ → Type 0) (f : X → List ℕ) → P [] → ((u v : List ℕ) → P u → P v → P (u ++ v)) → ((x : X) → P (f x)) → (xs : List X)
+    → P (flat_map f xs)
 flat_map_holds P f none both each [] = none
 flat_map_holds P f none both each (x ∷ xs) = both (f x) (flat_map f xs) (each x) (flat_map_holds P f none both each xs)
 
@@ -59,13 +60,15 @@ pub record RowFits (row : HistoryLine) : Type 0 where
 abbrev first_line : ℕ → HistoryLine → List ℕ → List ℕ
 first_line n row rest = 104 ∷ (32 ∷ (decimal n ++ 32 ∷ (decimal row.thread ++ 32 ∷ (decimal row.lba ++ 32 ∷ (decimal row.tag ++ 10 ∷ rest)))))
 
-numbers_joined : (a b c d rest : List ℕ) → (((32 ∷ a) ++ ((32 ∷ b) ++ ((32 ∷ c) ++ ((32 ∷ d) ++ [])))) ++ 10 ∷ []) ++ rest ≡ 32 ∷ (a ++ 32 ∷ (b ++ 32 ∷ (c ++ 32 ∷ (d ++ 10 ∷ rest))))
+numbers_joined : (a b c d rest : List ℕ)
+    → (((32 ∷ a) ++ ((32 ∷ b) ++ ((32 ∷ c) ++ ((32 ∷ d) ++ [])))) ++ 10 ∷ []) ++ rest ≡ 32 ∷ (a ++ 32 ∷ (b ++ 32 ∷ (c ++ 32 ∷ (d ++ 10 ∷ rest))))
 numbers_joined a b c d rest = simp append_assoc
 
 first_line_is : (n : ℕ) (row : HistoryLine) (rest : List ℕ) → history_line (n, row) ++ rest ≡ first_line n row rest
 first_line_is n row rest = ap (λ line. 104 ∷ line) (numbers_joined (decimal n) (decimal row.thread) (decimal row.lba) (decimal row.tag) rest)
 
-first_line_of : (n : ℕ) (row : HistoryLine) (rows : List HistoryLine) (rest : List ℕ) → flat_map history_line (enumerate_from n (row ∷ rows)) ++ rest ≡ first_line n row (flat_map history_line (enumerate_from (n + 1) rows) ++ rest)
+first_line_of : (n : ℕ) (row : HistoryLine) (rows : List HistoryLine) (rest : List ℕ)
+    → flat_map history_line (enumerate_from n (row ∷ rows)) ++ rest ≡ first_line n row (flat_map history_line (enumerate_from (n + 1) rows) ++ rest)
 first_line_of n row rows rest = append_assoc (history_line (n, row)) (flat_map history_line (enumerate_from (n + 1) rows)) rest ∙ first_line_is n row _
 
 abbrev pub row_of : ℕ → ℕ → ℕ → HistoryLine
@@ -76,9 +79,12 @@ same_row a b h k l = let same : row_of a.thread a.lba a.tag ≡ row_of b.thread 
 
 same_first : (n : ℕ) (a b : HistoryLine) (u v : List ℕ) → RowFits a → RowFits b → first_line n a u ≡ first_line n b v → (a ≡ b) × (u ≡ v)
 same_first n a b u v fa fb e =
-    let e0 : decimal n ++ 32 ∷ (decimal a.thread ++ 32 ∷ (decimal a.lba ++ 32 ∷ (decimal a.tag ++ 10 ∷ u))) ≡ decimal n ++ 32 ∷ (decimal b.thread ++ 32 ∷ (decimal b.lba ++ 32 ∷ (decimal b.tag ++ 10 ∷ v))) = cc in
-    let e1 : 32 ∷ (decimal a.thread ++ 32 ∷ (decimal a.lba ++ 32 ∷ (decimal a.tag ++ 10 ∷ u))) ≡ 32 ∷ (decimal b.thread ++ 32 ∷ (decimal b.lba ++ 32 ∷ (decimal b.tag ++ 10 ∷ v))) = append_cancel_left (decimal n) _ _ e0 in
-    let e2 : decimal a.thread ++ 32 ∷ (decimal a.lba ++ 32 ∷ (decimal a.tag ++ 10 ∷ u)) ≡ decimal b.thread ++ 32 ∷ (decimal b.lba ++ 32 ∷ (decimal b.tag ++ 10 ∷ v)) = cc in
+    let e0 : decimal n ++ 32 ∷ (decimal a.thread ++ 32 ∷ (decimal a.lba ++ 32 ∷ (decimal a.tag ++ 10 ∷ u))) ≡ decimal n
+    ++ 32 ∷ (decimal b.thread ++ 32 ∷ (decimal b.lba ++ 32 ∷ (decimal b.tag ++ 10 ∷ v))) = cc in
+    let e1 : 32 ∷ (decimal a.thread ++ 32 ∷ (decimal a.lba ++ 32 ∷ (decimal a.tag ++ 10 ∷ u))) ≡ 32 ∷
+    (decimal b.thread ++ 32 ∷ (decimal b.lba ++ 32 ∷ (decimal b.tag ++ 10 ∷ v))) = append_cancel_left (decimal n) _ _ e0 in
+    let e2 : decimal a.thread ++ 32 ∷ (decimal a.lba ++ 32 ∷ (decimal a.tag ++ 10 ∷ u)) ≡ decimal b.thread
+    ++ 32 ∷ (decimal b.lba ++ 32 ∷ (decimal b.tag ++ 10 ∷ v)) = cc in
     let thread = cut_decimal 32 a.thread b.thread _ _ (omega arith) fa.thread fb.thread e2 in
     let lba = cut_decimal 32 a.lba b.lba _ _ (omega arith) fa.lba fb.lba thread.1 in
     let tag = cut_decimal 10 a.tag b.tag u v (omega arith) fa.tag fb.tag lba.1 in
@@ -103,7 +109,8 @@ same_history t u ft fu e =
 
 Ended-outcome : (thread : ℕ) (o : ℕ × Outcome) → Ended 10 (outcome_line thread o)
 Ended-outcome thread (command, Silent) = tt
-Ended-outcome thread (command, Words front words) = Ended-by 10 (codes "r" ++ spaced (thread ∷ command ∷ front ∷ []) ++ flat_map (λ w. codes " " ++ word_text w) words)
+Ended-outcome thread (command, Words front words) =
+    Ended-by 10 (codes "r" ++ spaced (thread ∷ command ∷ front ∷ []) ++ flat_map (λ w. codes " " ++ word_text w) words)
 Ended-outcome thread (command, Flushed front) = Ended-by 10 (codes "f" ++ spaced (thread ∷ command ∷ front ∷ []))
 Ended-outcome thread (command, Drive unit event) = Ended-by 10 (codes "e" ++ spaced (thread ∷ command ∷ unit ∷ event ∷ []))
 Ended-outcome thread (command, Worn wanted have) = Ended-by 10 (codes "worn" ++ spaced (thread ∷ command ∷ wanted ∷ have ∷ []))
@@ -124,7 +131,8 @@ Ended-closing (ClosedByDrive unit event) = Ended-by 10 (codes "e close" ++ space
 Ended-closing (ClosedWorn wanted have) = Ended-by 10 (codes "worn close" ++ spaced (wanted ∷ have ∷ []))
 
 abbrev before_kept : Transcript → List ℕ
-before_kept t = flat_map history_line (enumerate_from 0 t.history) ++ flat_map thread_text (enumerate_from 0 t.outcomes) ++ opening_line t.opening ++ closing_line t.closing
+before_kept t = flat_map history_line (enumerate_from 0 t.history) ++ flat_map thread_text (enumerate_from 0 t.outcomes) ++ opening_line t.opening
+    ++ closing_line t.closing
 
 Ended-before : (t : Transcript) → Ended 10 (before_kept t)
 Ended-before t =
@@ -150,6 +158,8 @@ Lacks-kept_words n h = (λ e. omega arith, (λ e. omega arith, (λ e. omega arit
 
 pub same_kept : (t u : Transcript) → t.kept < 10 ^ 64 → u.kept < 10 ^ 64 → text_of t ≡ text_of u → t.kept ≡ u.kept
 same_kept t u ht hu e =
-    let words : before_kept t ++ kept_words t.kept ≡ before_kept u ++ kept_words u.kept = append_cancel_right _ _ (10 ∷ []) (sym (text_parts t) ∙ e ∙ text_parts u) in
-    let last : kept_words t.kept ≡ kept_words u.kept = cut_last 10 (before_kept t) (before_kept u) _ _ (Ended-before t) (Ended-before u) (Lacks-kept_words t.kept ht) (Lacks-kept_words u.kept hu) words in
+    let words : before_kept t ++ kept_words t.kept ≡ before_kept u ++ kept_words u.kept =
+    append_cancel_right _ _ (10 ∷ []) (sym (text_parts t) ∙ e ∙ text_parts u) in
+    let last : kept_words t.kept ≡ kept_words u.kept =
+    cut_last 10 (before_kept t) (before_kept u) _ _ (Ended-before t) (Ended-before u) (Lacks-kept_words t.kept ht) (Lacks-kept_words u.kept hu) words in
     same_decimal t.kept u.kept ht hu (cc)

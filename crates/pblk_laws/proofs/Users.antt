@@ -19,7 +19,9 @@ rises [] h = tt
 rises (x ∷ []) h = tt
 rises (x ∷ (y ∷ xs)) h = (
   h 0 (omega arith),
-  rises (y ∷ xs) (λ k inside. let same : suc k + 1 ≡ suc (k + 1) = omega arith in subst (λ n. slice_index (x ∷ (y ∷ xs)) (suc k) < slice_index (x ∷ (y ∷ xs)) n) same (h (suc k) (omega arith))),
+  rises (y ∷ xs) (λ k inside.
+      let same : suc k + 1 ≡ suc (k + 1) = omega arith in
+      subst (λ n. slice_index (x ∷ (y ∷ xs)) (suc k) < slice_index (x ∷ (y ∷ xs)) n) same (h (suc k) (omega arith))),
 )
 
 rises_on : (x : ℕ) (xs : List ℕ) → Rises (x ∷ xs) → Rises xs

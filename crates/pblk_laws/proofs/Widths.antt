@@ -16,11 +16,15 @@ option_length (Some x) xs n h = omega arith
 
 pub filter_map_length : {X Y : Type 0} (f : X → Option Y) (xs : List X) → length (filter_map f xs) ≤ length xs
 filter_map_length f [] = omega arith
-filter_map_length f (x ∷ xs) = let kept : length (filter_map f (x ∷ xs)) ≤ length xs + 1 = option_length (f x) (filter_map f xs) (length xs) (filter_map_length f xs) in omega arith
+filter_map_length f (x ∷ xs) =
+    let kept : length (filter_map f (x ∷ xs)) ≤ length xs + 1 = option_length (f x) (filter_map f xs) (length xs) (filter_map_length f xs) in
+    omega arith
 
 pub width_within : (i : Image) (line : ℕ) → IsFit i → width i line ≤ units i.shape
 width_within i line fit =
-    let online : width i line ≤ length (filter_map (λ (unit : List Chunk). slice_get unit line) i.units) = filter_short (λ (c : Chunk). is_online_in c.state) _ in
-    let there : length (filter_map (λ (unit : List Chunk). slice_get unit line) i.units) ≤ length i.units = filter_map_length (λ (unit : List Chunk). slice_get unit line) i.units in
+    let online : width i line ≤ length (filter_map (λ (unit : List Chunk). slice_get unit line) i.units) =
+    filter_short (λ (c : Chunk). is_online_in c.state) _ in
+    let there : length (filter_map (λ (unit : List Chunk). slice_get unit line) i.units) ≤ length i.units =
+    filter_map_length (λ (unit : List Chunk). slice_get unit line) i.units in
     let counted : length i.units ≡ units i.shape = fit.units in
     omega arith

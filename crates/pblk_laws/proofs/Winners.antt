@@ -79,14 +79,16 @@ newer_itself : (r : Record) → is_newer r r ≡ false
 newer_itself r = false_from_ne_true (is_newer r r) (λ e. newer_not r (newer_is r r e))
 
 newer_than_newer : (b r x : Record) → is_newer b r ≡ false → is_newer b x ≡ true → is_newer x r ≡ false
-newer_than_newer b r x first second = false_from_ne_true (is_newer x r) (λ e. both_ways (is_newer b r) first (newer_from b r (newer_then b x r (newer_is b x second) (newer_is x r e))))
+newer_than_newer b r x first second =
+    false_from_ne_true (is_newer x r) (λ e. both_ways (is_newer b r) first (newer_from b r (newer_then b x r (newer_is b x second) (newer_is x r e))))
 
 -- the newest of what was seen
 IsNewest : (Record → Type 0) → Option Record → Type 0
 IsNewest Seen None = (r : Record) → Seen r → ⊥
 IsNewest Seen (Some b) = Seen b × ((r : Record) → Seen r → is_newer b r ≡ false)
 
-newest_same : (Seen Other : Record → Type 0) (o : Option Record) → ((r : Record) → Seen r → Other r) → ((r : Record) → Other r → Seen r) → IsNewest Seen o → IsNewest Other o
+newest_same : (Seen Other : Record → Type 0) (o : Option Record) → ((r : Record) → Seen r → Other r) → ((r : Record) → Other r → Seen r) → IsNewest Seen o
+    → IsNewest Other o
 unfolding IsNewest
 newest_same Seen Other None to from is = λ r h. is r (from r h)
 newest_same Seen Other (Some b) to from is = (to b is.0, λ r h. is.1 r (from r h))
@@ -108,18 +110,25 @@ lba_is lba (Some other) e = ap Some (eqb-true other lba e)
 SeenOf : ℕ → (Record → Type 0) → List Record → Record → Type 0
 SeenOf lba Seen rs r = Seen r ⊎ (Contains rs r × (r.lba ≡ Some lba))
 
-newest_is : (lba : ℕ) (rs : List Record) (Seen : Record → Type 0) (o : Option Record) → IsNewest Seen o → IsNewest (SeenOf lba Seen rs) (fold newer o (filter (λ r. is_of lba r.lba) rs))
+newest_is : (lba : ℕ) (rs : List Record) (Seen : Record → Type 0) (o : Option Record) → IsNewest Seen o
+    → IsNewest (SeenOf lba Seen rs) (fold newer o (filter (λ r. is_of lba r.lba) rs))
 unfolding SeenOf
-newest_is lba [] Seen o is = newest_same Seen (SeenOf lba Seen []) o (λ r h. inl h) (λ r h. elim h [ inl seen ↦ seen | inr there ↦ absurd (let inside = there.0.1 in omega arith) ]) is
+newest_is lba [] Seen o is = newest_same Seen (SeenOf lba Seen []) o (λ r h. inl h)
+    (λ r h. elim h [ inl seen ↦ seen | inr there ↦ absurd (let inside = there.0.1 in omega arith) ]) is
 newest_is lba (x ∷ rs) Seen o is =
     let rest = filter (λ (r : Record). is_of lba r.lba) rs in
     elim (cases_Bool (is_of lba x.lba)) [
       | inl e ↦
           let Next : Record → Type 0 = λ r. Seen r ⊎ (x ≡ r) in
           let last : IsNewest (SeenOf lba Next rs) (fold newer (newer o x) rest) = newest_is lba rs Next (newer o x) (newest_more Seen o x is) in
-          let same : IsNewest (SeenOf lba Seen (x ∷ rs)) (fold newer (newer o x) rest) = newest_same (SeenOf lba Next rs) (SeenOf lba Seen (x ∷ rs)) (fold newer (newer o x) rest)
+          let same : IsNewest (SeenOf lba Seen (x ∷ rs)) (fold newer (newer o x) rest) =
+          newest_same (SeenOf lba Next rs) (SeenOf lba Seen (x ∷ rs)) (fold newer (newer o x) rest)
           (λ r h. elim h [
-            | inl next ↦ elim next [ inl seen ↦ inl seen | inr here ↦ inr (subst (Contains (x ∷ rs)) here (contains_first x rs), subst (λ (y : Record). y.lba ≡ Some lba) here (lba_is lba x.lba e)) ]
+            | inl next ↦ elim next [
+              | inl seen ↦ inl seen
+              | inr here ↦ inr
+                  (subst (Contains (x ∷ rs)) here (contains_first x rs), subst (λ (y : Record). y.lba ≡ Some lba) here (lba_is lba x.lba e))
+            ]
             | inr there ↦ inr (contains_more x r rs there.0, there.1)
           ])
           (λ r h. elim h [
@@ -145,7 +154,8 @@ winner_newest : (rs : List Record) (lba : ℕ) → IsNewest (SeenOf lba (λ r. �
 unfolding IsNewest
 winner_newest rs lba = newest_is lba rs (λ r. ⊥) None (λ r h. h)
 
-record_alike : (i : Image) (lba : ℕ) (r other : Record) → IsNewest (SeenOf lba (λ x. ⊥) (counted i)) (Some r) → Contains (counted i) r → Contains (counted i) other → other.lba ≡ Some lba → (other ≡ r) ⊎ IsNewer other r
+record_alike : (i : Image) (lba : ℕ) (r other : Record) → IsNewest (SeenOf lba (λ x. ⊥) (counted i)) (Some r) → Contains (counted i) r
+    → Contains (counted i) other → other.lba ≡ Some lba → (other ≡ r) ⊎ IsNewer other r
 unfolding IsNewest SeenOf IsAlike
 record_alike i lba r other is there inside same = elim (newer_either other r) [
   | inl older ↦ inr older
@@ -184,7 +194,8 @@ no_winner_no_record rs lba r e inside same =
     let is : IsNewest (SeenOf lba (λ x. ⊥) rs) None = subst (IsNewest (SeenOf lba (λ x. ⊥) rs)) e (winner_newest rs lba) in
     is r (inr (inside, same))
 
-no_record_none : (rs : List Record) (lba : ℕ) (o : Option Record) → IsNewest (SeenOf lba (λ x. ⊥) rs) o → ((r : Record) → Contains rs r → r.lba ≢ Some lba) → o ≡ None
+no_record_none : (rs : List Record) (lba : ℕ) (o : Option Record) → IsNewest (SeenOf lba (λ x. ⊥) rs) o → ((r : Record) → Contains rs r → r.lba ≢ Some lba)
+    → o ≡ None
 unfolding IsNewest SeenOf
 no_record_none rs lba None is none = refl
 no_record_none rs lba (Some b) is none = elim is.0 [ inl seen ↦ absurd seen | inr there ↦ absurd (none b there.0 there.1) ]

@@ -78,10 +78,12 @@ pub rest_bytes : (n : ℕ) (b : List ℕ) → AreBytes b → AreBytes (drop n b)
 rest_bytes n b h = record { each = drop_bytes n b h.each }
 
 pub le32_back : (at : ℕ) (b : List ℕ) → AreBytes b → at + 4 ≤ length b → le32 (number_at w32 at b) ≡ take 4 (drop at b)
-le32_back at b h inside = le_bytes_4 (take 4 (drop at b)) (number_at w32 at b) (simp (length-take, length-drop) (omega arith)) (take_bytes 4 (drop at b) (drop_bytes at b h.each)) refl
+le32_back at b h inside = le_bytes_4 (take 4 (drop at b)) (number_at w32 at b) (simp (length-take, length-drop) (omega arith))
+    (take_bytes 4 (drop at b) (drop_bytes at b h.each)) refl
 
 pub le64_back : (at : ℕ) (b : List ℕ) → AreBytes b → at + 8 ≤ length b → le64 (number_at w64 at b) ≡ take 8 (drop at b)
-le64_back at b h inside = le_bytes_8 (take 8 (drop at b)) (number_at w64 at b) (simp (length-take, length-drop) (omega arith)) (take_bytes 8 (drop at b) (drop_bytes at b h.each)) refl
+le64_back at b h inside = le_bytes_8 (take 8 (drop at b)) (number_at w64 at b) (simp (length-take, length-drop) (omega arith))
+    (take_bytes 8 (drop at b) (drop_bytes at b h.each)) refl
 
 -- ---- a row
 
@@ -91,7 +93,8 @@ four_pieces a b c d x y z p q r = rw (p, q, r) refl
 -- the first 24 bytes in pieces
 row_pieces : (b : List ℕ) → take 24 b ≡ take 4 b ++ (take 4 (drop 4 b) ++ (take 8 (drop 8 b) ++ take 8 (drop 16 b)))
 row_pieces b =
-    let last : take 16 (drop 8 b) ≡ take 8 (drop 8 b) ++ take 8 (drop 16 b) = take-add 8 8 (drop 8 b) ∙ ap (λ (xs : List ℕ). take 8 (drop 8 b) ++ take 8 xs) (drop-drop 8 8 b) in
+    let last : take 16 (drop 8 b) ≡ take 8 (drop 8 b) ++ take 8 (drop 16 b) = take-add 8 8 (drop 8 b)
+    ∙ ap (λ (xs : List ℕ). take 8 (drop 8 b) ++ take 8 xs) (drop-drop 8 8 b) in
     let more : take 20 (drop 4 b) ≡ take 4 (drop 4 b) ++ (take 8 (drop 8 b) ++ take 8 (drop 16 b)) =
     take-add 4 16 (drop 4 b) ∙ ap (λ (xs : List ℕ). take 4 (drop 4 b) ++ take 16 xs) (drop-drop 4 4 b) ∙ ap (λ (xs : List ℕ). take 4 (drop 4 b) ++ xs) last in
     take-add 4 20 b ∙ ap (λ (xs : List ℕ). take 4 b ++ xs) more
@@ -118,8 +121,10 @@ row_test b h long =
     let short : length (take 4 (drop 4 b)) ≡ 4 = simp (length-take, length-drop) (omega arith) in
     let first : length (take 4 b) ≡ 4 = simp length-take (omega arith) in
     by_test (list_all (λ x. eqb x 0) (take 4 (drop 4 b))) (row_bytes (row_in b)) (take 24 b)
-    (λ is. row_spelling b h long ∙ ap (λ (xs : List ℕ). take 4 b ++ (xs ++ (take 8 (drop 8 b) ++ take 8 (drop 16 b)))) (sym (are_zeros (take 4 (drop 4 b)) 4 short is)) ∙ sym (row_pieces b))
+    (λ is. row_spelling b h long ∙ ap (λ (xs : List ℕ). take 4 b ++ (xs ++ (take 8 (drop 8 b) ++ take 8 (drop 16 b))))
+    (sym (are_zeros (take 4 (drop 4 b)) 4 short is)) ∙ sym (row_pieces b))
     (λ isnt same.
     let middle : zeros 4 ≡ take 4 (drop 4 b) =
-    same_middle (take 4 b) (zeros 4) (take 4 (drop 4 b)) (take 8 (drop 8 b) ++ take 8 (drop 16 b)) (take 8 (drop 8 b) ++ take 8 (drop 16 b)) (zeros_length 4) short first (sym (row_spelling b h long) ∙ same ∙ row_pieces b) in
+    same_middle (take 4 b) (zeros 4) (take 4 (drop 4 b)) (take 8 (drop 8 b) ++ take 8 (drop 16 b)) (take 8 (drop 8 b) ++ take 8 (drop 16 b))
+    (zeros_length 4) short first (sym (row_spelling b h long) ∙ same ∙ row_pieces b) in
     no_zeros (take 4 (drop 4 b)) 4 (sym middle) isnt)

@@ -28,13 +28,19 @@ abbrev text : Start → List ℕ
 text r = le32 magic ++ le16 1 ++ le16 1 ++ le32 r.line ++ le32 r.width ++ le64 r.seq ++ le64 r.first_seq ++ le64 r.front
     ++ le64 r.capacity ++ le32 (length r.rows) ++ zeros 12 ++ flat_map row_bytes r.rows
 
-counted : (h : StartHeader) (rows : List OlderLine) (n : ℕ) → le32 magic ++ le16 1 ++ le16 1 ++ le32 h.line ++ le32 h.width ++ le64 h.seq ++ le64 h.first_seq ++ le64 h.front
-    ++ le64 h.capacity ++ le32 n ++ zeros 12 ++ flat_map row_bytes rows ≡ start_header (record { line = h.line; width = h.width; seq = h.seq; first_seq = h.first_seq; front = h.front; capacity = h.capacity; rows = n }) ++ flat_map row_bytes rows
+counted : (h : StartHeader) (rows : List OlderLine) (n : ℕ)
+    → le32 magic ++ le16 1 ++ le16 1 ++ le32 h.line ++ le32 h.width ++ le64 h.seq ++ le64 h.first_seq ++ le64 h.front
+    ++ le64 h.capacity ++ le32 n ++ zeros 12
+    ++ flat_map row_bytes rows ≡ start_header
+    (record { line = h.line; width = h.width; seq = h.seq; first_seq = h.first_seq; front = h.front; capacity = h.capacity; rows = n })
+    ++ flat_map row_bytes rows
 unfolding start_header zeros
 counted h rows n = refl
 
 text_is : (h : StartHeader) (rows : List OlderLine) → length rows ≡ h.rows → text (with_rows h rows) ≡ start_header h ++ flat_map row_bytes rows
-text_is h rows e = counted h rows (length rows) ∙ ap (λ n. start_header (record { line = h.line; width = h.width; seq = h.seq; first_seq = h.first_seq; front = h.front; capacity = h.capacity; rows = n }) ++ flat_map row_bytes rows) e
+text_is h rows e = counted h rows (length rows)
+    ∙ ap (λ n. start_header (record { line = h.line; width = h.width; seq = h.seq; first_seq = h.first_seq; front = h.front; capacity = h.capacity; rows = n })
+    ++ flat_map row_bytes rows) e
 
 header_length : (h : StartHeader) → length (start_header h) ≡ 64
 unfolding start_header zeros
@@ -46,13 +52,15 @@ rows_length [] = refl
 rows_length (row ∷ rows) = let rest : length (flat_map row_bytes rows) ≡ 24 * length rows = rows_length rows in omega arith
 
 text_length : (h : StartHeader) (rows : List OlderLine) → length rows ≡ h.rows → length (text (with_rows h rows)) ≡ 64 + 24 * h.rows
-text_length h rows e = ap length (text_is h rows e) ∙ length-append (start_header h) (flat_map row_bytes rows) ∙ omega (arith, header_length h, rows_length rows)
+text_length h rows e = ap length (text_is h rows e) ∙ length-append (start_header h) (flat_map row_bytes rows)
+    ∙ omega (arith, header_length h, rows_length rows)
 
 -- how many zeros are behind the rows
 abbrev left : Shape → ℕ → ℕ
 left s n = start_len s * s.sector - (64 + 24 * n)
 
-bytes_are : (s : Shape) (h : StartHeader) (rows : List OlderLine) → length rows ≡ h.rows → start_bytes s (with_rows h rows) ≡ start_header h ++ (flat_map row_bytes rows ++ zeros (left s h.rows))
+bytes_are : (s : Shape) (h : StartHeader) (rows : List OlderLine) → length rows ≡ h.rows
+    → start_bytes s (with_rows h rows) ≡ start_header h ++ (flat_map row_bytes rows ++ zeros (left s h.rows))
 bytes_are s h rows e =
     ap (λ (xs : List ℕ). xs ++ zeros (start_len s * s.sector - length (text (with_rows h rows)))) (text_is h rows e)
     ∙ ap (λ n. (start_header h ++ flat_map row_bytes rows) ++ zeros (start_len s * s.sector - n)) (text_length h rows e)
@@ -61,7 +69,8 @@ bytes_are s h rows e =
 -- ---- the written record
 
 -- what `write` leaves is the spelling
-pub written : (s : Shape) (h : StartHeader) (rows : List OlderLine) (out : List ℕ) (n : ℕ) → length rows ≡ h.rows → n ≡ start_len s * s.sector → 64 + 24 * h.rows ≤ n
+pub written : (s : Shape) (h : StartHeader) (rows : List OlderLine) (out : List ℕ) (n : ℕ) → length rows ≡ h.rows → n ≡ start_len s * s.sector
+    → 64 + 24 * h.rows ≤ n
     → out ≡ (start_header h ++ flat_map row_bytes rows) ++ zeros (n - (64 + 24 * h.rows)) → out ≡ start_bytes s (with_rows h rows)
 written s h rows out n e size room is =
     is ∙ ap (λ m. (start_header h ++ flat_map row_bytes rows) ++ zeros (m - (64 + 24 * h.rows))) size
@@ -91,7 +100,8 @@ was_read s line g b r h =
 is_read : (s : Shape) (line g : ℕ) (b : List ℕ) → IsRead s line g b → Some (start_in b) ≡ start_read s line g b
 unfolding start_read
 is_read s line g b h =
-    let both : start_fits s line g (start_in b) && bytes_eq (start_bytes s (start_in b)) b ≡ true = and_from (start_fits s line g (start_in b)) (bytes_eq (start_bytes s (start_in b)) b) h.fits (true_same (start_bytes s (start_in b)) b h.same) in
+    let both : start_fits s line g (start_in b) && bytes_eq (start_bytes s (start_in b)) b ≡ true =
+    and_from (start_fits s line g (start_in b)) (bytes_eq (start_bytes s (start_in b)) b) h.fits (true_same (start_bytes s (start_in b)) b h.same) in
     ap (λ t. cond t (Some (start_in b)) None) (sym both)
 
 -- each test that fails is one of a record that is read
@@ -109,7 +119,8 @@ numbers s line g h n = (h.line == line) && (h.width == g) && (h.capacity == s.ca
     && nat_le 1 h.first_seq && nat_le h.first_seq h.seq && nat_lt h.seq (2 ^ 61) && nat_lt h.front (2 ^ 61)
     && nat_le n (s.chunks - 1)
 
-fits_is : (s : Shape) (line g : ℕ) (b : List ℕ) → start_fits s line g (start_in b) ≡ (header_fits s line g (header_in b) && rows_fit s (start_in b) 0 (rows_of b))
+fits_is : (s : Shape) (line g : ℕ) (b : List ℕ)
+    → start_fits s line g (start_in b) ≡ (header_fits s line g (header_in b) && rows_fit s (start_in b) 0 (rows_of b))
 unfolding numbers
 fits_is s line g b = ap (λ n. numbers s line g (header_in b) n && rows_fit s (start_in b) 0 (rows_of b)) (rows_count b)
 
@@ -131,45 +142,56 @@ parts_of : (s : Shape) (b : List ℕ) → start_bytes s (start_in b) ≡ b → P
 parts_of s b same =
     let h : StartHeader = header_in b in
     let rows : List OlderLine = rows_of b in
-    let whole : start_header (header_in b) ++ (flat_map row_bytes (rows_of b) ++ zeros (left s (header_in b).rows)) ≡ b = sym (bytes_are s (header_in b) (rows_of b) (rows_count b)) ∙ same in
-    let behind : flat_map row_bytes (rows_of b) ++ zeros (left s (header_in b).rows) ≡ drop 64 b = rest_of (start_header (header_in b)) (flat_map row_bytes (rows_of b) ++ zeros (left s (header_in b).rows)) b 64 (header_length (header_in b)) whole in
+    let whole : start_header (header_in b) ++ (flat_map row_bytes (rows_of b) ++ zeros (left s (header_in b).rows)) ≡ b =
+    sym (bytes_are s (header_in b) (rows_of b) (rows_count b)) ∙ same in
+    let behind : flat_map row_bytes (rows_of b) ++ zeros (left s (header_in b).rows) ≡ drop 64 b =
+    rest_of (start_header (header_in b)) (flat_map row_bytes (rows_of b) ++ zeros (left s (header_in b).rows)) b 64 (header_length (header_in b)) whole in
     let long : length (flat_map row_bytes (rows_of b)) ≡ 24 * (header_in b).rows = rows_length (rows_of b) ∙ ap (λ n. 24 * n) (rows_count b) in
     record {
-      header = front_of (start_header (header_in b)) (flat_map row_bytes (rows_of b) ++ zeros (left s (header_in b).rows)) b 64 (header_length (header_in b)) whole;
+      header = front_of (start_header (header_in b)) (flat_map row_bytes (rows_of b) ++ zeros (left s (header_in b).rows)) b 64
+          (header_length (header_in b)) whole;
       rows = front_of (flat_map row_bytes (rows_of b)) (zeros (left s (header_in b).rows)) (drop 64 b) (24 * (header_in b).rows) long behind;
-      tail = rest_of (flat_map row_bytes (rows_of b)) (zeros (left s (header_in b).rows)) (drop 64 b) (24 * (header_in b).rows) long behind ∙ drop-drop (24 * (header_in b).rows) 64 b;
+      tail = rest_of (flat_map row_bytes (rows_of b)) (zeros (left s (header_in b).rows)) (drop 64 b) (24 * (header_in b).rows) long behind
+          ∙ drop-drop (24 * (header_in b).rows) 64 b;
     }
 
 same_from : (s : Shape) (b : List ℕ) → Parts s b → start_bytes s (start_in b) ≡ b
 same_from s b p =
     let tail : zeros (left s (header_in b).rows) ≡ drop (24 * (header_in b).rows) (drop 64 b) = p.tail ∙ sym (drop-drop (24 * (header_in b).rows) 64 b) in
-    let behind : flat_map row_bytes (rows_of b) ++ zeros (left s (header_in b).rows) ≡ drop 64 b = joined (flat_map row_bytes (rows_of b)) (zeros (left s (header_in b).rows)) (drop 64 b) (24 * (header_in b).rows) p.rows tail in
-    bytes_are s (header_in b) (rows_of b) (rows_count b) ∙ joined (start_header (header_in b)) (flat_map row_bytes (rows_of b) ++ zeros (left s (header_in b).rows)) b 64 p.header behind
+    let behind : flat_map row_bytes (rows_of b) ++ zeros (left s (header_in b).rows) ≡ drop 64 b =
+    joined (flat_map row_bytes (rows_of b)) (zeros (left s (header_in b).rows)) (drop 64 b) (24 * (header_in b).rows) p.rows tail in
+    bytes_are s (header_in b) (rows_of b) (rows_count b)
+    ∙ joined (start_header (header_in b)) (flat_map row_bytes (rows_of b) ++ zeros (left s (header_in b).rows)) b 64 p.header behind
 
-pub misspelled_header : (s : Shape) (line g : ℕ) (b : List ℕ) (h : StartHeader) → h ≡ header_in b → bytes_eq (start_header h) (take 64 b) ≡ false → None ≡ start_read s line g b
+pub misspelled_header : (s : Shape) (line g : ℕ) (b : List ℕ) (h : StartHeader) → h ≡ header_in b → bytes_eq (start_header h) (take 64 b) ≡ false
+    → None ≡ start_read s line g b
 misspelled_header s line g b h h-is differs =
     none_unless (start_read s line g b) (λ r e.
     let p = parts_of s b (was_read s line g b r e).same in
     let yes : bytes_eq (start_header h) (take 64 b) ≡ true = true_same (start_header h) (take 64 b) (ap start_header h-is ∙ p.header) in
     absurd (let never : true ≡ false = sym yes ∙ differs in cc))
 
-pub unclear_tail : (s : Shape) (line g : ℕ) (b rest : List ℕ) (h : StartHeader) (n : ℕ) → h ≡ header_in b → n ≡ 64 + 24 * h.rows → rest ≡ drop n b → list_all (λ x. x == 0) rest ≡ false → None ≡ start_read s line g b
+pub unclear_tail : (s : Shape) (line g : ℕ) (b rest : List ℕ) (h : StartHeader) (n : ℕ) → h ≡ header_in b → n ≡ 64 + 24 * h.rows → rest ≡ drop n b
+    → list_all (λ x. x == 0) rest ≡ false → None ≡ start_read s line g b
 unclear_tail s line g b rest h n h-is n-is rest-is some =
     none_unless (start_read s line g b) (λ r e.
     let p = parts_of s b (was_read s line g b r e).same in
     let place : n ≡ 64 + 24 * (header_in b).rows = n-is ∙ ap (λ (x : StartHeader). 64 + 24 * x.rows) h-is in
     no_zeros rest (left s (header_in b).rows) (rest-is ∙ ap (λ m. drop m b) place ∙ sym p.tail) some)
 
-hold_parts : (s : Shape) (r : Start) (rows : List OlderLine) (n : ℕ) (b : List ℕ) → length rows ≡ n → rows_hold s r 0 rows b ≡ true → (rows_fit s r 0 rows ≡ true) × (flat_map row_bytes rows ≡ take (24 * n) b)
+hold_parts : (s : Shape) (r : Start) (rows : List OlderLine) (n : ℕ) (b : List ℕ) → length rows ≡ n → rows_hold s r 0 rows b ≡ true
+    → (rows_fit s r 0 rows ≡ true) × (flat_map row_bytes rows ≡ take (24 * n) b)
 unfolding rows_hold
 hold_parts s r rows n b e h =
     let parts = and_parts (rows_fit s r 0 rows) (bytes_eq (flat_map row_bytes rows) (take (24 * length rows) b)) h in
     (parts.0, same_bytes (flat_map row_bytes rows) (take (24 * length rows) b) parts.1 ∙ ap (λ k. take (24 * k) b) e)
 
-parts_hold : (s : Shape) (r : Start) (rows : List OlderLine) (n : ℕ) (b : List ℕ) → length rows ≡ n → rows_fit s r 0 rows ≡ true → flat_map row_bytes rows ≡ take (24 * n) b → rows_hold s r 0 rows b ≡ true
+parts_hold : (s : Shape) (r : Start) (rows : List OlderLine) (n : ℕ) (b : List ℕ) → length rows ≡ n → rows_fit s r 0 rows ≡ true
+    → flat_map row_bytes rows ≡ take (24 * n) b → rows_hold s r 0 rows b ≡ true
 unfolding rows_hold
 parts_hold s r rows n b e fits same =
-    and_from (rows_fit s r 0 rows) (bytes_eq (flat_map row_bytes rows) (take (24 * length rows) b)) fits (true_same (flat_map row_bytes rows) (take (24 * length rows) b) (same ∙ ap (λ k. take (24 * k) b) (sym e)))
+    and_from (rows_fit s r 0 rows) (bytes_eq (flat_map row_bytes rows) (take (24 * length rows) b)) fits
+    (true_same (flat_map row_bytes rows) (take (24 * length rows) b) (same ∙ ap (λ k. take (24 * k) b) (sym e)))
 
 chosen_rows : (t : Bool) (xs ys : List OlderLine) → Some ys ≡ cond t (Some xs) None → (t ≡ true) × (ys ≡ xs)
 chosen_rows true xs ys e = (refl, cc)
@@ -179,15 +201,19 @@ unchosen_rows : (t : Bool) (xs : List OlderLine) → None ≡ cond t (Some xs) N
 unchosen_rows true xs e held = absurd cc
 unchosen_rows false xs e held = absurd cc
 
-pub no_rows : (s : Shape) (line g : ℕ) (b rest : List ℕ) (h : StartHeader) → h ≡ header_in b → rest ≡ drop 64 b → None ≡ rows_read s h h.rows rest → None ≡ start_read s line g b
+pub no_rows : (s : Shape) (line g : ℕ) (b rest : List ℕ) (h : StartHeader) → h ≡ header_in b → rest ≡ drop 64 b → None ≡ rows_read s h h.rows rest
+    → None ≡ start_read s line g b
 unfolding rows_read
 no_rows s line g b rest h h-is rest-is none =
     none_unless (start_read s line g b) (λ r e.
     let read = was_read s line g b r e in
     let p = parts_of s b read.same in
     let tests = and_parts (header_fits s line g (header_in b)) (rows_fit s (start_in b) 0 (rows_of b)) (sym (fits_is s line g b) ∙ read.fits) in
-    let own : None ≡ rows_read s (header_in b) (header_in b).rows (drop 64 b) = subst (λ (xs : List ℕ). None ≡ rows_read s (header_in b) (header_in b).rows xs) rest-is (subst (λ (x : StartHeader). None ≡ rows_read s x x.rows rest) h-is none) in
-    unchosen_rows (rows_hold s (start_in b) 0 (rows_of b) (drop 64 b)) (rows_of b) own (parts_hold s (start_in b) (rows_of b) (header_in b).rows (drop 64 b) (rows_count b) tests.1 p.rows))
+    let own : None ≡ rows_read s (header_in b) (header_in b).rows (drop 64 b) =
+    subst (λ (xs : List ℕ). None ≡ rows_read s (header_in b) (header_in b).rows xs) rest-is
+    (subst (λ (x : StartHeader). None ≡ rows_read s x x.rows rest) h-is none) in
+    unchosen_rows (rows_hold s (start_in b) 0 (rows_of b) (drop 64 b)) (rows_of b) own
+    (parts_hold s (start_in b) (rows_of b) (header_in b).rows (drop 64 b) (rows_count b) tests.1 p.rows))
 
 -- and where none fails the record is read
 record AllPass (s : Shape) (line g : ℕ) (b : List ℕ) (rows : List OlderLine) : Type 0 where
@@ -197,7 +223,8 @@ record AllPass (s : Shape) (line g : ℕ) (b : List ℕ) (rows : List OlderLine)
   tail : list_all (λ x. x == 0) (drop (64 + 24 * (header_in b).rows) b) ≡ true
   read : Some rows ≡ rows_read s (header_in b) (header_in b).rows (drop 64 b)
 
-pass_read : (s : Shape) (line g : ℕ) (b : List ℕ) (rows : List OlderLine) → 64 + 24 * (header_in b).rows ≤ length b → AllPass s line g b rows → Some (with_rows (header_in b) rows) ≡ start_read s line g b
+pass_read : (s : Shape) (line g : ℕ) (b : List ℕ) (rows : List OlderLine) → 64 + 24 * (header_in b).rows ≤ length b → AllPass s line g b rows
+    → Some (with_rows (header_in b) rows) ≡ start_read s line g b
 unfolding rows_read
 pass_read s line g b rows room a =
     let chosen = chosen_rows (rows_hold s (start_in b) 0 (rows_of b) (drop 64 b)) (rows_of b) rows a.read in
@@ -209,9 +236,14 @@ pass_read s line g b rows room a =
       tail = sym (are_zeros (drop (64 + 24 * (header_in b).rows) b) (left s (header_in b).rows) long a.tail);
     }) in
     ap (λ (xs : List OlderLine). Some (with_rows (header_in b) xs)) chosen.1
-    ∙ is_read s line g b (record { fits = fits_is s line g b ∙ and_from (header_fits s line g (header_in b)) (rows_fit s (start_in b) 0 (rows_of b)) a.fits held.0; same = same })
+    ∙ is_read s line g b (record {
+      fits = fits_is s line g b
+          ∙ and_from (header_fits s line g (header_in b)) (rows_fit s (start_in b) 0 (rows_of b)) a.fits held.0;
+      same = same;
+    })
 
-pub read_whole : (s : Shape) (line g : ℕ) (b tail behind : List ℕ) (h : StartHeader) (n : ℕ) (rows : List Row) → h ≡ header_in b → n ≡ 64 + 24 * h.rows → n ≤ length b → tail ≡ drop n b → behind ≡ drop 64 b
+pub read_whole : (s : Shape) (line g : ℕ) (b tail behind : List ℕ) (h : StartHeader) (n : ℕ) (rows : List Row) → h ≡ header_in b → n ≡ 64 + 24 * h.rows
+    → n ≤ length b → tail ≡ drop n b → behind ≡ drop 64 b
     → length b ≡ start_len s * s.sector → header_fits s line g h ≡ true → bytes_eq (start_header h) (take 64 b) ≡ true → list_all (λ x. x == 0) tail ≡ true
     → Some (map row_numbers rows) ≡ rows_read s h h.rows behind → Some (with_rows h (map row_numbers rows)) ≡ start_read s line g b
 read_whole s line g b tail behind h n rows h-is n-is room tail-is behind-is size fits header zero read =
@@ -223,7 +255,8 @@ read_whole s line g b tail behind h n rows h-is n-is room tail-is behind-is size
       fits = subst (λ (x : StartHeader). header_fits s line g x ≡ true) h-is fits;
       header = subst (λ (x : StartHeader). bytes_eq (start_header x) (take 64 b) ≡ true) h-is header;
       tail = subst (λ (xs : List ℕ). list_all (λ x. x == 0) xs ≡ true) own_tail zero;
-      read = subst (λ (xs : List ℕ). Some (map row_numbers rows) ≡ rows_read s (header_in b) (header_in b).rows xs) behind-is (subst (λ (x : StartHeader). Some (map row_numbers rows) ≡ rows_read s x x.rows behind) h-is read);
+      read = subst (λ (xs : List ℕ). Some (map row_numbers rows) ≡ rows_read s (header_in b) (header_in b).rows xs) behind-is
+          (subst (λ (x : StartHeader). Some (map row_numbers rows) ≡ rows_read s x x.rows behind) h-is read);
     })
 
 -- the header says that there are no more rows than other lines, which have room
@@ -237,7 +270,8 @@ of_some f o x y e h = cc_some (ap (option_map f) (sym e) ∙ h) where
   cc_some : Some (f x) ≡ Some y → f x ≡ y
   cc_some p = cc
 
-pub room_for : (s t : Shape) (line g e long : ℕ) (h : StartHeader) → s ≡ t → HoldsStart t e → long ≡ e * s.sector → header_fits s line g h ≡ true → 64 + 24 * h.rows ≤ long
+pub room_for : (s t : Shape) (line g e long : ℕ) (h : StartHeader) → s ≡ t → HoldsStart t e → long ≡ e * s.sector → header_fits s line g h ≡ true
+    → 64 + 24 * h.rows ≤ long
 room_for s t line g e long h s-is holds size fits =
     let own : HoldsStart s e = subst (λ (x : Shape). HoldsStart x e) (sym s-is) holds in
     omega (arith, few_rows s line g h fits, own, size)
@@ -251,14 +285,17 @@ size_isnt s t e long s-is e-is differs size = differs (size ∙ ap (λ x. x * s.
 
 -- header, rows and zeros, written one after another
 pub assembled : (s : Shape) (r : StartRecord) (h : StartHeader) (rows : List Row) (a b c : List ℕ) (stop n : ℕ) → rows ≡ r.rows → h ≡ header_of r (length rows)
-    → take 64 a ≡ start_header h → take stop b ≡ take 64 a ++ flat_map row_bytes (map row_numbers rows) → take (length b) c ≡ take stop b ++ zeros (length b - stop)
-    → stop ≡ 64 + 24 * length rows → length b ≡ n → length c ≡ length b → n ≡ start_len s * s.sector → 64 + 24 * length rows ≤ n → c ≡ start_bytes s (start_numbers r)
+    → take 64 a ≡ start_header h → take stop b ≡ take 64 a ++ flat_map row_bytes (map row_numbers rows)
+    → take (length b) c ≡ take stop b ++ zeros (length b - stop)
+    → stop ≡ 64 + 24 * length rows → length b ≡ n → length c ≡ length b → n ≡ start_len s * s.sector → 64 + 24 * length rows ≤ n
+    → c ≡ start_bytes s (start_numbers r)
 assembled s r h rows a b c stop n rows-is h-is header_there rows_there zeros_there stop-is long same size room =
     let whole : c ≡ take stop b ++ zeros (length b - stop) = taken c (take stop b ++ zeros (length b - stop)) (length b) same zeros_there in
     let place : length b - stop ≡ n - (64 + 24 * length rows) = omega arith in
     let front : take stop b ≡ start_header (header_of r (length rows)) ++ flat_map row_bytes (map row_numbers rows) =
     rows_there ∙ ap (λ (xs : List ℕ). xs ++ flat_map row_bytes (map row_numbers rows)) (header_there ∙ ap start_header h-is) in
     let is : c ≡ (start_header (header_of r (length rows)) ++ flat_map row_bytes (map row_numbers rows)) ++ zeros (n - (64 + 24 * length rows)) =
-    whole ∙ ap (λ (xs : List ℕ). xs ++ zeros (length b - stop)) front ∙ ap (λ m. (start_header (header_of r (length rows)) ++ flat_map row_bytes (map row_numbers rows)) ++ zeros m) place in
+    whole ∙ ap (λ (xs : List ℕ). xs ++ zeros (length b - stop)) front
+    ∙ ap (λ m. (start_header (header_of r (length rows)) ++ flat_map row_bytes (map row_numbers rows)) ++ zeros m) place in
     written s (header_of r (length rows)) (map row_numbers rows) c n (length-map rows row_numbers) size room is
     ∙ ap (λ (xs : List Row). start_bytes s (with_rows (header_of r (length xs)) (map row_numbers xs))) rows-is

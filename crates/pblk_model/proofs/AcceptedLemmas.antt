@@ -1,5 +1,5 @@
 -- Lemmas on the words of Accepted.
-use Rattle.std.proofs.Common.{None, ap, arith, get_or, inl, inr, lit<, refl, subst, sym, true, ℕ, ◌*◌, ◌-◌, ◌<◌, ◌==◌, ◌^◌, ◌∙◌, ◌≡◌, ◌≤◌}
+use Rattle.std.proofs.Common.{None, ap, arith, get_or, inl, inr, lit<, refl, subst, sym, true, ℕ, ◌*◌, ◌==◌, ◌^◌, ◌∙◌, ◌≡◌, ◌≤◌}
 use Rattle.std.proofs.Math.Nat.{mul-le-mul_right, pow-le-pow_right}
 use Rattle.std.proofs.lemmas.Bool.{eq-eqb, eqb-true, le-leb, lt-ltb}
 use Rattle.std.proofs.lemmas.List.Folds.{Any-from_list_any, list_any_at}

@@ -9,7 +9,8 @@ pub length-blocks_of : (size : ℕ) (bytes : List ℕ) (marks : List Mark) → l
 length-blocks_of size bytes [] = refl
 length-blocks_of size bytes (m ∷ marks) = ap suc (length-blocks_of size (drop size bytes) marks)
 
-pub blocks_of-append : (size : ℕ) (bytes more : List ℕ) (marks others : List Mark) → length bytes ≡ length marks * size → blocks_of size (bytes ++ more) (marks ++ others) ≡ blocks_of size bytes marks ++ blocks_of size more others
+pub blocks_of-append : (size : ℕ) (bytes more : List ℕ) (marks others : List Mark) → length bytes ≡ length marks * size
+    → blocks_of size (bytes ++ more) (marks ++ others) ≡ blocks_of size bytes marks ++ blocks_of size more others
 blocks_of-append size bytes more [] others whole =
     let none : bytes ≡ [] = nil_from_length bytes (omega arith) in
     rw none refl
@@ -20,7 +21,8 @@ blocks_of-append size bytes more (m ∷ marks) others whole =
     rw (take-append-le size bytes more enough, drop-append-le size bytes more enough, blocks_of-append size (drop size bytes) more marks others rest) refl
 
 -- the first blocks are those of the first bytes and marks
-pub take-blocks_of : (size n : ℕ) (bytes : List ℕ) (marks : List Mark) → take n (blocks_of size bytes marks) ≡ blocks_of size (take (n * size) bytes) (take n marks)
+pub take-blocks_of : (size n : ℕ) (bytes : List ℕ) (marks : List Mark)
+    → take n (blocks_of size bytes marks) ≡ blocks_of size (take (n * size) bytes) (take n marks)
 take-blocks_of size zero bytes marks = refl
 take-blocks_of size (suc n) bytes [] = refl
 take-blocks_of size (suc n) bytes (m ∷ marks) =

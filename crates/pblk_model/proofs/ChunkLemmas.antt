@@ -15,6 +15,8 @@ pointer_within Open clba wp h = omega (arith, h.1)
 pointer_within Closed clba wp h = h
 pointer_within Offline clba wp h = omega arith
 
-pub map_cond : (b : Bool) (unit : ℕ × List Chunk) (rest : List (ℕ × List Chunk)) → map (λ (u : ℕ × List Chunk). u.0) (cond b (unit ∷ rest) rest) ≡ cond b (unit.0 ∷ map (λ (u : ℕ × List Chunk). u.0) rest) (map (λ (u : ℕ × List Chunk). u.0) rest)
+pub map_cond : (b : Bool) (unit : ℕ × List Chunk) (rest : List (ℕ × List Chunk))
+    → map (λ (u : ℕ × List Chunk). u.0) (cond b (unit ∷ rest) rest) ≡ cond b (unit.0 ∷ map (λ (u : ℕ × List Chunk). u.0) rest)
+    (map (λ (u : ℕ × List Chunk). u.0) rest)
 map_cond true unit rest = refl
 map_cond false unit rest = refl

@@ -14,7 +14,8 @@ missing_stops borne n i p total lt free so_far =
     let k : n - i ≡ suc (n - (i + 1)) = omega arith in
     sym (ap (λ m. least_missing borne m p) k ∙ ap (λ b. cond b (least_missing borne (n - (i + 1)) (p + 1)) p) free) ∙ so_far
 
-pub missing_goes_on : (borne : ℕ → Bool) (n i p total : ℕ) → i < n → borne p ≡ true → least_missing borne (n - i) p ≡ total → least_missing borne (n - (i + 1)) (p + 1) ≡ total
+pub missing_goes_on : (borne : ℕ → Bool) (n i p total : ℕ) → i < n → borne p ≡ true → least_missing borne (n - i) p ≡ total
+    → least_missing borne (n - (i + 1)) (p + 1) ≡ total
 unfolding least_missing
 missing_goes_on borne n i p total lt taken so_far =
     let k : n - i ≡ suc (n - (i + 1)) = omega arith in

@@ -1,5 +1,5 @@
 -- Lemmas on the words of Descriptor.
-use Rattle.std.proofs.Common.{Err, List, Ok, Some, ap, eqb, length, ltb, not, refl, true, ℕ, ◌-◌, ◌∙◌, ◌≡◌}
+use Rattle.std.proofs.Common.{Err, List, Ok, Some, ap, eqb, length, ltb, not, refl, true, ℕ, ◌∙◌, ◌≡◌}
 use Rattle.std.proofs.lemmas.Bool.{and_parts, cond-true, eq-eqb, eqb-true, leb-true}
 use Rattle.std.specs.Int.{w64}
 use Rattle.std.specs.List.{slice_index}
@@ -11,7 +11,8 @@ use Rattle.pblk_model.specs.declared.chunk.ChunkState.{ChunkState}
 use Rattle.pblk_model.specs.declared.chunk.ChunkState.TheVariants.{Closed, Free, Offline, Open}
 use Rattle.pblk_model.specs.declared.chunk.DescriptorErr.TheVariants as errors
 
-pub reads : (d : List ℕ) (state : ChunkState) (clba : ℕ) → length d ≡ 32 → state_in (slice_index d 0) ≡ Some state → slice_index d 1 ≡ 1 → number_at w64 16 d ≡ clba
+pub reads : (d : List ℕ) (state : ChunkState) (clba : ℕ) → length d ≡ 32 → state_in (slice_index d 0) ≡ Some state → slice_index d 1 ≡ 1
+    → number_at w64 16 d ≡ clba
     → pointer_holds state clba (number_at w64 24 d) ≡ true → read_descriptor d ≡ Ok (descriptor_in state d)
 reads d state clba size is kind blocks holds =
     cond-true (eqb (length d) 32) (of_state d (state_in (slice_index d 0))) (Err errors.Length) (eq-eqb (length d) 32 size)

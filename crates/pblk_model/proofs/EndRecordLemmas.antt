@@ -23,10 +23,13 @@ pub pairs_go_on : (front now : List Mark) (count i lba position : ℕ) (bytes re
 unfolding pairs_in
 pairs_go_on front now count i lba position bytes rest total lt lba-is position-is rest-is now-is so_far =
     let k : count - i ≡ suc (count - (i + 1)) = omega arith in
-    let step : front ++ pairs_in (count - i) bytes ≡ front ++ (record { lba = number_at w64 0 bytes; position = number_at w64 8 bytes } ∷ pairs_in (count - (i + 1)) (drop 16 bytes)) = ap (λ n. front ++ pairs_in n bytes) k in
+    let step : front ++ pairs_in (count - i) bytes ≡ front
+    ++ (record { lba = number_at w64 0 bytes; position = number_at w64 8 bytes } ∷ pairs_in (count - (i + 1)) (drop 16 bytes)) =
+    ap (λ n. front ++ pairs_in n bytes) k in
     rw (now-is, lba-is, position-is, rest-is) (append_assoc front _ _ ∙ sym step ∙ so_far)
 
-pub pairs_are_read : (front : List Mark) (count i : ℕ) (bytes : List ℕ) (total : List Mark) → count ≤ i → front ++ pairs_in (count - i) bytes ≡ total → front ≡ total
+pub pairs_are_read : (front : List Mark) (count i : ℕ) (bytes : List ℕ) (total : List Mark) → count ≤ i → front ++ pairs_in (count - i) bytes ≡ total
+    → front ≡ total
 unfolding pairs_in
 pairs_are_read front count i bytes total le so_far =
     let k : count - i ≡ 0 = omega arith in

@@ -1,5 +1,5 @@
 -- Lemmas on the words of Geometry.
-use Rattle.std.proofs.Common.{None, Option, Some, eqb, leb, ltb, refl, true, ℕ, ◌%◌, ◌*◌, ◌-◌, ◌^◌, ◌≡◌, ◌≤◌}
+use Rattle.std.proofs.Common.{None, Option, Some, eqb, leb, ltb, refl, true, ℕ, ◌%◌, ◌*◌, ◌^◌, ◌≡◌, ◌≤◌}
 use Rattle.std.proofs.lemmas.Bool.{and_parts, eqb-true, leb-true}
 use Rattle.pblk_model.proofs.Tests.{below_of, some_of}
 use Rattle.pblk_model.proofs.ChecksLemmas.{none_fails}

@@ -14,7 +14,8 @@ block_length size b is =
     let position : length (le64 b.mark.position) ≡ 8 = refl in
     omega (arith, length-append (b.sector ++ le64 b.mark.lba) (le64 b.mark.position), length-append b.sector (le64 b.mark.lba))
 
-pub kept_chunks : (media : List Chunk) (wear : List ℕ) → length media ≡ length wear → map (λ (k : StoredChunk). k.chunk) (map (λ (p : Chunk × ℕ). record { chunk = p.0; wear = p.1 }) (zip media wear)) ≡ media
+pub kept_chunks : (media : List Chunk) (wear : List ℕ) → length media ≡ length wear
+    → map (λ (k : StoredChunk). k.chunk) (map (λ (p : Chunk × ℕ). record { chunk = p.0; wear = p.1 }) (zip media wear)) ≡ media
 kept_chunks [] wear same = refl
 kept_chunks (c ∷ media) [] same = absurd (omega arith)
 kept_chunks (c ∷ media) (w ∷ wear) same = ap (λ cs. c ∷ cs) (kept_chunks media wear (omega arith))

@@ -18,6 +18,7 @@ pub mod AcceptedLemmas
 pub mod HistoryLemmas
 pub mod ScriptTextLemmas
 pub mod GeometryLemmas
+pub mod GeometryBytes
 pub mod MarksLemmas
 pub mod StartRecordLemmas
 pub mod EndRecordLemmas

@@ -1,5 +1,5 @@
 -- Lists, and what holds of each element.
-use Rattle.std.proofs.Common.{Bool, List, None, Option, Some, [], ap, arith, cond, false, inl, inr, length, refl, replicate, subst, suc, true, zero, ℕ, ◌++◌, ◌+◌, ◌-◌, ◌<◌, ◌∙◌, ◌∷◌, ◌≡◌, ◌⊎◌}
+use Rattle.std.proofs.Common.{Bool, List, None, Option, Some, [], ap, arith, cond, false, get_or, inl, inr, length, refl, replicate, subst, suc, true, zero, ℕ, ◌++◌, ◌+◌, ◌<◌, ◌∙◌, ◌∷◌, ◌≡◌, ◌⊎◌}
 use Rattle.std.proofs.lemmas.Option.{none-some, same_Some, slice_get-get_or}
 use Rattle.std.specs.List.{AllByRecursion, Contains, last_or, slice_get}
 use Rattle.std.specs.List.Sorted.{IsStrictlyIncreasing}
@@ -50,7 +50,8 @@ pub among_all : {X : Type 0} (xs : List X) → AllByRecursion (IsAmong xs) xs
 among_all [] = tt
 among_all (x ∷ xs) = ((0, refl), all_imply (IsAmong xs) (IsAmong (x ∷ xs)) (λ y at. later x xs y at) xs (among_all xs))
 
-pub last_in : {X : Type 0} (P : X → Type 0) (o : Option X) (xs : List X) (x : X) → ((y : X) → o ≡ Some y → P y) → AllByRecursion P xs → last_or o xs ≡ Some x → P x
+pub last_in : {X : Type 0} (P : X → Type 0) (o : Option X) (xs : List X) (x : X) → ((y : X) → o ≡ Some y → P y) → AllByRecursion P xs → last_or o xs ≡ Some x
+    → P x
 last_in P o [] x was all e = was x e
 last_in P o (y ∷ xs) x was all e = last_in P (Some y) xs x (λ z f. subst P (same_Some y z f) all.0) all.1 e
 
@@ -69,6 +70,12 @@ all_append P (x ∷ xs) ys h k = (h.0, all_append P xs ys h.1 k)
 pub all_replicated : {X : Type 0} (P : X → Type 0) (n : ℕ) (x : X) → P x → AllByRecursion P (replicate n x)
 all_replicated P zero x h = tt
 all_replicated P (suc n) x h = (h, all_replicated P n x h)
+
+-- a list that is filled with what is read past its end
+pub replicated : {X : Type 0} (n k : ℕ) (x : X) → get_or (replicate n x) k x ≡ x
+replicated zero k x = refl
+replicated (suc n) zero x = refl
+replicated (suc n) (suc k) x = replicated n k x
 
 pub all_cond : {X : Type 0} (P : X → Type 0) (b : Bool) (x : X) (xs : List X) → P x → AllByRecursion P xs → AllByRecursion P (cond b (x ∷ xs) xs)
 all_cond P true x xs h k = (h, k)

@@ -1,5 +1,5 @@
 -- What is made of lists: maps, filters, numbered elements, searches.
-use Rattle.std.proofs.Common.{Bool, List, None, Option, Some, [], add-zero, ap, ap₂, arith, cond, drop, false, length, length-append, map, refl, replicate, slice_get, suc, sym, take, true, zero, ℕ, ◌&&◌, ◌*◌, ◌++◌, ◌+◌, ◌-◌, ◌<◌, ◌||◌, ◌∙◌, ◌∷◌, ◌≡◌, ◌≢◌, ◌≤◌}
+use Rattle.std.proofs.Common.{Bool, List, None, Option, Some, [], add-zero, ap, ap₂, arith, cond, drop, false, length, length-append, map, refl, replicate, slice_get, suc, sym, take, true, zero, ℕ, ◌&&◌, ◌*◌, ◌++◌, ◌+◌, ◌<◌, ◌||◌, ◌∙◌, ◌∷◌, ◌≡◌, ◌≢◌, ◌≤◌}
 use Rattle.std.proofs.Math.Nat.{mul-add}
 use Rattle.std.proofs.lemmas.List.{map-id}
 use Rattle.std.proofs.lemmas.List.Elements.{filter_map-append}
@@ -19,7 +19,8 @@ pub map_same : {X Y : Type 0} (f g : X → Y) → ((x : X) → f x ≡ g x) → 
 map_same f g same [] = refl
 map_same f g same (x ∷ xs) = ap₂ (λ y ys. y ∷ ys) (same x) (map_same f g same xs)
 
-pub filter_agree : {X : Type 0} (P : X → Type 0) (f g : X → Bool) → ((x : X) → P x → f x ≡ g x) → (xs : List X) → AllByRecursion P xs → filter f xs ≡ filter g xs
+pub filter_agree : {X : Type 0} (P : X → Type 0) (f g : X → Bool) → ((x : X) → P x → f x ≡ g x) → (xs : List X) → AllByRecursion P xs
+    → filter f xs ≡ filter g xs
 filter_agree P f g same [] all = refl
 filter_agree P f g same (x ∷ xs) all = ap₂ (λ b ys. cond b (x ∷ ys) ys) (same x all.0) (filter_agree P f g same xs all.1)
 
@@ -30,6 +31,11 @@ filter_same f g same (x ∷ xs) = ap₂ (λ b ys. cond b (x ∷ ys) ys) (same x)
 pub filter_none : {X : Type 0} (f : X → Bool) (xs : List X) → AllByRecursion (λ x. f x ≡ false) xs → filter f xs ≡ []
 filter_none f [] all = refl
 filter_none f (x ∷ xs) all = ap (λ b. cond b (x ∷ filter f xs) (filter f xs)) all.0 ∙ filter_none f xs all.1
+
+-- those that pass a test, where all do
+pub filter_all : {X : Type 0} (f : X → Bool) (xs : List X) → AllByRecursion (λ x. f x ≡ true) xs → filter f xs ≡ xs
+filter_all f [] all = refl
+filter_all f (x ∷ xs) all = ap (λ b. cond b (x ∷ filter f xs) (filter f xs)) all.0 ∙ ap (λ ys. x ∷ ys) (filter_all f xs all.1)
 
 pub all_filter : {X : Type 0} (P : X → Type 0) (f : X → Bool) (xs : List X) → AllByRecursion P xs → AllByRecursion P (filter f xs)
 all_filter P f [] all = tt
@@ -53,6 +59,13 @@ pub all_mapped : {X Y : Type 0} (P : Y → Type 0) (f : X → Y) (xs : List X) �
 all_mapped P f [] all = tt
 all_mapped P f (x ∷ xs) all = (all.0, all_mapped P f xs all.1)
 
+-- what stands at a place of a list's images is the image of what stands there
+pub map_back : {X Y : Type 0} (f : X → Y) (xs : List X) (k : ℕ) (y : Y) → slice_get (map f xs) k ≡ Some y
+    → (x : X) × (slice_get xs k ≡ Some x) × (f x ≡ y)
+map_back f [] k y there = absurd (none-some y there)
+map_back f (x ∷ xs) zero y there = (x, refl, same_Some (f x) y there)
+map_back f (x ∷ xs) (suc k) y there = map_back f xs k y there
+
 pub none_any : {X : Type 0} (test : X → Bool) → ((x : X) → test x ≡ false) → (xs : List X) → list_any test xs ≡ false
 none_any test none [] = refl
 none_any test none (x ∷ xs) = ap (λ b. b || list_any test xs) (none x) ∙ none_any test none xs
@@ -63,7 +76,9 @@ find_none test (x ∷ xs) all = ap (λ b. cond b (Some x) (find test xs)) all.0 
 
 pub filter_short : {X : Type 0} (f : X → Bool) (xs : List X) → length (filter f xs) ≤ length xs
 filter_short f [] = omega arith
-filter_short f (x ∷ xs) = let h : length (filter f xs) ≤ length xs = filter_short f xs in elim (f x) as (λ b. length (cond b (x ∷ filter f xs) (filter f xs)) ≤ length (x ∷ xs)) [ true ↦ omega arith | false ↦ omega arith ]
+filter_short f (x ∷ xs) =
+    let h : length (filter f xs) ≤ length xs = filter_short f xs in
+    elim (f x) as (λ b. length (cond b (x ∷ filter f xs) (filter f xs)) ≤ length (x ∷ xs)) [ true ↦ omega arith | false ↦ omega arith ]
 
 pub made_same : {X Y : Type 0} (f g : X → Option Y) → ((x : X) → f x ≡ g x) → (xs : List X) → filter_map f xs ≡ filter_map g xs
 made_same f g same [] = refl
@@ -88,7 +103,8 @@ pub range_last : (a n : ℕ) → range_with_len a (n + 1) ≡ range_with_len a n
 range_last a n = let next : n + 1 ≡ suc n = omega arith in ap (range_with_len a) next ∙ range_more a n
 
 -- the rows from a number on
-pub rows_set : {X : Type 0} (f g : ℕ → X) (n a k : ℕ) (r : X) → k < n → g (a + k) ≡ r → ((m : ℕ) → m ≢ a + k → g m ≡ f m) → map g (range_with_len a n) ≡ slice_set (map f (range_with_len a n)) k r
+pub rows_set : {X : Type 0} (f g : ℕ → X) (n a k : ℕ) (r : X) → k < n → g (a + k) ≡ r → ((m : ℕ) → m ≢ a + k → g m ≡ f m)
+    → map g (range_with_len a n) ≡ slice_set (map f (range_with_len a n)) k r
 rows_set f g zero a k r within here there = absurd (omega arith)
 rows_set f g (suc n) a zero r within here there =
     let first : a + 0 ≡ a = omega arith in
@@ -99,7 +115,8 @@ rows_set f g (suc n) a zero r within here there =
     later f g (suc n) a same = ap₂ (λ x xs. x ∷ xs) (same a (omega arith)) (later f g n (a + 1) (λ m above. same m (omega arith)))
 rows_set f g (suc n) a (suc k) r within here there =
     let next : a + suc k ≡ a + 1 + k = omega arith in
-    ap₂ (λ x xs. x ∷ xs) (there a (λ e. absurd (omega arith))) (rows_set f g n (a + 1) k r (omega arith) (ap g (sym next) ∙ here) (λ m other. there m (λ e. other (e ∙ next))))
+    ap₂ (λ x xs. x ∷ xs) (there a (λ e. absurd (omega arith)))
+    (rows_set f g n (a + 1) k r (omega arith) (ap g (sym next) ∙ here) (λ m other. there m (λ e. other (e ∙ next))))
 
 pub row_at : {X : Type 0} (f : ℕ → X) (n a k : ℕ) (r : X) → slice_get (map f (range_with_len a n)) k ≡ Some r → (k < n) × (f (a + k) ≡ r)
 row_at f zero a k r e = absurd (none-some r e)
@@ -126,7 +143,8 @@ flat_length f n (x ∷ xs) all =
     let rest : length (flat_map f xs) ≡ n * length xs = flat_length f n xs all.1 in
     omega (arith, length-append (f x) (flat_map f xs))
 
-pub length_of_sum : {X : Type 0} (f : X → List ℕ) (m : ℕ) (g : X → ℕ) (xs : List X) → AllByRecursion (λ x. length (f x) ≡ m * g x) xs → length (flat_map f xs) ≡ m * sum_by g xs
+pub length_of_sum : {X : Type 0} (f : X → List ℕ) (m : ℕ) (g : X → ℕ) (xs : List X) → AllByRecursion (λ x. length (f x) ≡ m * g x) xs
+    → length (flat_map f xs) ≡ m * sum_by g xs
 length_of_sum f m g [] all =
     let none : sum_by g [] ≡ 0 = refl in
     let nothing : m * sum_by g [] ≡ m * 0 = ap (λ n. m * n) none in
@@ -138,7 +156,8 @@ length_of_sum f m g (x ∷ xs) all =
     let both : m * (g x + sum_by g xs) ≡ m * g x + m * sum_by g xs = mul-add m (g x) (sum_by g xs) in
     omega (arith, length-append (f x) (flat_map f xs))
 
-pub all_enumerate : {X : Type 0} (P : ℕ × X → Type 0) (Q : X → Type 0) (n : ℕ) (xs : List X) → ((i : ℕ) (x : X) → Q x → P (i, x)) → AllByRecursion Q xs → AllByRecursion P (enumerate_from n xs)
+pub all_enumerate : {X : Type 0} (P : ℕ × X → Type 0) (Q : X → Type 0) (n : ℕ) (xs : List X) → ((i : ℕ) (x : X) → Q x → P (i, x)) → AllByRecursion Q xs
+    → AllByRecursion P (enumerate_from n xs)
 all_enumerate P Q n [] step h = tt
 all_enumerate P Q n (x ∷ xs) step h = (step n x h.0, all_enumerate P Q (n + 1) xs step h.1)
 
@@ -187,7 +206,8 @@ pub any_fail : {X : Type 0} (f : X → Bool) (xs : List X) → AllByRecursion (�
 any_fail f [] all = refl
 any_fail f (x ∷ xs) all = ap (λ b. b || list_any f xs) all.0 ∙ any_fail f xs all.1
 
-pub all_agree : {X : Type 0} (P : X → Type 0) (f g : X → Bool) → ((x : X) → P x → f x ≡ g x) → (xs : List X) → AllByRecursion P xs → list_all f xs ≡ list_all g xs
+pub all_agree : {X : Type 0} (P : X → Type 0) (f g : X → Bool) → ((x : X) → P x → f x ≡ g x) → (xs : List X) → AllByRecursion P xs
+    → list_all f xs ≡ list_all g xs
 all_agree P f g same [] all = refl
 all_agree P f g same (x ∷ xs) all = ap₂ (λ a b. a && b) (same x all.0) (all_agree P f g same xs all.1)
 
@@ -195,7 +215,8 @@ pub few_pass : (test : ℕ → Bool) (a n : ℕ) → length (filter test (range_
 few_pass test a zero = omega arith
 few_pass test a (suc n) = go (test a) (few_pass test (a + 1) n)
   where
-    go : (b : Bool) → length (filter test (range_with_len (a + 1) n)) ≤ n → length (cond b (a ∷ filter test (range_with_len (a + 1) n)) (filter test (range_with_len (a + 1) n))) ≤ suc n
+    go : (b : Bool) → length (filter test (range_with_len (a + 1) n)) ≤ n
+        → length (cond b (a ∷ filter test (range_with_len (a + 1) n)) (filter test (range_with_len (a + 1) n))) ≤ suc n
     go true h = omega arith
     go false h = omega arith
 
@@ -221,7 +242,8 @@ pub all_cons_option : {X : Type 0} (P : X → Type 0) (o : Option X) (xs : List 
 all_cons_option P None xs h k = k
 all_cons_option P (Some x) xs h k = (h, k)
 
-pub all_filter_map : {X Y : Type 0} (P : Y → Type 0) (Q : X → Type 0) (f : X → Option Y) (xs : List X) → ((x : X) → Q x → IfSome (f x) P) → AllByRecursion Q xs → AllByRecursion P (filter_map f xs)
+pub all_filter_map : {X Y : Type 0} (P : Y → Type 0) (Q : X → Type 0) (f : X → Option Y) (xs : List X) → ((x : X) → Q x → IfSome (f x) P) → AllByRecursion Q xs
+    → AllByRecursion P (filter_map f xs)
 all_filter_map P Q f [] step h = tt
 all_filter_map P Q f (x ∷ xs) step h = all_cons_option P (f x) (filter_map f xs) (step x h.0) (all_filter_map P Q f xs step h.1)
 
@@ -245,11 +267,13 @@ pub none_kept : (p : ℕ → Bool) (a n : ℕ) → ((k : ℕ) → k < n → p (a
 none_kept p a zero h = refl
 none_kept p a (suc n) h =
     let first : p a ≡ false = ap p (sym (add-zero a)) ∙ h 0 (omega arith) in
-    let rest : filter p (range_with_len (a + 1) n) ≡ [] = none_kept p (a + 1) n (λ k l. let place : a + 1 + k ≡ a + suc k = omega arith in ap p place ∙ h (suc k) (omega arith)) in
+    let rest : filter p (range_with_len (a + 1) n) ≡ [] =
+    none_kept p (a + 1) n (λ k l. let place : a + 1 + k ≡ a + suc k = omega arith in ap p place ∙ h (suc k) (omega arith)) in
     ap (λ b. cond b (a ∷ filter p (range_with_len (a + 1) n)) (filter p (range_with_len (a + 1) n))) first ∙ rest
 
 pub range_from_0 : (n : ℕ) → range_with_len 0 (n + 1) ≡ range_with_len 0 n ++ n ∷ []
-range_from_0 n = sym (map-id (range_with_len 0 (n + 1))) ∙ map-range_with_len_more (λ k. k) 0 n n (omega arith) ∙ ap (λ xs. xs ++ n ∷ []) (map-id (range_with_len 0 n))
+range_from_0 n = sym (map-id (range_with_len 0 (n + 1))) ∙ map-range_with_len_more (λ k. k) 0 n n (omega arith)
+    ∙ ap (λ xs. xs ++ n ∷ []) (map-id (range_with_len 0 n))
 
 pub one_more : {Y : Type 0} (o : Option Y) → cons_option o [] ≡ option_to_list o
 one_more None = refl
@@ -264,14 +288,16 @@ fewer_taken f zero xs = omega arith
 fewer_taken f (suc m) [] = omega arith
 fewer_taken {X} f (suc m) (x ∷ xs) = go (f x) (fewer_taken f m xs)
   where
-    go : (b : Bool) → length (filter f (take m xs)) ≤ length (filter f xs) → length (cond b (x ∷ filter f (take m xs)) (filter f (take m xs))) ≤ length (cond b (x ∷ filter f xs) (filter f xs))
+    go : (b : Bool) → length (filter f (take m xs)) ≤ length (filter f xs)
+        → length (cond b (x ∷ filter f (take m xs)) (filter f (take m xs))) ≤ length (cond b (x ∷ filter f xs) (filter f xs))
     go true rest = omega arith
     go false rest = rest
 
 pub given_later : {X Y : Type 0} (give : X → Option Y) (x : X) (xs : List X) (y : Y) → IsAmong (filter_map give xs) y → IsAmong (filter_map give (x ∷ xs)) y
 given_later give x xs y at = elim (give x) as (λ o. IsAmong (cons_option o (filter_map give xs)) y) [ None ↦ at | Some z ↦ later z (filter_map give xs) y at ]
 
-pub given_at : {X Y : Type 0} (give : X → Option Y) (xs : List X) (x : X) (y : Y) (i : ℕ) → slice_get xs i ≡ Some x → give x ≡ Some y → IsAmong (filter_map give xs) y
+pub given_at : {X Y : Type 0} (give : X → Option Y) (xs : List X) (x : X) (y : Y) (i : ℕ) → slice_get xs i ≡ Some x → give x ≡ Some y
+    → IsAmong (filter_map give xs) y
 given_at give [] x y i at is = absurd (none-some x at)
 given_at give (z ∷ zs) x y zero at is = (0, ap (λ o. slice_get (cons_option o (filter_map give zs)) 0) (ap give (same_Some z x at) ∙ is))
 given_at give (z ∷ zs) x y (suc i) at is = given_later give z zs y (given_at give zs x y i at is)
@@ -280,7 +306,8 @@ pub filter_both : {X : Type 0} (test : X → Bool) (xs ys : List X) → filter t
 filter_both test [] ys = refl
 filter_both test (x ∷ xs) ys = go (test x) (filter_both test xs ys)
   where
-    go : (b : Bool) → filter test (xs ++ ys) ≡ filter test xs ++ filter test ys → cond b (x ∷ filter test (xs ++ ys)) (filter test (xs ++ ys)) ≡ cond b (x ∷ filter test xs) (filter test xs) ++ filter test ys
+    go : (b : Bool) → filter test (xs ++ ys) ≡ filter test xs ++ filter test ys
+        → cond b (x ∷ filter test (xs ++ ys)) (filter test (xs ++ ys)) ≡ cond b (x ∷ filter test xs) (filter test xs) ++ filter test ys
     go true e = ap (λ zs. x ∷ zs) e
     go false e = e
 
@@ -288,8 +315,10 @@ pub filters_swap : {X : Type 0} (f g : X → Bool) (xs : List X) → filter f (f
 filters_swap f g [] = refl
 filters_swap f g (x ∷ xs) = go (f x) (g x) refl refl (filters_swap f g xs)
   where
-    go : (a b : Bool) → f x ≡ a → g x ≡ b → filter f (filter g xs) ≡ filter g (filter f xs) → filter f (cond b (x ∷ filter g xs) (filter g xs)) ≡ filter g (cond a (x ∷ filter f xs) (filter f xs))
-    go true true p q e = ap (λ c. cond c (x ∷ filter f (filter g xs)) (filter f (filter g xs))) p ∙ ap (λ ys. x ∷ ys) e ∙ sym (ap (λ c. cond c (x ∷ filter g (filter f xs)) (filter g (filter f xs))) q)
+    go : (a b : Bool) → f x ≡ a → g x ≡ b → filter f (filter g xs) ≡ filter g (filter f xs)
+        → filter f (cond b (x ∷ filter g xs) (filter g xs)) ≡ filter g (cond a (x ∷ filter f xs) (filter f xs))
+    go true true p q e = ap (λ c. cond c (x ∷ filter f (filter g xs)) (filter f (filter g xs))) p ∙ ap (λ ys. x ∷ ys) e
+        ∙ sym (ap (λ c. cond c (x ∷ filter g (filter f xs)) (filter g (filter f xs))) q)
     go true false p q e = e ∙ sym (ap (λ c. cond c (x ∷ filter g (filter f xs)) (filter g (filter f xs))) q)
     go false true p q e = ap (λ c. cond c (x ∷ filter f (filter g xs)) (filter f (filter g xs))) p ∙ e
     go false false p q e = e
@@ -298,7 +327,8 @@ pub made_alike : {X Y : Type 0} (f g : X → Option Y) (xs : List X) → ((k : �
 made_alike f g [] same = refl
 made_alike f g (x ∷ xs) same = ap₂ (λ o ys. cons_option o ys) (same 0 x refl) (made_alike f g xs (λ k y e. same (suc k) y e))
 
-pub numbered_at : {X Y : Type 0} (f : ℕ × X → Y) (a : ℕ) (xs : List X) (u : ℕ) → slice_get (map f (enumerate_from a xs)) u ≡ option_map (λ x. f (a + u, x)) (slice_get xs u)
+pub numbered_at : {X Y : Type 0} (f : ℕ × X → Y) (a : ℕ) (xs : List X) (u : ℕ)
+    → slice_get (map f (enumerate_from a xs)) u ≡ option_map (λ x. f (a + u, x)) (slice_get xs u)
 numbered_at f a [] u = refl
 numbered_at f a (x ∷ xs) zero = let first : a ≡ a + 0 = omega arith in ap (λ k. Some (f (k, x))) first
 numbered_at f a (x ∷ xs) (suc u) =
@@ -342,7 +372,8 @@ map_at f (y ∷ ys) x (suc i) e = map_at f ys x i e
 pub in_map : {X Y : Type 0} (f : X → Y) (xs : List X) (x : X) → IsAmong xs x → IsAmong (map f xs) (f x)
 in_map f xs x at = (at.0, map_at f xs x at.0 at.1)
 
-pub filter_first : {X : Type 0} (test : X → Bool) (y : X) (ys : List X) (x : X) (i : ℕ) → ((k : ℕ) → slice_get (filter test ys) k ≡ Some x → IsAmong ys x) → slice_get (y ∷ filter test ys) i ≡ Some x → IsAmong (y ∷ ys) x
+pub filter_first : {X : Type 0} (test : X → Bool) (y : X) (ys : List X) (x : X) (i : ℕ) → ((k : ℕ) → slice_get (filter test ys) k ≡ Some x → IsAmong ys x)
+    → slice_get (y ∷ filter test ys) i ≡ Some x → IsAmong (y ∷ ys) x
 filter_first test y ys x zero rest e = (0, e)
 filter_first test y ys x (suc i) rest e = later y ys x (rest i e)
 
@@ -380,12 +411,15 @@ found_passes test (y ∷ ys) x e = elim (test y) as (λ b. test y ≡ b → cond
   | false ↦ λ passes is. let r = found_passes test ys x is in (r.0, later y ys x r.1)
 ] refl e
 
-pub from_first : {X Y : Type 0} (give : X → Option Y) (x : X) (xs : List X) (y : Y) (o : Option Y) (i : ℕ) → give x ≡ o → ((k : ℕ) → slice_get (filter_map give xs) k ≡ Some y → (z : X) × IsAmong xs z × (give z ≡ Some y)) → slice_get (cons_option o (filter_map give xs)) i ≡ Some y
+pub from_first : {X Y : Type 0} (give : X → Option Y) (x : X) (xs : List X) (y : Y) (o : Option Y) (i : ℕ) → give x ≡ o
+    → ((k : ℕ) → slice_get (filter_map give xs) k ≡ Some y → (z : X) × IsAmong xs z × (give z ≡ Some y))
+    → slice_get (cons_option o (filter_map give xs)) i ≡ Some y
     → (z : X) × IsAmong (x ∷ xs) z × (give z ≡ Some y)
 from_first give x xs y None i is rest e = let r = rest i e in (r.0, later x xs r.0 r.1, r.2)
 from_first give x xs y (Some w) zero is rest e = let same : w ≡ y = cc in (x, (0, refl), is ∙ ap (λ v. Some v) same)
 from_first give x xs y (Some w) (suc i) is rest e = let r = rest i e in (r.0, later x xs r.0 r.1, r.2)
 
-pub from_given : {X Y : Type 0} (give : X → Option Y) (xs : List X) (y : Y) (i : ℕ) → slice_get (filter_map give xs) i ≡ Some y → (x : X) × IsAmong xs x × (give x ≡ Some y)
+pub from_given : {X Y : Type 0} (give : X → Option Y) (xs : List X) (y : Y) (i : ℕ) → slice_get (filter_map give xs) i ≡ Some y
+    → (x : X) × IsAmong xs x × (give x ≡ Some y)
 from_given give [] y i e = absurd cc
 from_given give (x ∷ xs) y i e = from_first give x xs y (give x) i refl (from_given give xs y) e

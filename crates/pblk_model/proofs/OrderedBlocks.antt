@@ -53,7 +53,8 @@ and_then_same : {A B : Type 0} (f : A → Option B) (g : A → B) (o : Option A)
 and_then_same f g None h = refl
 and_then_same f g (Some x) h = h x
 
-row_at : (w row : ℕ) (us : List ℕ) (column k : ℕ) → k < w → slice_get (row_of w us row) (column * w + k) ≡ option_map (λ unit. (unit, row * w + k)) (slice_get us column)
+row_at : (w row : ℕ) (us : List ℕ) (column k : ℕ) → k < w
+    → slice_get (row_of w us row) (column * w + k) ≡ option_map (λ unit. (unit, row * w + k)) (slice_get us column)
 unfolding row_of
 row_at w row us column k h =
     get_piece (stripe w row) w us column k (stripe_length w row) h
@@ -63,7 +64,8 @@ below : (g column w k : ℕ) → column < g → k < w → column * w + k < g * w
 below g column w k h l = omega (arith, mul-add-lt column w k g h l)
 
 order_at : (w rows row column k : ℕ) (us : List ℕ) → row < rows → column < length us → k < w
-    → slice_get (flat_map (row_of w us) (range_with_len 0 rows)) (row * (length us * w) + (column * w + k)) ≡ option_map (λ unit. (unit, row * w + k)) (slice_get us column)
+    → slice_get (flat_map (row_of w us) (range_with_len 0 rows)) (row * (length us * w) + (column * w + k)) ≡ option_map (λ unit. (unit, row * w + k))
+    (slice_get us column)
 order_at w rows row column k us in_rows in_row in_stripe =
     let inside : column * w + k < length us * w = below (length us) column w k in_row in_stripe in
     get_piece (row_of w us) (length us * w) (range_with_len 0 rows) row (column * w + k) (row_length w us) inside
@@ -84,7 +86,8 @@ order_length s us some whole =
     let rows : ℕ = s.clba / s.ws_opt in
     let all : rows * s.ws_opt + s.clba % s.ws_opt ≡ s.clba = div-add-mod' s.clba s.ws_opt in
     let long : length us * (rows * s.ws_opt) ≡ length us * s.clba = ap (λ x. length us * x) (omega arith) in
-    pieces_length (row_of s.ws_opt us) (length us * s.ws_opt) (range_with_len 0 rows) (row_length s.ws_opt us) ∙ ap (λ n. n * (length us * s.ws_opt)) (length-range_with_len 0 rows) ∙ omega arith
+    pieces_length (row_of s.ws_opt us) (length us * s.ws_opt) (range_with_len 0 rows) (row_length s.ws_opt us)
+    ∙ ap (λ n. n * (length us * s.ws_opt)) (length-range_with_len 0 rows) ∙ omega arith
 
 pub order_block : (s : Shape) (us : List ℕ) (a : ℕ) → 0 < s.ws_opt → s.clba % s.ws_opt ≡ 0 → a < length us * s.clba
     → slice_get (line_order s us) a ≡ option_map (λ unit. (unit, block_of s (length us) a)) (slice_get us (column_of s (length us) a))
@@ -98,11 +101,14 @@ order_block s us a some whole inside =
     (order_at w (s.clba / w) ((a / w) / g) ((a / w) % g) (a % w) us in_rows (chunk_below w g s.clba a wide) (mod-lt a some))
 
 pub order_exactly : (s : Shape) (us : List ℕ) (a unit : ℕ) → 0 < s.ws_opt → s.clba % s.ws_opt ≡ 0
-    → (slice_get (line_order s us) a ≡ Some (unit, block_of s (length us) a)) ↔ ((slice_get us (column_of s (length us) a) ≡ Some unit) × (a < length us * s.clba))
+    → (slice_get (line_order s us) a ≡ Some (unit, block_of s (length us) a))
+    ↔ ((slice_get us (column_of s (length us) a) ≡ Some unit) × (a < length us * s.clba))
 order_exactly s us a unit some whole = (
   λ e.
-      let inside : a < length us * s.clba = omega (arith, slice_get_within (line_order s us) a (unit, block_of s (length us) a) e, order_length s us some whole) in
-      let there = map_some (λ x. (x, block_of s (length us) a)) (slice_get us (column_of s (length us) a)) (unit, block_of s (length us) a) (sym (order_block s us a some whole inside) ∙ e) in
+      let inside : a < length us * s.clba =
+      omega (arith, slice_get_within (line_order s us) a (unit, block_of s (length us) a) e, order_length s us some whole) in
+      let there = map_some (λ x. (x, block_of s (length us) a)) (slice_get us (column_of s (length us) a)) (unit, block_of s (length us) a)
+      (sym (order_block s us a some whole inside) ∙ e) in
       (there.1 ∙ ap (λ (p : ℕ × ℕ). Some p.0) there.2, inside),
   λ h. order_block s us a some whole h.1 ∙ ap (option_map (λ x. (x, block_of s (length us) a))) h.0,
 )

@@ -10,6 +10,8 @@ use Rattle.std.specs.Option.{IfSome, is_some}
 use Rattle.std.specs.Prelude.{slice_index}
 use Rattle.pblk_model.proofs.Lists.{IsAmong, later, rises_far}
 use borrow.Rule.Slice.PartMut.{put_mid}
+use lib.ListN.{get_elem?}
+use mathlib.Core.Option.{some, some-injective, some-ne-none}
 
 pub all_at : {X : Type 0} (P : X → Type 0) (xs : List X) (k : ℕ) (x : X) → slice_get xs k ≡ Some x → AllByRecursion P xs → P x
 all_at P [] k x e all = absurd (none-some x e)
@@ -77,13 +79,15 @@ get_set_same (y ∷ ys) zero x inside = refl
 get_set_same (y ∷ ys) (suc k) x inside = get_set_same ys k x (omega arith)
 
 -- a part that was written over
-pub put_part : (at n : ℕ) (xs ys zs : List ℕ) → ys ≡ zs → n ≡ length zs → at + length zs ≤ length xs → put_mid at n xs ys ≡ take at xs ++ (zs ++ drop (at + length zs) xs)
+pub put_part : (at n : ℕ) (xs ys zs : List ℕ) → ys ≡ zs → n ≡ length zs → at + length zs ≤ length xs
+    → put_mid at n xs ys ≡ take at xs ++ (zs ++ drop (at + length zs) xs)
 put_part at n xs ys zs same long fits =
     let end = at + length zs in
     let ys_long : length ys ≡ n = ap length same ∙ sym long in
     let front = take-put_mid at n xs ys end (ap (λ k. at + k) (sym long ∙ sym ys_long)) (omega (arith, fits)) in
     let back = drop-put_mid at n xs ys end (omega (arith, long)) (omega (arith, fits)) ys_long in
-    sym (take-append-drop end (put_mid at n xs ys)) ∙ ap (λ f. f ++ drop end (put_mid at n xs ys)) front ∙ ap (λ b. (take at xs ++ ys) ++ b) back ∙ append_assoc (take at xs) ys (drop end xs) ∙ ap (λ y. take at xs ++ (y ++ drop end xs)) same
+    sym (take-append-drop end (put_mid at n xs ys)) ∙ ap (λ f. f ++ drop end (put_mid at n xs ys)) front ∙ ap (λ b. (take at xs ++ ys) ++ b) back
+    ∙ append_assoc (take at xs) ys (drop end xs) ∙ ap (λ y. take at xs ++ (y ++ drop end xs)) same
 
 pub take_next : {X : Type 0} (xs : List X) (i : ℕ) (x : X) → slice_get xs i ≡ Some x → take (suc i) xs ≡ take i xs ++ x ∷ []
 take_next [] i x e = absurd (cc e)
@@ -297,3 +301,8 @@ take_all [] zero h = refl
 take_all [] (suc n) h = refl
 take_all (x ∷ xs) zero h = absurd (omega arith)
 take_all (x ∷ xs) (suc n) h = ap (λ ys. x ∷ ys) (take_all xs n (omega arith))
+
+-- what stands in a list of one element
+pub only_one : {X : Type 0} (x : X) (k : ℕ) (y : X) → get_elem? (x ∷ []) k ≡ some y → (k ≡ 0) × (x ≡ y)
+only_one x zero y there = (refl, some-injective x y there)
+only_one x (suc k) y there = absurd (some-ne-none y (sym there))

@@ -10,7 +10,8 @@ pub turn-end : (posted : List (List ℕ)) → turn posted [] ≡ (posted, [])
 unfolding turn
 turn-end posted = refl
 
-pub turn-next : (posted : List (List ℕ)) (thread : Numbered) (threads : List Numbered) → turn posted (thread ∷ threads) ≡ ((turn (run_on posted thread).0 threads).0, (run_on posted thread).1 ∷ (turn (run_on posted thread).0 threads).1)
+pub turn-next : (posted : List (List ℕ)) (thread : Numbered) (threads : List Numbered)
+    → turn posted (thread ∷ threads) ≡ ((turn (run_on posted thread).0 threads).0, (run_on posted thread).1 ∷ (turn (run_on posted thread).0 threads).1)
 unfolding turn
 turn-next posted thread threads = refl
 
@@ -19,6 +20,7 @@ unfolding turns
 turns-stay zero posted threads e = refl
 turns-stay (suc k) posted threads e = ap (λ r. turns k r.0 r.1) e ∙ turns-stay k posted threads e
 
-pub turns-next : (k : ℕ) (posted : List (List ℕ)) (threads : List Numbered) → turns (suc k) posted threads ≡ turns k (turn posted threads).0 (turn posted threads).1
+pub turns-next : (k : ℕ) (posted : List (List ℕ)) (threads : List Numbered)
+    → turns (suc k) posted threads ≡ turns k (turn posted threads).0 (turn posted threads).1
 unfolding turns
 turns-next k posted threads = refl

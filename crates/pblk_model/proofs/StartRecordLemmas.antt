@@ -1,5 +1,5 @@
 -- Lemmas on the words of StartRecord.
-use Rattle.std.proofs.Common.{List, None, Option, Some, ap, drop, length, refl, suc, zero, ℕ, ◌-◌, ◌<◌, ◌^◌, ◌≡◌}
+use Rattle.std.proofs.Common.{List, None, Option, Some, ap, drop, length, refl, suc, zero, ℕ, ◌<◌, ◌^◌, ◌≡◌}
 use Rattle.std.proofs.lemmas.Nat.{from_le_bytes-to_le_bytes_4}
 use Rattle.std.specs.Int.{w32}
 use Rattle.std.specs.Option.{is_some, option_map}

@@ -1,5 +1,5 @@
 -- Tests, and their parts.
-use Rattle.std.proofs.Common.{Bool, ap, arith, cond, eqb, false, inl, inr, ltb, nat_eq, nat_le, nat_lt, not, refl, subst, true, ℕ, ◌&&◌, ◌+◌, ◌-◌, ◌<◌, ◌==◌, ◌||◌, ◌∙◌, ◌≡◌, ◌≢◌, ◌≤◌, ◌⊎◌}
+use Rattle.std.proofs.Common.{Bool, ap, arith, cond, eqb, false, inl, inr, ltb, nat_eq, nat_le, nat_lt, not, refl, subst, true, ℕ, ◌&&◌, ◌+◌, ◌<◌, ◌==◌, ◌||◌, ◌∙◌, ◌≡◌, ◌≢◌, ◌≤◌, ◌⊎◌}
 use Rattle.std.proofs.lemmas.Bool.{cases_order, eqb-false, eqb-true}
 use Rattle.std.proofs.lemmas.Bool.Decides.{nat_tests}
 use Rattle.std.specs.Cmp.{unsigned_tied}

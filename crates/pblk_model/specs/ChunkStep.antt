@@ -100,7 +100,8 @@ abbrev pub closed_after : Shape → Chunk → List Block → ℕ → Chunk
 closed_after s c blocks k = record { state = states.Closed; blocks = c.blocks ++ take (k * s.ws_min) blocks }
 
 abbrev pub ChunkFails : Shape → Chunk → ChunkCommand → Chunk → Type 0
-ChunkFails s old (Write at blocks) new = (refusal s old (Write at blocks) ≡ None) × (k : ℕ) × (k * s.ws_min < length blocks) × (new ≡ closed_after s old blocks k)
+ChunkFails s old (Write at blocks) new =
+    (refusal s old (Write at blocks) ≡ None) × (k : ℕ) × (k * s.ws_min < length blocks) × (new ≡ closed_after s old blocks k)
 ChunkFails s old (Read b) new = (refusal s old (Read b) ≡ None) × (new ≡ old)
 ChunkFails s old Reset new = (refusal s old Reset ≡ None) × (new ≡ offline_chunk)
 

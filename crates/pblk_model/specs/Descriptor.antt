@@ -26,7 +26,8 @@ state_code Open = 4
 state_code Offline = 8
 
 abbrev pub state_in : ℕ → Option ChunkState
-state_in code = if code == 1 then Some Free else (if code == 2 then Some Closed else (if code == 4 then Some Open else (if code == 8 then Some Offline else None)))
+state_in code = if code == 1 then Some Free else
+    (if code == 2 then Some Closed else (if code == 4 then Some Open else (if code == 8 then Some Offline else None)))
 
 -- the fields at their places, around five bytes; the kind is 1, for chunks that are written sequentially
 abbrev pub spelled_around : Descriptor → List ℕ → List ℕ

@@ -44,4 +44,5 @@ width i line = length (line_chunks i line)
 
 -- the block at a line address, where it is written
 abbrev pub block_at : Image → ℕ → ℕ → Option Block
-block_at i line a = option_and_then (λ c. slice_get c.blocks (block_of i.shape (width i line) a)) (slice_get (line_chunks i line) (column_of i.shape (width i line) a))
+block_at i line a = option_and_then (λ c. slice_get c.blocks (block_of i.shape (width i line) a))
+    (slice_get (line_chunks i line) (column_of i.shape (width i line) a))

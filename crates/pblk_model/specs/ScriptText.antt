@@ -65,7 +65,8 @@ said_by (w ∷ a ∷ []) = if bytes_eq w (codes "post") then option_map (λ name
 said_by (w ∷ a ∷ b ∷ []) = if bytes_eq w (codes "r")
     then option_and_then (λ lba. option_map (λ count. Commands (Read lba count)) (number_of b)) (number_of a) else None
 said_by (w ∷ a ∷ b ∷ c ∷ []) = if bytes_eq w (codes "w")
-    then option_and_then (λ lba. option_and_then (λ count. option_map (λ tag. Commands (Write lba count tag)) (number_of c)) (number_of b)) (number_of a) else None
+    then option_and_then (λ lba. option_and_then (λ count. option_map (λ tag. Commands (Write lba count tag)) (number_of c)) (number_of b))
+    (number_of a) else None
 said_by words = None
 
 -- what bytes say, if they are a line of a script

@@ -26,6 +26,8 @@ pub record BeginsNarrower (g : ℕ) (b : Block) : Type 0 where
   pub narrower : number_at w32 12 b.sector < g
 
 pub record IsSealed (i : Image) : Type 0 where
-  pub ends : (line : ℕ) (start : StartRecord) (e : EndRecord) → line < i.shape.chunks → start_of i line ≡ Some start → end_of i line start ≡ Some e → AgreesWithLine i line e
+  pub ends : (line : ℕ) (start : StartRecord) (e : EndRecord) → line < i.shape.chunks → start_of i line ≡ Some start → end_of i line start ≡ Some e
+      → AgreesWithLine i line e
   -- a start record of a lesser width could become whole when another chunk goes Offline
-  pub begins : (line k : ℕ) (c : Chunk) (b : Block) → line < i.shape.chunks → slice_get (line_chunks i line) k ≡ Some c → slice_get c.blocks 0 ≡ Some b → BeginsNarrower (width i line) b → ⊥
+  pub begins : (line k : ℕ) (c : Chunk) (b : Block) → line < i.shape.chunks → slice_get (line_chunks i line) k ≡ Some c → slice_get c.blocks 0 ≡ Some b
+      → BeginsNarrower (width i line) b → ⊥

@@ -69,7 +69,8 @@ history_line row = codes "h" ++ spaced (row.0 ∷ row.1.thread ∷ row.1.lba ∷
 
 abbrev pub outcome_line : ℕ → ℕ × Outcome → List ℕ
 outcome_line thread (command, Silent) = []
-outcome_line thread (command, Words front words) = codes "r" ++ spaced (thread ∷ command ∷ front ∷ []) ++ flat_map (λ w. codes " " ++ word_text w) words ++ newline
+outcome_line thread (command, Words front words) =
+    codes "r" ++ spaced (thread ∷ command ∷ front ∷ []) ++ flat_map (λ w. codes " " ++ word_text w) words ++ newline
 outcome_line thread (command, Flushed front) = codes "f" ++ spaced (thread ∷ command ∷ front ∷ []) ++ newline
 outcome_line thread (command, Drive unit event) = codes "e" ++ spaced (thread ∷ command ∷ unit ∷ event ∷ []) ++ newline
 outcome_line thread (command, Worn wanted have) = codes "worn" ++ spaced (thread ∷ command ∷ wanted ∷ have ∷ []) ++ newline

@@ -15,7 +15,8 @@ pub no_records : (i : Image) (line : ℕ) (o : Option StartRecord) → o ≡ sta
 unfolding records_on
 no_records i line o o-is none = ap (records_after i line) (sym none ∙ o-is)
 
-pub some_records : (i : Image) (line seq : ℕ) (start : StartRecord) (o : Option StartRecord) (e : Option EndRecord) (found : List Record) → o ≡ start_of i line → o ≡ Some start → seq ≡ start.seq → e ≡ end_of i line start
+pub some_records : (i : Image) (line seq : ℕ) (start : StartRecord) (o : Option StartRecord) (e : Option EndRecord) (found : List Record) → o ≡ start_of i line
+    → o ≡ Some start → seq ≡ start.seq → e ≡ end_of i line start
     → found ≡ filter_map (record_with i line seq e) (range_with_len 0 (width i line * i.shape.clba)) → found ≡ records_on i line
 unfolding records_on record_with
 some_records i line seq start o e found o-is some seq-is e-is found-is =
@@ -31,15 +32,18 @@ pub no_block : (i : Image) (line seq : ℕ) (e : Option EndRecord) (a : ℕ) →
 unfolding record_with
 no_block i line seq e a none = ap (option_and_then (λ block. option_and_then (bears i.shape line seq a block) (mark_at i.shape e a block))) none
 
-pub no_mark : (i : Image) (line seq : ℕ) (e : Option EndRecord) (a : ℕ) (s : Shape) (block : Block) → s ≡ i.shape → Some block ≡ block_at i line a → None ≡ mark_at s e a block → None ≡ record_with i line seq e a
+pub no_mark : (i : Image) (line seq : ℕ) (e : Option EndRecord) (a : ℕ) (s : Shape) (block : Block) → s ≡ i.shape → Some block ≡ block_at i line a
+    → None ≡ mark_at s e a block → None ≡ record_with i line seq e a
 unfolding record_with
 no_mark i line seq e a s block s-is block-is none =
     ap (option_and_then (bears i.shape line seq a block)) (none ∙ ap (λ (x : Shape). mark_at x e a block) s-is)
     ∙ ap (option_and_then (λ b. option_and_then (bears i.shape line seq a b) (mark_at i.shape e a b))) block-is
 
-pub borne_by : (i : Image) (line seq : ℕ) (e : Option EndRecord) (a : ℕ) (s : Shape) (block : Block) (mark : Mark) → s ≡ i.shape → Some block ≡ block_at i line a → Some mark ≡ mark_at s e a block
+pub borne_by : (i : Image) (line seq : ℕ) (e : Option EndRecord) (a : ℕ) (s : Shape) (block : Block) (mark : Mark) → s ≡ i.shape
+    → Some block ≡ block_at i line a → Some mark ≡ mark_at s e a block
     → bears s line seq a block mark ≡ record_with i line seq e a
 unfolding record_with
 borne_by i line seq e a s block mark s-is block-is mark-is =
-    ap (λ (x : Shape). bears x line seq a block mark) s-is ∙ ap (option_and_then (bears i.shape line seq a block)) (mark-is ∙ ap (λ (x : Shape). mark_at x e a block) s-is)
+    ap (λ (x : Shape). bears x line seq a block mark) s-is
+    ∙ ap (option_and_then (bears i.shape line seq a block)) (mark-is ∙ ap (λ (x : Shape). mark_at x e a block) s-is)
     ∙ ap (option_and_then (λ b. option_and_then (bears i.shape line seq a b) (mark_at i.shape e a b))) block-is

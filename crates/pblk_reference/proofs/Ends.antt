@@ -19,14 +19,20 @@ unchosen : {A : Type 0} (b : Bool) (x : A) → b ≡ false → None ≡ cond b (
 unchosen true x e = absurd cc
 unchosen false x e = refl
 
-pub misspelled_end : (s : Shape) (line g seq : ℕ) (bytes text : List ℕ) (r : EndRecord) → r ≡ end_fields s line g seq bytes → text ≡ end_bytes s r → bytes_eq text bytes ≡ false → None ≡ end_read s line g seq bytes
+pub misspelled_end : (s : Shape) (line g seq : ℕ) (bytes text : List ℕ) (r : EndRecord) → r ≡ end_fields s line g seq bytes → text ≡ end_bytes s r
+    → bytes_eq text bytes ≡ false → None ≡ end_read s line g seq bytes
 unfolding end_fields end_read
-misspelled_end s line g seq bytes text r r-is text-is differs = unchosen (bytes_eq (end_bytes s (end_in s line g seq bytes)) bytes) (end_in s line g seq bytes) (subst (λ (x : EndRecord). bytes_eq (end_bytes s x) bytes ≡ false) r-is (subst (λ (t : List ℕ). bytes_eq t bytes ≡ false) text-is differs))
+misspelled_end s line g seq bytes text r r-is text-is differs =
+    unchosen (bytes_eq (end_bytes s (end_in s line g seq bytes)) bytes) (end_in s line g seq bytes)
+    (subst (λ (x : EndRecord). bytes_eq (end_bytes s x) bytes ≡ false) r-is (subst (λ (t : List ℕ). bytes_eq t bytes ≡ false) text-is differs))
 
-pub spelled_end : (s : Shape) (line g seq : ℕ) (bytes text : List ℕ) (r : EndRecord) → r ≡ end_fields s line g seq bytes → text ≡ end_bytes s r → bytes_eq text bytes ≡ true → Some r ≡ end_read s line g seq bytes
+pub spelled_end : (s : Shape) (line g seq : ℕ) (bytes text : List ℕ) (r : EndRecord) → r ≡ end_fields s line g seq bytes → text ≡ end_bytes s r
+    → bytes_eq text bytes ≡ true → Some r ≡ end_read s line g seq bytes
 unfolding end_fields end_read
 spelled_end s line g seq bytes text r r-is text-is same =
-    ap (λ (x : EndRecord). Some x) r-is ∙ chosen (bytes_eq (end_bytes s (end_in s line g seq bytes)) bytes) (end_in s line g seq bytes) (subst (λ (x : EndRecord). bytes_eq (end_bytes s x) bytes ≡ true) r-is (subst (λ (t : List ℕ). bytes_eq t bytes ≡ true) text-is same))
+    ap (λ (x : EndRecord). Some x) r-is
+    ∙ chosen (bytes_eq (end_bytes s (end_in s line g seq bytes)) bytes) (end_in s line g seq bytes)
+    (subst (λ (x : EndRecord). bytes_eq (end_bytes s x) bytes ≡ true) r-is (subst (λ (t : List ℕ). bytes_eq t bytes ≡ true) text-is same))
 
 -- ---- the record among a line's last blocks
 
@@ -41,7 +47,8 @@ marked s line g seq blocks bytes marks bytes-is =
     ap (end_read s line g seq) bytes-is ∙ sym (ap (λ b. cond b (read_end s line g seq (flat_map (λ b. b.sector) blocks)) None) marks)
 
 -- the blocks where an end record is
-pub run_at_end : (i : Image) (line g n len first : ℕ) (s : Shape) → s ≡ i.shape → n ≡ end_len s g → len ≡ g * s.clba → first ≡ len - n → written_run i line first n ≡ end_run i line g
+pub run_at_end : (i : Image) (line g n len first : ℕ) (s : Shape) → s ≡ i.shape → n ≡ end_len s g → len ≡ g * s.clba → first ≡ len - n
+    → written_run i line first n ≡ end_run i line g
 unfolding end_run
 run_at_end i line g n len first s s-is n-is len-is first-is =
     let last : n ≡ end_len i.shape g = n-is ∙ ap (λ (x : Shape). end_len x g) s-is in

@@ -21,14 +21,18 @@ keep : (b : Bool) (c : Chunk) (cs : List Chunk) → cond b (c ∷ cs) cs ≡ con
 keep true c cs = refl
 keep false c cs = refl
 
-with_unit : (o : Option Chunk) (cs : List Chunk) → filter (λ c. is_online_in c.state) (cons_option o cs) ≡ cons_option (option_and_then (λ c. cond (is_online_in c.state) (Some c) None) o) (filter (λ c. is_online_in c.state) cs)
+with_unit : (o : Option Chunk) (cs : List Chunk)
+    → filter (λ c. is_online_in c.state) (cons_option o cs) ≡ cons_option (option_and_then (λ c. cond (is_online_in c.state) (Some c) None) o)
+    (filter (λ c. is_online_in c.state) cs)
 with_unit None cs = refl
 with_unit (Some c) cs = keep (is_online_in c.state) c (filter (λ c. is_online_in c.state) cs)
 
-chunks_of : (us : List (Vec Chunk)) (line : ℕ) → filter (λ c. is_online_in c.state) (filter_map (λ unit. slice_get unit line) (map (λ u. u.items) us)) ≡ online_chunks line us
+chunks_of : (us : List (Vec Chunk)) (line : ℕ)
+    → filter (λ c. is_online_in c.state) (filter_map (λ unit. slice_get unit line) (map (λ u. u.items) us)) ≡ online_chunks line us
 unfolding online_chunk
 chunks_of [] line = refl
-chunks_of (u ∷ us) line = with_unit (slice_get u.items line) (filter_map (λ unit. slice_get unit line) (map (λ u. u.items) us)) ∙ ap (cons_option (online_chunk line u.items)) (chunks_of us line)
+chunks_of (u ∷ us) line = with_unit (slice_get u.items line) (filter_map (λ unit. slice_get unit line) (map (λ u. u.items) us))
+    ∙ ap (cons_option (online_chunk line u.items)) (chunks_of us line)
 
 pub line_chunks_of : (i : Image) (us : List (Vec Chunk)) (line : ℕ) → i.units ≡ map (λ u. u.items) us → line_chunks i line ≡ online_chunks line us
 line_chunks_of i us line e = ap (λ units. filter (λ c. is_online_in c.state) (filter_map (λ unit. slice_get unit line) units)) e ∙ chunks_of us line
@@ -37,11 +41,13 @@ pub width_of : (i : Image) (us : List (Vec Chunk)) (line : ℕ) → i.units ≡ 
 width_of i us line e = ap length (line_chunks_of i us line e)
 
 -- the block at a line address, from the chunk that has it
-pub block_from : (i : Image) (us : List (Vec Chunk)) (line at g w k b : ℕ) (o : Option Chunk) → i.units ≡ map (λ u. u.items) us → g ≡ width i line → w ≡ i.shape.ws_opt
+pub block_from : (i : Image) (us : List (Vec Chunk)) (line at g w k b : ℕ) (o : Option Chunk) → i.units ≡ map (λ u. u.items) us → g ≡ width i line
+    → w ≡ i.shape.ws_opt
     → k ≡ (at / w) % g → b ≡ at / w / g * w + at % w → o ≡ slice_get (online_chunks line us) k
     → option_and_then (λ c. slice_get c.blocks b) o ≡ block_at i line at
 block_from i us line at g w k b o units g-is w-is k-is b-is o-is =
-    let e : o ≡ slice_get (line_chunks i line) ((at / w) % g) = o-is ∙ ap (slice_get (online_chunks line us)) k-is ∙ ap (λ cs. slice_get cs ((at / w) % g)) (sym (line_chunks_of i us line units)) in
+    let e : o ≡ slice_get (line_chunks i line) ((at / w) % g) = o-is ∙ ap (slice_get (online_chunks line us)) k-is
+    ∙ ap (λ cs. slice_get cs ((at / w) % g)) (sym (line_chunks_of i us line units)) in
     rw (e, b-is, g-is, w-is) refl
 
 -- and a line of no width has none

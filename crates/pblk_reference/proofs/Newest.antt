@@ -15,16 +15,19 @@ use Rattle.pblk_reference.proofs.Ranges.{filter_map_range_more}
 
 -- ---- the head
 
-pub head_more : (i : Image) (n : ℕ) (best o : Option StartRecord) (start r : StartRecord) → o ≡ start_of i n → o ≡ Some start → Some r ≡ later_start best start → best ≡ head_to i n → Some r ≡ head_to i (n + 1)
+pub head_more : (i : Image) (n : ℕ) (best o : Option StartRecord) (start r : StartRecord) → o ≡ start_of i n → o ≡ Some start → Some r ≡ later_start best start
+    → best ≡ head_to i n → Some r ≡ head_to i (n + 1)
 unfolding head_to
 head_more i n best o start r o-is some r-is best-is =
     r-is ∙ ap (λ (b : Option StartRecord). later_start b start) best-is
-    ∙ sym (ap (fold later_start None) (filter_map_range_more (start_of i) n (Some start) (sym some ∙ o-is)) ∙ fold-append later_start None (filter_map (start_of i) (range_with_len 0 n)) (start ∷ []))
+    ∙ sym (ap (fold later_start None) (filter_map_range_more (start_of i) n (Some start) (sym some ∙ o-is))
+    ∙ fold-append later_start None (filter_map (start_of i) (range_with_len 0 n)) (start ∷ []))
 
 pub head_same : (i : Image) (n : ℕ) (best o : Option StartRecord) → o ≡ start_of i n → o ≡ None → best ≡ head_to i n → best ≡ head_to i (n + 1)
 unfolding head_to
 head_same i n best o o-is none best-is =
-    best-is ∙ sym (ap (fold later_start None) (filter_map_range_more (start_of i) n None (sym none ∙ o-is) ∙ append-nil (filter_map (start_of i) (range_with_len 0 n))))
+    best-is ∙ sym (ap (fold later_start None)
+    (filter_map_range_more (start_of i) n None (sym none ∙ o-is) ∙ append-nil (filter_map (start_of i) (range_with_len 0 n))))
 
 pub all_heads : (i : Image) (n : ℕ) (best : Option StartRecord) → n ≡ i.shape.chunks → best ≡ head_to i n → best ≡ head i
 unfolding head_to
@@ -41,27 +44,33 @@ end_is i p rs h p-is rs-is h-is = p-is ∙ ap (λ x. end_after x h) rs-is ∙ ap
 
 -- ---- the records that count
 
-pub kept_more : (p : Record → Bool) (xs : List Record) (i : ℕ) (x : Record) (front now : List Record) → i < length xs → x ≡ get_or xs i x → p x ≡ true → now ≡ front ++ x ∷ [] → front ≡ filter p (take i xs) → now ≡ filter p (take (i + 1) xs)
+pub kept_more : (p : Record → Bool) (xs : List Record) (i : ℕ) (x : Record) (front now : List Record) → i < length xs → x ≡ get_or xs i x → p x ≡ true
+    → now ≡ front ++ x ∷ [] → front ≡ filter p (take i xs) → now ≡ filter p (take (i + 1) xs)
 kept_more p xs i x front now lt x-is passes now-is front-is =
     let y = get_or xs i x in
     now-is ∙ ap (λ ys. ys ++ x ∷ []) front-is ∙ ap (λ (z : Record). filter p (take i xs) ++ z ∷ []) x-is
     ∙ sym (filter_more p xs i x lt ∙ ap (λ b. filter p (take i xs) ++ cond b (y ∷ []) []) (sym (ap p x-is) ∙ passes))
 
-pub kept_same : (p : Record → Bool) (xs : List Record) (i : ℕ) (x : Record) (front : List Record) → i < length xs → x ≡ get_or xs i x → p x ≡ false → front ≡ filter p (take i xs) → front ≡ filter p (take (i + 1) xs)
+pub kept_same : (p : Record → Bool) (xs : List Record) (i : ℕ) (x : Record) (front : List Record) → i < length xs → x ≡ get_or xs i x → p x ≡ false
+    → front ≡ filter p (take i xs) → front ≡ filter p (take (i + 1) xs)
 kept_same p xs i x front lt x-is fails front-is =
     let y = get_or xs i x in
-    front-is ∙ sym (filter_more p xs i x lt ∙ ap (λ b. filter p (take i xs) ++ cond b (y ∷ []) []) (sym (ap p x-is) ∙ fails) ∙ append-nil (filter p (take i xs)))
+    front-is ∙ sym (filter_more p xs i x lt ∙ ap (λ b. filter p (take i xs) ++ cond b (y ∷ []) []) (sym (ap p x-is) ∙ fails)
+    ∙ append-nil (filter p (take i xs)))
 
 pub counted_is : (i : Image) (kept rs : List Record) (h : Option StartRecord) → kept ≡ counted_after rs h → rs ≡ records i → h ≡ head i → kept ≡ counted i
 counted_is i kept rs h kept-is rs-is h-is = kept-is ∙ ap (λ x. counted_after x h) rs-is ∙ ap (counted_after (records i)) h-is
 
 -- ---- the sectors
 
-pub sectors_more : (i : Image) (n : ℕ) (front now : List (Vec ℕ)) (sector : Vec ℕ) → now ≡ front ++ sector ∷ [] → sector.items ≡ sector_at i n → map (λ s. s.items) front ≡ map (sector_at i) (range_with_len 0 n) → map (λ s. s.items) now ≡ map (sector_at i) (range_with_len 0 (n + 1))
+pub sectors_more : (i : Image) (n : ℕ) (front now : List (Vec ℕ)) (sector : Vec ℕ) → now ≡ front ++ sector ∷ [] → sector.items ≡ sector_at i n
+    → map (λ s. s.items) front ≡ map (sector_at i) (range_with_len 0 n) → map (λ s. s.items) now ≡ map (sector_at i) (range_with_len 0 (n + 1))
 sectors_more i n front now sector now-is sector-is front-is =
-    ap (map (λ s. s.items)) now-is ∙ map_push (λ s. s.items) front sector ∙ ap (λ xs. xs ++ sector.items ∷ []) front-is ∙ ap (λ x. map (sector_at i) (range_with_len 0 n) ++ x ∷ []) sector-is
+    ap (map (λ s. s.items)) now-is ∙ map_push (λ s. s.items) front sector ∙ ap (λ xs. xs ++ sector.items ∷ []) front-is
+    ∙ ap (λ x. map (sector_at i) (range_with_len 0 n) ++ x ∷ []) sector-is
     ∙ sym (map-range_with_len_more (sector_at i) 0 n n (omega arith))
 
-pub all_sectors : (i : Image) (n : ℕ) (all : List (Vec ℕ)) → n ≡ i.shape.capacity → map (λ s. s.items) all ≡ map (sector_at i) (range_with_len 0 n) → map (λ s. s.items) all ≡ contents i
+pub all_sectors : (i : Image) (n : ℕ) (all : List (Vec ℕ)) → n ≡ i.shape.capacity → map (λ s. s.items) all ≡ map (sector_at i) (range_with_len 0 n)
+    → map (λ s. s.items) all ≡ contents i
 unfolding sector_at
 all_sectors i n all n-is all-is = all-is ∙ ap (λ m. map (sector_at i) (range_with_len 0 m)) n-is

@@ -24,10 +24,13 @@ pub rows_go_on : (front now : List Row) (count i line seq bound : ℕ) (bytes re
 unfolding rows_in
 rows_go_on front now count i line seq bound bytes rest total lt line-is seq-is bound-is rest-is now-is so_far =
     let k : count - i ≡ suc (count - (i + 1)) = omega arith in
-    let step : front ++ rows_in (count - i) bytes ≡ front ++ (record { line = number_at w32 0 bytes; seq = number_at w64 8 bytes; bound = number_at w64 16 bytes } ∷ rows_in (count - (i + 1)) (drop 24 bytes)) = ap (λ n. front ++ rows_in n bytes) k in
+    let step : front ++ rows_in (count - i) bytes ≡ front
+    ++ (record { line = number_at w32 0 bytes; seq = number_at w64 8 bytes; bound = number_at w64 16 bytes } ∷ rows_in (count - (i + 1)) (drop 24 bytes)) =
+    ap (λ n. front ++ rows_in n bytes) k in
     rw (now-is, line-is, seq-is, bound-is, rest-is) (append_assoc front _ _ ∙ sym step ∙ so_far)
 
-pub rows_are_read : (front : List Row) (count i : ℕ) (bytes : List ℕ) (total : List Row) → count ≤ i → front ++ rows_in (count - i) bytes ≡ total → front ≡ total
+pub rows_are_read : (front : List Row) (count i : ℕ) (bytes : List ℕ) (total : List Row) → count ≤ i → front ++ rows_in (count - i) bytes ≡ total
+    → front ≡ total
 unfolding rows_in
 rows_are_read front count i bytes total le so_far =
     let k : count - i ≡ 0 = omega arith in
@@ -50,18 +53,28 @@ some_both true true x e f = refl
 some_both true false x e f = absurd cc
 some_both false b x e f = absurd cc
 
-pub unfit : (s : Shape) (line g : ℕ) (bytes : List ℕ) (r : StartRecord) → r ≡ start_fields bytes → start_fits s line g r ≡ false → None ≡ start_read s line g bytes
+pub unfit : (s : Shape) (line g : ℕ) (bytes : List ℕ) (r : StartRecord) → r ≡ start_fields bytes → start_fits s line g r ≡ false
+    → None ≡ start_read s line g bytes
 unfolding start_fields start_read
-unfit s line g bytes r r-is fits = none_left (start_fits s line g (start_in bytes)) (bytes_eq (start_bytes s (start_in bytes)) bytes) (start_in bytes) (subst (λ (x : StartRecord). start_fits s line g x ≡ false) r-is fits)
+unfit s line g bytes r r-is fits =
+    none_left (start_fits s line g (start_in bytes)) (bytes_eq (start_bytes s (start_in bytes)) bytes) (start_in bytes)
+    (subst (λ (x : StartRecord). start_fits s line g x ≡ false) r-is fits)
 
-pub misspelled : (s : Shape) (line g : ℕ) (bytes text : List ℕ) (r : StartRecord) → r ≡ start_fields bytes → text ≡ start_bytes s r → bytes_eq text bytes ≡ false → None ≡ start_read s line g bytes
+pub misspelled : (s : Shape) (line g : ℕ) (bytes text : List ℕ) (r : StartRecord) → r ≡ start_fields bytes → text ≡ start_bytes s r
+    → bytes_eq text bytes ≡ false → None ≡ start_read s line g bytes
 unfolding start_fields start_read
-misspelled s line g bytes text r r-is text-is differs = none_right (start_fits s line g (start_in bytes)) (bytes_eq (start_bytes s (start_in bytes)) bytes) (start_in bytes) (subst (λ (x : StartRecord). bytes_eq (start_bytes s x) bytes ≡ false) r-is (subst (λ (t : List ℕ). bytes_eq t bytes ≡ false) text-is differs))
+misspelled s line g bytes text r r-is text-is differs =
+    none_right (start_fits s line g (start_in bytes)) (bytes_eq (start_bytes s (start_in bytes)) bytes) (start_in bytes)
+    (subst (λ (x : StartRecord). bytes_eq (start_bytes s x) bytes ≡ false) r-is (subst (λ (t : List ℕ). bytes_eq t bytes ≡ false) text-is differs))
 
-pub spelled : (s : Shape) (line g : ℕ) (bytes text : List ℕ) (r : StartRecord) → r ≡ start_fields bytes → start_fits s line g r ≡ true → text ≡ start_bytes s r → bytes_eq text bytes ≡ true → Some r ≡ start_read s line g bytes
+pub spelled : (s : Shape) (line g : ℕ) (bytes text : List ℕ) (r : StartRecord) → r ≡ start_fields bytes → start_fits s line g r ≡ true → text ≡ start_bytes s r
+    → bytes_eq text bytes ≡ true → Some r ≡ start_read s line g bytes
 unfolding start_fields start_read
 spelled s line g bytes text r r-is fits text-is same =
-    ap (λ (x : StartRecord). Some x) r-is ∙ some_both (start_fits s line g (start_in bytes)) (bytes_eq (start_bytes s (start_in bytes)) bytes) (start_in bytes) (subst (λ (x : StartRecord). start_fits s line g x ≡ true) r-is fits) (subst (λ (x : StartRecord). bytes_eq (start_bytes s x) bytes ≡ true) r-is (subst (λ (t : List ℕ). bytes_eq t bytes ≡ true) text-is same))
+    ap (λ (x : StartRecord). Some x) r-is
+    ∙ some_both (start_fits s line g (start_in bytes)) (bytes_eq (start_bytes s (start_in bytes)) bytes) (start_in bytes)
+    (subst (λ (x : StartRecord). start_fits s line g x ≡ true) r-is fits)
+    (subst (λ (x : StartRecord). bytes_eq (start_bytes s x) bytes ≡ true) r-is (subst (λ (t : List ℕ). bytes_eq t bytes ≡ true) text-is same))
 
 none_fits : (a b c : Bool) → b ≡ false → a && b && c ≡ false
 none_fits true true c e = absurd cc
@@ -78,11 +91,13 @@ too_many s line g n bytes n-is many =
     let r = start_in bytes in
     let long : length r.rows ≡ n = length-rows_in (number_at w32 48 bytes) (drop 64 bytes) ∙ sym n-is in
     let few : leb (length r.rows) (s.chunks - 1) ≡ false = lt-leb (length r.rows) (s.chunks - 1) (omega (arith, long, many)) in
-    none_left (start_fits s line g r) (bytes_eq (start_bytes s r) bytes) r (none_fits (numbers s line g r) (leb (length r.rows) (s.chunks - 1)) (rows_fit s r 0 r.rows) few)
+    none_left (start_fits s line g r) (bytes_eq (start_bytes s r) bytes) r
+    (none_fits (numbers s line g r) (leb (length r.rows) (s.chunks - 1)) (rows_fit s r 0 r.rows) few)
 
 -- ---- blocks
 
-regroup : (front : List Block) (block : Block) (r : Option (List Block)) → option_map (λ bs. front ++ bs) (option_map (λ bs. block ∷ bs) r) ≡ option_map (λ bs. (front ++ block ∷ []) ++ bs) r
+regroup : (front : List Block) (block : Block) (r : Option (List Block))
+    → option_map (λ bs. front ++ bs) (option_map (λ bs. block ∷ bs) r) ≡ option_map (λ bs. (front ++ block ∷ []) ++ bs) r
 regroup front block None = refl
 regroup front block (Some bs) = ap (λ (x : List Block). Some x) (sym (append_assoc front (block ∷ []) bs))
 
@@ -123,12 +138,14 @@ run_is_done i line at n k front total le so_far =
 
 -- ---- the record
 
-pub start_from : (i : Image) (line n g : ℕ) (s : Shape) (blocks : List Block) (bytes : List ℕ) (o : Option StartRecord) → s ≡ i.shape → n ≡ start_len s → g ≡ width i line
+pub start_from : (i : Image) (line n g : ℕ) (s : Shape) (blocks : List Block) (bytes : List ℕ) (o : Option StartRecord) → s ≡ i.shape → n ≡ start_len s
+    → g ≡ width i line
     → Some blocks ≡ written_run i line 0 n → bytes ≡ flat_map (λ b. b.sector) blocks → o ≡ start_read s line g bytes → marked_start blocks o ≡ start_of i line
 unfolding start_read
 start_from i line n g s blocks bytes o s-is n-is g-is run-is bytes-is o-is =
     let read : o ≡ start_read i.shape line (width i line) (flat_map (λ b. b.sector) blocks) =
-    o-is ∙ ap (λ (x : Shape). start_read x line g bytes) s-is ∙ ap (λ x. start_read i.shape line x bytes) g-is ∙ ap (start_read i.shape line (width i line)) bytes-is in
+    o-is ∙ ap (λ (x : Shape). start_read x line g bytes) s-is ∙ ap (λ x. start_read i.shape line x bytes) g-is
+    ∙ ap (start_read i.shape line (width i line)) bytes-is in
     let run : Some blocks ≡ written_run i line 0 (start_len i.shape) = run-is ∙ ap (written_run i line 0) (n-is ∙ ap start_len s-is) in
     ap (marked_start blocks) read
     ∙ ap (option_and_then (λ bs. marked_start bs (read_start i.shape line (width i line) (flat_map (λ b. b.sector) bs)))) run

@@ -36,7 +36,8 @@ end_among s line g seq blocks = if have_meta seq blocks then read_end s line g s
 
 -- the record of the block at a line address, of a line with this sequence number and this end record
 unfoldable pub record_with : Image → ℕ → ℕ → Option EndRecord → ℕ → Option Record
-record_with i line seq end_record a = option_and_then (λ block. option_and_then (bears i.shape line seq a block) (mark_at i.shape end_record a block)) (block_at i line a)
+record_with i line seq end_record a =
+    option_and_then (λ block. option_and_then (bears i.shape line seq a block) (mark_at i.shape end_record a block)) (block_at i line a)
 
 unfoldable pub records_on : Image → ℕ → List Record
 records_on i line = line_records i line

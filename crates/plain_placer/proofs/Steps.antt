@@ -75,7 +75,8 @@ at_end [] o d rest = refl
 at_end (x ∷ a) o d rest = at_end a o d rest
 
 -- a list of which each element was changed, and one more
-pub changed_more : {X : Type 0} (f : X → X) (old now : List X) (i : ℕ) (x d : X) → now ≡ map f (take i old) ++ drop i old → i < length old → x ≡ get_or now i d → slice_set now i (f x) ≡ map f (take (i + 1) old) ++ drop (i + 1) old
+pub changed_more : {X : Type 0} (f : X → X) (old now : List X) (i : ℕ) (x d : X) → now ≡ map f (take i old) ++ drop i old → i < length old → x ≡ get_or now i d
+    → slice_set now i (f x) ≡ map f (take (i + 1) old) ++ drop (i + 1) old
 changed_more {X} f old now i x d is inside at =
     let a : List X = map f (take i old) in
     let o : X = get_or old i d in

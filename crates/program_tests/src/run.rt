@@ -31,9 +31,14 @@ images=drive unit ; script=thread/post a/await a/ ; text=kept 0/
 # Several threads: without a command, and with posts that put their commands in order.
 images=drive small ; script=thread/thread/ ; text=kept 0/
 images=drive unit ; script=thread/post a/thread/await a/thread/ ; text=kept 0/
-images=drive small ; script=thread/w 5 1 17/f/post a/thread/await a/r 5 1/ ; text=h 0 0 5 17/f 0 1 1/r 1 1 1 17/kept 1/ ; after=drive small 5=17
-images=drive small ; script=thread/w 3 1 7/post a/thread/await a/w 3 1 8/post b/thread/await b/r 3 1/ ; text=h 0 0 3 7/h 1 1 3 8/r 2 1 2 8/kept 2/ ; after=drive small 3=7 3=8
-images=drive small ; script=thread/thread/thread/thread/thread/thread/thread/thread/thread/thread/thread/thread/thread/thread/thread/thread/w 9 1 4/r 9 1/ ; text=h 0 15 9 4/r 15 1 1 4/kept 1/ ; after=drive small 9=4
+images=drive small ; script=thread/w 5 1 17/f/post a/thread/await a/r 5 1/ ; \
+text=h 0 0 5 17/f 0 1 1/r 1 1 1 17/kept 1/ ; after=drive small 5=17
+images=drive small ; \
+script=thread/w 3 1 7/post a/thread/await a/w 3 1 8/post b/thread/await b/r 3 1/ ; \
+text=h 0 0 3 7/h 1 1 3 8/r 2 1 2 8/kept 2/ ; after=drive small 3=7 3=8
+images=drive small ; \
+script=thread/thread/thread/thread/thread/thread/thread/thread/thread/thread/thread/thread/thread/\
+thread/thread/thread/w 9 1 4/r 9 1/ ; text=h 0 15 9 4/r 15 1 1 4/kept 1/ ; after=drive small 9=4
 ";
 
 #[test]

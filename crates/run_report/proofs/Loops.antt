@@ -90,7 +90,7 @@ users_range first (suc count) end =
 
 -- Rows.
 
-no_more : (thread : ℕ) (script : List (List Command)) → rows_from thread script [] ≡ []
+pub no_more : (thread : ℕ) (script : List (List Command)) → rows_from thread script [] ≡ []
 no_more thread [] = refl
 no_more thread (commands ∷ script) = refl
 

@@ -1,6 +1,6 @@
 -- Rows in the order of their positions, and the writes and the lines that they are.
 use Rattle.std.proofs.Common.{ℕ, zero, suc, ◌+◌, ◌≤◌, ◌≡◌, ◌==◌, nat_lt, Bool, true, false, cond, List, [], ◌∷◌, ◌++◌, map, length, take, sym, refl, ap, ◌∙◌, if◌then◌else◌, arith, inl, inr}
-use Rattle.std.specs.List.{AllByRecursion, count_by, filter, flat_map, range_with_len}
+use Rattle.std.specs.List.{count_by, filter, flat_map, range_with_len}
 use Rattle.std.proofs.lemmas.Bool.{cases_Bool, cases_lt, lt-ltb, le-ltb}
 use Rattle.std.proofs.lemmas.List.Folds.{flat_map-map}
 use Rattle.std.proofs.lemmas.List.Sums.{sum_by-cons}
@@ -113,11 +113,6 @@ passing_rows i (row ∷ rows) =
       | inl e ↦ rw e (ap (λ xs. positions_of row ++ xs) (passing_rows i rows))
       | inr e ↦ rw e (passing_rows i rows)
     ]
-
--- those that pass a test, where all do
-pub filter_all : {X : Type 0} (test : X → Bool) (xs : List X) → AllByRecursion (λ x. test x ≡ true) xs → filter test xs ≡ xs
-filter_all test [] all = refl
-filter_all test (x ∷ xs) all = rw all.0 (ap (λ ys. x ∷ ys) (filter_all test xs all.1))
 
 pub filter_mapped : {X Y : Type 0} (f : X → Y) (test : Y → Bool) (xs : List X) → filter test (map f xs) ≡ map f (filter (λ x. test (f x)) xs)
 filter_mapped f test [] = refl

@@ -29,13 +29,14 @@ use Rattle.run_report.specs.Report.{closing_of, outcome_of, transcript_of}
 use Rattle.run_report.specs.Rows as rows
 use Rattle.run_report.specs.Rows.{in_order, positions_of, rows_from, thread_rows, write_of}
 use Rattle.run_report.proofs.Known.{as_many, is_at, keyed, keyed_row, own_keyed, placed_lines, posted, rows_positions, rows_writes, users_stay, writes_stay}
-use Rattle.run_report.proofs.PlacedRows.{count_below, filter_all, filter_mapped, keyed_lines, lines_of_rows, lines_of_writes, passing, passing_rows}
+use Rattle.run_report.proofs.Loops.{no_more}
+use Rattle.run_report.proofs.PlacedRows.{count_below, filter_mapped, keyed_lines, lines_of_rows, lines_of_writes, passing, passing_rows}
 use Rattle.run_report.proofs.Sorting.{climbs_rise}
 use Rattle.run_report.proofs.Steps.{places, run_climbs, run_placed, run_threads, run_written, seen_at, seen_rises, users_all, users_more, written_more}
 use Rattle.block_port.proofs.Ordering.{passing_order, rising_stay}
 use Rattle.block_port.proofs.PortLemmas.{learns_more}
 use Rattle.pblk_model.proofs.Lists.{all_append, all_imply}
-use Rattle.pblk_model.proofs.Maps.{filter_both, filter_none, get_mapped}
+use Rattle.pblk_model.proofs.Maps.{filter_all, filter_both, filter_none, get_mapped}
 use Rattle.pblk_model.proofs.Options.{map_some, split_then}
 use Rattle.pblk_model.proofs.Parts.{all_get}
 use Rattle.pblk_model.proofs.Tests.{other_number}
@@ -648,10 +649,6 @@ runs_of_none size start records none opened trouble = record {
 abbrev empty : ℕ × ℕ → Transcript
 empty event = record { history = []; outcomes = []; opening = Some event; closing = text.Closed; kept = 0 }
 
-pub no_more : (script : List (List Command)) → rows_from 0 script [] ≡ []
-no_more [] = refl
-no_more (commands ∷ script) = refl
-
 abbrev no_outcomes : List Outcome
 no_outcomes = []
 
@@ -685,5 +682,5 @@ unopened_run size script start unit event number = record {
 pub unopened : (size : ℕ) (script : List (List Command)) (records : Records) (start : List (List ℕ)) (end unit event : ℕ)
     → records.threads ≡ [] → records.opening ≡ Some (Drive unit event) → records.closing ≡ None → IsEvent unit event
     → IsRun size script start (transcript_of script records end) start
-unopened size script records start end unit event none opened closed number = rw (none, opened, closed, no_more script)
+unopened size script records start end unit event none opened closed number = rw (none, opened, closed, no_more 0 script)
     (unopened_run size script start unit event number)

@@ -62,7 +62,8 @@ step thread told old Flush (Synced front) new h = inl (record { rows = refl; pla
 step thread told old Flush (Refused (Drive unit event)) new h = inl (record { rows = refl; placed = refl; grows = omega (arith, h.1) })
 step thread told old Flush (Refused (Worn wanted have)) new h = inl (record { rows = refl; placed = refl; grows = omega (arith, h.1) })
 step thread told old Flush answer new h = absurd h
-step thread told old (Post name) Done new h = inl (record { rows = refl; placed = refl; grows = let e = ap (λ (p : ModelPort). p.seen) h.1 in omega (arith, e) })
+step thread told old (Post name) Done new h =
+    inl (record { rows = refl; placed = refl; grows = let e = ap (λ (p : ModelPort). p.seen) h.1 in omega (arith, e) })
 step thread told old (Post name) answer new h = absurd h
 step thread told old (Await name) Done new h = inl (record { rows = refl; placed = refl; grows = let e = ap (λ (p : ModelPort). p.seen) h in omega (arith, e) })
 step thread told old (Await name) answer new h = absurd h

@@ -72,10 +72,12 @@ Places (Err e) reader before placed = Refuses e placed × (e ≡ errors.Memory �
 
 -- the thread that is open gets a command
 abbrev pub Adds : Reader → Reader → ℕ → Command → Type 0
-Adds old new n c = (new.ended.items ≡ old.ended.items) × (new.current ≡ option_map (λ thread. thread ++ (n, c) ∷ []) old.current) × (new.commands ≡ old.commands + 1)
+Adds old new n c = (new.ended.items ≡ old.ended.items) × (new.current ≡ option_map (λ thread. thread ++ (n, c) ∷ []) old.current)
+    × (new.commands ≡ old.commands + 1)
 
 -- a reader keeps what a line says
 abbrev pub Hears : Reader → Reader → ℕ → Said → Type 0
 Hears old new n Thread = (new.ended.items ≡ threads_kept old) × (new.current ≡ Some []) × (new.commands ≡ old.commands) × (new.names ≡ old.names)
-Hears old new n (Commands (Post name)) = Adds old new n (Post name) × ((other : List ℕ) → holds new.names other ≡ (bytes_eq name other || holds old.names other))
+Hears old new n (Commands (Post name)) =
+    Adds old new n (Post name) × ((other : List ℕ) → holds new.names other ≡ (bytes_eq name other || holds old.names other))
 Hears old new n (Commands c) = Adds old new n c × (new.names ≡ old.names)

@@ -1,13 +1,14 @@
 -- Each step keeps the rule of the board.
-use Rattle.std.proofs.Common.{◌≡◌, ◌≢◌, ⊎_elim, ℕ, zero, suc, ◌+◌, ◌-◌, ◌^◌, ◌<◌, ◌≤◌, List, [], ◌∷◌, length, replicate, set, refl, sym, ap, ◌∙◌, subst, arith, length-set, get_or-set_same, get_or-set_other}
+use Rattle.std.proofs.Common.{◌≡◌, ◌≢◌, ⊎_elim, ℕ, zero, suc, ◌+◌, ◌-◌, ◌^◌, ◌<◌, ◌≤◌, List, [], length, replicate, set, refl, sym, ap, ◌∙◌, subst, arith, length-set, get_or-set_same, get_or-set_other}
 use Rattle.std.specs.Prelude.{slice_index}
 use Rattle.std.specs.List.{AllByRecursion}
 use Rattle.std.proofs.lemmas.Bool.{cases_eq, cases_lt}
 use Rattle.std.proofs.lemmas.List.{get_or_past, length-replicate, set-get_or}
-use mathlib.Core.Option.{some, some-ne-none, some-injective}
+use mathlib.Core.Option.{some}
 use lib.ListN.{get_elem?}
 use Rattle.atomic_table.specs.Table.{State, Allows, Splits, Joins, keeps, opening}
-use Rattle.pblk_model.proofs.Lists.{all_append, all_imply}
+use Rattle.pblk_model.proofs.Lists.{all_append, all_imply, replicated}
+use Rattle.pblk_model.proofs.Parts.{only_one}
 use Rattle.run_threads.specs.Views.{View}
 use Rattle.run_threads.specs.Rule.{MayPost, IsPosted, IsSeat, IsKept, AreTold, IsConsistent}
 use Rattle.run_threads.specs.Steps.{heard, joined, posted, rest_of, share_of, spent, starting}
@@ -15,24 +16,15 @@ use Rattle.run_threads.proofs.Seats.{alone_less, alone_split, changed, each_adde
 
 -- The start.
 
-only_one : (u : View) (seat : ℕ) (v : View) → get_elem? (u ∷ []) seat ≡ some v → (seat ≡ 0) × (u ≡ v)
-only_one u zero v there = (refl, some-injective u v there)
-only_one u (suc seat) v there = absurd (some-ne-none v (sym there))
-
-all_blank : (n word : ℕ) → slice_index (replicate n 0) word ≡ 0
-all_blank zero word = refl
-all_blank (suc n) zero = refl
-all_blank (suc n) (suc word) = all_blank n word
-
 pub opens : (count : ℕ) → IsKept (opening (replicate (count + 1) 0) [] (starting count))
 opens count =
     let first : IsSeat (replicate (count + 1) 0) (starting count) = record {
       within = let long : length (replicate (count + 1) 0) ≡ count + 1 = length-replicate {A = ℕ} (count + 1) 0 in omega (arith, long);
-      blank = λ word may. all_blank (count + 1) word;
+      blank = λ word may. replicated (count + 1) word 0;
       known = tt;
     } in
     record {
-      small = λ word. let none = all_blank (count + 1) word in omega (arith, none);
+      small = λ word. let none : slice_index (replicate (count + 1) 0) word ≡ 0 = replicated (count + 1) word 0 in omega (arith, none);
       seats = λ seat v there. subst (IsSeat (replicate (count + 1) 0)) (only_one (starting count) seat v there).1 first;
       alone = λ seat other word v u hv hu _ _. (only_one (starting count) seat v hv).0 ∙ sym (only_one (starting count) other u hu).0;
     }

@@ -27,11 +27,13 @@ const MOST_BYTES: usize = 65_536;
 /// What a thread has for its run besides its port: all its memory, and its seat at the board.
 #[derive(Drop)]
 pub(crate) struct Desk {
+    /// Its seat at the board.
     pub(crate) seat: Seat<(), View>,
     // for the words of each command
     rooms: Vec<Vec<Word>>,
     // for the sectors of a command
     bytes: Vec<u8>,
+    /// What it was answered so far, with room for what is still to come.
     pub(crate) answers: Vec<Answer>,
 }
 

@@ -22,7 +22,8 @@ holds_bytes ptr content = lies_at (Array u8 (length content)) full_share ptr con
 
 -- what is owned of a `Vec` without its bytes: given any that fill the extent, it is refilled with them
 abbrev pub awaits_bytes : Extent → ℕ → (List ℕ → Fml) → Fml
-awaits_bytes e len refilled = fsep (feq ℕ len e.len) (fall (List ℕ) (λ content. fwand (fsep (feq ℕ (length content) e.len) (holds_bytes e.ptr content)) (refilled content)))
+awaits_bytes e len refilled = fsep (feq ℕ len e.len)
+    (fall (List ℕ) (λ content. fwand (fsep (feq ℕ (length content) e.len) (holds_bytes e.ptr content)) (refilled content)))
 
 -- so many bytes with some content, from a place of a block of memory on
 abbrev pub some_bytes : ℕ → ℕ → ℕ → Fml

@@ -1,7 +1,7 @@
 -- The next step of a unit whose author knows all logs.
-use Rattle.std.proofs.Common.{◌≡◌, ◌≢◌, ◌⊎◌, ℕ, ◌<◌, ◌==◌, ◌||◌, suc, cond, Bool, true, false, Some, None, Option, List, [], ◌∷◌, ◌++◌, length, refl, sym, subst, ap, ◌∙◌, arith, if◌then◌else◌}
+use Rattle.std.proofs.Common.{◌≡◌, ◌≢◌, ◌⊎◌, ℕ, ◌<◌, ◌==◌, ◌||◌, suc, Bool, true, false, Some, None, Option, List, [], ◌∷◌, ◌++◌, length, refl, sym, subst, ap, ◌∙◌, arith, if◌then◌else◌}
 use Rattle.std.specs.Prelude.{slice_get}
-use Rattle.std.specs.List.{AllByRecursion, Contains, filter, filter_map}
+use Rattle.std.specs.List.{AllByRecursion, Contains, filter_map}
 use Rattle.std.specs.Option.{option_map, option_and_then, IfSome}
 use Rattle.std.proofs.lemmas.Bool.{eqb-true}
 use Rattle.std.proofs.lemmas.List.Folds.{list_any-append}
@@ -13,7 +13,7 @@ use Rattle.pblk_model.specs.Chunk.{Chunk}
 use Rattle.pblk_model.specs.UnitLog.{UnitEvent, after_outcome, after_event, after_log}
 use Rattle.pblk_model.specs.Image.{Image, IsFit}
 use Rattle.pblk_laws.specs.LineBlocks.{chunk_in}
-use Rattle.pblk_world.specs.Events.{EngineEvent, Landed, Lost, Again, ResetDone, Event, Decides, Does, Maker, Logged, Step}
+use Rattle.pblk_world.specs.Events.{Landed, Lost, Again, ResetDone, Event, Decides, Does, Maker, Logged, Step}
 use Rattle.pblk_world.specs.World.{World, Logs, log_of, known, prefixes, media, unit_events, unit_event_of}
 use Rattle.pblk_world.specs.EngineLog.{Begun, begun, Placed, placed_on, named_by, named_events}
 use Rattle.pblk_world.specs.Commanding.{was_stopped, has_stopped, IsCommand}
@@ -23,15 +23,14 @@ use Rattle.pblk_world.specs.LegalMounts.{IsLegalMount}
 use Rattle.world_laws.proofs.EarlierLogs.{some_begun}
 use Rattle.core_laws.specs.StripePrograms.{HasHappened}
 use Rattle.core_laws.proofs.Happened.{happened}
-use Rattle.pblk_world.specs.Makers.{is_made_by, commands_of}
 use Rattle.step_laws.specs.NextEvents.{CanDo}
-use Rattle.step_laws.specs.Whole.{engine_step, unit_step, after_unit, next_event}
+use Rattle.step_laws.specs.Whole.{unit_step, after_unit, next_event}
 use Rattle.step_laws.proofs.ChunkEvents.{IsTurned, turned_here, turned_beside}
 use Rattle.step_laws.proofs.Knowing.{next_legal}
 use Rattle.pblk_model.proofs.Lists.{all_contains}
 use Rattle.pblk_model.proofs.Maps.{all_filter_map, more}
 use Rattle.pblk_model.proofs.Parts.{all_by_get, get_last, get_whole_within}
-use Rattle.pblk_model.proofs.Tests.{not_both, or_no, other_number, same_number}
+use Rattle.pblk_model.proofs.Tests.{not_both, or_no}
 use Rattle.pblk_world.proofs.WorldLemmas.{length_media, log_elsewhere, log_here, media_at}
 
 -- ---- the logs
@@ -53,32 +52,6 @@ pub new_event : (s : Shape) (unit : ℕ) (e : UnitEvent) (maker : Maker) (w : Wo
 new_event s unit e maker w =
     ap (λ (log : List Logged). slice_get log (next_event w unit)) (unit_log s unit e maker w)
     ∙ get_last (log_of w (suc unit)) (unit_step s unit e maker w).logged
-
--- ---- how many commands a worker made
-
-one_more : (t : Bool) (s : Step) (w : World) → t ≡ true → length (cond t (s ∷ w) w) ≡ suc (length w)
-one_more t s w e = ap (λ b. length (cond b (s ∷ w) w)) e
-
-no_more : (t : Bool) (s : Step) (w : World) → t ≡ false → length (cond t (s ∷ w) w) ≡ length w
-no_more t s w e = ap (λ b. length (cond b (s ∷ w) w)) e
-
-made_before : ℕ → World → World
-made_before worker w = filter (λ (step : Step). is_made_by worker step.logged.event) w
-
-pub own_count : (s : Shape) (unit : ℕ) (e : UnitEvent) (maker : Maker) (w : World)
-    → commands_of maker.worker (unit_step s unit e maker w ∷ w) ≡ suc (commands_of maker.worker w)
-unfolding made_before
-own_count s unit e maker w = one_more (maker.worker == maker.worker) (unit_step s unit e maker w) (made_before maker.worker w) (same_number maker.worker)
-
-pub others_count : (s : Shape) (unit : ℕ) (e : UnitEvent) (maker : Maker) (w : World) (worker : ℕ) → worker ≢ maker.worker
-    → commands_of worker (unit_step s unit e maker w ∷ w) ≡ commands_of worker w
-unfolding made_before
-others_count s unit e maker w worker apart =
-    no_more (maker.worker == worker) (unit_step s unit e maker w) (made_before worker w) (other_number maker.worker worker (λ same. apart (sym same)))
-
-pub engines_count : (s : Shape) (e : EngineEvent) (w : World) (worker : ℕ) → commands_of worker (engine_step s e w ∷ w) ≡ commands_of worker w
-unfolding made_before
-engines_count s e w worker = no_more false (engine_step s e w) (made_before worker w) refl
 
 -- ---- its events
 
@@ -106,7 +79,8 @@ stops_elsewhere s unit e maker w other apart = ap has_stopped (events_elsewhere 
 
 -- ---- the media
 
-after_last : (s : Shape) (es : List UnitEvent) (e : UnitEvent) (o : Option (List Chunk))
+-- one event more
+pub after_last : (s : Shape) (es : List UnitEvent) (e : UnitEvent) (o : Option (List Chunk))
     → option_map (λ cs. after_log s cs (es ++ e ∷ [])) o ≡ option_map (λ cs. after_event s cs e) (option_map (λ cs. after_log s cs es) o)
 after_last s es e None = refl
 after_last s es e (Some chunks) = ap (λ (cs : List Chunk). Some cs) (fold-append (after_event s) chunks es (e ∷ []))

@@ -356,7 +356,8 @@ placed_other chunks w next n j i h p apart =
       | true ↦ λ e.
           let same : i % w ≡ j % w = eqb-true (i % w) (j % w) e in
           let was : chunk_of chunks w i ≡ chunk.Open = ap (λ k. slice_index_or chunks k chunk.Open) same ∙ p.clear in
-          let is : chunk_of (slice_set chunks (j % w) (chunk.Unanswered j)) w i ≡ chunk.Unanswered j = chunk_set_same chunks w i j (chunk.Unanswered j) same h in
+          let is : chunk_of (slice_set chunks (j % w) (chunk.Unanswered j)) w i ≡ chunk.Unanswered j =
+          chunk_set_same chunks w i j (chunk.Unanswered j) same h in
           ap (λ c. outcome c next i) was
           ∙ moved_on chunk.Open next j i p.from apart (λ above below. sym (ap is_closed_chunk was) ∙ p.before i above below)
           ∙ sym (ap (λ b. cond b Unanswered (cond (nat_lt i (j + 1)) Landed Unplaced)) (other_eq i j apart))

@@ -20,10 +20,12 @@ pub same_mapped : {X : Type 0} (f g : ℕ → X) (a n : ℕ) → ((i : ℕ) → 
 same_mapped f g a zero h = refl
 same_mapped {X} f g a (suc n) h =
     let here : f a ≡ g a = ap f (sym (first_of a)) ∙ h 0 (omega arith) ∙ ap g (first_of a) in
-    ap (λ (x : X). x ∷ map f (range_with_len (a + 1) n)) here ∙ ap (λ (xs : List X). g a ∷ xs) (same_mapped f g (a + 1) n (λ i inside. ap f (shift a i) ∙ h (suc i) (omega arith) ∙ ap g (sym (shift a i))))
+    ap (λ (x : X). x ∷ map f (range_with_len (a + 1) n)) here
+    ∙ ap (λ (xs : List X). g a ∷ xs) (same_mapped f g (a + 1) n (λ i inside. ap f (shift a i) ∙ h (suc i) (omega arith) ∙ ap g (sym (shift a i))))
 
 -- another function that differs at one number
-pub set_mapped : {X : Type 0} (f g : ℕ → X) (a n j : ℕ) (v : X) → j < n → g (a + j) ≡ v → ((i : ℕ) → i < n → i ≢ j → f (a + i) ≡ g (a + i)) → slice_set (map f (range_with_len a n)) j v ≡ map g (range_with_len a n)
+pub set_mapped : {X : Type 0} (f g : ℕ → X) (a n j : ℕ) (v : X) → j < n → g (a + j) ≡ v → ((i : ℕ) → i < n → i ≢ j → f (a + i) ≡ g (a + i))
+    → slice_set (map f (range_with_len a n)) j v ≡ map g (range_with_len a n)
 set_mapped f g a zero j v inside here others = absurd (omega arith)
 set_mapped {X} f g a (suc n) zero v inside here others =
     let first : v ≡ g a = sym here ∙ ap g (first_of a) in
@@ -33,11 +35,13 @@ set_mapped {X} f g a (suc n) (suc j) v inside here others =
     let first : f a ≡ g a = ap f (sym (first_of a)) ∙ others 0 (omega arith) (omega arith) ∙ ap g (first_of a) in
     ap (λ (x : X). x ∷ slice_set (map f (range_with_len (a + 1) n)) j v) first
     ∙ ap (λ (xs : List X). g a ∷ xs)
-    (set_mapped f g (a + 1) n j v (omega arith) (ap g (shift a j) ∙ here) (λ i h apart. ap f (shift a i) ∙ others (suc i) (omega arith) (omega arith) ∙ ap g (sym (shift a i))))
+    (set_mapped f g (a + 1) n j v (omega arith) (ap g (shift a j) ∙ here)
+    (λ i h apart. ap f (shift a i) ∙ others (suc i) (omega arith) (omega arith) ∙ ap g (sym (shift a i))))
 
 -- The first number that passes a test.
 
-pub found_in_range : (test : ℕ → Bool) (a n j : ℕ) → j < n → test (a + j) ≡ true → ((i : ℕ) → i < j → test (a + i) ≡ false) → find test (range_with_len a n) ≡ Some (a + j)
+pub found_in_range : (test : ℕ → Bool) (a n j : ℕ) → j < n → test (a + j) ≡ true → ((i : ℕ) → i < j → test (a + i) ≡ false)
+    → find test (range_with_len a n) ≡ Some (a + j)
 found_in_range test a zero j inside here before = absurd (omega arith)
 found_in_range test a (suc n) zero inside here before =
     let now : test a ≡ true = ap test (sym (first_of a)) ∙ here in
@@ -52,7 +56,8 @@ pub none_in_range : (test : ℕ → Bool) (a n : ℕ) → ((i : ℕ) → i < n �
 none_in_range test a zero h = refl
 none_in_range test a (suc n) h =
     let now : test a ≡ false = ap test (sym (first_of a)) ∙ h 0 (omega arith) in
-    ap (λ b. cond b (Some a) (find test (range_with_len (a + 1) n))) now ∙ none_in_range test (a + 1) n (λ i inside. ap test (shift a i) ∙ h (suc i) (omega arith))
+    ap (λ b. cond b (Some a) (find test (range_with_len (a + 1) n))) now
+    ∙ none_in_range test (a + 1) n (λ i inside. ap test (shift a i) ∙ h (suc i) (omega arith))
 
 -- what a first number comes to
 pub record IsFirst (test : ℕ → Bool) (a n j : ℕ) : Type 0 where
@@ -105,7 +110,8 @@ some_in_range test a (suc n) j from inside here = elim (nat_eq j a) as (λ b. na
 
 pub no_in_range : (test : ℕ → Bool) (a n : ℕ) → ((i : ℕ) → a ≤ i → i < a + n → test i ≡ false) → list_any test (range_with_len a n) ≡ false
 no_in_range test a zero h = refl
-no_in_range test a (suc n) h = ap (λ b. b || list_any test (range_with_len (a + 1) n)) (h a (omega arith) (omega arith)) ∙ no_in_range test (a + 1) n (λ i from inside. h i (omega arith) (omega arith))
+no_in_range test a (suc n) h = ap (λ b. b || list_any test (range_with_len (a + 1) n)) (h a (omega arith) (omega arith))
+    ∙ no_in_range test (a + 1) n (λ i from inside. h i (omega arith) (omega arith))
 
 either : (b : Bool) (a : ℕ) (any : Bool) (first : Option ℕ) → any ≡ is_some first → (b || any) ≡ is_some (cond b (Some a) first)
 either true a any first e = refl
@@ -114,4 +120,5 @@ either false a any first e = e
 -- whether some number passes is whether there is a first
 pub some_is_first : (test : ℕ → Bool) (a n : ℕ) → list_any test (range_with_len a n) ≡ is_some (find test (range_with_len a n))
 some_is_first test a zero = refl
-some_is_first test a (suc n) = either (test a) a (list_any test (range_with_len (a + 1) n)) (find test (range_with_len (a + 1) n)) (some_is_first test (a + 1) n)
+some_is_first test a (suc n) =
+    either (test a) a (list_any test (range_with_len (a + 1) n)) (find test (range_with_len (a + 1) n)) (some_is_first test (a + 1) n)

@@ -13,7 +13,8 @@ none_at (x ∷ xs) zero all = all.0
 none_at (x ∷ xs) (suc j) all = none_at xs j all.1
 
 pub no_chunk_closed : (l : OpenLine) (j : ℕ) → AllByRecursion (λ x. is_lost x ≡ false) l.stripes → is_closed l j ≡ false
-no_chunk_closed l j all = none_any (λ i. stripe_is l is_lost i && in_one_chunk l i j) (λ i. ap (λ b. b && in_one_chunk l i j) (none_at l.stripes i all)) (numbers l)
+no_chunk_closed l j all = none_any (λ i. stripe_is l is_lost i && in_one_chunk l i j) (λ i. ap (λ b. b && in_one_chunk l i j) (none_at l.stripes i all))
+    (numbers l)
 
 pub length_new : (m : ℕ) → length (replicate m Unplaced) ≡ m
 length_new zero = refl

@@ -51,15 +51,19 @@ answered_lines p v of to is same under other =
     lines_closed p.layout (slice_set p.units.items of.unit Idle) (map f p.slots.items)
     (answered_agree p.layout p.units.items p.slots.items of.unit of to is.agree (under_way p v of same under) other)
 
-pub its_waits : (p : Inside) (v : Placing) (of : Program) (ws : ℕ) → IsPlacer p → placing p ≡ v → IsUnderWay v of → ws ≡ p.layout.ws_opt → (l : OpenLine) → IsAmongLines p.slots.items l → l.line ≡ of.line → IsUnanswered l (of.at / ws)
-its_waits p v of ws is same under size l among number = subst (λ n. IsUnanswered l (of.at / n)) (sym size) ((its_line p v of is same under).stripe l among number).0
+pub its_waits : (p : Inside) (v : Placing) (of : Program) (ws : ℕ) → IsPlacer p → placing p ≡ v → IsUnderWay v of → ws ≡ p.layout.ws_opt → (l : OpenLine)
+    → IsAmongLines p.slots.items l → l.line ≡ of.line → IsUnanswered l (of.at / ws)
+its_waits p v of ws is same under size l among number =
+    subst (λ n. IsUnanswered l (of.at / n)) (sym size) ((its_line p v of is same under).stripe l among number).0
 
-pub answered_slots : (p : Inside) (of : Program) (to : Stripe) (ws : ℕ) (lines : List OpenLine) → ws ≡ p.layout.ws_opt → lines ≡ filter has_left (map (in_line of.line (of.at / ws) to) p.slots.items)
+pub answered_slots : (p : Inside) (of : Program) (to : Stripe) (ws : ℕ) (lines : List OpenLine) → ws ≡ p.layout.ws_opt
+    → lines ≡ filter has_left (map (in_line of.line (of.at / ws) to) p.slots.items)
     → lines ≡ filter has_left (map (in_line of.line (of.at / p.layout.ws_opt) to) p.slots.items)
 answered_slots p of to ws lines size is = is ∙ ap (λ n. filter has_left (map (in_line of.line (of.at / n) to) p.slots.items)) size
 
 -- the whole with a unit idle and these lines
-pub answered_view : (p : Inside) (v : Placing) (of : Program) (to : Stripe) (lines : List OpenLine) → placing p ≡ v → lines ≡ filter has_left (map (in_line of.line (of.at / p.layout.ws_opt) to) p.slots.items)
+pub answered_view : (p : Inside) (v : Placing) (of : Program) (to : Stripe) (lines : List OpenLine) → placing p ≡ v
+    → lines ≡ filter has_left (map (in_line of.line (of.at / p.layout.ws_opt) to) p.slots.items)
     → with_units p.layout p.queue.entries lines (slice_set p.units.items of.unit Idle) ≡ answered v of to
 answered_view p v of to lines same is =
     ap (λ xs. with_units p.layout p.queue.entries xs (slice_set p.units.items of.unit Idle)) is
@@ -71,7 +75,8 @@ pub record AfterAnswer (p : Inside) (of : Program) (lines : List OpenLine) : Typ
   pub few : length lines ≤ 2
   pub agree : Agree p.layout (slice_set p.units.items of.unit Idle) lines
 
-pub after_answer : (p : Inside) (v : Placing) (of : Program) (to : Stripe) (lines : List OpenLine) → IsPlacer p → placing p ≡ v → IsUnderWay v of → to ≢ Unanswered
+pub after_answer : (p : Inside) (v : Placing) (of : Program) (to : Stripe) (lines : List OpenLine) → IsPlacer p → placing p ≡ v → IsUnderWay v of
+    → to ≢ Unanswered
     → lines ≡ filter has_left (map (in_line of.line (of.at / p.layout.ws_opt) to) p.slots.items) → AfterAnswer p of lines
 after_answer p v of to lines is same under other lines-are = record {
   rows = length-set p.units.items of.unit Idle ∙ is.rows;
@@ -120,10 +125,12 @@ first_waiting s e l of j is =
 abbrev pub rows_in : Inside → List UnitRow
 rows_in p = p.units.items
 
-pub next_known : (p : Inside) (v : Placing) (of : Program) → IsPlacer p → placing p ≡ v → IsNext v of → (slice_get (rows_in p) of.unit ≡ Some (Stopped of)) ⊎ IsNew p.layout p.queue.entries (rows_in p) p.slots.items of
+pub next_known : (p : Inside) (v : Placing) (of : Program) → IsPlacer p → placing p ≡ v → IsNext v of
+    → (slice_get (rows_in p) of.unit ≡ Some (Stopped of)) ⊎ IsNew p.layout p.queue.entries (rows_in p) p.slots.items of
 next_known p v of is same next = what_is_next (placing p) of (is.rows) is.agree (subst (λ (w : Placing). IsNext w of) (sym same) next)
 
-within_by : (p : Inside) (of : Program) → (slice_get (rows_in p) of.unit ≡ Some (Stopped of)) ⊎ IsNew p.layout p.queue.entries (rows_in p) p.slots.items of → of.unit < length p.units.items
+within_by : (p : Inside) (of : Program) → (slice_get (rows_in p) of.unit ≡ Some (Stopped of)) ⊎ IsNew p.layout p.queue.entries (rows_in p) p.slots.items of
+    → of.unit < length p.units.items
 within_by p of (inl at) = omega (arith, slice_get_within (rows_in p) of.unit (Stopped of) at)
 within_by p of (inr new) = omega (arith, slice_get_within (rows_in p) of.unit Idle new.row)
 
@@ -220,7 +227,8 @@ first_agree p of ws lines is new size changed =
     let waits : slice_get l.stripes (of.at / s.ws_opt) ≡ Some Unplaced = ap (slice_get l.stripes) j ∙ next_unplaced l its.0 its.1.next in
     let agree : Agree s (slice_set (rows_in p) of.unit (UnderWay of)) (map (in_line of.line (of.at / s.ws_opt) Unanswered) p.slots.items) =
     placed_agree s (rows_in p) p.slots.items of.unit of l is.agree new.row refl new.line.1 number unit waits in
-    let lines-are : lines ≡ map (in_line of.line (of.at / s.ws_opt) Unanswered) p.slots.items = changed ∙ ap (λ n. map (in_line of.line (of.at / n) Unanswered) p.slots.items) size in
+    let lines-are : lines ≡ map (in_line of.line (of.at / s.ws_opt) Unanswered) p.slots.items = changed
+    ∙ ap (λ n. map (in_line of.line (of.at / n) Unanswered) p.slots.items) size in
     subst (λ (xs : List OpenLine). Agree s (slice_set p.units.items of.unit (UnderWay of)) xs) (sym lines-are) agree
 
 -- the entries of a new stripe

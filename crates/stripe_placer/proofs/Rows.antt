@@ -11,23 +11,30 @@ use Rattle.stripe_placer.specs.Inside.{OwnUnits, first_given}
 use Rattle.stripe_placer.specs.declared.placement.Placement.{Placement}
 use Rattle.stripe_placer.proofs.PlacingLemmas.{cond_true}
 
-pub given_none : {X Y : Type 0} (test : Y → Bool) (give : X → Option Y) (x : X) (xs : List X) → give x ≡ None → first_given test give (x ∷ xs) ≡ first_given test give xs
+pub given_none : {X Y : Type 0} (test : Y → Bool) (give : X → Option Y) (x : X) (xs : List X) → give x ≡ None
+    → first_given test give (x ∷ xs) ≡ first_given test give xs
 given_none test give x xs e = ap (λ o. find test (cons_option o (filter_map give xs))) e
 
-pub given_failing : {X Y : Type 0} (test : Y → Bool) (give : X → Option Y) (x : X) (y : Y) (xs : List X) → give x ≡ Some y → test y ≡ false → first_given test give (x ∷ xs) ≡ first_given test give xs
-given_failing test give x y xs e no_pass = ap (λ o. find test (cons_option o (filter_map give xs))) e ∙ ap (λ b. cond b (Some y) (find test (filter_map give xs))) no_pass
+pub given_failing : {X Y : Type 0} (test : Y → Bool) (give : X → Option Y) (x : X) (y : Y) (xs : List X) → give x ≡ Some y → test y ≡ false
+    → first_given test give (x ∷ xs) ≡ first_given test give xs
+given_failing test give x y xs e no_pass = ap (λ o. find test (cons_option o (filter_map give xs))) e
+    ∙ ap (λ b. cond b (Some y) (find test (filter_map give xs))) no_pass
 
-pub given_first : {X Y : Type 0} (test : Y → Bool) (give : X → Option Y) (x : X) (y : Y) (xs : List X) → give x ≡ Some y → test y ≡ true → first_given test give (x ∷ xs) ≡ Some y
-given_first test give x y xs e passes = ap (λ o. find test (cons_option o (filter_map give xs))) e ∙ ap (λ b. cond b (Some y) (find test (filter_map give xs))) passes
+pub given_first : {X Y : Type 0} (test : Y → Bool) (give : X → Option Y) (x : X) (y : Y) (xs : List X) → give x ≡ Some y → test y ≡ true
+    → first_given test give (x ∷ xs) ≡ Some y
+given_first test give x y xs e passes = ap (λ o. find test (cons_option o (filter_map give xs))) e
+    ∙ ap (λ b. cond b (Some y) (find test (filter_map give xs))) passes
 
-alone_fails : {Y : Type 0} (test : Y → Bool) (o : Option Y) (rest : List Y) → find test (cons_option o []) ≡ None → find test (cons_option o rest) ≡ find test rest
+alone_fails : {Y : Type 0} (test : Y → Bool) (o : Option Y) (rest : List Y) → find test (cons_option o []) ≡ None
+    → find test (cons_option o rest) ≡ find test rest
 alone_fails test None rest e = refl
 alone_fails test (Some y) rest e = elim (test y) as (λ b. cond b (Some y) None ≡ None → cond b (Some y) (find test rest) ≡ find test rest) [
   | true ↦ λ h. absurd cc
   | false ↦ λ h. refl
 ] e
 
-alone_passes : {Y : Type 0} (test : Y → Bool) (o : Option Y) (rest : List Y) (z : Y) → find test (cons_option o []) ≡ Some z → find test (cons_option o rest) ≡ Some z
+alone_passes : {Y : Type 0} (test : Y → Bool) (o : Option Y) (rest : List Y) (z : Y) → find test (cons_option o []) ≡ Some z
+    → find test (cons_option o rest) ≡ Some z
 alone_passes test None rest z e = absurd cc
 alone_passes test (Some y) rest z e = elim (test y) as (λ b. cond b (Some y) None ≡ Some z → cond b (Some y) (find test rest) ≡ Some z) [
   | true ↦ λ h. h
@@ -35,10 +42,12 @@ alone_passes test (Some y) rest z e = elim (test y) as (λ b. cond b (Some y) No
 ] e
 
 -- by what one alone gives
-pub one_fails : {X Y : Type 0} (test : Y → Bool) (give : X → Option Y) (x : X) (xs : List X) → first_given test give (x ∷ []) ≡ None → first_given test give (x ∷ xs) ≡ first_given test give xs
+pub one_fails : {X Y : Type 0} (test : Y → Bool) (give : X → Option Y) (x : X) (xs : List X) → first_given test give (x ∷ []) ≡ None
+    → first_given test give (x ∷ xs) ≡ first_given test give xs
 one_fails test give x xs e = alone_fails test (give x) (filter_map give xs) e
 
-pub one_passes : {X Y : Type 0} (test : Y → Bool) (give : X → Option Y) (x : X) (xs : List X) (z : Y) → first_given test give (x ∷ []) ≡ Some z → first_given test give (x ∷ xs) ≡ Some z
+pub one_passes : {X Y : Type 0} (test : Y → Bool) (give : X → Option Y) (x : X) (xs : List X) (z : Y) → first_given test give (x ∷ []) ≡ Some z
+    → first_given test give (x ∷ xs) ≡ Some z
 one_passes test give x xs z e = alone_passes test (give x) (filter_map give xs) z e
 
 -- the first of two lists
@@ -93,15 +102,18 @@ passed false of o e = absurd cc
 ready_is : (rows : List UnitRow) (busy unit : ℕ) (of : Program) → slice_get rows unit ≡ Some (Stopped of) → is_ready rows busy unit ≡ not (is_in busy unit)
 ready_is rows busy unit of e = ap (λ o. not (is_in busy unit) && not (option_map_or is_under_way o false)) e ∙ and_true_last (not (is_in busy unit))
 
-pub stopped_skip : (test ready : Program → Bool) (r : UnitRow) (rest : List UnitRow) → ((of : Program) → r ≡ Stopped of → ready of ≡ test of) → first_given test stopped_in (r ∷ []) ≡ None → first_given ready stopped_in (r ∷ rest) ≡ first_given ready stopped_in rest
+pub stopped_skip : (test ready : Program → Bool) (r : UnitRow) (rest : List UnitRow) → ((of : Program) → r ≡ Stopped of → ready of ≡ test of)
+    → first_given test stopped_in (r ∷ []) ≡ None → first_given ready stopped_in (r ∷ rest) ≡ first_given ready stopped_in rest
 stopped_skip test ready Idle rest same none = refl
 stopped_skip test ready (UnderWay of) rest same none = refl
 stopped_skip test ready (Stopped of) rest same none = given_failing ready stopped_in (Stopped of) of rest refl (same of refl ∙ failing (test of) of none)
 
-pub stopped_hit : (test ready : Program → Bool) (r : UnitRow) (rest : List UnitRow) (o : Program) → ((of : Program) → r ≡ Stopped of → ready of ≡ test of) → first_given test stopped_in (r ∷ []) ≡ Some o → first_given ready stopped_in (r ∷ rest) ≡ Some o
+pub stopped_hit : (test ready : Program → Bool) (r : UnitRow) (rest : List UnitRow) (o : Program) → ((of : Program) → r ≡ Stopped of → ready of ≡ test of)
+    → first_given test stopped_in (r ∷ []) ≡ Some o → first_given ready stopped_in (r ∷ rest) ≡ Some o
 stopped_hit test ready Idle rest o same some = absurd cc
 stopped_hit test ready (UnderWay of) rest o same some = absurd cc
-stopped_hit test ready (Stopped of) rest o same some = given_first ready stopped_in (Stopped of) of rest refl (same of refl ∙ cond_true (test of) of o some) ∙ passed (test of) of o some
+stopped_hit test ready (Stopped of) rest o same some = given_first ready stopped_in (Stopped of) of rest refl (same of refl ∙ cond_true (test of) of o some)
+    ∙ passed (test of) of o some
 
 -- the readiness of a stopped program's unit is that it isn't busy
 pub stopped_ready : (rows : List UnitRow) (busy i : ℕ) (of : Program) → OwnUnits rows → slice_get rows i ≡ Some (Stopped of)

@@ -10,7 +10,8 @@ abbrev pub one : Bool → ℕ
 one b = cond b 1 0
 
 -- another stripe at one place
-pub tally_set : (test : Stripe → Bool) (xs : List Stripe) (j : ℕ) (old new : Stripe) → slice_get xs j ≡ Some old → tally test (slice_set xs j new) + one (test old) ≡ tally test xs + one (test new)
+pub tally_set : (test : Stripe → Bool) (xs : List Stripe) (j : ℕ) (old new : Stripe) → slice_get xs j ≡ Some old
+    → tally test (slice_set xs j new) + one (test old) ≡ tally test xs + one (test new)
 tally_set test [] j old new h = absurd cc
 tally_set test (x ∷ xs) zero old new h =
     let same : x ≡ old = cc in
@@ -67,19 +68,26 @@ pub tally_part : (test : Stripe → Bool) (xs : List Stripe) (s d j : ℕ) (old 
     → tally test (take d (drop s (slice_set xs j new))) + one (test old) ≡ tally test (take d (drop s xs)) + one (test new)
 tally_part test xs s d j old new from below is =
     let place : j ≡ s + (j - s) = omega arith in
-    omega (arith, ap (λ ys. tally test (take d ys)) (set_drop xs s j (j - s) new place), tally_first test (drop s xs) d (j - s) old new (omega arith) (get_drop xs s j (j - s) old place is))
+    omega (
+      arith,
+      ap (λ ys. tally test (take d ys)) (set_drop xs s j (j - s) new place),
+      tally_first test (drop s xs) d (j - s) old new (omega arith) (get_drop xs s j (j - s) old place is),
+    )
 
 -- of another part none changes
-pub tally_part_before : (test : Stripe → Bool) (xs : List Stripe) (s d j : ℕ) (new : Stripe) → j < s → tally test (take d (drop s (slice_set xs j new))) ≡ tally test (take d (drop s xs))
+pub tally_part_before : (test : Stripe → Bool) (xs : List Stripe) (s d j : ℕ) (new : Stripe) → j < s
+    → tally test (take d (drop s (slice_set xs j new))) ≡ tally test (take d (drop s xs))
 tally_part_before test xs s d j new h = ap (λ ys. tally test (take d ys)) (drop_set xs s j new h)
 
-pub tally_part_after : (test : Stripe → Bool) (xs : List Stripe) (s d j : ℕ) (new : Stripe) → s + d ≤ j → tally test (take d (drop s (slice_set xs j new))) ≡ tally test (take d (drop s xs))
+pub tally_part_after : (test : Stripe → Bool) (xs : List Stripe) (s d j : ℕ) (new : Stripe) → s + d ≤ j
+    → tally test (take d (drop s (slice_set xs j new))) ≡ tally test (take d (drop s xs))
 tally_part_after test xs s d j new h =
     let place : j ≡ s + (j - s) = omega arith in
     ap (λ ys. tally test (take d ys)) (set_drop xs s j (j - s) new place) ∙ ap (tally test) (take_set (drop s xs) d (j - s) new (omega arith))
 
 -- where the test says the same of both, nothing changes
-pub tally_same : (test : Stripe → Bool) (xs : List Stripe) (j : ℕ) (old new : Stripe) → slice_get xs j ≡ Some old → test old ≡ test new → tally test (slice_set xs j new) ≡ tally test xs
+pub tally_same : (test : Stripe → Bool) (xs : List Stripe) (j : ℕ) (old new : Stripe) → slice_get xs j ≡ Some old → test old ≡ test new
+    → tally test (slice_set xs j new) ≡ tally test xs
 tally_same test xs j old new is same = omega (arith, tally_set test xs j old new is, ap one same)
 
 one_at_most : (b : Bool) → one b ≤ 1

@@ -15,7 +15,8 @@ module _ {E : Type 0} where
   only_seat rows v new (suc id) here = absurd (some-ne-none v (sym here))
 
   view_set : (views : List (List E)) (rows v new : List E) (id : ℕ) → views ≡ rows ∷ [] → get_elem? views id ≡ some v → slice_set views id new ≡ new ∷ []
-  view_set views rows v new id is here = ap (λ (l : List (List E)). slice_set l id new) is ∙ only_seat rows v new id (subst (λ (l : List (List E)). get_elem? l id ≡ some v) is here)
+  view_set views rows v new id is here = ap (λ (l : List (List E)). slice_set l id new) is
+      ∙ only_seat rows v new id (subst (λ (l : List (List E)). get_elem? l id ≡ some v) is here)
 
   -- the length modulo 2^64 with one row more
   next_len : (old more : List E) (next : ℕ) → length more ≡ 1 → next ≡ (length old % 2 ^ 64 + 1) % 2 ^ 64 → next ≡ length (old ++ more) % 2 ^ 64

@@ -1,5 +1,5 @@
 -- A command of one unit out of several: what it leaves of them.
-use Rattle.std.proofs.Common.{ℕ, zero, suc, ◌<◌, ◌≡◌, ◌≢◌, inl, inr, ⊎_elim, Bool, true, false, ◌||◌, List, [], ◌∷◌, ◌++◌, length, map, drop, slice_get, slice_set, slice_index_or, Option, Some, Result, Ok, Err, is_err, refl, sym, ap, ◌∙◌, subst, arith}
+use Rattle.std.proofs.Common.{ℕ, zero, suc, ◌<◌, ◌≡◌, inl, inr, ⊎_elim, Bool, true, false, ◌||◌, List, [], ◌∷◌, ◌++◌, length, map, drop, slice_get, slice_set, slice_index_or, Option, Some, Result, Ok, Err, is_err, refl, sym, ap, ◌∙◌, subst, arith}
 use Rattle.std.specs.Prelude.{IsOk}
 use Rattle.std.specs.List.{list_any}
 use Rattle.std.specs.Option.{option_map, option_map_or}
@@ -30,8 +30,11 @@ same_fields : (s s' : Shape) (m m' : List Chunk) (l l' : List UnitEvent) (a a' :
 same_fields s s' m m' l l' a a' e f g h = cc
 
 -- a step leaves the unit with its event
-stepped : (old new : ModelUnit) (chunk : ℕ) (command : ChunkCommand) (outcome : UnitOutcome) → Steps old chunk command outcome new → new ≡ with_event old (record { chunk = chunk; command = command; outcome = outcome })
-stepped old new chunk command outcome h = same_fields new.shape old.shape new.media (with_event old (record { chunk = chunk; command = command; outcome = outcome })).media new.log (with_event old (record { chunk = chunk; command = command; outcome = outcome })).log new.armed old.armed h.shape h.media h.log h.armed
+stepped : (old new : ModelUnit) (chunk : ℕ) (command : ChunkCommand) (outcome : UnitOutcome) → Steps old chunk command outcome new
+    → new ≡ with_event old (record { chunk = chunk; command = command; outcome = outcome })
+stepped old new chunk command outcome h =
+    same_fields new.shape old.shape new.media (with_event old (record { chunk = chunk; command = command; outcome = outcome })).media new.log
+    (with_event old (record { chunk = chunk; command = command; outcome = outcome })).log new.armed old.armed h.shape h.media h.log h.armed
 
 abbrev pub at_unit : ℕ → ℕ → ChunkCommand → UnitOutcome → EventAt
 at_unit unit chunk command outcome = record { unit = unit; event = record { chunk = chunk; command = command; outcome = outcome } }
@@ -43,7 +46,8 @@ module _ {U : Type 0} (model : U → ModelUnit) where
   pub taken_within : (units : List U) (c : UnitCommand) → IsTaken (map model units) c → c.unit < length units
   taken_within units c h = omega (arith, slice_get_within (map model units) c.unit h.unit h.there, length-map units model)
 
-  pub did_step : (units : List U) (k : ℕ) (d y : U) (chunk : ℕ) (command : ChunkCommand) (outcome : UnitOutcome) → IsTaken (map model units) (record { unit = k; chunk = chunk; command = command })
+  pub did_step : (units : List U) (k : ℕ) (d y : U) (chunk : ℕ) (command : ChunkCommand) (outcome : UnitOutcome)
+      → IsTaken (map model units) (record { unit = k; chunk = chunk; command = command })
       → Steps (model (slice_index_or units k d)) chunk command outcome (model y)
       → (IsUnarmed (model (slice_index_or units k d)).armed → (is_fail outcome ≡ false) × (is_stop outcome ≡ false))
       → Did (map model units) (record { unit = k; chunk = chunk; command = command }) (at_unit k chunk command outcome) (map model (slice_set units k y))
@@ -54,17 +58,28 @@ module _ {U : Type 0} (model : U → ModelUnit) where
         next = record { unit = model (slice_index_or units k d); there = model_there units k d within; event = h.event; stopped = h.stopped; quiet = quiet };
         units = map-set model units k y
             ∙ ap (λ (v : ModelUnit). slice_set (map model units) k v) (stepped (model (slice_index_or units k d)) (model y) chunk command outcome h)
-            ∙ ap (λ (o : Option ModelUnit). option_map_or (λ u. slice_set (map model units) k (with_event u (record { chunk = chunk; command = command; outcome = outcome }))) o (map model units)) (sym (model_there units k d within));
+            ∙ ap (λ (o : Option ModelUnit). option_map_or
+            (λ u. slice_set (map model units) k (with_event u (record { chunk = chunk; command = command; outcome = outcome }))) o (map model units))
+            (sym (model_there units k d within));
       }
 
-  kept_at : (units : List U) (k : ℕ) (d y : U) → k < length units → IsKept (model (slice_index_or units k d)) (model y) → (i : ℕ) (v : ModelUnit) → Dec (i ≡ k) → slice_get (slice_set (map model units) k (model y)) i ≡ Some v
+  kept_at : (units : List U) (k : ℕ) (d y : U) → k < length units → IsKept (model (slice_index_or units k d)) (model y) → (i : ℕ) (v : ModelUnit) → Dec (i ≡ k)
+      → slice_get (slice_set (map model units) k (model y)) i ≡ Some v
       → (u : ModelUnit) × (slice_get (map model units) i ≡ Some u) × IsKept u v
   kept_at units k d y within h i v (yes same) there =
-      let is_v : model y ≡ v = same_Some (model y) v (sym (get_set_same (map model units) k (model y) (omega (arith, length-map units model))) ∙ ap (slice_get (slice_set (map model units) k (model y))) (sym same) ∙ there) in
-      (model (slice_index_or units k d), ap (slice_get (map model units)) same ∙ model_there units k d within, subst (IsKept (model (slice_index_or units k d))) is_v h)
-  kept_at units k d y within h i v (no apart) there = (v, sym (get_set_other (map model units) k i (model y) apart) ∙ there, record { shape = refl; armed = refl; fits = λ f. f })
+      let is_v : model y ≡ v = same_Some (model y) v
+      (sym (get_set_same (map model units) k (model y) (omega (arith, length-map units model)))
+      ∙ ap (slice_get (slice_set (map model units) k (model y))) (sym same) ∙ there) in (
+        model (slice_index_or units k d),
+        ap (slice_get (map model units)) same
+            ∙ model_there units k d within,
+        subst (IsKept (model (slice_index_or units k d))) is_v h,
+      )
+  kept_at units k d y within h i v (no apart) there =
+      (v, sym (get_set_other (map model units) k i (model y) apart) ∙ there, record { shape = refl; armed = refl; fits = λ f. f })
 
-  pub kept_step : (units : List U) (k : ℕ) (d y : U) (chunk : ℕ) (command : ChunkCommand) (outcome : UnitOutcome) → IsTaken (map model units) (record { unit = k; chunk = chunk; command = command })
+  pub kept_step : (units : List U) (k : ℕ) (d y : U) (chunk : ℕ) (command : ChunkCommand) (outcome : UnitOutcome)
+      → IsTaken (map model units) (record { unit = k; chunk = chunk; command = command })
       → Steps (model (slice_index_or units k d)) chunk command outcome (model y)
       → (IsFitUnit (model (slice_index_or units k d)) → IsFitUnit (model y)) → AreKept (map model units) (map model (slice_set units k y))
   kept_step units k d y chunk command outcome taken h fits =
@@ -76,13 +91,15 @@ module _ {U : Type 0} (model : U → ModelUnit) where
 
 module _ {U : Type 0} (model : U → ModelUnit) where
   -- a step of the unit at a place, whose sectors have this length
-  pub sized_step : (units : List U) (k size : ℕ) (d y : U) (chunk at : ℕ) (bytes : List ℕ) (marks : List Mark) (c : UnitCommand) (outcome : UnitOutcome) → c.unit ≡ k
+  pub sized_step : (units : List U) (k size : ℕ) (d y : U) (chunk at : ℕ) (bytes : List ℕ) (marks : List Mark) (c : UnitCommand) (outcome : UnitOutcome)
+      → c.unit ≡ k
       → ((i : ℕ) (u : ModelUnit) → slice_get (map model units) i ≡ Some u → u.shape.sector ≡ size) → IsTaken (map model units) c
       → Steps (model (slice_index_or units k d)) chunk (Write at (blocks_of (model (slice_index_or units k d)).shape.sector bytes marks)) outcome (model y)
       → Steps (model (slice_index_or units k d)) chunk (Write at (blocks_of size bytes marks)) outcome (model y)
   sized_step units k size d y chunk at bytes marks c outcome is sizes taken h =
       let within : k < length units = subst (λ n. n < length units) is (taken_within model units c taken) in
-      subst (λ n. Steps (model (slice_index_or units k d)) chunk (Write at (blocks_of n bytes marks)) outcome (model y)) (sizes k (model (slice_index_or units k d)) (model_there model units k d within)) h
+      subst (λ n. Steps (model (slice_index_or units k d)) chunk (Write at (blocks_of n bytes marks)) outcome (model y))
+      (sizes k (model (slice_index_or units k d)) (model_there model units k d within)) h
 
 pub kept_none : (units : List ModelUnit) → AreKept units units
 kept_none units = record { count = refl; each = λ i v there. (v, there, record { shape = refl; armed = refl; fits = λ f. f }) }
@@ -90,7 +107,9 @@ kept_none units = record { count = refl; each = λ i v there. (v, there, record 
 pub kept_more : (old mid new : List ModelUnit) → AreKept old mid → AreKept mid new → AreKept old new
 kept_more old mid new h k = record {
   count = k.count ∙ h.count;
-  each = λ i v there. let b = k.each i v there in let a = h.each i b.0 b.1 in (a.0, a.1, record { shape = b.2.shape ∙ a.2.shape; armed = b.2.armed ∙ a.2.armed; fits = λ f. b.2.fits (a.2.fits f) });
+  each = λ i v there. let b = k.each i v there in
+      let a = h.each i b.0 b.1 in
+      (a.0, a.1, record { shape = b.2.shape ∙ a.2.shape; armed = b.2.armed ∙ a.2.armed; fits = λ f. b.2.fits (a.2.fits f) });
 }
 
 -- A command that may be given may still be given after an event of another chunk, and after a read.
@@ -108,34 +127,41 @@ any_more p (suc n) (x ∷ xs) ys h = any_more p n xs ys h
 pub stays_stopped : (u : ModelUnit) (e : UnitEvent) → IsStopped u → IsStopped (with_event u e)
 stays_stopped u e h = any_more (λ (e : UnitEvent). is_stop e.outcome) u.armed.since u.log (e ∷ []) h
 
-pub after_one_is : (units : List ModelUnit) (e : EventAt) (u : ModelUnit) → slice_get units e.unit ≡ Some u → after_one units e ≡ slice_set units e.unit (with_event u e.event)
+pub after_one_is : (units : List ModelUnit) (e : EventAt) (u : ModelUnit) → slice_get units e.unit ≡ Some u
+    → after_one units e ≡ slice_set units e.unit (with_event u e.event)
 after_one_is units e u there = ap (λ (o : Option ModelUnit). option_map_or (λ u. slice_set units e.unit (with_event u e.event)) o units) there
 
-read_keeps : (s : Shape) (media : List Chunk) (e : UnitEvent) (b : ℕ) (c : Chunk) → slice_get media e.chunk ≡ Some c → e.command ≡ Read b → after_event s media e ≡ media
+read_keeps : (s : Shape) (media : List Chunk) (e : UnitEvent) (b : ℕ) (c : Chunk) → slice_get media e.chunk ≡ Some c → e.command ≡ Read b
+    → after_event s media e ≡ media
 read_keeps s media e b c there is = after_event_is s media e c there
     ∙ ap (slice_set media e.chunk) (ap (λ command. after_outcome s c command e.outcome) is ∙ read_leaves s c b e.outcome) ∙ set_same media e.chunk c there
 
-chunk_spared : (u : ModelUnit) (e : EventAt) (c : UnitCommand) (found : Chunk) → e.unit ≡ c.unit → Spares e c → IsEvent u.shape u.media e.event → slice_get u.media c.chunk ≡ Some found
+chunk_spared : (u : ModelUnit) (e : EventAt) (c : UnitCommand) (found : Chunk) → e.unit ≡ c.unit → Spares e c → IsEvent u.shape u.media e.event
+    → slice_get u.media c.chunk ≡ Some found
     → slice_get (after_event u.shape u.media e.event) c.chunk ≡ Some found
 chunk_spared u e c found same (apart not) event there =
     ap (λ m. slice_get m c.chunk) (after_event_is u.shape u.media e.event event.found event.there)
     ∙ get_set_other u.media e.event.chunk c.chunk (after_outcome u.shape event.found e.event.command e.event.outcome) (λ is. not same (sym is)) ∙ there
-chunk_spared u e c found same (only_reads b is) event there = ap (λ m. slice_get m c.chunk) (read_keeps u.shape u.media e.event b event.found event.there is) ∙ there
+chunk_spared u e c found same (only_reads b is) event there = ap (λ m. slice_get m c.chunk) (read_keeps u.shape u.media e.event b event.found event.there is)
+    ∙ there
 
-takes_still : (u : ModelUnit) (e : EventAt) (c : UnitCommand) → e.unit ≡ c.unit → Spares e c → IsEvent u.shape u.media e.event → Takes u c.chunk c.command → Takes (with_event u e.event) c.chunk c.command
+takes_still : (u : ModelUnit) (e : EventAt) (c : UnitCommand) → e.unit ≡ c.unit → Spares e c → IsEvent u.shape u.media e.event → Takes u c.chunk c.command
+    → Takes (with_event u e.event) c.chunk c.command
 takes_still u e c same spares event t = record {
   found = t.found;
   there = chunk_spared u e c t.found same spares event t.there;
   taken = ⊎_elim (λ ready. inl ready) (λ stopped. inr (stays_stopped u e.event stopped)) t.taken;
 }
 
-still_at : (units : List ModelUnit) (e : EventAt) (c : UnitCommand) (u : ModelUnit) → slice_get units e.unit ≡ Some u → IsEvent u.shape u.media e.event → Spares e c → IsTaken units c → Dec (c.unit ≡ e.unit)
+still_at : (units : List ModelUnit) (e : EventAt) (c : UnitCommand) (u : ModelUnit) → slice_get units e.unit ≡ Some u → IsEvent u.shape u.media e.event
+    → Spares e c → IsTaken units c → Dec (c.unit ≡ e.unit)
     → IsTaken (slice_set units e.unit (with_event u e.event)) c
 still_at units e c u there event spares t (yes same) =
     let is_u : t.unit ≡ u = same_Some t.unit u (sym t.there ∙ ap (slice_get units) same ∙ there) in
     record {
       unit = with_event u e.event;
-      there = ap (slice_get (slice_set units e.unit (with_event u e.event))) same ∙ get_set_same units e.unit (with_event u e.event) (slice_get_within units e.unit u there);
+      there = ap (slice_get (slice_set units e.unit (with_event u e.event))) same
+          ∙ get_set_same units e.unit (with_event u e.event) (slice_get_within units e.unit u there);
       takes = takes_still u e c (sym same) spares event (subst (λ (v : ModelUnit). Takes v c.chunk c.command) is_u t.takes);
     }
 still_at units e c u there event spares t (no other) = record {
@@ -159,7 +185,8 @@ pub told_quiet : (r : Result (Unit {0}) UnitErr) (o : UnitOutcome) → TellsDone
 told_quiet (Ok done) o h ok = (ap is_fail h, ap is_stop h)
 told_quiet (Err e) o h ok = cc
 
-pub block_quiet : (before after : List ℕ) (r : Result Got UnitErr) (o : UnitOutcome) → TellsBlock before after r o → IsOk r → (is_fail o ≡ false) × (is_stop o ≡ false)
+pub block_quiet : (before after : List ℕ) (r : Result Got UnitErr) (o : UnitOutcome) → TellsBlock before after r o → IsOk r
+    → (is_fail o ≡ false) × (is_stop o ≡ false)
 block_quiet before after (Ok (got.Sector mark)) o h ok = (ap is_fail h, ap is_stop h)
 block_quiet before after (Ok got.Empty) o h ok = (ap is_fail h.0, ap is_stop h.0)
 block_quiet before after (Err e) o h ok = cc

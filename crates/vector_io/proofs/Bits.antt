@@ -39,10 +39,12 @@ bit_unset n flags h = record { bit = λ i. h.bit i ∙ ap (λ b. cond b 1 0) (sy
 pub no_bits : HasBits 0 []
 no_bits = record { bit = λ i. bit_at-zero i ∙ refl }
 
-pub flags_grow : (flags : List Bool) (from at : ℕ) (set : Bool) → from ≤ at → (flags ++ replicate (at - from) set) ++ set ∷ [] ≡ flags ++ replicate (at + 1 - from) set
+pub flags_grow : (flags : List Bool) (from at : ℕ) (set : Bool) → from ≤ at
+    → (flags ++ replicate (at - from) set) ++ set ∷ [] ≡ flags ++ replicate (at + 1 - from) set
 flags_grow flags from at set h =
     let more : at - from + 1 ≡ at + 1 - from = omega arith in
-    append_assoc flags (replicate (at - from) set) (set ∷ []) ∙ ap (λ fs. flags ++ fs) (replicate-append-replicate (at - from) 1 set ∙ ap (λ n. replicate n set) more)
+    append_assoc flags (replicate (at - from) set) (set ∷ [])
+    ∙ ap (λ fs. flags ++ fs) (replicate-append-replicate (at - from) 1 set ∙ ap (λ n. replicate n set) more)
 
 pub flags_len : (flags : List Bool) (from at : ℕ) (set : Bool) → from ≤ at → length flags ≡ from → length (flags ++ replicate (at - from) set) ≡ at
 flags_len flags from at set h len = length-append flags (replicate (at - from) set) ∙ omega (arith, length-replicate (at - from) set)

@@ -15,19 +15,23 @@ same_place : {A : Type 0} (xs : List A) (i k : ℕ) (d x : A) → i < length xs 
 same_place xs i k d x within same there = some_same (sym (slice_get-get_or xs i d within) ∙ ap (slice_get xs) (sym same) ∙ there)
 
 -- what holds below i and at i holds below i + 1
-pub inside_more : (g : Geometry) (xs : List Address) (i : ℕ) (d : Address) → i < length xs → ((k : ℕ) (a : Address) → k < i → slice_get xs k ≡ Some a → IsAddress g a)
+pub inside_more : (g : Geometry) (xs : List Address) (i : ℕ) (d : Address) → i < length xs
+    → ((k : ℕ) (a : Address) → k < i → slice_get xs k ≡ Some a → IsAddress g a)
     → IsAddress g (slice_index_or xs i d) → (k : ℕ) (a : Address) → k < i + 1 → slice_get xs k ≡ Some a → IsAddress g a
 inside_more g xs i d within before here k a below there = ⊎_elim (λ less. before k a less there)
     (λ (most : i ≤ k). let same : k ≡ i = omega arith in subst (IsAddress g) (same_place xs i k d a within same there) here) (cases_lt k i)
 
-pub first_outside : (g : Geometry) (xs : List Address) (i : ℕ) (d : Address) → i < length xs → ((k : ℕ) (a : Address) → k < i → slice_get xs k ≡ Some a → IsAddress g a)
+pub first_outside : (g : Geometry) (xs : List Address) (i : ℕ) (d : Address) → i < length xs
+    → ((k : ℕ) (a : Address) → k < i → slice_get xs k ≡ Some a → IsAddress g a)
     → ¬ IsAddress g (slice_index_or xs i d) → IsFirstOutside g xs i
 first_outside g xs i d within before here = record { address = slice_index_or xs i d; there = slice_get-get_or xs i d within; outside = here; before = before }
 
-pub unlike_more : (xs : List Address) (i j : ℕ) (d : Address) → i < length xs → j < i → ((k : ℕ) (a : Address) → k < j → slice_get xs k ≡ Some a → ¬ slice_get xs i ≡ Some a)
+pub unlike_more : (xs : List Address) (i j : ℕ) (d : Address) → i < length xs → j < i
+    → ((k : ℕ) (a : Address) → k < j → slice_get xs k ≡ Some a → ¬ slice_get xs i ≡ Some a)
     → (slice_index_or xs j d ≡ slice_index_or xs i d → ⊥) → (k : ℕ) (a : Address) → k < j + 1 → slice_get xs k ≡ Some a → ¬ slice_get xs i ≡ Some a
 unlike_more xs i j d within less before here k a below there again = ⊎_elim (λ (l : k < j). before k a l there again)
-    (λ (most : j ≤ k). let same : k ≡ j = omega arith in here (same_place xs j k d a (omega arith) same there ∙ sym (same_place xs i i d a within refl again))) (cases_lt k j)
+    (λ (most : j ≤ k). let same : k ≡ j = omega arith in here (same_place xs j k d a (omega arith) same there ∙ sym (same_place xs i i d a within refl again)))
+    (cases_lt k j)
 
 pub not_repeated : (xs : List Address) (i : ℕ) → ((k : ℕ) (a : Address) → k < i → slice_get xs k ≡ Some a → ¬ slice_get xs i ≡ Some a) → ¬ IsRepeated xs i
 not_repeated xs i before h = before h.index h.address h.before h.there h.again
@@ -38,7 +42,8 @@ none_repeated xs none i h = none i (slice_get_within xs i h.address h.again) h
 -- There is at most one refusal, and none of a vector.
 
 one_outside : (g : Geometry) (xs : List Address) (i j : ℕ) → IsFirstOutside g xs i → IsFirstOutside g xs j → i ≡ j
-one_outside g xs i j hi hj = ⊎_elim (λ (e : i ≡ j). e) (λ (apart : (i < j) ⊎ (j < i)). ⊎_elim (λ (l : i < j). absurd (hi.outside (hj.before i hi.address l hi.there)))
+one_outside g xs i j hi hj = ⊎_elim (λ (e : i ≡ j). e)
+    (λ (apart : (i < j) ⊎ (j < i)). ⊎_elim (λ (l : i < j). absurd (hi.outside (hj.before i hi.address l hi.there)))
     (λ (l : j < i). absurd (hj.outside (hi.before j hj.address l hj.there))) apart) (cases_order i j)
 
 one_repeated : (xs : List Address) (i j : ℕ) → IsFirstRepeated xs i → IsFirstRepeated xs j → i ≡ j

@@ -16,12 +16,14 @@ use Rattle.pblk_model.proofs.Tests.{both}
 
 -- Blocks of parts of two lists.
 
-pub blocks_of-drop : (size : ℕ) (bytes : List ℕ) (marks : List Mark) (k : ℕ) → blocks_of size (drop (k * size) bytes) (drop k marks) ≡ drop k (blocks_of size bytes marks)
+pub blocks_of-drop : (size : ℕ) (bytes : List ℕ) (marks : List Mark) (k : ℕ)
+    → blocks_of size (drop (k * size) bytes) (drop k marks) ≡ drop k (blocks_of size bytes marks)
 blocks_of-drop size bytes marks zero = let e : 0 * size ≡ 0 = omega arith in rw e refl
 blocks_of-drop size bytes [] (suc k) = refl
 blocks_of-drop size bytes (m ∷ marks) (suc k) = rw (suc-times k size, ← drop-drop (k * size) size bytes) (blocks_of-drop size (drop size bytes) marks k)
 
-pub blocks_of-take : (size : ℕ) (bytes : List ℕ) (marks : List Mark) (k : ℕ) → blocks_of size (take (k * size) bytes) (take k marks) ≡ take k (blocks_of size bytes marks)
+pub blocks_of-take : (size : ℕ) (bytes : List ℕ) (marks : List Mark) (k : ℕ)
+    → blocks_of size (take (k * size) bytes) (take k marks) ≡ take k (blocks_of size bytes marks)
 blocks_of-take size bytes marks zero = refl
 blocks_of-take size bytes [] (suc k) = refl
 blocks_of-take size bytes (m ∷ marks) (suc k) =
@@ -29,8 +31,10 @@ blocks_of-take size bytes (m ∷ marks) (suc k) =
     rw (suc-times k size, take-take size (size + k * size) bytes within, drop-take size (k * size) bytes, blocks_of-take size (drop size bytes) marks k) refl
 
 -- the part of k blocks from a place on
-pub part_blocks : (size at k : ℕ) (bytes : List ℕ) (marks : List Mark) (long : ℕ) → long ≡ k * size → blocks_of size (take long (drop (at * size) bytes)) (take k (drop at marks)) ≡ take k (drop at (blocks_of size bytes marks))
-part_blocks size at k bytes marks long is = rw is (blocks_of-take size (drop (at * size) bytes) (drop at marks) k ∙ ap (take k) (blocks_of-drop size bytes marks at))
+pub part_blocks : (size at k : ℕ) (bytes : List ℕ) (marks : List Mark) (long : ℕ) → long ≡ k * size
+    → blocks_of size (take long (drop (at * size) bytes)) (take k (drop at marks)) ≡ take k (drop at (blocks_of size bytes marks))
+part_blocks size at k bytes marks long is =
+    rw is (blocks_of-take size (drop (at * size) bytes) (drop at marks) k ∙ ap (take k) (blocks_of-drop size bytes marks at))
 
 -- The first run is the first program.
 
@@ -38,17 +42,20 @@ part_blocks size at k bytes marks long is = rw is (blocks_of-take size (drop (at
 at_next : (g : Geometry) (a b : Address) (block next : Block) (rest taken : List Block) (xs later : List Address) (n : ℕ) (ps : List Program) (test : Bool)
     → taken ≡ take n rest → later ≡ drop n xs → programs g (b ∷ xs) (next ∷ rest) ≡ program_of g b (next ∷ taken) ∷ ps → ps ≡ programs g later (drop n rest)
     → cond test (program_of g a (block ∷ next ∷ taken) ∷ ps) (program_of g a (block ∷ []) ∷ program_of g b (next ∷ taken) ∷ ps)
-    ≡ program_of g a (block ∷ take (cond test (suc n) 0) (next ∷ rest)) ∷ programs g (drop (cond test (suc n) 0) (b ∷ xs)) (drop (cond test (suc n) 0) (next ∷ rest))
+    ≡ program_of g a (block ∷ take (cond test (suc n) 0) (next ∷ rest)) ∷ programs g (drop (cond test (suc n) 0) (b ∷ xs))
+    (drop (cond test (suc n) 0) (next ∷ rest))
 at_next g a b block next rest taken xs later n ps true is_taken is_later first is_rest = rw (is_rest, is_taken, is_later) refl
 at_next g a b block next rest taken xs later n ps false is_taken is_later first is_rest = ap (λ ps. program_of g a (block ∷ []) ∷ ps) (sym first)
 
 pub first_program : (g : Geometry) (a : Address) (xs : List Address) (block : Block) (blocks : List Block) → length xs ≡ length blocks
-    → programs g (a ∷ xs) (block ∷ blocks) ≡ program_of g a (block ∷ take (run_behind g a xs) blocks) ∷ programs g (drop (run_behind g a xs) xs) (drop (run_behind g a xs) blocks)
+    → programs g (a ∷ xs) (block ∷ blocks) ≡ program_of g a (block ∷ take (run_behind g a xs) blocks) ∷ programs g (drop (run_behind g a xs) xs)
+    (drop (run_behind g a xs) blocks)
 first_program g a [] block blocks len = refl
 first_program g a (b ∷ xs) block [] len = absurd (omega arith)
 first_program g a (b ∷ xs) block (next ∷ blocks) len =
     ap (with_first g a block) (first_program g b xs next blocks (omega arith))
-    ∙ at_next g a b block next blocks (take (run_behind g b xs) blocks) xs (drop (run_behind g b xs) xs) (run_behind g b xs) (programs g (drop (run_behind g b xs) xs) (drop (run_behind g b xs) blocks)) (is_next_block g a b)
+    ∙ at_next g a b block next blocks (take (run_behind g b xs) blocks) xs (drop (run_behind g b xs) xs) (run_behind g b xs)
+    (programs g (drop (run_behind g b xs) xs) (drop (run_behind g b xs) blocks)) (is_next_block g a b)
     refl refl (first_program g b xs next blocks (omega arith)) refl
 
 behind_if : (test : Bool) (n m : ℕ) → n ≤ m → cond test (suc n) 0 ≤ suc m
@@ -77,7 +84,8 @@ run_at_end g xs at last h end = omega (arith, h.run, run_one g xs last h.within 
 
 -- The programs have each address with its block.
 
-placed_on : (unit unit' chunk chunk' number number' : ℕ) (blocks : List Block) → unit ≡ unit' → chunk ≡ chunk' → number ≡ number' → placed_from unit chunk number blocks ≡ placed_from unit' chunk' number' blocks
+placed_on : (unit unit' chunk chunk' number number' : ℕ) (blocks : List Block) → unit ≡ unit' → chunk ≡ chunk' → number ≡ number'
+    → placed_from unit chunk number blocks ≡ placed_from unit' chunk' number' blocks
 placed_on unit unit' chunk chunk' number number' blocks u c n = rw (u, c, n) refl
 
 joined : (g : Geometry) (a : Address) (block : Block) (p : Program) (ps : List Program) (test : Bool) → goes_on g a p ≡ test
@@ -88,11 +96,13 @@ joined g a block p ps true is =
     let places = both (unit_of g a == p.unit) (a.chunk == p.chunk) parts.0 in
     flat_map-cons placed_by (program_of g a (block ∷ p.blocks)) ps
     ∙ ap (λ bs. record { unit = unit_of g a; chunk = a.chunk; number = a.block; block = block } ∷ (bs ++ flat_map placed_by ps))
-    (placed_on (unit_of g a) p.unit a.chunk p.chunk (a.block + 1) p.at p.blocks (eqb-true (unit_of g a) p.unit places.0) (eqb-true a.chunk p.chunk places.1) (eqb-true (a.block + 1) p.at parts.1))
+    (placed_on (unit_of g a) p.unit a.chunk p.chunk (a.block + 1) p.at p.blocks (eqb-true (unit_of g a) p.unit places.0) (eqb-true a.chunk p.chunk places.1)
+    (eqb-true (a.block + 1) p.at parts.1))
     ∙ ap (λ bs. record { unit = unit_of g a; chunk = a.chunk; number = a.block; block = block } ∷ bs) (sym (flat_map-cons placed_by p ps))
 joined g a block p ps false is = flat_map-cons placed_by (program_of g a (block ∷ [])) (p ∷ ps)
 
-first_placed : (g : Geometry) (a : Address) (block : Block) (ps : List Program) → flat_map placed_by (with_first g a block ps) ≡ record { unit = unit_of g a; chunk = a.chunk; number = a.block; block = block } ∷ flat_map placed_by ps
+first_placed : (g : Geometry) (a : Address) (block : Block) (ps : List Program)
+    → flat_map placed_by (with_first g a block ps) ≡ record { unit = unit_of g a; chunk = a.chunk; number = a.block; block = block } ∷ flat_map placed_by ps
 first_placed g a block [] = flat_map-cons placed_by (program_of g a (block ∷ [])) []
 first_placed g a block (p ∷ ps) = joined g a block p ps (goes_on g a p) refl
 
@@ -100,4 +110,5 @@ pub all_placed : (g : Geometry) (xs : List Address) (blocks : List Block) → fl
 all_placed g [] blocks = refl
 all_placed g (a ∷ xs) [] = refl
 all_placed g (a ∷ xs) (block ∷ blocks) =
-    first_placed g a block (programs g xs blocks) ∙ ap (λ bs. record { unit = unit_of g a; chunk = a.chunk; number = a.block; block = block } ∷ bs) (all_placed g xs blocks)
+    first_placed g a block (programs g xs blocks)
+    ∙ ap (λ bs. record { unit = unit_of g a; chunk = a.chunk; number = a.block; block = block } ∷ bs) (all_placed g xs blocks)

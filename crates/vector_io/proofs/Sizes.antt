@@ -14,7 +14,8 @@ quotient size count s some is =
     let e : size ≡ s * count + 0 = is ∙ mul_comm count s ∙ omega arith in
     ap (λ n. n / count) e ∙ div-mul-add s count 0 some
 
-pub sector_is : (units : List ModelUnit) (size count : ℕ) → 0 < count → HaveSectors size count units → (i : ℕ) (u : ModelUnit) → slice_get units i ≡ Some u → u.shape.sector ≡ size / count
+pub sector_is : (units : List ModelUnit) (size count : ℕ) → 0 < count → HaveSectors size count units → (i : ℕ) (u : ModelUnit) → slice_get units i ≡ Some u
+    → u.shape.sector ≡ size / count
 sector_is units size count some h i u there = sym (quotient size count u.shape.sector some (h i u there))
 
 some_product : (g p : ℕ) (a b : ℕ) → a < g → b < p → 0 < g * p
@@ -28,7 +29,8 @@ pub some_unit : (units : List ModelUnit) (n : ℕ) → length units ≡ n → 0 
 some_unit [] n len some = absurd (omega arith)
 some_unit (u ∷ units) n len some = (u, refl)
 
-pub whole_sectors : (g : Geometry) (xs : List Address) (units : List ModelUnit) (size count : ℕ) → IsVector g xs → AreUnitsOf g units → 0 < count → HaveSectors size count units → size ≡ count * (size / count)
+pub whole_sectors : (g : Geometry) (xs : List Address) (units : List ModelUnit) (size count : ℕ) → IsVector g xs → AreUnitsOf g units → 0 < count
+    → HaveSectors size count units → size ≡ count * (size / count)
 whole_sectors g xs units size count v fits some h =
     let u = some_unit units (g.groups * g.pus) fits.count (first_address g xs v.count.0 v.inside) in
     h 0 u.0 u.1 ∙ ap (λ n. count * n) (sym (quotient size count u.0.shape.sector some (h 0 u.0 u.1)))

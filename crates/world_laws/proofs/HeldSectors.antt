@@ -50,10 +50,6 @@ last_passing {X} test o (y ∷ xs) (suc k) x there passes last = go (test y) (λ
     go true h = h (Some y)
     go false h = h o
 
-pub all_pass : {X : Type 0} (test : X → Bool) (xs : List X) → AllByRecursion (λ x. test x ≡ true) xs → filter test xs ≡ xs
-all_pass test [] h = refl
-all_pass test (x ∷ xs) h = ap (λ b. cond b (x ∷ filter test xs) (filter test xs)) h.0 ∙ ap (λ ys. x ∷ ys) (all_pass test xs h.1)
-
 -- ---- a sector after entries
 
 -- the users' entries as lines of a history

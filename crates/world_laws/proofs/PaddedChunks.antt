@@ -120,7 +120,8 @@ padded_more s cs ds e found only there left line =
       set_else apart = get_set_other ds e.chunk line (after_outcome s found e.command e.outcome) apart
 
       changed : line ≡ e.chunk → IsPadded s found (after_outcome s found e.command e.outcome)
-          → (slice_get ds line ≡ slice_get cs line) ⊎ IsPaddedIn s cs ds line → IsPaddedIn s cs (slice_set ds e.chunk (after_outcome s found e.command e.outcome)) line
+          → (slice_get ds line ≡ slice_get cs line) ⊎ IsPaddedIn s cs ds line
+          → IsPaddedIn s cs (slice_set ds e.chunk (after_outcome s found e.command e.outcome)) line
       changed same p (inl was) = record {
         old = found;
         new = after_outcome s found e.command e.outcome;

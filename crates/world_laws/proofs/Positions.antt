@@ -18,7 +18,8 @@ use Rattle.world_laws.proofs.Fronts.{begun_later}
 AreInOrder : List Logged → Type 0
 AreInOrder log = (n : ℕ) (t : Taken) → slice_get (takes log) n ≡ Some t → t.entry.position ≡ first_position log + n
 
-first_same : (log more : List Logged) (g : Begun) → begun log ≡ Some g → first_position (log ++ more) ≡ first_position log
+-- a log that has begun has its first position for good
+pub first_same : (log more : List Logged) (g : Begun) → begun log ≡ Some g → first_position (log ++ more) ≡ first_position log
 first_same log more g e =
     ap (λ o. option_map_or (λ (b : Begun). b.beginning.first) o 0) (begun_later log more g e ∙ sym e)
 

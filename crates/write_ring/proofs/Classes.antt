@@ -9,7 +9,7 @@ use mathlib.Core.Option.{some}
 use lib.ListN.{get_elem?}
 use Rattle.std.specs.List.{AllByRecursion}
 use Rattle.pblk_model.proofs.Lists.{all_append}
-use Rattle.pblk_model.proofs.Maps.{filter_none}
+use Rattle.pblk_model.proofs.Maps.{filter_all, filter_none}
 use Rattle.sector_pool.specs.declared.entry.Class.{Class}
 use Rattle.write_ring.specs.declared.draft.Draft.{Draft}
 use Rattle.write_ring.specs.declared.view.Part.{Part}
@@ -20,7 +20,7 @@ use Rattle.write_ring.specs.Handles.{IsFilled, IsSamePart}
 use Rattle.write_ring.specs.Stock.{rows_at, copies_at, HasPut, Sides}
 use Rattle.write_ring.specs.Steps.{IsOfClass, copies_part, joined_part, users_part}
 use Rattle.write_ring.proofs.ClaimLists.{covers_both, empty, rows_both}
-use Rattle.write_ring.proofs.Filters.{all_of_each, all_pass, each_of_all, kept}
+use Rattle.write_ring.proofs.Filters.{all_of_each, each_of_all, kept}
 
 abbrev pub user_claims : List Claim → List Claim
 user_claims cs = filter (λ (c : Claim). not c.copy) cs
@@ -85,7 +85,7 @@ module _ (p q : Part) (users : IsOfClass false p) (copies : IsOfClass true q) wh
   only_users_claims : user_claims (p.claims ++ q.claims) ≡ p.claims
   only_users_claims =
       filter-append (λ (c : Claim). not c.copy) p.claims q.claims
-      ∙ ap (λ l. l ++ user_claims q.claims) (all_pass (λ (c : Claim). not c.copy) p.claims
+      ∙ ap (λ l. l ++ user_claims q.claims) (filter_all (λ (c : Claim). not c.copy) p.claims
       (all_of_each (λ (c : Claim). not c.copy ≡ true) p.claims (λ i c at. ap not (users.claims i c at))))
       ∙ ap (λ l. p.claims ++ l) (filter_none (λ (c : Claim). not c.copy) q.claims
       (all_of_each (λ (c : Claim). not c.copy ≡ false) q.claims (λ i c at. ap not (copies.claims i c at))))
@@ -94,7 +94,7 @@ module _ (p q : Part) (users : IsOfClass false p) (copies : IsOfClass true q) wh
   only_users_rows : user_rows (p.puts ++ q.puts) ≡ p.puts
   only_users_rows =
       filter-append (λ (r : Row). not r.copy) p.puts q.puts
-      ∙ ap (λ l. l ++ user_rows q.puts) (all_pass (λ (r : Row). not r.copy) p.puts
+      ∙ ap (λ l. l ++ user_rows q.puts) (filter_all (λ (r : Row). not r.copy) p.puts
       (all_of_each (λ (r : Row). not r.copy ≡ true) p.puts (λ i r at. ap not (users.puts i r at))))
       ∙ ap (λ l. p.puts ++ l) (filter_none (λ (r : Row). not r.copy) q.puts
       (all_of_each (λ (r : Row). not r.copy ≡ false) q.puts (λ i r at. ap not (copies.puts i r at))))
@@ -104,13 +104,13 @@ module _ (p q : Part) (users : IsOfClass false p) (copies : IsOfClass true q) wh
   only_copy_claims =
       filter-append (λ (c : Claim). c.copy) p.claims q.claims
       ∙ ap (λ l. l ++ copy_claims q.claims) (filter_none (λ (c : Claim). c.copy) p.claims (all_of_each (λ (c : Claim). c.copy ≡ false) p.claims users.claims))
-      ∙ all_pass (λ (c : Claim). c.copy) q.claims (all_of_each (λ (c : Claim). c.copy ≡ true) q.claims copies.claims)
+      ∙ filter_all (λ (c : Claim). c.copy) q.claims (all_of_each (λ (c : Claim). c.copy ≡ true) q.claims copies.claims)
 
   only_copy_rows : copy_rows (p.puts ++ q.puts) ≡ q.puts
   only_copy_rows =
       filter-append (λ (r : Row). r.copy) p.puts q.puts
       ∙ ap (λ l. l ++ copy_rows q.puts) (filter_none (λ (r : Row). r.copy) p.puts (all_of_each (λ (r : Row). r.copy ≡ false) p.puts users.puts))
-      ∙ all_pass (λ (r : Row). r.copy) q.puts (all_of_each (λ (r : Row). r.copy ≡ true) q.puts copies.puts)
+      ∙ filter_all (λ (r : Row). r.copy) q.puts (all_of_each (λ (r : Row). r.copy ≡ true) q.puts copies.puts)
 
   -- what was joined is parted again
   pub parted_pass : p.copier ≡ false → q.shares ≡ 1 → users_part (joined_part p q) ≡ p

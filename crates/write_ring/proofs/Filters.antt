@@ -16,10 +16,6 @@ module _ {X : Type 0} (P : X → Type 0) where
   each_of_all (y ∷ xs) all (suc i) x there = each_of_all xs all.1 i x there
 
 module _ {X : Type 0} (p : X → Bool) where
-  pub all_pass : (xs : List X) → AllByRecursion (λ x. p x ≡ true) xs → filter p xs ≡ xs
-  all_pass [] all = refl
-  all_pass (x ∷ xs) all = ap (λ b. cond b (x ∷ filter p xs) (filter p xs)) all.0 ∙ ap (λ l. x ∷ l) (all_pass xs all.1)
-
   -- an element that passes
   pub kept : (xs : List X) (i : ℕ) (x : X) → get_elem? xs i ≡ some x → p x ≡ true → (j : ℕ) × (get_elem? (filter p xs) j ≡ some x)
   kept [] i x there is = absurd (some-ne-none x (sym there))

@@ -31,15 +31,18 @@ loop-line-preserved c =
     let number = c.saturating_add-number.ensures in
     let offset : c.saturating_add-offset.result ≡ min (c.loop-line.offset + length line + 1) (2 ^ 64 - 1) = omega
     (arith, c.saturating_add-offset.ensures, c.saturating_add.ensures) in
-    let there : IsAt c.if-not-is_skipped.reader c.args.bytes.now c.saturating_add-number.result c.saturating_add-offset.result left = elim c.if-not-is_skipped.branch [
+    let there : IsAt c.if-not-is_skipped.reader c.args.bytes.now c.saturating_add-number.result c.saturating_add-offset.result left =
+    elim c.if-not-is_skipped.branch [
       | then-not-is_skipped+in_ok-read_line w ↦
           let spoke = w.in_ok-read_line.ensures in
           subst (λ reader. IsAt reader c.args.bytes.now c.saturating_add-number.result c.saturating_add-offset.result left) (sym w.reader-is)
-          (next_spoken c.loop-line.reader w.read_line.new.self c.args.bytes.now c.loop-line.number c.loop-line.offset c.saturating_add-number.result c.saturating_add-offset.result line left here
+          (next_spoken c.loop-line.reader w.read_line.new.self c.args.bytes.now c.loop-line.number c.loop-line.offset c.saturating_add-number.result
+          c.saturating_add-offset.result line left here
           (sym c.is_skipped.ensures ∙ w.if-not-is_skipped.true) number offset spoke.capacity spoke.placed)
       | else-not-is_skipped w ↦
           subst (λ reader. IsAt reader c.args.bytes.now c.saturating_add-number.result c.saturating_add-offset.result left) (sym w.reader-is)
-          (next_skipped c.loop-line.reader c.args.bytes.now c.loop-line.number c.loop-line.offset c.saturating_add-number.result c.saturating_add-offset.result line left here
+          (next_skipped c.loop-line.reader c.args.bytes.now c.loop-line.number c.loop-line.offset c.saturating_add-number.result c.saturating_add-offset.result
+          line left here
           (sym c.is_skipped.ensures ∙ w.if-not-is_skipped.false) number offset)
     ] in
     let cap : c.if-not-is_skipped.reader.capacity ≡ c.new-reader.result.capacity = elim c.if-not-is_skipped.branch [

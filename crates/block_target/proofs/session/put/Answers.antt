@@ -9,7 +9,7 @@ use Rattle.pblk_engine.specs.declared.errors.SettleErr.{SettleErr}
 use Rattle.pblk_engine.specs.declared.errors.SettleErr.TheVariants as errors
 use Rattle.pblk_engine.specs.declared.outcomes.Roomed.{Roomed}
 use Rattle.block_target.specs.Causes.{HasCause, TellsPut}
-use Rattle.block_target.proofs.Putting.{WentWell, roomed_again, roomed_lost, roomed_more, roomed_worn, well_begins}
+use Rattle.block_target.proofs.Putting.{WaitedWell, roomed_again, roomed_lost, roomed_more, roomed_worn, well_begins}
 use Rattle.block_target.proofs.session.put.Given.{Over}
 use Rattle.block_target.proofs.session.put.Goals.{After-stands-in-loop}
 use Rattle.block_target.proofs.session.put.Goals as goal
@@ -47,7 +47,7 @@ module _ (g : Over) (c : After-stands-in-loop g) where
   found : (pass_view c.put.new.pass).found.claimed ≡ from
   found = c.in-Err.ensures.full.1
 
-  well : (r : Roomed) → c.room-roomed.result ≡ Ok r → WentWell c.args.worker.now c.room-roomed.new.worker
+  well : (r : Roomed) → c.room-roomed.result ≡ Ok r → WaitedWell c.args.worker.now c.room-roomed.new.worker
   well r is =
       roomed_more g.M.Mount.past.image g.M.Mount.handed (from + count) count c.args.worker.now c.loop.worker c.room-roomed.new.worker r
       c.loop.invariant.4 (roomed (Ok r) is)
@@ -115,7 +115,7 @@ loop-preserved g c =
       c.claimed.ensures.same_pass ∙ same_part g d,
       le_trans (rises g d) (subst (λ n. (pass_view c.put.new.pass).found.claimed ≤ n) (sym c.claimed.ensures.found) c.claimed.ensures.rises),
       same_batch g d,
-      subst (λ (w : WorkerView). WentWell c.args.worker.now w) (sym same)
+      subst (λ (w : WorkerView). WaitedWell c.args.worker.now w) (sym same)
           (roomed_again g.M.Mount.past.image g.M.Mount.handed (from g d + count g d) (count g d) c.in-Worn.wanted c.in-Worn.have c.args.worker.now
           c.loop.worker c.room-roomed.new.worker c.loop.invariant.4 (roomed g d (Err e) is)),
       ap (λ (w : WorkerView). w.asked) same ∙ asked g d (Err e) is,

@@ -22,7 +22,8 @@ returns-clause-hand c =
       of = ap (λ (a : AuthorView). a.chronicle) met ∙ ap (λ (a : AuthorView). a.chronicle) was;
       units = subst (λ n. 0 < n) (sym (ap (λ (a : AuthorView). a.number) met ∙ ap (λ (a : AuthorView). a.number) was)) c.requires.unit;
       within = subst (λ n. n ≤ 8) (sym (ap (λ (a : AuthorView). a.number) met ∙ ap (λ (a : AuthorView). a.number) was)) c.requires.within;
-      owned = ap (λ (a : AuthorView). a.owned) met ∙ owned ∙ ap (λ n. n ∷ []) (sym (ap (λ (a : AuthorView). a.number) met ∙ ap (λ (a : AuthorView). a.number) was));
+      owned = ap (λ (a : AuthorView). a.owned) met ∙ owned
+          ∙ ap (λ n. n ∷ []) (sym (ap (λ (a : AuthorView). a.number) met ∙ ap (λ (a : AuthorView). a.number) was));
       past = ap (λ (a : AuthorView). a.past) met ∙ ap (λ (a : AuthorView). a.past) was;
       counted =
           ap (λ n. length (logs_of c.take_over.new.self.known n)) (ap (λ (a : AuthorView). a.number) met ∙ ap (λ (a : AuthorView). a.number) was)

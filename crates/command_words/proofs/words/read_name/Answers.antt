@@ -16,16 +16,19 @@ returns-in_default-clause-only c = λ image h.
 
 pub returns-then-is_plain-clause-found : goal.returns-then-is_plain-clause-found
 returns-then-is_plain-clause-found c =
-    let words = one_word c.args.words.now c.image-item.result c.as_str-image.result.now c.in-len1.len_at_least c.in-len1.len_below c.image-item.is c.as_str-image.ensures.value in
+    let words = one_word c.args.words.now c.image-item.result c.as_str-image.result.now c.in-len1.len_at_least c.in-len1.len_below c.image-item.is
+    c.as_str-image.ensures.value in
     (words, c.if-is_plain.ensures.0 refl)
 
 pub returns-then-is_plain-clause-only : goal.returns-then-is_plain-clause-only
 returns-then-is_plain-clause-only c = λ image h.
-    let words = one_word c.args.words.now c.image-item.result c.as_str-image.result.now c.in-len1.len_at_least c.in-len1.len_below c.image-item.is c.as_str-image.ensures.value in
+    let words = one_word c.args.words.now c.image-item.result c.as_str-image.result.now c.in-len1.len_at_least c.in-len1.len_below c.image-item.is
+    c.as_str-image.ensures.value in
     cc (words, h.0)
 
 pub returns-else-is_plain-clause-only : goal.returns-else-is_plain-clause-only
 returns-else-is_plain-clause-only c = λ image h.
-    let words = one_word c.args.words.now c.image-item.result c.as_str-image.result.now c.in-len1.len_at_least c.in-len1.len_below c.image-item.is c.as_str-image.ensures.value in
+    let words = one_word c.args.words.now c.image-item.result c.as_str-image.result.now c.in-len1.len_at_least c.in-len1.len_below c.image-item.is
+    c.as_str-image.ensures.value in
     let same : image ≡ c.as_str-image.result.now = cc (words, h.0) in
     absurd (true≢false (sym (c.if-is_plain.ensures.1 (subst (λ x. IsPlainWord x) same h.1))))

@@ -16,7 +16,8 @@ overflow_add-result-3 c =
     let accepted : IsAccepted s = subst IsAccepted (sym c.shape-shape.ensures.shape) c.shape-shape.ensures.whole.accepted in
     let rows : units s * s.chunks ≤ 268435456 = chunks_few s accepted in
     let count : c.units.result * s.chunks ≡ units s * s.chunks = ap (λ n. n * s.chunks) c.units.ensures in
-    let bytes : (s.sector + 16) * c.written_blocks-blocks.result ≤ 1103806595072 = bytes_few s c.written_blocks-blocks.result accepted c.written_blocks-blocks.ensures.few in
+    let bytes : (s.sector + 16) * c.written_blocks-blocks.result ≤ 1103806595072 =
+    bytes_few s c.written_blocks-blocks.result accepted c.written_blocks-blocks.ensures.few in
     omega arith
 
 long_is : (s t : Shape) (count blocks many sum : ℕ) → s ≡ t → count ≡ many → blocks ≡ sum

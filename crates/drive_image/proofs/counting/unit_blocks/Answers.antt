@@ -23,7 +23,8 @@ pub overflow_add-blocks : goal.overflow_add-blocks
 overflow_add-blocks c =
     let s = c.args.kept.now.unit.shape in
     let low = within (goal.at.overflow_add-blocks c).After-state-state in
-    let sum : c.loop-chunk.blocks + c.state-state.result.1 ≤ c.args.chunks * s.clba = one_more c.args.chunks c.loop-chunk.chunk s.clba c.loop-chunk.blocks c.state-state.result.1 c.loop-chunk-test.true c.loop-chunk.invariant.few low in
+    let sum : c.loop-chunk.blocks + c.state-state.result.1 ≤ c.args.chunks * s.clba =
+    one_more c.args.chunks c.loop-chunk.chunk s.clba c.loop-chunk.blocks c.state-state.result.1 c.loop-chunk-test.true c.loop-chunk.invariant.few low in
     let all : s.chunks * s.clba ≤ 268435456 = unit_few s c.requires.accepted in
     let same : c.args.chunks * s.clba ≡ s.chunks * s.clba = ap (λ n. n * s.clba) c.requires.chunks in
     omega arith

@@ -12,7 +12,9 @@ use Rattle.pblk_model.proofs.Maps.{sum_more}
 pub returns-in_err-blocks-clause-refused : goal.returns-in_err-blocks-clause-refused
 returns-in_err-blocks-clause-refused c =
     let p = err_from_is_err_and c.from_residual.result c.from_residual.ensures.1 in
-    rw (p.1, p.2) (sym (some_first (chunk_refusal c.args.bytes.now) c.loop-n.n c.args.count c.in_err-blocks.field-0.0 c.loop-n-test.true c.loop-n.invariant.passed (sym c.in_err-blocks.ensures.refused)))
+    rw (p.1, p.2) (sym (some_first
+    (chunk_refusal c.args.bytes.now) c.loop-n.n c.args.count c.in_err-blocks.field-0.0 c.loop-n-test.true c.loop-n.invariant.passed
+    (sym c.in_err-blocks.ensures.refused)))
 
 pub overflow_add-blocks : goal.overflow_add-blocks
 overflow_add-blocks c =

@@ -46,7 +46,8 @@ pub loop-n-preserved : goal.loop-n-preserved
 loop-n-preserved c =
     let r = c.restore_chunk-at in
     let inside = subst (λ m. c.loop-n.n < m) (count_is (goal.at.loop-n-preserved c).After-units) c.loop-n-test.true in
-    gone_on c.args.bytes.now c.loop-n.n c.loop-n.at r.result c.loop-n.drive r.new.drive c.loop-n.invariant r.ensures.got r.ensures.numbers r.ensures.whole inside r.ensures.length
+    gone_on c.args.bytes.now c.loop-n.n c.loop-n.at r.result c.loop-n.drive r.new.drive c.loop-n.invariant r.ensures.got r.ensures.numbers r.ensures.whole
+    inside r.ensures.length
 
 pub returns-clause-image : goal.returns-clause-image
 returns-clause-image c =

@@ -11,7 +11,8 @@ put_chunk-requires c = room_left chunk_bytes
 
 pub loop-chunk-preserved : goal.loop-chunk-preserved
 loop-chunk-preserved c =
-    one_added chunk_bytes (stored_chunks c.args.kept.now) c.loop-chunk.chunk _ c.args.out.now c.loop-chunk.out c.put_chunk.new.out c.loop-chunk.invariant c.kept_chunk-wear.ensures.kept c.put_chunk.ensures
+    one_added chunk_bytes (stored_chunks c.args.kept.now) c.loop-chunk.chunk _ c.args.out.now c.loop-chunk.out c.put_chunk.new.out c.loop-chunk.invariant
+    c.kept_chunk-wear.ensures.kept c.put_chunk.ensures
 
 pub returns : goal.returns
 returns c =

@@ -24,17 +24,31 @@ loop-block-preserved c =
     let l = c.loop-block in
     let size = c.args.size in
     let rest = l.rest.now in
-    let split : rest ≡ c.split_at.result.0.now ++ c.split_at.result.1.now = rw (c.split_at.ensures.front, c.split_at.ensures.back) (sym (take-append-drop (size + 16) rest)) in
+    let split : rest ≡ c.split_at.result.0.now ++ c.split_at.result.1.now =
+    rw (c.split_at.ensures.front, c.split_at.ensures.back) (sym (take-append-drop (size + 16) rest)) in
     let more : c.args.count - l._block ≡ (c.args.count - (l._block + 1)) + 1 = omega (arith, c.loop-block-test.true) in
     let k = c.args.count - (l._block + 1) in
     let sector = take size c.split_at.result.0.now in
     let long : length sector ≡ size = length-take-le size c.split_at.result.0.now (omega (arith, c.split_at.ensures.front_len)) in
-    let added_bytes : length c.append_bytes.new.list.items ≡ length l.bytes.items + size = ap length c.append_bytes.ensures.items ∙ length-append l.bytes.items sector ∙ ap (λ n. length l.bytes.items + n) long in
-    let added_marks : length c.append_marks.new.list.items ≡ length l.marks.items + 1 = ap length c.append_marks.ensures.items ∙ length-append l.marks.items (c.mark_at.result ∷ []) in
+    let added_bytes : length c.append_bytes.new.list.items ≡ length l.bytes.items + size = ap length c.append_bytes.ensures.items
+    ∙ length-append l.bytes.items sector ∙ ap (λ n. length l.bytes.items + n) long in
+    let added_marks : length c.append_marks.new.list.items ≡ length l.marks.items + 1 = ap length c.append_marks.ensures.items
+    ∙ length-append l.marks.items (c.mark_at.result ∷ []) in
     record {
-      so_far = spelling_goes_on size l._block c.args.spelled.now rest c.split_at.result.0.now c.split_at.result.1.now _ _ _ _ _ _ c.mark_at.result l.invariant.so_far split c.split_at.ensures.front_len c.mark_at.ensures.lba c.mark_at.ensures.position c.append_bytes.ensures.items c.append_marks.ensures.items;
+      so_far = spelling_goes_on size l._block c.args.spelled.now rest c.split_at.result.0.now c.split_at.result.1.now _ _ _ _ _ _ c.mark_at.result
+          l.invariant.so_far split c.split_at.ensures.front_len c.mark_at.ensures.lba c.mark_at.ensures.position c.append_bytes.ensures.items
+          c.append_marks.ensures.items;
       left = omega (arith, l.invariant.left, ap (λ n. n * (size + 16)) more, next_at k (size + 16), c.split_at.ensures.back_len);
-      room_for_bytes = omega (arith, l.invariant.room_for_bytes, ap (λ n. n * size) more, next_at k size, added_bytes, l.bytes.ok.0, c.append_bytes.new.list.ok.0, c.append_bytes.ensures.room);
+      room_for_bytes = omega (
+        arith,
+        l.invariant.room_for_bytes,
+        ap (λ n. n * size) more,
+        next_at k size,
+        added_bytes,
+        l.bytes.ok.0,
+        c.append_bytes.new.list.ok.0,
+        c.append_bytes.ensures.room,
+      );
       room_for_marks = omega (arith, l.invariant.room_for_marks, more, added_marks, l.marks.ok.0, c.append_marks.new.list.ok.0, c.append_marks.ensures.room);
       kept_bytes = omega (arith, l.invariant.kept_bytes, c.append_bytes.ensures.room);
       kept_marks = omega (arith, l.invariant.kept_marks, c.append_marks.ensures.room);

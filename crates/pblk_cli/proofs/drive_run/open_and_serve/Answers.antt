@@ -1,6 +1,5 @@
-use Rattle.std.proofs.Common.{refl}
-use Rattle.pblk_cli.specs.Serving.{IsOpening, helpers_for, units_of, wear_of}
-use Rattle.pblk_cli.proofs.Servings.{refused_back, refused_served}
+use Rattle.pblk_cli.specs.Serving.{helpers_for, units_of, wear_of}
+use Rattle.pblk_cli.proofs.Servings.{is_opening, refused_back, refused_served}
 use Rattle.pblk_cli.proofs.drive_run.open_and_serve.Goals as goal
 
 pub returns-in-Ok-serve-clause-back : goal.returns-in-Ok-serve-clause-back
@@ -8,20 +7,7 @@ returns-in-Ok-serve-clause-back g c =
     let s = c.args.shape.now in
     let olds = units_of c.args.units.items in
     let wears = wear_of c.args.units.items in
-    let o = c.in-Ok.ensures.opened in
-    let opening : IsOpening s olds wears c.in-Ok.opened = record {
-      opens = c.requires.opens;
-      opened = record {
-        handed_are = o.handed_are;
-        wear_is = o.wear_is;
-        sessions_are = refl;
-        lanes_are = refl;
-        found = o.found;
-        is = o.is;
-        past_is = o.past_is;
-      };
-      done = c.in-Ok.ensures.done;
-    } in
+    let opening = is_opening s olds wears _ _ c.in-Ok.opened c.requires.opens c.in-Ok.ensures.opened c.in-Ok.ensures.done in
     c.in-Ok-serve.ensures.back s olds wears opening
 
 pub returns-in-Ok-serve-clause-served : goal.returns-in-Ok-serve-clause-served
@@ -29,20 +15,7 @@ returns-in-Ok-serve-clause-served g c =
     let s = c.args.shape.now in
     let olds = units_of c.args.units.items in
     let wears = wear_of c.args.units.items in
-    let o = c.in-Ok.ensures.opened in
-    let opening : IsOpening s olds wears c.in-Ok.opened = record {
-      opens = c.requires.opens;
-      opened = record {
-        handed_are = o.handed_are;
-        wear_is = o.wear_is;
-        sessions_are = refl;
-        lanes_are = refl;
-        found = o.found;
-        is = o.is;
-        past_is = o.past_is;
-      };
-      done = c.in-Ok.ensures.done;
-    } in
+    let opening = is_opening s olds wears _ _ c.in-Ok.opened c.requires.opens c.in-Ok.ensures.opened c.in-Ok.ensures.done in
     c.in-Ok-serve.ensures.served s olds wears opening
 
 pub returns-in-Err-serve-clause-back : goal.returns-in-Err-serve-clause-back
@@ -50,20 +23,7 @@ returns-in-Err-serve-clause-back g c =
     let s = c.args.shape.now in
     let olds = units_of c.args.units.items in
     let wears = wear_of c.args.units.items in
-    let o = c.in-Ok.ensures.opened in
-    let opening : IsOpening s olds wears c.in-Ok.opened = record {
-      opens = c.requires.opens;
-      opened = record {
-        handed_are = o.handed_are;
-        wear_is = o.wear_is;
-        sessions_are = refl;
-        lanes_are = refl;
-        found = o.found;
-        is = o.is;
-        past_is = o.past_is;
-      };
-      done = c.in-Ok.ensures.done;
-    } in
+    let opening = is_opening s olds wears _ _ c.in-Ok.opened c.requires.opens c.in-Ok.ensures.opened c.in-Ok.ensures.done in
     c.in-Err-serve.ensures.handed_back s olds wears opening
 
 pub returns-in-Err-clause-back : goal.returns-in-Err-clause-back

@@ -22,8 +22,10 @@ disarm-requires g c = together_made c.args.drive _ c.shape-shape.result c.open_a
     c.shape-shape.ensures.whole c.open_and_serve-units.ensures.back c.requires.together
 
 pub returns-in-Ok-clause-ran : goal.returns-in-Ok-clause-ran
-returns-in-Ok-clause-ran g c = ran_made c.args.drive _ c.shape-shape.result c.open_and_serve-units.result.units.items c.drive.view_is c.shape-shape.ensures.shape
-    c.shape-shape.ensures.whole c.open_and_serve-units.ensures.back c.disarm.new.self c.disarm.ensures.whole c.disarm.ensures.units c.args.script.now _ c.in-Ok.records
+returns-in-Ok-clause-ran g c =
+    ran_made c.args.drive _ c.shape-shape.result c.open_and_serve-units.result.units.items c.drive.view_is c.shape-shape.ensures.shape
+    c.shape-shape.ensures.whole c.open_and_serve-units.ensures.back c.disarm.new.self c.disarm.ensures.whole c.disarm.ensures.units c.args.script.now _
+    c.in-Ok.records
     c.open_and_serve-units.result.records c.in-Ok.is c.disarm.ensures.outcomes c.disarm.ensures.stopped c.open_and_serve-units.ensures.served
 
 pub returns-in-Err-clause-handed_back : goal.returns-in-Err-clause-handed_back

@@ -18,7 +18,8 @@ close-units-requires g c =
       all = helped_back g.M.Mount.key s (c.args.lanes + 1) c.args.target lasts c.work-workers.result.0.items (some_session (length c.args.script.now))
           (omega (arith, c.requires.few)) c.requires.target
           (over_count g.M.Mount.past g.M.Mount.key g.M.Mount.handed g.M.Mount.wear c.args.script.now c.work-workers.result.1 lasts w.ran unrun)
-          (over_numbered g.M.Mount.past g.M.Mount.key g.M.Mount.handed g.M.Mount.wear c.args.script.now c.work-workers.result.1 lasts w.ran unrun) w.workers w.helped.numbers;
+          (over_numbered g.M.Mount.past g.M.Mount.key g.M.Mount.handed g.M.Mount.wear c.args.script.now c.work-workers.result.1 lasts w.ran unrun) w.workers
+          w.helped.numbers;
     }
 
 pub returns-in-Ok-clause-served : goal.returns-in-Ok-clause-served
@@ -28,7 +29,8 @@ returns-in-Ok-clause-served g c =
     let settled = c.close-units.result.1 in
     let closed = c.close-units.ensures.closed in
     let ran : HaveRun g.M.Mount.past g.M.Mount.key g.M.Mount.handed g.M.Mount.wear c.args.script.now before lasts =
-    subst (λ r. IfOk r (λ records. HaveRun g.M.Mount.past g.M.Mount.key g.M.Mount.handed g.M.Mount.wear c.args.script.now records lasts)) c.in-Ok.is c.work-workers.ensures.ran in
+    subst (λ r. IfOk r (λ records. HaveRun g.M.Mount.past g.M.Mount.key g.M.Mount.handed g.M.Mount.wear c.args.script.now records lasts)) c.in-Ok.is
+    c.work-workers.ensures.ran in
     record {
       before = before;
       lasts = lasts;

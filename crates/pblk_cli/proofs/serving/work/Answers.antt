@@ -56,7 +56,8 @@ unseat-requires g c =
     let back : length c.end-records.result.1.items ≡ n =
     many_back _ c.end-records.result.0 _ c.end-records.result.1.items model ran ∙ ap length c.in-Ok-prepare.ensures.script in
     let count = ap length c.requires.tickets ∙ firsts_count g.M.Mount.past g.M.Mount.key g.M.Mount.handed g.M.Mount.wear c.args.script.now in
-    let all = sym (length-append (take n firsts) (drop n firsts)) ∙ ap length (take_and_drop n firsts) ∙ firsts_count g.M.Mount.past g.M.Mount.key g.M.Mount.handed g.M.Mount.wear c.args.script.now in
+    let all = sym (length-append (take n firsts) (drop n firsts)) ∙ ap length (take_and_drop n firsts)
+    ∙ firsts_count g.M.Mount.past g.M.Mount.key g.M.Mount.handed g.M.Mount.wear c.args.script.now in
     let many = ports_many g.M.Mount.past g.M.Mount.key g.M.Mount.handed g.M.Mount.wear c.args.script.now in
     let left = ap length rest in
     record { room = omega (arith, left, back, all, many, count, c.seat.ensures.room, c.args.tickets.now.ok.0, c.args.tickets.now.ok.1) }
@@ -70,7 +71,8 @@ pub returns-in-Ok-prepare-clause-helped : goal.returns-in-Ok-prepare-clause-help
 returns-in-Ok-prepare-clause-helped g c =
     let s = sessions_for (length c.args.script.now) in
     let helpers = helpers_for c.args.lanes c.args.collector in
-    let went = subst (λ n. HaveGoneOn n c.args.workers.items c.run_beside-prepared.result.1.items) c.helper_count-helpers.ensures c.run_beside-prepared.ensures.helped in
+    let went = subst (λ n. HaveGoneOn n c.args.workers.items c.run_beside-prepared.result.1.items) c.helper_count-helpers.ensures
+    c.run_beside-prepared.ensures.helped in
     helped_then s helpers c.args.workers.items c.run_beside-prepared.result.1.items
     (subst (HaveHelped s helpers) (sym c.requires.workers) (first_helped g.M.Mount.past s helpers (c.args.lanes + 1))) went
 
@@ -88,7 +90,8 @@ returns-in-Err-prepare-clause-unrun g c =
     ∙ ap (λ xs. xs ++ take n firsts) rest ∙ unrun g.M.Mount.past g.M.Mount.key g.M.Mount.handed g.M.Mount.wear c.args.script.now ∙ sym c.requires.tickets
 
 pub returns-in-Err-prepare-clause-workers : goal.returns-in-Err-prepare-clause-workers
-returns-in-Err-prepare-clause-workers g c = ap length c.requires.workers ∙ workers_count g.M.Mount.past (sessions_for (length c.args.script.now)) (c.args.lanes + 1)
+returns-in-Err-prepare-clause-workers g c = ap length c.requires.workers
+    ∙ workers_count g.M.Mount.past (sessions_for (length c.args.script.now)) (c.args.lanes + 1)
 
 pub returns-in-Err-prepare-clause-helped : goal.returns-in-Err-prepare-clause-helped
 returns-in-Err-prepare-clause-helped g c =

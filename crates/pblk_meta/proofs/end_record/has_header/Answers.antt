@@ -7,4 +7,5 @@ use Rattle.pblk_meta.proofs.end_record.has_header.Goals as goal
 pub returns : goal.returns
 returns c =
     c.are_same.ensures
-    ∙ ap (λ xs. bytes_eq xs (take 32 c.args.bytes.now)) (taken c.write_header.new.out (end_header c.args.line c.args.width c.args.seq c.args.count) 32 c.write_header.ensures.len c.write_header.ensures.placed)
+    ∙ ap (λ xs. bytes_eq xs (take 32 c.args.bytes.now))
+    (taken c.write_header.new.out (end_header c.args.line c.args.width c.args.seq c.args.count) 32 c.write_header.ensures.len c.write_header.ensures.placed)

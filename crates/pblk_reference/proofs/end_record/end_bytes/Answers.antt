@@ -12,5 +12,8 @@ end_len-requires c = record {
 
 pub returns : goal.returns
 returns c =
-    end_spelled c.args.shape.now (record { line = c.end.inside.line; width = c.end.inside.width; seq = c.end.inside.seq; pairs = c.end.inside.pairs.items }) c.args.end.now c.len.result c.end_len.result c.byte_len-len.result c.deref.result.now c.in_ok-out.out.items c.put_pairs.new.out.items c.pad.new.out.items
-    c.end.view_is (c.len.ensures ∙ c.end.inside.pairs.ok.0) c.in_ok-out.ensures c.deref.ensures.value c.in_ok-put_pairs.ensures c.end_len.ensures.len c.byte_len-len.ensures c.in_ok-pad.ensures
+    end_spelled c.args.shape.now (record { line = c.end.inside.line; width = c.end.inside.width; seq = c.end.inside.seq; pairs = c.end.inside.pairs.items })
+    c.args.end.now c.len.result c.end_len.result c.byte_len-len.result c.deref.result.now c.in_ok-out.out.items c.put_pairs.new.out.items
+    c.pad.new.out.items
+    c.end.view_is (c.len.ensures ∙ c.end.inside.pairs.ok.0) c.in_ok-out.ensures c.deref.ensures.value c.in_ok-put_pairs.ensures c.end_len.ensures.len
+    c.byte_len-len.ensures c.in_ok-pad.ensures

@@ -26,4 +26,5 @@ returns c =
     let seq = ap (λ (r : StartRecord). end_among c.image.inside.shape c.args.line c.width-width.result r.seq c.deref.result.now) c.start.view_is in
     let among = ap (end_among c.image.inside.shape c.args.line c.width-width.result c.args.start.now.seq) c.deref.ensures.value in
     answered (λ o. o) c.end_among.result _ _ c.end_among.ensures
-    (seq ∙ among ∙ end_by_run c.args.image.now c.args.line c.width-width.result c.image.inside.shape c.args.start.now (Some c.in-Some.found.items) shape c.width-width.ensures.width run)
+    (seq ∙ among ∙ end_by_run c.args.image.now c.args.line c.width-width.result c.image.inside.shape c.args.start.now
+    (Some c.in-Some.found.items) shape c.width-width.ensures.width run)

@@ -19,9 +19,12 @@ line_len-requires c = record {
 }
 
 pub written_run-requires-clause-room : goal.written_run-requires-clause-room
-written_run-requires-clause-room c = room_for c.saturating_sub-first.result c.line_len.result c.end_len-len.result c.line_len.ensures.few c.saturating_sub-first.ensures c.end_len-len.ensures.short
+written_run-requires-clause-room c =
+    room_for c.saturating_sub-first.result c.line_len.result c.end_len-len.result c.line_len.ensures.few c.saturating_sub-first.ensures
+    c.end_len-len.ensures.short
 
 pub returns : goal.returns
 returns c =
     answered (option_map (λ v. v.items)) c.written_run.result _ _ c.written_run.ensures
-    (run_at_end c.args.image.now c.args.line c.args.width c.end_len-len.result c.line_len.result c.saturating_sub-first.result c.image.inside.shape (ap (λ (i : Image). i.shape) c.image.view_is) c.end_len-len.ensures.len c.line_len.ensures.len c.saturating_sub-first.ensures)
+    (run_at_end c.args.image.now c.args.line c.args.width c.end_len-len.result c.line_len.result c.saturating_sub-first.result c.image.inside.shape
+    (ap (λ (i : Image). i.shape) c.image.view_is) c.end_len-len.ensures.len c.line_len.ensures.len c.saturating_sub-first.ensures)

@@ -12,9 +12,12 @@ pub returns-in_default : goal.returns-in_default
 returns-in_default c = no_block c.args.image.now c.args.line c.args.seq c.args.end.now c.args.at c.in_default.ensures
 
 pub returns-in_default-mark_at : goal.returns-in_default-mark_at
-returns-in_default-mark_at c = no_mark c.args.image.now c.args.line c.args.seq c.args.end.now c.args.at c.image.inside.shape c.in-Some.block.now (ap (λ (i : Image). i.shape) c.image.view_is) c.in-Some.ensures (sym c.in_default-mark_at.is ∙ c.mark_at.ensures)
+returns-in_default-mark_at c =
+    no_mark c.args.image.now c.args.line c.args.seq c.args.end.now c.args.at c.image.inside.shape c.in-Some.block.now
+    (ap (λ (i : Image). i.shape) c.image.view_is) c.in-Some.ensures (sym c.in_default-mark_at.is ∙ c.mark_at.ensures)
 
 pub returns : goal.returns
 returns c =
     answered (λ o. o) c.bears.result _ _ c.bears.ensures
-    (borne_by c.args.image.now c.args.line c.args.seq c.args.end.now c.args.at c.image.inside.shape c.in-Some.block.now c.in-Some-mark_at.mark (ap (λ (i : Image). i.shape) c.image.view_is) c.in-Some.ensures (sym c.in-Some-mark_at.is ∙ c.mark_at.ensures))
+    (borne_by c.args.image.now c.args.line c.args.seq c.args.end.now c.args.at c.image.inside.shape c.in-Some.block.now c.in-Some-mark_at.mark
+    (ap (λ (i : Image). i.shape) c.image.view_is) c.in-Some.ensures (sym c.in-Some-mark_at.is ∙ c.mark_at.ensures))

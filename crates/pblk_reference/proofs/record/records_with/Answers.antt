@@ -17,7 +17,8 @@ loop-at-preserved c =
     let f = record_with c.args.image.now c.args.line c.args.seq c.args.end.now in
     elim c.match-branch-2.branch [
       | in-Some+in_ok-push w ↦ rw w.found-is (record {
-        records = some_more f c.loop-at.at w.push.new.self.items c.loop-at.found.items w.in-Some.record c.in_ok-record.field-0 c.in_ok-record.ensures w.in-Some.is w.in_ok-push.ensures.items c.loop-at.invariant.records;
+        records = some_more f c.loop-at.at w.push.new.self.items c.loop-at.found.items w.in-Some.record c.in_ok-record.field-0 c.in_ok-record.ensures
+            w.in-Some.is w.in_ok-push.ensures.items c.loop-at.invariant.records;
         few = one_more (vec_len c.loop-at.found) (vec_len w.push.new.self) c.loop-at.at w.in_ok-push.ensures.len c.loop-at.invariant.few;
       })
       | in_default w ↦ rw w.found-is (record {
@@ -28,8 +29,11 @@ loop-at-preserved c =
 
 pub returns-clause-records : goal.returns-clause-records
 returns-clause-records c =
-    let len = c.line_len-at-end.ensures.len ∙ ap (λ g. g * c.image.inside.shape.clba) c.width.ensures.width ∙ ap (λ (i : Image). width c.args.image.now c.args.line * i.shape.clba) c.image.view_is in
-    whole_range (record_with c.args.image.now c.args.line c.args.seq c.args.end.now) c.loop-at.found.items c.loop-at.at c.line_len-at-end.result _ c.loop-at.auto.at-end c.loop-at-test.false len c.loop-at.invariant.records
+    let len = c.line_len-at-end.ensures.len ∙ ap (λ g. g * c.image.inside.shape.clba) c.width.ensures.width
+    ∙ ap (λ (i : Image). width c.args.image.now c.args.line * i.shape.clba) c.image.view_is in
+    whole_range (record_with c.args.image.now c.args.line c.args.seq c.args.end.now) c.loop-at.found.items c.loop-at.at c.line_len-at-end.result _
+    c.loop-at.auto.at-end c.loop-at-test.false len c.loop-at.invariant.records
 
 pub returns-clause-few : goal.returns-clause-few
-returns-clause-few c = at_most (vec_len c.loop-at.found) c.loop-at.at c.line_len-at-end.result 65536 c.loop-at.invariant.few c.loop-at.auto.at-end c.line_len-at-end.ensures.few
+returns-clause-few c = at_most
+    (vec_len c.loop-at.found) c.loop-at.at c.line_len-at-end.result 65536 c.loop-at.invariant.few c.loop-at.auto.at-end c.line_len-at-end.ensures.few

@@ -5,7 +5,8 @@ use Rattle.pblk_reference.proofs.recovery.contents.Goals as goal
 
 pub loop-lba-preserved : goal.loop-lba-preserved
 loop-lba-preserved c =
-    sectors_more c.args.image.now c.loop-lba.lba c.loop-lba.sectors.items c.push.new.self.items c.in_ok-sector.sector c.in_ok-push.ensures.items c.in_ok-sector.ensures c.loop-lba.invariant
+    sectors_more c.args.image.now c.loop-lba.lba c.loop-lba.sectors.items c.push.new.self.items c.in_ok-sector.sector c.in_ok-push.ensures.items
+    c.in_ok-sector.ensures c.loop-lba.invariant
 
 pub returns : goal.returns
 returns c =

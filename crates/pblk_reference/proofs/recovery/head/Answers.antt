@@ -11,11 +11,13 @@ pub loop-line-preserved : goal.loop-line-preserved
 loop-line-preserved c =
     elim c.match-branch-2.branch [
       | in-Some w ↦ rw w.best-is (record {
-        best = head_more c.args.image.now c.loop-line.line c.loop-line.best c.in_ok-start.field-0 w.in-Some.start w.later_start.result c.in_ok-start.ensures.whole w.in-Some.is w.later_start.ensures.later c.loop-line.invariant.best;
+        best = head_more c.args.image.now c.loop-line.line c.loop-line.best c.in_ok-start.field-0 w.in-Some.start w.later_start.result
+            c.in_ok-start.ensures.whole w.in-Some.is w.later_start.ensures.later c.loop-line.invariant.best;
         low = w.later_start.ensures.low c.loop-line.invariant.low (rw w.in-Some.is at c.in_ok-start.ensures.low);
       })
       | in_default w ↦ rw w.best-is (record {
-        best = head_same c.args.image.now c.loop-line.line c.loop-line.best c.in_ok-start.field-0 c.in_ok-start.ensures.whole w.in_default.is c.loop-line.invariant.best;
+        best = head_same c.args.image.now c.loop-line.line c.loop-line.best c.in_ok-start.field-0 c.in_ok-start.ensures.whole w.in_default.is
+            c.loop-line.invariant.best;
         low = c.loop-line.invariant.low;
       })
     ]

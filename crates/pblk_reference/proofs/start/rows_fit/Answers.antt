@@ -8,13 +8,16 @@ overflow_add-least c = next_line c.row.inside.line c.row-item.result.line (ap (Î
 
 pub loop-row-preserved : goal.loop-row-preserved
 loop-row-preserved c =
-    row_goes_on c.args.shape.now c.args.start.now c.loop-row.least c.row.inside.line c.loop-row.row-index c.row-item.result c.args.rows.now c.row_fits.result (rows_fit c.args.shape.now c.args.start.now 0 c.args.rows.now)
+    row_goes_on c.args.shape.now c.args.start.now c.loop-row.least c.row.inside.line c.loop-row.row-index c.row-item.result c.args.rows.now c.row_fits.result
+    (rows_fit c.args.shape.now c.args.start.now 0 c.args.rows.now)
     c.loop-row-test.true c.row-item.is (ap (Î» (r : Row). r.line) c.row.view_is) c.row_fits.ensures.fits c.if-not-row_fits.false c.loop-row.invariant
 
 pub returns-then-not-row_fits : goal.returns-then-not-row_fits
 returns-then-not-row_fits c =
-    row_stops c.args.shape.now c.args.start.now c.loop-row.least c.loop-row.row-index c.row-item.result c.args.rows.now c.row_fits.result (rows_fit c.args.shape.now c.args.start.now 0 c.args.rows.now)
+    row_stops c.args.shape.now c.args.start.now c.loop-row.least c.loop-row.row-index c.row-item.result c.args.rows.now c.row_fits.result
+    (rows_fit c.args.shape.now c.args.start.now 0 c.args.rows.now)
     c.loop-row-test.true c.row-item.is c.row_fits.ensures.fits c.if-not-row_fits.true c.loop-row.invariant
 
 pub returns : goal.returns
-returns c = rows_end c.args.shape.now c.args.start.now c.loop-row.least c.loop-row.row-index c.args.rows.now (rows_fit c.args.shape.now c.args.start.now 0 c.args.rows.now) c.loop-row-test.false c.loop-row.invariant
+returns c = rows_end c.args.shape.now c.args.start.now c.loop-row.least c.loop-row.row-index c.args.rows.now
+    (rows_fit c.args.shape.now c.args.start.now 0 c.args.rows.now) c.loop-row-test.false c.loop-row.invariant

@@ -9,7 +9,8 @@ use Rattle.pblk_reference.proofs.start.start_of.Goals as goal
 
 pub returns-in_default : goal.returns-in_default
 returns-in_default c = record {
-  whole = start_unwritten c.args.image.now c.args.line c.start_len.result c.image.inside.shape (ap (λ (i : Image). i.shape) c.image.view_is) c.start_len.ensures (ap (option_map (λ v. v.items)) (sym c.in_default.is) ∙ c.in_ok-found.ensures);
+  whole = start_unwritten c.args.image.now c.args.line c.start_len.result c.image.inside.shape (ap (λ (i : Image). i.shape) c.image.view_is) c.start_len.ensures
+      (ap (option_map (λ v. v.items)) (sym c.in_default.is) ∙ c.in_ok-found.ensures);
   low = tt;
 }
 
@@ -28,4 +29,5 @@ returns-clause-whole c =
     let run = ap (option_map (λ v. v.items)) (sym c.in-Some.is) ∙ c.in_ok-found.ensures in
     let bytes = c.deref-2.ensures.value ∙ c.in_ok-bytes.ensures ∙ ap (flat_map (λ b. b.sector)) c.deref.ensures.value in
     c.marked_start.ensures.marked ∙ ap (λ bs. marked_start bs c.in_ok-start.start) c.deref-3.ensures.value
-    ∙ start_from c.args.image.now c.args.line c.start_len.result c.width.result c.image.inside.shape c.in-Some.found.items c.deref-2.result.now c.in_ok-start.start shape c.start_len.ensures c.width.ensures.width run bytes c.in_ok-start.ensures.read
+    ∙ start_from c.args.image.now c.args.line c.start_len.result c.width.result c.image.inside.shape c.in-Some.found.items c.deref-2.result.now
+    c.in_ok-start.start shape c.start_len.ensures c.width.ensures.width run bytes c.in_ok-start.ensures.read

@@ -4,4 +4,5 @@ use Rattle.run_threads.proofs.sectors.repeat_in.Goals as goal
 pub loop-index-preserved : goal.loop-index-preserved
 loop-index-preserved c =
     let l = c.loop-index in
-    write_step c.args.pieces l.index c.args.piece.now l.bytes c.copy_from_slice.new.self c.loop-index-test.true c.requires.piece l.invariant.0 c.copy_from_slice.ensures.after l.invariant.1
+    write_step c.args.pieces l.index c.args.piece.now l.bytes c.copy_from_slice.new.self c.loop-index-test.true c.requires.piece l.invariant.0
+    c.copy_from_slice.ensures.after l.invariant.1

@@ -12,7 +12,8 @@ pub ready_in-requires : goal.ready_in-requires
 ready_in-requires c = record {
   units = c.requires.units;
   few = c.requires.few;
-  fits = c.requires.fit c.index-slots-index.result (c.loop-index.index, get_is c.args.slots.now c.loop-index.index c.index-slots-index.result c.loop-index-test.true c.index-slots-index.is);
+  fits = c.requires.fit c.index-slots-index.result
+      (c.loop-index.index, get_is c.args.slots.now c.loop-index.index c.index-slots-index.result c.loop-index-test.true c.index-slots-index.is);
 }
 
 pub returns-in-Some : goal.returns-in-Some

@@ -4,7 +4,8 @@ use Rattle.vector_io.proofs.Refusals.{unlike_more, not_repeated}
 use Rattle.vector_io.proofs.addresses.stood_before.Goals as goal
 
 pub loop-j-preserved : goal.loop-j-preserved
-loop-j-preserved c = unlike_more c.args.addresses.now c.args.index c.loop-j.j _ c.requires c.loop-j-test.true c.loop-j.invariant (λ same. false≢true (c.if-is_same.ensures.1 same))
+loop-j-preserved c = unlike_more c.args.addresses.now c.args.index c.loop-j.j _ c.requires c.loop-j-test.true c.loop-j.invariant
+    (λ same. false≢true (c.if-is_same.ensures.1 same))
 
 pub returns : goal.returns
 returns c = (

@@ -15,7 +15,8 @@ abbrev Me : Type 0
 Me = View × List (ℕ × Unit {0})
 
 -- the seat that is split off owns one log
-first_seat : (past : Past) (number count : ℕ) (rest new : Me) → number < count → rest ≡ (seated (first_part past (range_with_len number (count - number)) (Some 0)), [])
+first_seat : (past : Past) (number count : ℕ) (rest new : Me) → number < count
+    → rest ≡ (seated (first_part past (range_with_len number (count - number)) (Some 0)), [])
     → new ≡ (first_of rest.0, []) → new ≡ (seated (first_part past (number ∷ []) None), [])
 first_seat past number count rest new below left is =
     is ∙ ap (λ (m : Me). (first_of m.0, [])) left
@@ -47,7 +48,8 @@ invariant_of-push g c =
     record {
       empty = ap (λ m. m.1) me;
       writer = subst (λ (x : TableId × View). IsWriter x.0 x.1 number 0) (λ j. (sym table j, (sym me j).0))
-          (first_writer c.chronicle.inside.table.shared.table_id past number (omega arith) (omega arith) (opening_legal past.image past.logs c.requires.opening));
+          (first_writer c.chronicle.inside.table.shared.table_id past number (omega arith) (omega arith)
+          (opening_legal past.image past.logs c.requires.opening));
     }
 
 pub loop-number-preserved : goal.loop-number-preserved

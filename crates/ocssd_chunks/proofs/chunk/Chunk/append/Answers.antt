@@ -39,7 +39,8 @@ returns-clause-fits c =
       c.append_bytes.ensures.items,
       c.append_marks.ensures.items,
       blocks_of-append q.shape.sector q.bytes.items c.args.bytes.now q.marks.items c.args.marks.now c.self.invariant.whole,
-    ) (IsChunk-joined q.shape (chunk_of q.shape q.state q.bytes.items q.marks.items) c.args.state more c.self.invariant.fits (rw count place) (rw count multiple) c.are_blocks.ensures)
+    ) (IsChunk-joined q.shape (chunk_of q.shape q.state q.bytes.items q.marks.items) c.args.state more c.self.invariant.fits (rw count place)
+    (rw count multiple) c.are_blocks.ensures)
 
 pub invariant_of-self : goal.invariant_of-self
 invariant_of-self c =

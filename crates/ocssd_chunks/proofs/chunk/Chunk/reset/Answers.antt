@@ -5,7 +5,8 @@ use Rattle.ocssd_chunks.proofs.chunk.Chunk.reset.Goals as goal
 pub returns-clause-done : goal.returns-clause-done
 returns-clause-done c =
     let q = c.self.inside in
-    rw (← c.self.view_is) (after_reset_is q.shape q.state q.bytes.items q.marks.items c.len.result _ _ (omega (arith, q.marks.ok.0)) c.state_after_reset-state.ensures.chunk c.leave_empty.ensures.chunk)
+    rw (← c.self.view_is) (after_reset_is q.shape q.state q.bytes.items q.marks.items c.len.result _ _
+    (omega (arith, q.marks.ok.0)) c.state_after_reset-state.ensures.chunk c.leave_empty.ensures.chunk)
 
 pub returns-clause-step : goal.returns-clause-step
 returns-clause-step c = (rw (← c.self.view_is) (sym c.in_ok-check_reset.ensures), returns-clause-done c)

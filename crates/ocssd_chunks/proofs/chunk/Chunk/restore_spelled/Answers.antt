@@ -6,8 +6,10 @@ use Rattle.pblk_model.proofs.BlocksLemmas.{length-blocks_of}
 use Rattle.pblk_model.proofs.ChunkLemmas.{pointer_within}
 
 -- the blocks that are there
-spelled : (c : After-are_blocks) → IsSpelled c.self.inside.shape.sector c.args.count c.args.bytes.now c.append_spelled.new.bytes.items c.append_spelled.new.marks.items
-spelled c = added_alone c.self.inside.shape.sector c.args.count c.args.bytes.now _ _ _ _ c.append_spelled.ensures.added c.clear.ensures.items c.clear-2.ensures.items
+spelled : (c : After-are_blocks)
+    → IsSpelled c.self.inside.shape.sector c.args.count c.args.bytes.now c.append_spelled.new.bytes.items c.append_spelled.new.marks.items
+spelled c = added_alone c.self.inside.shape.sector c.args.count c.args.bytes.now _ _ _ _ c.append_spelled.ensures.added c.clear.ensures.items
+    c.clear-2.ensures.items
 
 pub returns-clause-blocks : goal.returns-clause-blocks
 returns-clause-blocks c =
@@ -18,7 +20,8 @@ pub returns-clause-fits : goal.returns-clause-fits
 returns-clause-fits c =
     let q = c.self.inside in
     let is = spelled (goal.at.returns-clause-fits c).After-are_blocks in
-    spelled_chunk q.shape c.args.state c.args.count c.args.bytes.now _ _ is (rw (← c.self.view_is) at c.requires.place) (rw (← c.self.view_is) at c.requires.multiple)
+    spelled_chunk q.shape c.args.state c.args.count c.args.bytes.now _ _ is (rw (← c.self.view_is) at c.requires.place)
+    (rw (← c.self.view_is) at c.requires.multiple)
     (rw (c.deref.ensures.value, c.deref-2.ensures.value) at c.are_blocks.ensures)
 
 pub invariant_of-self : goal.invariant_of-self

@@ -11,7 +11,8 @@ returns-in_err-check_write-clause-step c =
     let q = c.self.inside in
     let answer = err_from_is_err_and c.from_residual.result c.from_residual.ensures.1 in
     rw (answer.1, answer.2, ← c.self.view_is) (
-      refusal-blocks_of q.shape q.state q.bytes.items c.args.bytes.now q.marks.items c.args.marks.now _ _ _ (omega (arith, q.marks.ok.0)) c.in_err-check_write.ensures,
+      refusal-blocks_of q.shape q.state q.bytes.items c.args.bytes.now q.marks.items c.args.marks.now _ _ _
+          (omega (arith, q.marks.ok.0)) c.in_err-check_write.ensures,
       refl,
     )
 
@@ -35,6 +36,7 @@ returns-clause-done c =
 pub returns-clause-step : goal.returns-clause-step
 returns-clause-step c =
     let q = c.self.inside in (
-      rw (← c.self.view_is) (refusal-blocks_of q.shape q.state q.bytes.items c.args.bytes.now q.marks.items c.args.marks.now _ _ _ (omega (arith, q.marks.ok.0)) c.in_ok-check_write.ensures),
+      rw (← c.self.view_is) (refusal-blocks_of q.shape q.state q.bytes.items c.args.bytes.now q.marks.items c.args.marks.now _ _ _
+          (omega (arith, q.marks.ok.0)) c.in_ok-check_write.ensures),
       returns-clause-done c,
     )

@@ -12,9 +12,11 @@ returns-clause-spelling c =
     let third : length c.put_number-2.new.out ≡ 8 = rw c.put_number-2.ensures.bytes refl in
     let fourth : length c.put_number-3.new.out ≡ 8 = rw c.put_number-3.ensures.bytes refl in
     let rest : length (drop 8 c.args.out.now) ≡ 24 = simp length-drop (omega arith) in
-    four_parts c.copy_from_slice.new.self c.put_number.new.out c.put_number-2.new.out c.put_number-3.new.out (drop 8 c.args.out.now) first second third fourth rest
+    four_parts c.copy_from_slice.new.self c.put_number.new.out c.put_number-2.new.out c.put_number-3.new.out
+    (drop 8 c.args.out.now) first second third fourth rest
     ∙ rw (c.copy_from_slice.ensures.after, c.put_number.ensures.bytes, c.put_number-2.ensures.bytes, c.put_number-3.ensures.bytes, c.code_of.ensures) refl
 
 pub returns-clause-reads_back : goal.returns-clause-reads_back
 returns-clause-reads_back c =
-    rw (returns-clause-spelling c) (read_back (fields_of c.args.self.now) c.put_number.ensures.in_range c.put_number-2.ensures.in_range c.put_number-3.ensures.in_range c.requires.pointer)
+    rw (returns-clause-spelling c)
+    (read_back (fields_of c.args.self.now) c.put_number.ensures.in_range c.put_number-2.ensures.in_range c.put_number-3.ensures.in_range c.requires.pointer)

@@ -1,6 +1,7 @@
 use Rattle.std.proofs.Common.{sym}
 use Rattle.ocssd_geometry.specs.Numbers.{numbers_of}
-use Rattle.ocssd_geometry.proofs.Acceptance.{HasCounts, accepted_counts, read_short, read_accepted, read_refused}
+use Rattle.pblk_model.proofs.GeometryBytes.{read_accepted}
+use Rattle.ocssd_geometry.proofs.Acceptance.{HasCounts, accepted_counts, read_short, read_refused}
 use Rattle.ocssd_geometry.proofs.geometry.Geometry.read.Goals as goal
 use Rattle.ocssd_geometry.proofs.geometry.Geometry.read.Goals.{In-None}
 

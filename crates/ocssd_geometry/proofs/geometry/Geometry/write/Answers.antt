@@ -1,7 +1,8 @@
 use Rattle.std.proofs.Common.{◌≡◌, length, refl, ap, ◌∙◌, arith}
 use Rattle.pblk_model.specs.Bytes.{zeros}
 use Rattle.ocssd_geometry.specs.Numbers.{numbers_of}
-use Rattle.ocssd_geometry.proofs.Spelling.{all_written, FitsFields, read-geometry_bytes}
+use Rattle.pblk_model.proofs.GeometryBytes.{FitsWords, geometry_back}
+use Rattle.ocssd_geometry.proofs.Spelling.{all_written}
 use Rattle.ocssd_geometry.proofs.geometry.Geometry.write.Goals as goal
 
 pub returns-clause-spelling : goal.returns-clause-spelling
@@ -16,7 +17,7 @@ returns-clause-spelling c =
 -- the numbers fit their fields, so the spelling reads back
 pub returns-clause-again : goal.returns-clause-again
 returns-clause-again c =
-    let fits : FitsFields (numbers_of c.args.self.now) = record {
+    let fits : FitsWords (numbers_of c.args.self.now) = record {
       mccap = c.put_u32.ensures.fits;
       groups = c.put_u16.ensures.fits;
       pus = c.put_u16-2.ensures.fits;
@@ -28,4 +29,4 @@ returns-clause-again c =
       maxoc = c.put_u32-7.ensures.fits;
       maxocpu = c.put_u32-8.ensures.fits;
     } in
-    rw (returns-clause-spelling c) (read-geometry_bytes (numbers_of c.args.self.now) fits c.requires.accepted)
+    rw (returns-clause-spelling c) (geometry_back (numbers_of c.args.self.now) fits c.requires.accepted)

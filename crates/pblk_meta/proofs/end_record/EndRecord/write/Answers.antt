@@ -13,4 +13,5 @@ returns-clause-spelling c = λ s size.
 pub returns-clause-again : goal.returns-clause-again
 returns-clause-again c = λ s count size.
     let fit : AllByRecursion FitsBytes c.args.self.now.pairs = subst (AllByRecursion FitsBytes) c.as_slice.ensures c.write_end.ensures.fit in
-    ap (read_end s c.args.self.now.line c.args.self.now.width c.args.self.now.seq) (returns-clause-spelling c s size) ∙ c.end_spelled_is_read.ensures s (end_numbers c.args.self.now) (record { count = count; marks = fit })
+    ap (read_end s c.args.self.now.line c.args.self.now.width c.args.self.now.seq) (returns-clause-spelling c s size)
+    ∙ c.end_spelled_is_read.ensures s (end_numbers c.args.self.now) (record { count = count; marks = fit })

@@ -23,7 +23,8 @@ returns g c = λ old worked.
       threads =
           subst (λ (script : List (List Command)). EachThread (WasRun told) script c.records.result.threads (ports_of model old)
           (map model c.end_all.new.ports.items)) worked.script
-          (subst (λ (xs : List (List Answer)). EachThread (WasRun told) (script_of self) xs (ports_of model old) (map model c.end_all.new.ports.items)) (sym rows)
+          (subst (λ (xs : List (List Answer)). EachThread (WasRun told) (script_of self) xs (ports_of model old) (map model c.end_all.new.ports.items))
+          (sym rows)
           (subst (λ (ps : List ModelPort). EachThread (WasRun told) (script_of self) (map row_of news) (ports_of model old) ps) (sym ports) ran));
       opening = ap (λ records. records.opening) c.records.ensures;
       closing = ap (λ records. records.closing) c.records.ensures;

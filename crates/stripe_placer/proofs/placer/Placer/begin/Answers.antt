@@ -12,7 +12,8 @@ invariant_of-self c =
     let new : OpenLine = opened p.layout c.args.line c.args.online in
     let lines : c.open_slot.new.slots.items ≡ p.slots.items ++ new ∷ [] = c.open_slot.ensures.items ∙ ap (λ l. p.slots.items ++ l ∷ []) c.new.ensures.opened in
     let few : length p.slots.items ≤ 1 = subst (λ (v : Placing). length v.lines ≤ 1) (sym c.self.view_is) c.requires.few in
-    let other : All (λ l. l.line ≢ c.args.line) p.slots.items = subst (λ (v : Placing). All (λ (l : OpenLine). l.line ≢ c.args.line) v.lines) (sym c.self.view_is) c.requires.another in
+    let other : All (λ l. l.line ≢ c.args.line) p.slots.items =
+    subst (λ (v : Placing). All (λ (l : OpenLine). l.line ≢ c.args.line) v.lines) (sym c.self.view_is) c.requires.another in
     let fits : FitsShape p.layout new = subst (λ (l : OpenLine). FitsShape p.layout l) c.new.ensures.opened c.new.ensures.fits in
     record {
       accepted = c.self.invariant.accepted;

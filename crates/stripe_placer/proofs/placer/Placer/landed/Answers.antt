@@ -16,7 +16,8 @@ land_in-requires c =
       few = c.self.invariant.few;
       apart = c.self.invariant.agree.apart;
       there = (its_line c.self.inside c.args.self.now of c.self.invariant c.self.view_is c.requires).line;
-      waits = its_waits c.self.inside c.args.self.now of c.shape.result.now.ws_opt c.self.invariant c.self.view_is c.requires (ap (λ (s : Shape). s.ws_opt) c.shape.ensures.shape);
+      waits = its_waits c.self.inside c.args.self.now of c.shape.result.now.ws_opt c.self.invariant c.self.view_is c.requires
+          (ap (λ (s : Shape). s.ws_opt) c.shape.ensures.shape);
     }
 
 pub index_mut-requires : goal.index_mut-requires
@@ -29,8 +30,10 @@ invariant_of-self c =
     let p = c.self.inside in
     let of : Program = program c.args.self.now c.args.of.now in
     let lines : c.land_in.new.slots.items ≡ filter has_left (map (in_line of.line (of.at / p.layout.ws_opt) Landed) p.slots.items) =
-    answered_slots p of Landed c.shape.result.now.ws_opt c.land_in.new.slots.items (ap (λ (s : Shape). s.ws_opt) c.shape.ensures.shape) c.land_in.ensures.items in
-    let after : AfterAnswer p of c.land_in.new.slots.items = after_answer p c.args.self.now of Landed c.land_in.new.slots.items c.self.invariant c.self.view_is c.requires landed_other lines in
+    answered_slots p of Landed c.shape.result.now.ws_opt c.land_in.new.slots.items
+    (ap (λ (s : Shape). s.ws_opt) c.shape.ensures.shape) c.land_in.ensures.items in
+    let after : AfterAnswer p of c.land_in.new.slots.items =
+    after_answer p c.args.self.now of Landed c.land_in.new.slots.items c.self.invariant c.self.view_is c.requires landed_other lines in
     record {
       accepted = c.self.invariant.accepted;
       ring = c.self.invariant.ring;
@@ -46,4 +49,5 @@ returns c =
     let of : Program = program c.args.self.now c.args.of.now in
     ap (λ (r : UnitRow). with_units p.layout p.queue.entries c.land_in.new.slots.items (slice_set p.units.items of.unit r)) c.end.ensures
     ∙ answered_view p c.args.self.now of Landed c.land_in.new.slots.items c.self.view_is
-    (answered_slots p of Landed c.shape.result.now.ws_opt c.land_in.new.slots.items (ap (λ (s : Shape). s.ws_opt) c.shape.ensures.shape) c.land_in.ensures.items)
+    (answered_slots p of Landed c.shape.result.now.ws_opt c.land_in.new.slots.items
+    (ap (λ (s : Shape). s.ws_opt) c.shape.ensures.shape) c.land_in.ensures.items)

@@ -16,7 +16,8 @@ lose_in-requires c =
       few = c.self.invariant.few;
       apart = c.self.invariant.agree.apart;
       there = (its_line c.self.inside c.args.self.now of c.self.invariant c.self.view_is c.requires).line;
-      waits = its_waits c.self.inside c.args.self.now of c.shape.result.now.ws_opt c.self.invariant c.self.view_is c.requires (ap (λ (s : Shape). s.ws_opt) c.shape.ensures.shape);
+      waits = its_waits c.self.inside c.args.self.now of c.shape.result.now.ws_opt c.self.invariant c.self.view_is c.requires
+          (ap (λ (s : Shape). s.ws_opt) c.shape.ensures.shape);
     }
 
 pub index_mut-requires : goal.index_mut-requires
@@ -30,7 +31,8 @@ invariant_of-self c =
     let of : Program = program c.args.self.now c.args.of.now in
     let lines : c.lose_in.new.slots.items ≡ filter has_left (map (in_line of.line (of.at / p.layout.ws_opt) Lost) p.slots.items) =
     answered_slots p of Lost c.shape.result.now.ws_opt c.lose_in.new.slots.items (ap (λ (s : Shape). s.ws_opt) c.shape.ensures.shape) c.lose_in.ensures.items in
-    let after : AfterAnswer p of c.lose_in.new.slots.items = after_answer p c.args.self.now of Lost c.lose_in.new.slots.items c.self.invariant c.self.view_is c.requires lost_other lines in
+    let after : AfterAnswer p of c.lose_in.new.slots.items =
+    after_answer p c.args.self.now of Lost c.lose_in.new.slots.items c.self.invariant c.self.view_is c.requires lost_other lines in
     record {
       accepted = c.self.invariant.accepted;
       ring = c.self.invariant.ring;

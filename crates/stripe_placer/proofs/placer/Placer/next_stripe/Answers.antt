@@ -20,7 +20,9 @@ stopped_stripe-requires-clause-own c =
     subst (λ (xs : List UnitRow). OwnUnits xs) (sym c.deref.ensures.value) (λ unit of at. (c.self.invariant.agree.rows_of unit _ at).unit_is)
 
 pub next_new-requires-clause-fit : goal.next_new-requires-clause-fit
-next_new-requires-clause-fit c = subst (λ (xs : List OpenLine). (l : OpenLine) → IsAmongLines xs l → FitsShape c.self.inside.layout l) (sym c.deref-in-None-2.ensures.value) c.self.invariant.agree.fit
+next_new-requires-clause-fit c =
+    subst (λ (xs : List OpenLine). (l : OpenLine) → IsAmongLines xs l → FitsShape c.self.inside.layout l)
+    (sym c.deref-in-None-2.ensures.value) c.self.invariant.agree.fit
 
 -- what the placement that was found comes to
 record Told (v : Placing) (busy : ℕ) (r : Option Placement) : Type 0 where

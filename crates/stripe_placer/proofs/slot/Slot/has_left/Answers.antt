@@ -17,13 +17,15 @@ returns-then-self-gt0 c =
     let s = c.self.inside in
     let l : OpenLine = open_line s in
     let some : nat_lt 0 s.unanswered ≡ true = lt_true 0 s.unanswered c.if-self-gt0.true in
-    let waits : list_any is_unanswered l.stripes ≡ true = sym (some_counted is_unanswered l.stripes) ∙ ap (nat_lt 0) (sym c.self.invariant.counts.unanswered_is) ∙ some in
+    let waits : list_any is_unanswered l.stripes ≡ true = sym (some_counted is_unanswered l.stripes) ∙ ap (nat_lt 0) (sym c.self.invariant.counts.unanswered_is)
+    ∙ some in
     some ∙ sym (or_right (list_any (is_to_place l) (numbers l)) (list_any is_unanswered l.stripes) waits) ∙ ap has_left c.self.view_is
 
 pub returns-else-self-gt0 : goal.returns-else-self-gt0
 returns-else-self-gt0 c =
     let s = c.self.inside in
     let l : OpenLine = open_line s in
-    let none : list_any is_unanswered l.stripes ≡ false = sym (some_counted is_unanswered l.stripes) ∙ ap (nat_lt 0) (sym c.self.invariant.counts.unanswered_is) ∙ not_before 0 s.unanswered c.if-self-gt0.false in
+    let none : list_any is_unanswered l.stripes ≡ false = sym (some_counted is_unanswered l.stripes) ∙ ap (nat_lt 0) (sym c.self.invariant.counts.unanswered_is)
+    ∙ not_before 0 s.unanswered c.if-self-gt0.false in
     c.is_some.ensures ∙ ap (λ o. is_some o) (c.next.ensures.next ∙ ap next_of (sym c.self.view_is)) ∙ sym (some_is_first (is_to_place l) 0 (length l.stripes))
     ∙ sym (or_false (list_any (is_to_place l) (numbers l)) (list_any is_unanswered l.stripes) none) ∙ ap has_left c.self.view_is

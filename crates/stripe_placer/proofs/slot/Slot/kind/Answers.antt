@@ -8,7 +8,8 @@ pub returns-then-stripe-self : goal.returns-then-stripe-self
 returns-then-stripe-self c = slot_start c.self.inside c.args.self.now c.args.stripe c.self.invariant c.self.view_is c.if-self-gt0.false c.if-stripe-self.true
 
 pub returns-then-stripe-self-2 : goal.returns-then-stripe-self-2
-returns-then-stripe-self-2 c = slot_data c.self.inside c.args.self.now c.args.stripe c.self.invariant c.self.view_is c.if-self-gt0.false c.if-stripe-self.false c.if-stripe-self-2.true
+returns-then-stripe-self-2 c =
+    slot_data c.self.inside c.args.self.now c.args.stripe c.self.invariant c.self.view_is c.if-self-gt0.false c.if-stripe-self.false c.if-stripe-self-2.true
 
 pub returns-else-stripe-self-2 : goal.returns-else-stripe-self-2
 returns-else-stripe-self-2 c = slot_end c.self.inside c.args.self.now c.args.stripe c.self.invariant c.self.view_is c.if-self-gt0.false c.if-stripe-self-2.false

@@ -9,12 +9,15 @@ use Rattle.vector_io.proofs.AddressesLemmas.{some_marks}
 pub write_all-requires-clause-sector : goal.write_all-requires-clause-sector
 write_all-requires-clause-sector g c =
     sector_is (map g.U.Unit.model c.args.units.now) (length c.args.bytes.now) (length c.args.marks.now)
-    (some_marks (length c.args.marks.now) (length c.self.inside.addresses.items) (c.requires.marks ∙ ap (λ (v : ModelVector). length v.addresses) (sym c.self.view_is)) c.self.invariant.count)
+    (some_marks (length c.args.marks.now) (length c.self.inside.addresses.items)
+    (c.requires.marks ∙ ap (λ (v : ModelVector). length v.addresses) (sym c.self.view_is)) c.self.invariant.count)
     c.requires.sectors
 
 pub write_all-requires-clause-whole : goal.write_all-requires-clause-whole
 write_all-requires-clause-whole g c =
-    whole_sectors (numbers_of c.self.inside.geometry) c.self.inside.addresses.items (map g.U.Unit.model c.args.units.now) (length c.args.bytes.now) (length c.args.marks.now) c.self.invariant
+    whole_sectors (numbers_of c.self.inside.geometry) c.self.inside.addresses.items (map g.U.Unit.model c.args.units.now) (length c.args.bytes.now)
+    (length c.args.marks.now) c.self.invariant
     (subst (λ (v : ModelVector). AreUnitsOf v.geometry (map g.U.Unit.model c.args.units.now)) (sym c.self.view_is) c.requires.units)
-    (some_marks (length c.args.marks.now) (length c.self.inside.addresses.items) (c.requires.marks ∙ ap (λ (v : ModelVector). length v.addresses) (sym c.self.view_is)) c.self.invariant.count)
+    (some_marks (length c.args.marks.now) (length c.self.inside.addresses.items)
+    (c.requires.marks ∙ ap (λ (v : ModelVector). length v.addresses) (sym c.self.view_is)) c.self.invariant.count)
     c.requires.sectors
