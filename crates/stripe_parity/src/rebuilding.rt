@@ -54,6 +54,7 @@ pub fn rebuild(
         → IfErr result (λ e. e ≡ Memory) }
     ensures blocks { IfOk result (λ n. n ≡ kept_blocks parity.now.chunks lost) }
     ensures refused { IfErr result (λ e. IsRefusal parity.now (drive_image drive.old) lost e) }
+    ensures same { OnOk result (AreAsKept parity.now.chunks (drive_image drive.old) lost) }
     ensures fetched { OnErr result (WereFetched parity.now.shape
         (map (λ (u : WornUnit). u.unit) drive.old.units)
         (map (λ (u : WornUnit). u.unit) drive.new.units) (fetch_error result)) }

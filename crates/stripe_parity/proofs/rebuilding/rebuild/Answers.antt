@@ -103,3 +103,8 @@ pub returns-clause-numbers : goal.returns-clause-numbers
 returns-clause-numbers c =
     let first = c.put_chunks.ensures.numbers ∙ ap (with_units c.put_chunks.new.drive.units) c.in_ok-chunks.ensures.numbers in
     first
+
+pub returns-clause-same : goal.returns-clause-same
+returns-clause-same c =
+    subst (λ (i : Image). AreAsKept c.args.parity.now.chunks i c.args.lost)
+    (image_from c.args.parity.now.shape c.args.drive.now c.deref.result.now c.requires.shape (c.deref.ensures.value ∙ ap (λ (d : DriveView). d.units) c.drive.view_is)) c.in_default.ensures.none
