@@ -2,7 +2,6 @@
 use Rattle.std.proofs.Common.{◌≡◌, ℕ, ◌+◌, ◌≤◌, zero, suc, Some, List, [], ◌∷◌, ◌++◌, length, length-append, map, take, slice_get, refl, sym, ap, ◌∙◌, subst, arith, append_assoc, append-nil}
 use Rattle.std.specs.Prelude.{Vec, vec_capacity}
 use Rattle.std.specs.List.{enumerate_from, flat_map, sum_by}
-use Rattle.std.proofs.lemmas.List.Sums.{sum_by-cons}
 use Rattle.std.proofs.lemmas.Option.{none-some, same_Some}
 use Rattle.drive_image.specs.Storing.{HasCapacity, WasAdded}
 use Rattle.pblk_model.proofs.Maps.{enumerate_get}
@@ -85,26 +84,6 @@ enumerated xs k x is =
     enumerate_get 0 xs k x is ∙ ap (λ i. Some (i, x)) place
 
 -- Sums of the first elements.
-
-sum_take_at : {X : Type 0} (g : X → ℕ) (xs : List X) (i : ℕ) (x : X) → slice_get xs i ≡ Some x → sum_by g (take (suc i) xs) ≡ sum_by g (take i xs) + g x
-sum_take_at g [] i x is = absurd (none-some x is)
-sum_take_at g (y ∷ xs) zero x is =
-    let same : g y ≡ g x = ap g (same_Some y x is) in
-    let one : sum_by g (y ∷ []) ≡ g y + sum_by g [] = sum_by-cons g y [] in
-    let none : sum_by g [] ≡ 0 = refl in
-    let start : sum_by g (take zero (y ∷ xs)) ≡ 0 = refl in
-    let first : sum_by g (take (suc zero) (y ∷ xs)) ≡ sum_by g (y ∷ []) = refl in
-    omega arith
-sum_take_at g (y ∷ xs) (suc i) x is =
-    let rest : sum_by g (take (suc i) xs) ≡ sum_by g (take i xs) + g x = sum_take_at g xs i x is in
-    let all : sum_by g (take (suc (suc i)) (y ∷ xs)) ≡ g y + sum_by g (take (suc i) xs) = sum_by-cons g y (take (suc i) xs) in
-    let part : sum_by g (take (suc i) (y ∷ xs)) ≡ g y + sum_by g (take i xs) = sum_by-cons g y (take i xs) in
-    omega arith
-
-pub sum_take : {X : Type 0} (g : X → ℕ) (xs : List X) (i : ℕ) (x : X) → slice_get xs i ≡ Some x → sum_by g (take (i + 1) xs) ≡ sum_by g (take i xs) + g x
-sum_take g xs i x is =
-    let next : i + 1 ≡ suc i = omega arith in
-    ap (λ n. sum_by g (take n xs)) next ∙ sum_take_at g xs i x is
 
 pub sum_all : {X : Type 0} (g : X → ℕ) (xs : List X) (n : ℕ) → length xs ≡ n → sum_by g (take n xs) ≡ sum_by g xs
 sum_all g xs n count = ap (sum_by g) (ap (λ m. take m xs) (sym count) ∙ take-all xs)

@@ -1,5 +1,5 @@
 -- Where the parts of an image end, by the numbers of its geometry.
-use Rattle.std.proofs.Common.{◌≡◌, ℕ, ◌+◌, ◌-◌, ◌*◌, ◌/◌, ◌%◌, ◌<◌, ◌≤◌, Option, List, inl, inr, sym, ap, ◌∙◌, subst, arith, mul-pos}
+use Rattle.std.proofs.Common.{◌≡◌, ℕ, ◌+◌, ◌-◌, ◌*◌, ◌/◌, ◌%◌, ◌<◌, ◌≤◌, Option, List, sym, ap, ◌∙◌, subst, arith, mul-pos}
 use Rattle.std.specs.List.{range_with_len, sum_by}
 use Rattle.std.specs.Option.{option_map}
 use Rattle.std.proofs.lemmas.Nat.{div_below}
@@ -12,7 +12,7 @@ use Rattle.pblk_model.specs.Checks.{first_failing}
 use Rattle.pblk_model.specs.Geometry.{Geometry}
 use Rattle.pblk_model.specs.ImageFile.{blocks_end, chunk_checks, chunk_refusal, descriptor_at, descriptors_end, geometry_at, pointer_at, shape_at}
 use Rattle.pblk_model.specs.Shape.{units}
-use Rattle.pblk_model.proofs.AcceptedLemmas.{sector_within}
+use Rattle.pblk_model.proofs.AcceptedLemmas.{sector_within, all_blocks}
 
 -- The n-th chunk.
 
@@ -33,14 +33,6 @@ refused_by b g n r is by = ap (option_map (errors.Chunk (n / g.chunks) (n % g.ch
 
 -- Sizes.
 
-pub all_blocks : (s : Shape) → IsAccepted s → units s * s.chunks * s.clba ≤ 268435456
-all_blocks s accepted = elim accepted.target.sector [
-  | inl e ↦ let size : units s * s.chunks * s.clba * 512 ≤ 268435456 = subst (λ n. units s * s.chunks * s.clba * n ≤ 268435456) e accepted.target.size in
-      omega arith
-  | inr e ↦ let size : units s * s.chunks * s.clba * 4096 ≤ 268435456 = subst (λ n. units s * s.chunks * s.clba * n ≤ 268435456) e accepted.target.size in
-      omega arith
-]
-
 -- this many blocks are not too many
 pub few_blocks : (b : List ℕ) (g : Geometry) (count : ℕ) → g ≡ geometry_at b → IsAccepted (shape_at b) → count ≤ units (shape_at b) * (shape_at b).chunks
     → count * g.clba ≤ 268435456
@@ -48,12 +40,6 @@ few_blocks b g count is accepted within =
     let all : units (shape_at b) * (shape_at b).chunks * g.clba ≤ 268435456 =
     subst (λ (x : Geometry). units (shape_at b) * (shape_at b).chunks * x.clba ≤ 268435456) (sym is) (all_blocks (shape_at b) accepted) in
     let part : count * g.clba ≤ units (shape_at b) * (shape_at b).chunks * g.clba = mul-le-mul_right g.clba within in
-    omega arith
-
-pub one_more : (count n clba blocks one : ℕ) → n < count → blocks ≤ n * clba → one ≤ clba → blocks + one ≤ count * clba
-one_more count n clba blocks one within before here =
-    let next : n + 1 ≤ count = omega arith in
-    let all : (n + 1) * clba ≤ count * clba = mul-le-mul_right clba next in
     omega arith
 
 -- Ends.
@@ -79,15 +65,6 @@ clba_within s accepted =
     let some : 0 < units s * s.chunks = mul-pos (mul-pos accepted.drive.groups accepted.drive.pus) (omega (arith, accepted.drive.lines_low)) in
     let one : s.clba ≤ s.clba * (units s * s.chunks) = le-mul_of_pos_right s.clba some in
     let same : s.clba * (units s * s.chunks) ≡ units s * s.chunks * s.clba = mul_comm s.clba (units s * s.chunks) in
-    omega arith
-
-pub unit_few : (s : Shape) → IsAccepted s → s.chunks * s.clba ≤ 268435456
-unit_few s accepted =
-    let all : units s * s.chunks * s.clba ≤ 268435456 = all_blocks s accepted in
-    let some : 0 < units s = mul-pos accepted.drive.groups accepted.drive.pus in
-    let one : s.chunks * s.clba ≤ s.chunks * s.clba * units s = le-mul_of_pos_right (s.chunks * s.clba) some in
-    let same : s.chunks * s.clba * units s ≡ units s * (s.chunks * s.clba) = mul_comm (s.chunks * s.clba) (units s) in
-    let product : units s * (s.chunks * s.clba) ≡ units s * s.chunks * s.clba = sym (mul_assoc (units s) s.chunks s.clba) in
     omega arith
 
 -- the blocks of some units, each of which has at most so many

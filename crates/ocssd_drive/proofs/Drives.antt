@@ -111,9 +111,14 @@ pub unit_within : (d : Inside) (v : DriveView) (unit : ℕ) → IsWhole (drive_v
 unit_within d v unit whole is within =
     subst (λ (n : ℕ). unit < n) (sym whole.count ∙ sym d.units.ok.0) (subst (λ (x : DriveView). unit < units_of (shape_of x)) (sym is) within)
 
-pub unit_seen : (d : Inside) (v : DriveView) (unit : ℕ) (u : WornUnit) → IsWhole (drive_view d) → drive_view d ≡ v → unit < units_of (shape_of v) → u ≡ get_or d.units.items unit u → IsUnitAt v unit u
-unit_seen d v unit u whole is within read = subst (λ (x : DriveView). IsUnitAt x unit u) is
-    (unit_at (drive_view d) unit u whole (subst (λ (x : DriveView). unit < units_of (shape_of x)) (sym is) within) read)
+-- the unit that was found is the drive's
+pub unit_found : (d : Inside) (v : DriveView) (unit : ℕ) (u : WornUnit) → IsWhole (drive_view d) → drive_view d ≡ v → unit < units_of (shape_of v)
+    → u ≡ get_or d.units.items unit u → IsUnitAt (drive_view d) unit u
+unit_found d v unit u whole is within read = unit_at (drive_view d) unit u whole (subst (λ (x : DriveView). unit < units_of (shape_of x)) (sym is) within) read
+
+pub unit_seen : (d : Inside) (v : DriveView) (unit : ℕ) (u : WornUnit) → IsWhole (drive_view d) → drive_view d ≡ v → unit < units_of (shape_of v)
+    → u ≡ get_or d.units.items unit u → IsUnitAt v unit u
+unit_seen d v unit u whole is within read = subst (λ (x : DriveView). IsUnitAt x unit u) is (unit_found d v unit u whole is within read)
 
 -- a unit that was changed is still one of the drive
 pub whole_again : (d : DriveView) (unit : ℕ) (u new : WornUnit) → IsWhole d → IsUnitAt d unit u → IsUnitOf new.unit.shape new → new.unit.shape ≡ u.unit.shape → IsWhole (with_units (slice_set d.units unit new) d)

@@ -1,5 +1,5 @@
 -- What a core that opens a line keeps, and what is known of the line.
-use Rattle.std.proofs.Common.{◌≡◌, ℕ, ◌+◌, ◌*◌, ◌/◌, ◌^◌, ◌<◌, ◌≤◌, ◌==◌, not, zero, suc, nat_lt, Bool, true, false, Some, None, Option, length, refl, sym, subst, ap, ◌∙◌, arith, le_refl, mul-suc}
+use Rattle.std.proofs.Common.{◌≡◌, ℕ, ◌+◌, ◌*◌, ◌/◌, ◌^◌, ◌<◌, ◌≤◌, not, zero, suc, nat_lt, Bool, true, false, Some, None, Option, length, refl, sym, subst, ap, ◌∙◌, arith, le_refl, mul-suc}
 use Rattle.std.specs.Prelude.{position, slice_get}
 use Rattle.std.specs.List.{AllByRecursion, slice_index_or}
 use Rattle.std.specs.Option.{is_some, unwrap_or}
@@ -59,9 +59,6 @@ opens false true false d false f h = absurd cc
 opens false false c d true f h = absurd cc
 opens false false c d false f h = absurd cc
 
-zero_is : (n : ℕ) → (n == 0) ≡ true → n ≡ 0
-zero_is n e = eqb-true n 0 e
-
 -- what a core is that names the opening of a line
 pub record MayOpenNext (c : Core) : Type 0 where
   pub left : c.left ≡ 0
@@ -86,7 +83,7 @@ open_is_named c h =
     let numbers = both _ _ parts.2 in
     let fit = both _ _ numbers.1 in
     record {
-      left = zero_is c.left asks.1;
+      left = eqb-true c.left 0 asks.1;
       few = below_is c.open.count 2 numbers.0;
       seq = below_is c.start.seq (2 ^ 61) fit.0;
       front = below_is (view.synced c.window).position (2 ^ 61) fit.1;

@@ -1,21 +1,20 @@
 -- What the engine knows of the chunks once it has noted a reset.
-use Rattle.std.proofs.Common.{◌≡◌, ◌≢◌, ◌⊎◌, ℕ, ◌==◌, nat_eq, if◌then◌else◌, Bool, true, false, Some, None, Option, List, refl, sym, ap, ◌∙◌, inl, inr}
+use Rattle.std.proofs.Common.{◌≡◌, ◌≢◌, ◌⊎◌, ℕ, nat_eq, if◌then◌else◌, Bool, true, false, Some, None, Option, List, refl, sym, ap, ◌∙◌, inl, inr}
 use Rattle.std.specs.Prelude.{slice_get}
 use Rattle.std.specs.Option.{option_map, option_map_or, option_and_then}
 use Rattle.std.proofs.lemmas.Bool.{eqb-true, eqb-false}
 use Rattle.std.proofs.lemmas.Option.{same_Some, none-some}
-use Rattle.pblk_model.specs.declared.shape.Shape.{Shape}
 use Rattle.pblk_model.specs.declared.chunk.ChunkState.{ChunkState}
 use Rattle.pblk_model.specs.declared.chunk.ChunkState.TheVariants as states
-use Rattle.pblk_model.specs.Chunk.{Chunk, free_chunk, offline_chunk, pointer}
-use Rattle.pblk_model.specs.ChunkStep.{ChunkCommand, ChunkAnswer, Reset, reset_in}
-use Rattle.pblk_model.specs.UnitLog.{UnitEvent, UnitOutcome, Answered, Failed, Stopped, after_outcome}
+use Rattle.pblk_model.specs.Chunk.{Chunk}
+use Rattle.pblk_model.specs.ChunkStep.{ChunkCommand, Reset}
+use Rattle.pblk_model.specs.UnitLog.{UnitEvent, after_outcome}
 use Rattle.pblk_model.specs.Image.{Image, is_online_in}
 use Rattle.pblk_laws.specs.LineBlocks.{chunk_in}
 use Rattle.pblk_layout.specs.Online.{is_online}
 use Rattle.pblk_world.specs.Events.{ResetDone, Decides, Logged}
 use Rattle.pblk_world.specs.World.{Logs, unit_event_at, unit_event_of}
-use Rattle.pblk_world.specs.Answering.{IsDoneReset, MayNoteReset}
+use Rattle.pblk_world.specs.Answering.{MayNoteReset}
 use Rattle.pblk_world.specs.EngineLog.{Begun, begun}
 use Rattle.pblk_world.specs.Lines.{known_image, told_by, is_empty_state}
 use Rattle.core_laws.specs.Stepping.{after}
@@ -23,21 +22,7 @@ use Rattle.pblk_core.specs.Resets.{is_used_state, IsResetTo}
 use Rattle.pblk_core.proofs.KnownAfter.{untold_after, told_after, beside_after}
 use Rattle.pblk_core.proofs.NamedReset.{IsNamedReset}
 use Rattle.pblk_model.proofs.Tests.{other_number, same_number}
-
--- ---- a reset leaves a chunk Free or Offline
-
-reset_leaves : (s : Shape) (state : ChunkState) (wp : ℕ) → is_empty_state (reset_in s state wp).state ≡ true
-reset_leaves s states.Free wp = refl
-reset_leaves s states.Open wp = refl
-reset_leaves s states.Closed wp =
-    elim (wp == s.clba) as (λ b. is_empty_state (if b then free_chunk else offline_chunk).state ≡ true) [ true ↦ refl | false ↦ refl ]
-reset_leaves s states.Offline wp = refl
-
-pub reset_empties : (s : Shape) (c : Chunk) (o : UnitOutcome) → IsDoneReset o → is_empty_state (after_outcome s c Reset o).state ≡ true
-reset_empties s c (Answered answer) done = ap (λ (a : ChunkAnswer). is_empty_state (after_outcome s c Reset (Answered a)).state) done
-    ∙ reset_leaves s c.state (pointer c)
-reset_empties s c (Failed k) done = refl
-reset_empties s c (Stopped k) done = absurd done
+use Rattle.pblk_world.proofs.LinesLemmas.{reset_empties}
 
 -- ---- which event it tells of
 

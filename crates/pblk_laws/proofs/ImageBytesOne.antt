@@ -15,12 +15,12 @@ use Rattle.pblk_laws.proofs.ImageBytesPieces.{cut, Paired, paired_from, cut_flat
 use Rattle.pblk_laws.proofs.ImageBytesRead.{HasUnits, units_of, chunk_is}
 use Rattle.pblk_model.proofs.Parts.{all_get}
 
-le64_same : (m n : ℕ) → m < 2 ^ 64 → n < 2 ^ 64 → le64 m ≡ le64 n → m ≡ n
+pub le64_same : (m n : ℕ) → m < 2 ^ 64 → n < 2 ^ 64 → le64 m ≡ le64 n → m ≡ n
 le64_same m n h k e = sym (from_le_bytes-to_le_bytes_8 m h) ∙ (ap (number_at w64 0) e ∙ from_le_bytes-to_le_bytes_8 n k)
 
 -- Blocks.
 
-regroup : (s l p r : List ℕ) → s ++ l ++ p ++ r ≡ s ++ (l ++ (p ++ r))
+pub regroup : (s l p r : List ℕ) → s ++ l ++ p ++ r ≡ s ++ (l ++ (p ++ r))
 regroup s l p r = simp append_assoc
 
 three_cut : (s l p r s2 l2 p2 r2 : List ℕ) → length s ≡ length s2 → length l ≡ length l2 → length p ≡ length p2 → s ++ l ++ p ++ r ≡ s2 ++ l2 ++ p2 ++ r2
@@ -40,7 +40,7 @@ record AreBlocks (n : ℕ) (a b : Block) : Type 0 where
   left_position : a.mark.position < 2 ^ 64
   right_position : b.mark.position < 2 ^ 64
 
-same_block : (a b : Block) → a.sector ≡ b.sector → a.mark.lba ≡ b.mark.lba → a.mark.position ≡ b.mark.position → a ≡ b
+pub same_block : (a b : Block) → a.sector ≡ b.sector → a.mark.lba ≡ b.mark.lba → a.mark.position ≡ b.mark.position → a ≡ b
 same_block a b p q r =
     let made : List ℕ → ℕ → ℕ → Block = λ s l n. record { sector = s; mark = record { lba = l; position = n } } in
     ap (λ s. made s a.mark.lba a.mark.position) p ∙ (ap (λ l. made b.sector l a.mark.position) q ∙ ap (λ n. made b.sector b.mark.lba n) r)

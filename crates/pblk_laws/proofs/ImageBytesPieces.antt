@@ -1,16 +1,8 @@
 -- Where the pieces of a list stand, and how a list is cut into them.
-use Rattle.std.proofs.Common.{◌≡◌, ℕ, ◌+◌, ◌-◌, ◌*◌, zero, suc, Some, List, [], ◌∷◌, ◌++◌, map, length, take, drop, refl, sym, ap, ◌∙◌, arith, append_assoc, length-append}
+use Rattle.std.proofs.Common.{◌≡◌, ℕ, ◌+◌, ◌-◌, ◌*◌, zero, suc, Some, List, [], ◌∷◌, ◌++◌, length, take, drop, refl, sym, ap, ◌∙◌, arith, append_assoc, length-append}
 use Rattle.std.specs.List.{AllByRecursion, slice_get, slice_range, flat_map}
 use Rattle.std.proofs.lemmas.List.{take_at, drop_at}
 use Rattle.std.proofs.lemmas.Option.{none-some, same_Some}
-
--- What holds of each element.
-
-pub all_unmap : {X Y : Type 0} (P : Y → Type 0) (f : X → Y) (xs : List X) → AllByRecursion P (map f xs) → AllByRecursion (λ x. P (f x)) xs
-all_unmap P f [] h = tt
-all_unmap P f (x ∷ xs) h = (h.0, all_unmap P f xs h.1)
-
--- Pieces.
 
 regroup : {X : Type 0} (a b c d : List X) → a ++ (b ++ c ++ d) ≡ a ++ b ++ c ++ d
 regroup a b c d = simp append_assoc

@@ -19,9 +19,9 @@ use Rattle.pblk_model.specs.ImageFile.{StoredChunk, Drive, shape_of, image_of, i
 use Rattle.pblk_laws.specs.GeometryFields.{FitsFields}
 use Rattle.pblk_model.proofs.GeometryBytes.{geometry_length}
 use Rattle.pblk_laws.proofs.ImageBytes.{descriptor_back}
-use Rattle.pblk_laws.proofs.ImageBytesPieces.{Piece, all_unmap, piece_in_piece, slice_of, slice_of_piece, piece_of_flat}
+use Rattle.pblk_laws.proofs.ImageBytesPieces.{Piece, piece_in_piece, slice_of, slice_of_piece, piece_of_flat}
 use Rattle.pblk_model.proofs.Lists.{all_everywhere, all_weaker}
-use Rattle.pblk_model.proofs.Maps.{all_enumerate, enumerate_get, flat_length}
+use Rattle.pblk_model.proofs.Maps.{all_enumerate, enumerate_get, flat_length, all_unmap}
 use Rattle.pblk_model.proofs.Numbers.{joined_below}
 use Rattle.pblk_model.proofs.Parts.{all_get}
 use Rattle.pblk_model.proofs.ChecksLemmas.{none_fails}

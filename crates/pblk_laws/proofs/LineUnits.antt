@@ -1,7 +1,7 @@
 -- The units of a line, and the blocks that their order has.
-use Rattle.std.proofs.Common.{◌≡◌, ℕ, ◌+◌, ◌*◌, ◌/◌, ◌%◌, ◌<◌, ◌≤◌, zero, suc, Bool, true, false, cond, Option, Some, None, List, [], ◌∷◌, map, length, refl, sym, ap, ◌∙◌, subst, arith, add-zero}
+use Rattle.std.proofs.Common.{◌≡◌, ℕ, ◌+◌, ◌*◌, ◌/◌, ◌%◌, ◌<◌, ◌≤◌, zero, suc, Bool, true, false, cond, Option, Some, None, List, [], ◌∷◌, map, length, refl, sym, ap, ◌∙◌, subst, arith, add-zero, zero-add}
 use Rattle.std.specs.Prelude.{slice_index}
-use Rattle.std.specs.List.{AllByRecursion, slice_get, filter, filter_map, enumerate_from, cons_option}
+use Rattle.std.specs.List.{AllByRecursion, slice_get, filter, filter_map, enumerate_from, cons_option, range_with_len}
 use Rattle.std.specs.List.Sorted.{IsStrictlyIncreasing}
 use Rattle.std.specs.Option.{option_and_then, option_map_or, option_map, IfSome}
 use Rattle.std.proofs.lemmas.Option.{slice_get_within}
@@ -223,3 +223,22 @@ no_block_past i line a fit some whole h =
     no_block i.shape (block_of i.shape g a) (slice_get (line_chunks i line) (column_of i.shape g a)) (line_chunks_fit i line (column_of i.shape g a) fit)
     (if_there (line_chunks i line) (column_of i.shape g a) (i.shape.clba ≤ block_of i.shape g a)
     (λ wide. block_past i.shape.ws_opt g i.shape.clba a some whole wide past))
+
+-- whether a unit's chunk of the line isn't Offline
+abbrev pub is_online_at : Image → ℕ → ℕ → Bool
+is_online_at i line unit = option_map_or (λ (c : Chunk). is_online_in c.state) (chunk_in i line unit) false
+
+from_range : (line a : ℕ) (p : ℕ → Bool) (us : List (List Chunk))
+    → ((k : ℕ) → k < length us → p (a + k) ≡ option_map_or (λ (c : Chunk). is_online_in c.state)
+    (option_and_then (λ chunks. slice_get chunks line) (slice_get us k)) false)
+    → map (λ (u : ℕ × List Chunk). u.0) (filter (is_on line) (enumerate_from a us)) ≡ filter p (range_with_len a (length us))
+from_range line a p [] h = refl
+from_range line a p (u ∷ us) h =
+    let first : p a ≡ is_on line (a, u) = ap p (sym (add-zero a)) ∙ h 0 (omega arith) in
+    map_cond (is_on line (a, u)) (a, u) (filter (is_on line) (enumerate_from (a + 1) us))
+    ∙ ap (λ xs. cond (is_on line (a, u)) (a ∷ xs) xs)
+    (from_range line (a + 1) p us (λ k below. (let place : a + 1 + k ≡ a + suc k = omega arith in ap p place ∙ h (suc k) (omega arith))))
+    ∙ ap (λ b. cond b (a ∷ filter p (range_with_len (a + 1) (length us))) (filter p (range_with_len (a + 1) (length us)))) (sym first)
+
+pub line_units_range : (i : Image) (line : ℕ) → line_units i line ≡ filter (is_online_at i line) (range_with_len 0 (length i.units))
+line_units_range i line = from_range line 0 (is_online_at i line) i.units (λ k below. ap (is_online_at i line) (zero-add k))

@@ -101,7 +101,7 @@ kept_at p a (suc n) u j h = kept_case p a n u j (p a) refl h (λ i there. kept_a
 -- ---- the bits of a number
 
 -- how long a list is with one more number or without
-length_kept : (b : Bool) (x : ℕ) → length (cond b (x ∷ []) []) ≡ cond b 1 0
+pub length_kept : (b : Bool) (x : ℕ) → length (cond b (x ∷ []) []) ≡ cond b 1 0
 length_kept true x = refl
 length_kept false x = refl
 

@@ -1,6 +1,6 @@
 -- Lemmas on the words of Accepted.
-use Rattle.std.proofs.Common.{None, ap, arith, get_or, inl, inr, lit<, refl, subst, sym, true, ℕ, ◌*◌, ◌==◌, ◌^◌, ◌∙◌, ◌≡◌, ◌≤◌}
-use Rattle.std.proofs.Math.Nat.{mul-le-mul_right, pow-le-pow_right}
+use Rattle.std.proofs.Common.{None, ap, arith, get_or, inl, inr, lit<, refl, subst, sym, true, ℕ, ◌*◌, ◌==◌, ◌^◌, ◌∙◌, ◌≡◌, ◌≤◌, mul-pos, ◌<◌}
+use Rattle.std.proofs.Math.Nat.{mul-le-mul_right, pow-le-pow_right, le-mul_of_pos_right, mul_assoc, mul_comm}
 use Rattle.std.proofs.lemmas.Bool.{eq-eqb, eqb-true, le-leb, lt-ltb}
 use Rattle.std.proofs.lemmas.List.Folds.{Any-from_list_any, list_any_at}
 use Rattle.std.proofs.lemmas.List.FromFn.{get_or-range_with_len}
@@ -61,3 +61,21 @@ line_is_short s g accepted few =
 
 pub sector_within : (s : Shape) → IsAccepted s → s.sector ≤ 4096
 sector_within s accepted = elim accepted.target.sector [ inl e ↦ omega arith | inr e ↦ omega arith ]
+
+-- the blocks of a drive that is accepted, and those of one of its units
+pub all_blocks : (s : Shape) → IsAccepted s → units s * s.chunks * s.clba ≤ 268435456
+all_blocks s accepted = elim accepted.target.sector [
+  | inl e ↦ let size : units s * s.chunks * s.clba * 512 ≤ 268435456 = subst (λ n. units s * s.chunks * s.clba * n ≤ 268435456) e accepted.target.size in
+      omega arith
+  | inr e ↦ let size : units s * s.chunks * s.clba * 4096 ≤ 268435456 = subst (λ n. units s * s.chunks * s.clba * n ≤ 268435456) e accepted.target.size in
+      omega arith
+]
+
+pub unit_few : (s : Shape) → IsAccepted s → s.chunks * s.clba ≤ 268435456
+unit_few s accepted =
+    let all : units s * s.chunks * s.clba ≤ 268435456 = all_blocks s accepted in
+    let some : 0 < units s = mul-pos accepted.drive.groups accepted.drive.pus in
+    let one : s.chunks * s.clba ≤ s.chunks * s.clba * units s = le-mul_of_pos_right (s.chunks * s.clba) some in
+    let same : s.chunks * s.clba * units s ≡ units s * (s.chunks * s.clba) = mul_comm (s.chunks * s.clba) (units s) in
+    let product : units s * (s.chunks * s.clba) ≡ units s * s.chunks * s.clba = sym (mul_assoc (units s) s.chunks s.clba) in
+    omega arith

@@ -28,3 +28,4 @@ pub mod BlocksLemmas
 pub mod ImageLemmas
 pub mod UnitLogLemmas
 pub mod LineOrderLemmas
+pub mod TableLemmas

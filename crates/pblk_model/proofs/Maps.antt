@@ -1,15 +1,15 @@
 -- What is made of lists: maps, filters, numbered elements, searches.
-use Rattle.std.proofs.Common.{Bool, List, None, Option, Some, [], add-zero, ap, ap₂, arith, cond, drop, false, length, length-append, map, refl, replicate, slice_get, suc, sym, take, true, zero, ℕ, ◌&&◌, ◌*◌, ◌++◌, ◌+◌, ◌<◌, ◌||◌, ◌∙◌, ◌∷◌, ◌≡◌, ◌≢◌, ◌≤◌}
+use Rattle.std.proofs.Common.{Bool, List, None, Option, Some, [], add-zero, ap, ap₂, arith, cond, drop, false, length, length-append, map, refl, replicate, slice_get, suc, sym, take, true, zero, ℕ, ◌&&◌, ◌*◌, ◌++◌, ◌+◌, ◌<◌, ◌||◌, ◌∙◌, ◌∷◌, ◌≡◌, ◌≢◌, ◌≤◌, inl, inr, subst, ◌⊎◌}
 use Rattle.std.proofs.Math.Nat.{mul-add}
-use Rattle.std.proofs.lemmas.List.{map-id}
+use Rattle.std.proofs.lemmas.List.{map-id, take_all}
 use Rattle.std.proofs.lemmas.List.Elements.{filter_map-append}
 use Rattle.std.proofs.lemmas.List.FromFn.{map-range_with_len_more, sum_by-map-range_with_len_more}
 use Rattle.std.proofs.lemmas.List.Sums.{sum_by-cons}
 use Rattle.std.proofs.lemmas.Option.{none-some, same_Some}
-use Rattle.std.specs.List.{AllByRecursion, cons_option, enumerate_from, filter, filter_map, find, flat_map, list_all, list_any, range_with_len, sum_by}
+use Rattle.std.specs.List.{AllByRecursion, cons_option, enumerate_from, filter, filter_map, find, flat_map, list_all, list_any, range_with_len, sum_by, Contains}
 use Rattle.std.specs.Option.{IfSome, option_map, option_to_list}
 use Rattle.std.specs.Prelude.{is_some, slice_set}
-use Rattle.pblk_model.proofs.Lists.{IsAmong, all_append, later}
+use Rattle.pblk_model.proofs.Lists.{IsAmong, all_append, later, contains_cases, contains_first, contains_more, contains_none}
 
 pub map_agree : {X Y : Type 0} (P : X → Type 0) (f g : X → Y) → ((x : X) → P x → f x ≡ g x) → (xs : List X) → AllByRecursion P xs → map f xs ≡ map g xs
 map_agree P f g same [] all = refl
@@ -423,3 +423,69 @@ pub from_given : {X Y : Type 0} (give : X → Option Y) (xs : List X) (y : Y) (i
     → (x : X) × IsAmong xs x × (give x ≡ Some y)
 from_given give [] y i e = absurd cc
 from_given give (x ∷ xs) y i e = from_first give x xs y (give x) i refl (from_given give xs y) e
+
+-- what holds of the images of all
+pub all_unmap : {X Y : Type 0} (P : Y → Type 0) (f : X → Y) (xs : List X) → AllByRecursion P (map f xs) → AllByRecursion (λ x. P (f x)) xs
+all_unmap P f [] h = tt
+all_unmap P f (x ∷ xs) h = (h.0, all_unmap P f xs h.1)
+
+-- the sum of the first elements, and of one more
+sum_take_at : {X : Type 0} (g : X → ℕ) (xs : List X) (i : ℕ) (x : X) → slice_get xs i ≡ Some x → sum_by g (take (suc i) xs) ≡ sum_by g (take i xs) + g x
+sum_take_at g [] i x is = absurd (none-some x is)
+sum_take_at g (y ∷ xs) zero x is =
+    let same : g y ≡ g x = ap g (same_Some y x is) in
+    let one : sum_by g (y ∷ []) ≡ g y + sum_by g [] = sum_by-cons g y [] in
+    let none : sum_by g [] ≡ 0 = refl in
+    let start : sum_by g (take zero (y ∷ xs)) ≡ 0 = refl in
+    let first : sum_by g (take (suc zero) (y ∷ xs)) ≡ sum_by g (y ∷ []) = refl in
+    omega arith
+sum_take_at g (y ∷ xs) (suc i) x is =
+    let rest : sum_by g (take (suc i) xs) ≡ sum_by g (take i xs) + g x = sum_take_at g xs i x is in
+    let all : sum_by g (take (suc (suc i)) (y ∷ xs)) ≡ g y + sum_by g (take (suc i) xs) = sum_by-cons g y (take (suc i) xs) in
+    let part : sum_by g (take (suc i) (y ∷ xs)) ≡ g y + sum_by g (take i xs) = sum_by-cons g y (take i xs) in
+    omega arith
+
+pub sum_take : {X : Type 0} (g : X → ℕ) (xs : List X) (i : ℕ) (x : X) → slice_get xs i ≡ Some x → sum_by g (take (i + 1) xs) ≡ sum_by g (take i xs) + g x
+sum_take g xs i x is =
+    let next : i + 1 ≡ suc i = omega arith in
+    ap (λ n. sum_by g (take n xs)) next ∙ sum_take_at g xs i x is
+
+-- the pieces of all elements
+pub pieces_all : {X : Type 0} (f : X → List ℕ) (xs : List X) (i : ℕ) (base now : List ℕ) → length xs ≤ i → now ≡ base ++ flat_map f (take i xs)
+    → now ≡ base ++ flat_map f xs
+pieces_all f xs i base now le now-is = now-is ∙ ap (λ ys. base ++ flat_map f ys) (take_all i xs le)
+
+-- what is in a filtered list
+pub filtered_from : {X : Type 0} (f : X → Bool) (xs : List X) (r : X) → Contains (filter f xs) r → Contains xs r × (f r ≡ true)
+filtered_from f [] r there = absurd (contains_none r there)
+filtered_from {X} f (x ∷ xs) r there = by (f x) refl there (λ h. filtered_from f xs r h)
+  where
+    by : (b : Bool) → f x ≡ b → Contains (cond b (x ∷ filter f xs) (filter f xs)) r → (Contains (filter f xs) r → Contains xs r × (f r ≡ true))
+        → Contains (x ∷ xs) r × (f r ≡ true)
+    by true e h rest = elim (contains_cases x r (filter f xs) h) [
+      | inl same ↦ (subst (Contains (x ∷ xs)) same (contains_first x xs), ap f (sym same) ∙ e)
+      | inr later ↦ (contains_more x r xs (rest later).0, (rest later).1)
+    ]
+    by false e h rest = (contains_more x r xs (rest h).0, (rest h).1)
+
+pub filtered_into : {X : Type 0} (f : X → Bool) (xs : List X) (r : X) → Contains xs r → f r ≡ true → Contains (filter f xs) r
+filtered_into f [] r there is = absurd (contains_none r there)
+filtered_into {X} f (x ∷ xs) r there is = by (f x) refl (contains_cases x r xs there) (λ h. filtered_into f xs r h is)
+  where
+    by : (b : Bool) → f x ≡ b → (x ≡ r) ⊎ Contains xs r → (Contains xs r → Contains (filter f xs) r)
+        → Contains (cond b (x ∷ filter f xs) (filter f xs)) r
+    by true e (inl same) rest = subst (Contains (x ∷ filter f xs)) same (contains_first x (filter f xs))
+    by true e (inr later) rest = contains_more x r (filter f xs) (rest later)
+    by false e (inl same) rest = let no : f x ≡ true = ap f same ∙ is in absurd (cc)
+    by false e (inr later) rest = rest later
+
+-- what is made of one number more
+made_more : {X Y : Type 0} (f : X → Option Y) (xs : List X) (x : X) → filter_map f (xs ++ x ∷ []) ≡ filter_map f xs ++ cons_option (f x) []
+made_more f [] x = refl
+made_more f (y ∷ xs) x = by_first (f y) (filter_map f xs) (cons_option (f x) []) (filter_map f (xs ++ x ∷ [])) (made_more f xs x) where
+  by_first : {Y : Type 0} (o : Option Y) (front rest all : List Y) → all ≡ front ++ rest → cons_option o all ≡ cons_option o front ++ rest
+  by_first None front rest all is = is
+  by_first (Some y) front rest all is = ap (λ ys. y ∷ ys) is
+
+pub made_last : {Y : Type 0} (f : ℕ → Option Y) (n : ℕ) → filter_map f (range_with_len 0 (n + 1)) ≡ filter_map f (range_with_len 0 n) ++ cons_option (f n) []
+made_last f n = ap (filter_map f) (range_from_0 n) ∙ made_more f (range_with_len 0 n) n

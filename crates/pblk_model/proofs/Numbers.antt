@@ -47,3 +47,13 @@ few_blocks u k b s chunks sector size =
 pub sector_is_long : (s : ℕ) → (s ≡ 512) ⊎ (s ≡ 4096) → 512 ≤ s
 sector_is_long s (inl e) = omega arith
 sector_is_long s (inr e) = omega arith
+
+-- the blocks of one chunk more
+pub blocks_more : (count n clba blocks one : ℕ) → n < count → blocks ≤ n * clba → one ≤ clba → blocks + one ≤ count * clba
+blocks_more count n clba blocks one within before here =
+    let next : n + 1 ≤ count = omega arith in
+    let all : (n + 1) * clba ≤ count * clba = mul-le-mul_right clba next in
+    omega arith
+
+pub not_less : (a b : ℕ) → (a < b → ⊥) → b ≤ a
+not_less a b h = elim (cases_lt a b) [ inl less ↦ absurd (h less) | inr most ↦ most ]

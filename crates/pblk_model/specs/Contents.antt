@@ -21,6 +21,10 @@ pub record IsHead (i : Image) (line : ℕ) (h : StartRecord) : Type 0 where
   pub greatest : (other : ℕ) (r : StartRecord) → other < i.shape.chunks → start_of i other ≡ Some r
       → (r.seq < h.seq) ⊎ ((r.seq ≡ h.seq) × (line ≤ other))
 
+-- that of the latest of the first lines, so many
+unfoldable pub head_to : Image → ℕ → Option StartRecord
+head_to i n = fold later_start None (filter_map (start_of i) (range_with_len 0 n))
+
 abbrev pub head : Image → Option StartRecord
 head i = fold later_start None (filter_map (start_of i) (range_with_len 0 i.shape.chunks))
 

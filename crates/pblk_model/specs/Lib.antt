@@ -27,3 +27,4 @@ pub mod ScriptText
 pub mod Text
 pub mod Transcript
 pub mod CommandText
+pub mod Tables

@@ -1,8 +1,8 @@
 -- The words of the records, put one after the other.
-use Rattle.std.proofs.Common.{◌≡◌, ℕ, ◌+◌, ◌*◌, ◌<◌, ◌≤◌, List, [], ◌∷◌, ◌++◌, length, take, get_or, refl, sym, ap, ◌∙◌, append_assoc}
+use Rattle.std.proofs.Common.{◌≡◌, ℕ, ◌+◌, ◌*◌, ◌<◌, List, [], ◌∷◌, ◌++◌, length, take, get_or, refl, sym, ap, ◌∙◌, append_assoc}
 use Rattle.std.specs.List.{flat_map}
 use Rattle.std.specs.Prelude.{Result, Ok, Err, OnOk, is_ok, if◌then◌else◌}
-use Rattle.std.proofs.lemmas.List.{take_all, take_more, flat_map_more}
+use Rattle.std.proofs.lemmas.List.{take_more, flat_map_more}
 use Rattle.pblk_model.specs.declared.chunk.Mark.{Mark}
 use Rattle.pblk_model.specs.declared.shape.Shape.{Shape}
 use Rattle.pblk_model.specs.Bytes.{le16, le32, le64, zeros, padded_to}
@@ -17,11 +17,6 @@ pub piece_more : {X : Type 0} (f : X → List ℕ) (xs : List X) (i : ℕ) (d : 
 piece_more f xs i d base front now lt now-is front-is =
     now-is ∙ ap (λ ys. ys ++ f (get_or xs i d)) front-is ∙ flat_map_more f base (take i xs) (get_or xs i d)
     ∙ ap (λ ys. base ++ flat_map f ys) (sym (take_more xs i d lt))
-
--- and all of them
-pub pieces_all : {X : Type 0} (f : X → List ℕ) (xs : List X) (i : ℕ) (base now : List ℕ) → length xs ≤ i → now ≡ base ++ flat_map f (take i xs)
-    → now ≡ base ++ flat_map f xs
-pieces_all f xs i base now le now-is = now-is ∙ ap (λ ys. base ++ flat_map f ys) (take_all i xs le)
 
 two_pieces : (a b base mid now : List ℕ) → mid ≡ base ++ a → now ≡ mid ++ b → now ≡ base ++ (a ++ b)
 two_pieces a b base mid now mid-is now-is = now-is ∙ ap (λ xs. xs ++ b) mid-is ∙ append_assoc base a b

@@ -2,7 +2,7 @@
 use Rattle.std.proofs.Common.{List, None, Option, Some, ap, false, if◌then◌else◌, length, nat_lt, not, refl, sym, true, ℕ, ◌&&◌, ◌==◌, ◌∙◌, ◌≡◌}
 use Rattle.pblk_model.proofs.Maps.{numbered_length}
 use Rattle.pblk_model.specs.Chunk.{Chunk, free_chunk, offline_chunk, pointer}
-use Rattle.pblk_model.specs.ChunkStep.{after_reset, reset_in}
+use Rattle.pblk_model.specs.ChunkStep.{after_reset, reset_in, ChunkAnswer, Reset}
 use Rattle.pblk_model.specs.Found.{IsUsed}
 use Rattle.pblk_model.specs.Image.{Image}
 use Rattle.pblk_model.specs.declared.chunk.ChunkState.{ChunkState}
@@ -12,6 +12,8 @@ use Rattle.pblk_world.specs.EngineLog.{AsFound, Begun, Freed, LineLife, Opened, 
 use Rattle.pblk_world.specs.Lines.{are_empty, found_by, found_image, has_number, is_empty_state, is_free_line, is_given_up_by, known_image, line_data}
 use Rattle.pblk_world.specs.World.{Logs, cut_logs}
 use Rattle.pblk_model.specs.declared.chunk.ChunkState.TheVariants as states
+use Rattle.pblk_model.specs.UnitLog.{UnitOutcome, Answered, Failed, Stopped, after_outcome}
+use Rattle.pblk_world.specs.Answering.{IsDoneReset}
 
 pub free_unopened : (i : Image) (logs : Logs) (line : ℕ) → is_free_line i logs line ≡ true → is_opened (life_of (logs 0) line) ≡ false
 free_unopened i logs line free = go (life_of (logs 0) line) refl
@@ -48,3 +50,10 @@ reset_empty s c = go c.state (pointer c)
     go states.Open wp = refl
     go states.Closed wp = elim (wp == s.clba) as (λ b. is_empty_state (if b then free_chunk else offline_chunk).state ≡ true) [ true ↦ refl | false ↦ refl ]
     go states.Offline wp = refl
+
+-- a reset that wasn't stopped leaves a chunk Free or Offline
+pub reset_empties : (s : Shape) (c : Chunk) (o : UnitOutcome) → IsDoneReset o → is_empty_state (after_outcome s c Reset o).state ≡ true
+reset_empties s c (Answered answer) done = ap (λ (a : ChunkAnswer). is_empty_state (after_outcome s c Reset (Answered a)).state) done
+    ∙ reset_empty s c
+reset_empties s c (Failed k) done = refl
+reset_empties s c (Stopped k) done = absurd done

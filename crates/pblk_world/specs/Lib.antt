@@ -14,6 +14,7 @@ pub mod Answering
 pub mod Freeing
 pub mod Legal
 pub mod Seen
+pub mod Tidy
 pub mod Space
 pub mod Victims
 pub mod AtRest

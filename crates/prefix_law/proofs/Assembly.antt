@@ -1,5 +1,5 @@
 -- What an image holds that is assembled from entries, and where its end is.
-use Rattle.std.proofs.Common.{◌≡◌, ℕ, ◌+◌, ◌-◌, ◌<◌, ◌≤◌, ◌⊎◌, ◌&&◌, nat_lt, nat_le, Bool, true, false, cond, Some, None, Option, List, [], ◌∷◌, length, refl, sym, subst, ap, ap₂, ◌∙◌, arith, inl, inr}
+use Rattle.std.proofs.Common.{◌≡◌, ℕ, ◌+◌, ◌-◌, ◌<◌, ◌≤◌, ◌⊎◌, ◌&&◌, nat_lt, nat_le, true, false, Some, None, Option, List, length, refl, sym, subst, ap, ap₂, ◌∙◌, arith, inl, inr}
 use Rattle.std.specs.List.{Contains, filter}
 use Rattle.std.specs.Option.{option_map_or}
 use Rattle.std.proofs.lemmas.Bool.{cases_order, ltb-true}
@@ -12,33 +12,8 @@ use Rattle.pblk_model.specs.Image.{Image}
 use Rattle.pblk_laws.proofs.Ends.{end_is_end}
 use Rattle.pblk_laws.proofs.Winners.{winner_is_winner, winner_is_only, no_winner_no_record, no_winner}
 use Rattle.prefix_law.specs.Assembled.{Given, Entries, IsEntry, IsEntryOf, IsLastOf, by_row, CountsOld, HoldsUnder, IsAssembled}
-use Rattle.pblk_model.proofs.Lists.{contains_cases, contains_first, contains_more, contains_none}
 use Rattle.pblk_model.proofs.Tests.{both, either, le_true as true_le, lt_true as true_lt, or_left, or_right, within_is}
-
--- ---- what is in a filtered list
-
-pub filtered_from : {X : Type 0} (f : X → Bool) (xs : List X) (r : X) → Contains (filter f xs) r → Contains xs r × (f r ≡ true)
-filtered_from f [] r there = absurd (contains_none r there)
-filtered_from {X} f (x ∷ xs) r there = by (f x) refl there (λ h. filtered_from f xs r h)
-  where
-    by : (b : Bool) → f x ≡ b → Contains (cond b (x ∷ filter f xs) (filter f xs)) r → (Contains (filter f xs) r → Contains xs r × (f r ≡ true))
-        → Contains (x ∷ xs) r × (f r ≡ true)
-    by true e h rest = elim (contains_cases x r (filter f xs) h) [
-      | inl same ↦ (subst (Contains (x ∷ xs)) same (contains_first x xs), ap f (sym same) ∙ e)
-      | inr later ↦ (contains_more x r xs (rest later).0, (rest later).1)
-    ]
-    by false e h rest = (contains_more x r xs (rest h).0, (rest h).1)
-
-pub filtered_into : {X : Type 0} (f : X → Bool) (xs : List X) (r : X) → Contains xs r → f r ≡ true → Contains (filter f xs) r
-filtered_into f [] r there is = absurd (contains_none r there)
-filtered_into {X} f (x ∷ xs) r there is = by (f x) refl (contains_cases x r xs there) (λ h. filtered_into f xs r h is)
-  where
-    by : (b : Bool) → f x ≡ b → (x ≡ r) ⊎ Contains xs r → (Contains xs r → Contains (filter f xs) r)
-        → Contains (cond b (x ∷ filter f xs) (filter f xs)) r
-    by true e (inl same) rest = subst (Contains (x ∷ filter f xs)) same (contains_first x (filter f xs))
-    by true e (inr later) rest = contains_more x r (filter f xs) (rest later)
-    by false e (inl same) rest = let no : f x ≡ true = ap f same ∙ is in absurd (cc)
-    by false e (inr later) rest = rest later
+use Rattle.pblk_model.proofs.Maps.{filtered_from, filtered_into}
 
 -- ---- what counts
 

@@ -17,10 +17,10 @@ use Rattle.pblk_laws.proofs.Starts.{numbers, found_is}
 use Rattle.prefix_law.specs.Assembled.{by_row}
 use Rattle.prefix_law.specs.AfterMount.{start_row, start_rows}
 use Rattle.prefix_law.proofs.Among.{made_into, made_from}
-use Rattle.prefix_law.proofs.Assembly.{filtered_from, filtered_into, CountsBy, counts_by, counts_young, counts_row}
+use Rattle.prefix_law.proofs.Assembly.{CountsBy, counts_by, counts_young, counts_row}
 use Rattle.prefix_law.proofs.RecordLines.{range_is, IsAt, record_is_at}
 use Rattle.pblk_model.proofs.Lists.{IsAmong, contains_none, later}
-use Rattle.pblk_model.proofs.Maps.{any_found, any_member, found_passes, range_get}
+use Rattle.pblk_model.proofs.Maps.{any_found, any_member, found_passes, range_get, filtered_from, filtered_into}
 use Rattle.pblk_model.proofs.Options.{some_value}
 use Rattle.pblk_model.proofs.Tests.{and_both, both, le_true, lt_true, same_number}
 

@@ -14,10 +14,10 @@ use Rattle.pblk_laws.proofs.Ends.{end_is_end, end_is_only}
 use Rattle.pblk_laws.proofs.Heads.{head_is_head, head_is_only, no_head_no_start}
 use Rattle.pblk_laws.proofs.Winners.{winner_is_winner, winner_is_only, no_winner_no_record, no_winner}
 use Rattle.pblk_model.proofs.Lists.{among_contained, contains_none}
-use Rattle.pblk_model.proofs.Maps.{map_same}
+use Rattle.pblk_model.proofs.Maps.{map_same, filtered_from, filtered_into}
 use Rattle.pblk_model.proofs.Parts.{contained_among}
 use Rattle.prefix_law.specs.AfterMount.{IsOldLine, IsReduced}
-use Rattle.prefix_law.proofs.Assembly.{filtered_from, filtered_into, counts_young}
+use Rattle.prefix_law.proofs.Assembly.{counts_young}
 use Rattle.prefix_law.proofs.RecordLines.{IsAt, record_is_at, of_line}
 
 -- a record of an old line is one that was found

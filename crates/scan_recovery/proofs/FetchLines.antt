@@ -1,5 +1,5 @@
 -- The blocks of a line, one after another.
-use Rattle.std.proofs.Common.{◌≡◌, ℕ, ◌+◌, ◌*◌, ◌<◌, ◌≤◌, List, [], ◌∷◌, ◌++◌, length, map, Option, Some, sym, ap, ◌∙◌, subst, arith}
+use Rattle.std.proofs.Common.{◌≡◌, ℕ, ◌+◌, ◌-◌, ◌*◌, ◌<◌, ◌≤◌, List, [], ◌∷◌, ◌++◌, length, map, Option, Some, sym, ap, ◌∙◌, subst, arith}
 use Rattle.std.specs.List.{AllByRecursion, range_with_len, slice_get}
 use Rattle.std.proofs.lemmas.List.{length-map}
 use Rattle.std.proofs.lemmas.List.FromFn.{map-range_with_len_more}
@@ -11,12 +11,11 @@ use Rattle.pblk_model.specs.LineOrder.{line_order, column_of, block_of}
 use Rattle.pblk_model.specs.Image.{Image, line_units, width, block_at}
 use Rattle.pblk_layout.specs.Online.{units_in}
 use Rattle.pblk_laws.specs.LineBlocks.{written_at}
-use Rattle.pblk_laws.proofs.LineUnits.{block_named, line_units_count}
+use Rattle.pblk_laws.proofs.LineUnits.{block_named, line_units_count, is_online_at, line_units_range}
 use Rattle.pblk_laws.proofs.Widths.{width_within}
 use Rattle.unit_port.specs.Unit.{ModelUnit}
-use Rattle.scan_recovery.specs.Reading.{line_blocks}
+use Rattle.scan_recovery.specs.Reading.{blocks_at}
 use Rattle.scan_recovery.specs.Units.{image_of, AreFit}
-use Rattle.scan_recovery.proofs.LineStates.{is_on, line_units_range}
 use Rattle.scan_recovery.proofs.PadLoops.{fit_image}
 use Rattle.pblk_model.proofs.Maps.{all_filter, all_in_range}
 use Rattle.pblk_model.proofs.Options.{mapped_some}
@@ -52,7 +51,7 @@ unit_placed s us line at online place accepted fit is inside there =
     let count : length i.units ≡ length us = length-map us (λ (u : ModelUnit). u.media) in
     let all : AllByRecursion (λ u. u < length us) online =
     subst (AllByRecursion (λ u. u < length us)) (sym (is ∙ line_units_range i line))
-    (all_filter (λ u. u < length us) (is_on i line) (range_with_len 0 (length i.units)) (all_in_range 0 (length i.units) (length us) (omega arith))) in
+    (all_filter (λ u. u < length us) (is_online_at i line) (range_with_len 0 (length i.units)) (all_in_range 0 (length i.units) (length us) (omega arith))) in
     let named = mapped_some (slice_get online (column_of s (length online) at)) (block_of s (length online) at) place.0 place.1
     (sym (order_block s online at accepted.drive.ws_opt accepted.drive.whole_stripes inside) ∙ there) in
     all_get (λ u. u < length us) online (column_of s (length online) at) place.0 all named.0
@@ -62,15 +61,18 @@ pub block_placed : (i : Image) (line at : ℕ) (online : List ℕ) (place : ℕ 
 block_placed i line at online place accepted is there =
     sym (block_named i line at place accepted.drive.ws_opt accepted.drive.whole_stripes (ap (λ us. slice_get (line_order i.shape us) at) (sym is) ∙ there))
 
-pub blocks_more : (i : Image) (line at : ℕ) (front now : List (Option Block)) (o : Option Block) → now ≡ front ++ o ∷ [] → o ≡ block_at i line at
-    → front ≡ map (block_at i line) (range_with_len 0 at) → now ≡ map (block_at i line) (range_with_len 0 (at + 1))
-blocks_more i line at front now o now-is o-is front-is =
-    now-is ∙ ap (λ xs. xs ++ o ∷ []) front-is ∙ ap (λ x. map (block_at i line) (range_with_len 0 at) ++ x ∷ []) o-is
-    ∙ sym (map-range_with_len_more (block_at i line) 0 at at (omega arith))
+-- One block more.
 
-pub blocks_all : (i : Image) (line at : ℕ) (online : List ℕ) (now : List (Option Block)) → online ≡ line_units i line → at ≡ length online * i.shape.clba
-    → now ≡ map (block_at i line) (range_with_len 0 at) → now ≡ line_blocks i line
-unfolding line_blocks
-blocks_all i line at online now is at-is now-is =
-    let count : length online ≡ width i line = ap length is ∙ line_units_count i line in
-    now-is ∙ ap (λ n. map (block_at i line) (range_with_len 0 n)) (at-is ∙ ap (λ g. g * i.shape.clba) count)
+pub blocks_none : (i : Image) (line from : ℕ) → blocks_at i line from (from - from) ≡ []
+unfolding blocks_at
+blocks_none i line from = let none : from - from ≡ 0 = omega arith in ap (λ n. map (block_at i line) (range_with_len from n)) none
+
+pub blocks_more : (i : Image) (line from at : ℕ) (front now : List (Option Block)) (o : Option Block) → from ≤ at → now ≡ front ++ o ∷ []
+    → o ≡ block_at i line at → front ≡ blocks_at i line from (at - from) → now ≡ blocks_at i line from (at + 1 - from)
+unfolding blocks_at
+blocks_more i line from at front now o inside now-is o-is front-is =
+    let more : at + 1 - from ≡ (at - from) + 1 = omega arith in
+    let last : from + (at - from) ≡ at = omega arith in
+    now-is ∙ ap (λ xs. xs ++ o ∷ []) front-is ∙ ap (λ x. map (block_at i line) (range_with_len from (at - from)) ++ x ∷ []) o-is
+    ∙ sym (map-range_with_len_more (block_at i line) from (at - from) at last)
+    ∙ sym (ap (λ n. map (block_at i line) (range_with_len from n)) more)

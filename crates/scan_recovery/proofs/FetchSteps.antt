@@ -1,22 +1,21 @@
 -- Fetches leave the chunks as they were, and give the blocks.
-use Rattle.std.proofs.Common.{◌≡◌, ◌≢◌, ℕ, ◌-◌, ◌^◌, ◌<◌, ◌≤◌, min, inl, true, false, cond, List, [], ◌∷◌, ◌++◌, length, map, Option, Some, None, Result, Ok, Err, refl, sym, ap, ◌∙◌, subst, arith, append_assoc}
-use Rattle.std.specs.List.{AllByRecursion, slice_get, slice_set}
+use Rattle.std.proofs.Common.{◌≡◌, ℕ, ◌+◌, ◌-◌, ◌*◌, ◌^◌, ◌<◌, ◌≤◌, ◌==◌, nat_lt, zero, suc, min, inl, inr, Bool, true, false, cond, List, [], ◌∷◌, ◌++◌, length, map, Option, Some, None, Result, Ok, Err, refl, sym, ap, ◌∙◌, subst, arith, add-zero, append_assoc, length-append}
+use Rattle.std.specs.List.{AllByRecursion, cons_option, filter, filter_map, range_with_len, slice_get, slice_set}
 use Rattle.std.specs.Option.{option_and_then, option_map, option_map_or}
 use Rattle.std.proofs.lemmas.List.{map-set}
 use Rattle.std.proofs.lemmas.Option.{same_Some, slice_get-map, slice_get_within, slice_get_past}
 use Rattle.std.proofs.lemmas.Grind.{fold-append}
-use Rattle.std.proofs.lemmas.Bool.{lt-ltb}
+use Rattle.std.proofs.lemmas.Bool.{cases_lt, cases_order, eq-eqb, le-ltb, lt-ltb, ne_eqb}
+use Rattle.std.proofs.lemmas.List.Elements.{filter-append}
 use Rattle.pblk_model.specs.declared.shape.Shape.{Shape}
 use Rattle.pblk_model.specs.declared.chunk.Mark.{Mark}
 use Rattle.pblk_model.specs.declared.chunk.Got.{Got}
 use Rattle.pblk_model.specs.declared.chunk.Got.TheVariants as got
-use Rattle.pblk_model.specs.declared.chunk.ChunkState.{ChunkState}
-use Rattle.pblk_model.specs.declared.chunk.ChunkState.TheVariants.{Free, Open, Closed, Offline}
 use Rattle.pblk_model.specs.declared.chunk.ChunkErr.TheVariants as chunk_errors
 use Rattle.pblk_model.specs.Chunk.{Chunk, Block, IsChunk, PointerFits, ReadableIn, pointer}
 use Rattle.pblk_model.specs.ChunkStep.{ChunkCommand, Read, Gave, Empty, refusal, read_refusal_in}
 use Rattle.pblk_model.specs.UnitLog.{UnitOutcome, UnitEvent, Answered, IsOutcome, after_outcome, after_event}
-use Rattle.pblk_model.specs.Image.{Image}
+use Rattle.pblk_model.specs.Image.{Image, block_at, width}
 use Rattle.pblk_laws.specs.LineBlocks.{chunk_in, written_at}
 use Rattle.unit_port.specs.Unit.{ModelUnit, TellsBlock}
 use Rattle.unit_port.specs.declared.unit.UnitErr.{UnitErr}
@@ -28,12 +27,14 @@ use Rattle.world_laws.specs.Finding.{NoneOpen}
 use Rattle.scan_recovery.specs.declared.error.ScanErr.{ScanErr}
 use Rattle.scan_recovery.specs.declared.error.ScanErr.TheVariants as errors
 use Rattle.scan_recovery.specs.Units.{image_of, AreFit}
-use Rattle.scan_recovery.specs.Fetches.{IsFetch, IsGood, FetchEnds, HasFetched, IsReadableAt}
+use Rattle.scan_recovery.specs.Fetches.{IsFetch, IsGood, FetchEnds, HasFetched, IsReadableAt, WereFewFetched, count_of, first_of, one_if, only_of, written_in, written_to}
 use Rattle.world_laws.proofs.ImageLines.{img}
 use Rattle.scan_recovery.proofs.PadSteps.{unit_at, chunk_of}
 use Rattle.pblk_model.proofs.Lists.{all_append}
-use Rattle.pblk_model.proofs.Parts.{all_get, get_set_same, set_same}
+use Rattle.pblk_model.proofs.Parts.{all_get, get_set_same, set_same, got_within}
 use Rattle.pblk_model.proofs.UnitLogLemmas.{read_leaves}
+use Rattle.pblk_model.proofs.ChunkLemmas.{closed_by_block}
+use Rattle.pblk_model.proofs.Maps.{made_last}
 
 -- An event that is a fetch.
 
@@ -56,13 +57,7 @@ image_same s us e b h is =
 
 -- A block that is written in a chunk that isn't Open can be read.
 
-not_empty : (state : ChunkState) (clba wp b : ℕ) → PointerFits state clba wp → b < wp → state ≢ Open → state ≡ Closed
-not_empty Free clba wp b fits below n = absurd (omega arith)
-not_empty Open clba wp b fits below n = absurd (n refl)
-not_empty Closed clba wp b fits below n = refl
-not_empty Offline clba wp b fits below n = absurd (omega arith)
-
-chunk_fits : (s : Shape) (us : List ModelUnit) (line unit : ℕ) (c : Chunk) → AreFit s us → chunk_in (image_of s us) line unit ≡ Some c → IsChunk s c
+pub chunk_fits : (s : Shape) (us : List ModelUnit) (line unit : ℕ) (c : Chunk) → AreFit s us → chunk_in (image_of s us) line unit ≡ Some c → IsChunk s c
 chunk_fits s us line unit c fit there =
     let w = unit_at s us line unit c there in
     let of = fit.each unit w.of w.there in
@@ -73,7 +68,7 @@ pub readable_here : (s : Shape) (us : List ModelUnit) (line unit block : ℕ) (c
 readable_here s us line unit block c fit none there below = record {
   found = c;
   there = there;
-  closed = not_empty c.state s.clba (pointer c) block (chunk_fits s us line unit c fit there).place below (none line unit c there);
+  closed = closed_by_block c.state s.clba (pointer c) block (chunk_fits s us line unit c fit there).place below (none line unit c there);
   written = below;
 }
 
@@ -226,3 +221,153 @@ told_sector before after r mark o is h = subst (λ (x : Result Got UnitErr). Tel
 
 pub told_empty : (before after : List ℕ) (r : Result Got UnitErr) (o : UnitOutcome) → r ≡ Ok got.Empty → TellsBlock before after r o → o ≡ Answered Empty
 told_empty before after r o is h = (subst (λ (x : Result Got UnitErr). TellsBlock before after x o) is h).0
+
+-- How many of a line.
+
+abbrev pub Few : Shape → List ModelUnit → List ModelUnit → Option ScanErr → (ℕ → ℕ) → Type 0
+Few = WereFewFetched
+
+pub few_none : (s : Shape) (us : List ModelUnit) (most : ℕ → ℕ) → Few s us us None most
+unfolding none_fetched
+few_none s us most = let n = none_fetched s us in (n.0, n.1, λ line. omega arith)
+
+pub few_more : (s : Shape) (old new : List ModelUnit) (o : Option ScanErr) (most more : ℕ → ℕ) → ((line : ℕ) → most line ≤ more line) → Few s old new o most
+    → Few s old new o more
+few_more s old new o most more up (events, h, few) = (events, h, λ line. (let a = few line in let b = up line in omega arith))
+
+pub few_memory : (s : Shape) (old new : List ModelUnit) (most : ℕ → ℕ) → Few s old new None most → Few s old new (Some errors.Memory) most
+unfolding no_memory
+few_memory s old new most (events, h, few) = let m = no_memory s old new (events, h) in (m.0, m.1, few)
+
+count_both : (line : ℕ) (xs ys : List EventAt) → count_of line (xs ++ ys) ≡ count_of line xs + count_of line ys
+count_both line xs ys = ap length (filter-append (λ (e : EventAt). e.event.chunk == line) xs ys)
+    ∙ length-append (filter (λ (e : EventAt). e.event.chunk == line) xs) (filter (λ (e : EventAt). e.event.chunk == line) ys)
+
+pub few_joined : (s : Shape) (a b c : List ModelUnit) (o : Option ScanErr) (most more all : ℕ → ℕ) → ((line : ℕ) → most line + more line ≤ all line)
+    → Few s a b None most → Few s b c o more → Few s a c o all
+unfolding fetched_joined
+few_joined s a b c o most more all up (xs, h, few) (ys, k, fewer) =
+    let j = fetched_joined s a b c o (xs, h) (ys, k) in
+    (j.0, j.1, λ line. (let x = few line in let y = fewer line in let z = up line in let both = count_both line xs ys in omega arith))
+
+one_of : (e : EventAt) (line other : ℕ) → e.event.chunk ≡ line → count_of other (e ∷ []) ≤ only_of line 1 other
+one_of e line other is = subst (λ l. count_of other (e ∷ []) ≤ only_of l 1 other) is (by (e.event.chunk == other)) where
+  by : (b : Bool) → length (cond b (e ∷ []) []) ≤ cond b 1 0
+  by true = omega arith
+  by false = omega arith
+
+pub good_few : (s : Shape) (us new : List ModelUnit) (line unit block : ℕ) (e : EventAt) → IsReadableAt (image_of s us) line unit block
+    → Did us (command_at unit line (Read block)) e new → failed_or_stopped e.event.outcome ≡ false → Few s us new None (only_of line 1)
+unfolding good_fetch
+good_few s us new line unit block e r did good =
+    let f = good_fetch s us new line unit block e r did good in
+    (f.0, f.1, λ other. one_of e line other (ap (λ (x : UnitCommand). x.chunk) did.command))
+
+pub lost_few : (s : Shape) (us new : List ModelUnit) (line unit block number : ℕ) (e : EventAt) (v : ModelUnit) → IsReadableAt (image_of s us) line unit block
+    → Did us (command_at unit line (Read block)) e new → failed_or_stopped e.event.outcome ≡ true
+    → slice_get new unit ≡ Some v → number ≡ min (length v.log) (2 ^ 64 - 1) → Few s us new (Some (errors.Drive unit number)) (only_of line 1)
+unfolding lost_fetch
+lost_few s us new line unit block number e v r did lost there number-is =
+    let f = lost_fetch s us new line unit block number e v r did lost there number-is in
+    (f.0, f.1, λ other. one_of e line other (ap (λ (x : UnitCommand). x.chunk) did.command))
+
+pub only_up : (line n m other : ℕ) → n ≤ m → only_of line n other ≤ only_of line m other
+only_up line n m other up = by (line == other) where
+  by : (b : Bool) → cond b n 0 ≤ cond b m 0
+  by true = up
+  by false = omega arith
+
+pub only_both : (line n m k other : ℕ) → n + m ≤ k → only_of line n other + only_of line m other ≤ only_of line k other
+only_both line n m k other up = by (line == other) where
+  by : (b : Bool) → cond b n 0 + cond b m 0 ≤ cond b k 0
+  by true = up
+  by false = omega arith
+
+first_at : (lines : ℕ) (most : ℕ → ℕ) (line : ℕ) → line < lines → first_of lines most line ≡ most line
+first_at lines most line below = ap (λ b. cond b (most line) 0) (lt-ltb line lines below)
+
+pub first_more : (n : ℕ) (most : ℕ → ℕ) (line : ℕ) → first_of n most line + only_of n (most n) line ≤ first_of (n + 1) most line
+first_more n most line = elim (cases_order line n) [
+  | inl same ↦
+      let a : first_of n most line ≡ 0 = ap (λ b. cond b (most line) 0) (le-ltb line n (omega arith)) in
+      let b : only_of n (most n) line ≡ most n = ap (λ b. cond b (most n) 0) (eq-eqb n line (sym same)) in
+      let c = first_at (n + 1) most line (omega arith) in
+      let d : most line ≡ most n = ap most same in
+      omega arith
+  | inr other ↦ elim other [
+    | inl less ↦
+        let a = first_at n most line less in
+        let b : only_of n (most n) line ≡ 0 = ap (λ b. cond b (most n) 0) (ne_eqb n line (λ e. omega arith)) in
+        let c = first_at (n + 1) most line (omega arith) in
+        omega arith
+    | inr more ↦
+        let a : first_of n most line ≡ 0 = ap (λ b. cond b (most line) 0) (le-ltb line n (omega arith)) in
+        let b : only_of n (most n) line ≡ 0 = ap (λ b. cond b (most n) 0) (ne_eqb n line (λ e. omega arith)) in
+        omega arith
+  ]
+]
+
+pub first_up : (n m : ℕ) (most : ℕ → ℕ) (line : ℕ) → n ≤ m → first_of n most line ≤ first_of m most line
+first_up n m most line up = elim (cases_lt line n) [
+  | inl below ↦ let a = first_at n most line below in let b = first_at m most line (omega arith) in omega arith
+  | inr past ↦ let a : first_of n most line ≡ 0 = ap (λ b. cond b (most line) 0) (le-ltb line n past) in omega arith
+]
+
+pub first_past : (n m : ℕ) (most : ℕ → ℕ) (line : ℕ) → n < m → first_of n most line + only_of n (most n) line ≤ first_of m most line
+first_past n m most line inside = let a = first_more n most line in let b = first_up (n + 1) m most line (omega arith) in omega arith
+
+pub first_most : (n : ℕ) (most : ℕ → ℕ) (line : ℕ) → first_of n most line ≤ most line
+first_most n most line = by (nat_lt line n) where
+  by : (b : Bool) → cond b (most line) 0 ≤ most line
+  by true = omega arith
+  by false = omega arith
+
+-- A block that can be read is one that is written.
+
+get_some : {X : Type 0} (xs : List X) (k : ℕ) → k < length xs → length (cons_option (slice_get xs k) []) ≡ 1
+get_some [] k h = absurd (omega arith)
+get_some (x ∷ xs) zero h = refl
+get_some (x ∷ xs) (suc k) h = get_some xs k (omega arith)
+
+pub readable_block : (i : Image) (line unit block : ℕ) → IsReadableAt i line unit block → (b : Block) × (written_at i line (unit, block) ≡ Some b)
+readable_block i line unit block r =
+    let b = got_within r.found.blocks block r.written in
+    (b.0, ap (λ o. option_and_then (λ c. slice_get c.blocks block) o) r.there ∙ b.1)
+
+pub readable_one : (i : Image) (line unit block : ℕ) → IsReadableAt i line unit block → one_if (written_at i line (unit, block)) ≡ 1
+readable_one i line unit block r =
+    ap (λ o. one_if (option_and_then (λ c. slice_get c.blocks block) o)) r.there ∙ get_some r.found.blocks block r.written
+
+-- How many blocks of a line are written.
+
+pub written_more : (i : Image) (line n : ℕ) → written_to i line (n + 1) ≡ written_to i line n + one_if (block_at i line n)
+written_more i line n = ap length (made_last (block_at i line) n)
+    ∙ length-append (filter_map (block_at i line) (range_with_len 0 n)) (cons_option (block_at i line n) [])
+
+pub written_up : (i : Image) (line n k : ℕ) → written_to i line n ≤ written_to i line (n + k)
+written_up i line n zero = let same : written_to i line (n + 0) ≡ written_to i line n = ap (written_to i line) (add-zero n) in omega arith
+written_up i line n (suc k) =
+    let next : n + suc k ≡ (n + k) + 1 = omega arith in
+    let more = ap (written_to i line) next ∙ written_more i line (n + k) in
+    let before = written_up i line n k in
+    omega arith
+
+-- a block more, whether it is written or not
+
+pub written_step : (i : Image) (line at : ℕ) (o : Option Block) → o ≡ block_at i line at → written_to i line at + one_if o ≤ written_to i line (at + 1)
+written_step i line at o is = let more = written_more i line at in let same = ap one_if is in omega arith
+
+pub written_all : (i : Image) (line at : ℕ) → at ≤ width i line * i.shape.clba → written_to i line at ≤ written_in i line
+written_all i line at inside =
+    let k : ℕ = width i line * i.shape.clba - at in
+    let parts : at + k ≡ width i line * i.shape.clba = omega arith in
+    let up = written_up i line at k in
+    let same = ap (written_to i line) parts in
+    omega arith
+
+pub written_last : (i : Image) (line at : ℕ) (o : Option Block) → o ≡ block_at i line at → at < width i line * i.shape.clba
+    → written_to i line at + one_if o ≤ written_in i line
+written_last i line at o is inside =
+    let step = written_step i line at o is in
+    let all = written_all i line (at + 1) (omega arith) in
+    omega arith

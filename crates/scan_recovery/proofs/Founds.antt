@@ -10,16 +10,18 @@ use Rattle.pblk_model.specs.declared.found.Winner.{Winner}
 use Rattle.pblk_model.specs.Image.{Image}
 use Rattle.pblk_model.specs.StartRecord.{StartRecord, start_of}
 use Rattle.pblk_model.specs.Records.{Record}
-use Rattle.pblk_model.specs.Contents.{is_borne, least_missing, end_after, counts, counted_after, is_newer, newer, newest, is_of, winner}
+use Rattle.pblk_model.specs.Contents.{is_borne, least_missing, end_after, is_newer, newer, newest, is_of, winner}
 use Rattle.pblk_laws.proofs.FilledLists.{range_split}
 use Rattle.pblk_world.specs.Lines.{are_empty, is_stray}
 use Rattle.world_laws.specs.Finding.{top_of, winner_with}
 use Rattle.scan_recovery.specs.declared.survey.SeenLine.{SeenLine}
 use Rattle.scan_recovery.specs.declared.trace.Trace.{Trace}
 use Rattle.scan_recovery.specs.Survey.{seen_line}
-use Rattle.scan_recovery.specs.Traces.{IsTable, bare, without_sector}
+use Rattle.scan_recovery.specs.Traces.{bare, without_sector}
 use Rattle.scan_recovery.proofs.Tallies.{row_there}
 use Rattle.pblk_model.proofs.StartRecordLemmas.{some_seq}
+use Rattle.pblk_model.specs.Tables.{IsTable}
+use Rattle.pblk_model.proofs.Maps.{made_last}
 
 abbrev pub thin : List Record → List Record
 thin rs = map without_sector rs
@@ -35,17 +37,13 @@ end_thin rs None = refl
 end_thin rs (Some h) = ap (λ f. least_missing f (length (thin rs)) h.front) (fun_ext (λ p. borne_thin rs h p))
     ∙ ap (λ n. least_missing (is_borne rs h) n h.front) (length-map rs without_sector)
 
-filter_thin : (p : Record → Bool) (rs : List Record) → ((r : Record) → p (without_sector r) ≡ p r) → filter p (thin rs) ≡ thin (filter p rs)
+pub filter_thin : (p : Record → Bool) (rs : List Record) → ((r : Record) → p (without_sector r) ≡ p r) → filter p (thin rs) ≡ thin (filter p rs)
 filter_thin p [] same = refl
 filter_thin p (r ∷ rs) same = ap (λ b. cond b (without_sector r ∷ filter p (thin rs)) (filter p (thin rs))) (same r)
     ∙ ap (λ xs. cond (p r) (without_sector r ∷ xs) xs) (filter_thin p rs same) ∙ by (p r) where
       by : (b : Bool) → cond b (without_sector r ∷ thin (filter p rs)) (thin (filter p rs)) ≡ thin (cond b (r ∷ filter p rs) (filter p rs))
       by true = refl
       by false = refl
-
-pub counted_thin : (rs : List Record) (o : Option StartRecord) → counted_after (thin rs) o ≡ thin (counted_after rs o)
-counted_thin rs None = refl
-counted_thin rs (Some h) = ap (λ p. filter (counts h p) (thin rs)) (end_thin rs (Some h)) ∙ filter_thin (counts h (end_after rs (Some h))) rs (λ r. refl)
 
 newer_thin : (o : Option Record) (r : Record) → newer (option_map without_sector o) (without_sector r) ≡ option_map without_sector (newer o r)
 newer_thin None r = refl
@@ -71,19 +69,6 @@ top_thin rs line = ap (fold (λ top r. max top (r.position + 1)) 0) (filter_thin
 
 -- Loops.
 
-one_first : {X : Type 0} (o : Option X) (xs ys now : List X) → now ≡ xs ++ ys → cons_option o now ≡ cons_option o xs ++ ys
-one_first None xs ys now e = e
-one_first (Some x) xs ys now e = ap (λ zs. x ∷ zs) e
-
-one_both : {X : Type 0} (f : ℕ → Option X) (ks : List ℕ) (k : ℕ) → filter_map f (ks ++ k ∷ []) ≡ filter_map f ks ++ cons_option (f k) []
-one_both f [] k = refl
-one_both f (j ∷ ks) k = one_first (f j) (filter_map f ks) (cons_option (f k) []) (filter_map f (ks ++ k ∷ [])) (one_both f ks k)
-
-pub filter_map_one : {X : Type 0} (f : ℕ → Option X) (n : ℕ)
-    → filter_map f (range_with_len 0 (n + 1)) ≡ filter_map f (range_with_len 0 n) ++ cons_option (f n) []
-filter_map_one f n = ap (filter_map f) (range_split 0 n 1) ∙ one_both f (range_with_len 0 n) (0 + n)
-    ∙ ap (λ k. filter_map f (range_with_len 0 n) ++ cons_option (f k) []) (zero-add n)
-
 pub filter_range_one : (p : ℕ → Bool) (n : ℕ) → filter p (range_with_len 0 (n + 1)) ≡ filter p (range_with_len 0 n) ++ cond (p n) (n ∷ []) []
 filter_range_one p n = ap (filter p) (range_split 0 n 1) ∙ filter-append p (range_with_len 0 n) ((0 + n) ∷ [])
     ∙ ap (λ k. filter p (range_with_len 0 n) ++ cond (p k) (k ∷ []) []) (zero-add n)
@@ -95,7 +80,7 @@ pub won : (f : ℕ → Option Record) (best : List (Option Trace)) (k : ℕ) (d 
 won f best k d t front now table inside is now-is front-is =
     let here : f k ≡ Some (bare t) = sym (row_there (length best) f (option_map bare) best k d table inside) ∙ ap (option_map bare) is in
     now-is ∙ ap (λ ws. ws ++ winner_with k (bare t) ∷ []) front-is
-    ∙ sym (filter_map_one (λ lba. option_map (winner_with lba) (f lba)) k
+    ∙ sym (made_last (λ lba. option_map (winner_with lba) (f lba)) k
     ∙ ap (λ o. filter_map (λ lba. option_map (winner_with lba) (f lba)) (range_with_len 0 k) ++ cons_option (option_map (winner_with k) o) []) here)
 
 pub unwon : (f : ℕ → Option Record) (best : List (Option Trace)) (k : ℕ) (d : Option Trace) (front : List Winner)
@@ -104,7 +89,7 @@ pub unwon : (f : ℕ → Option Record) (best : List (Option Trace)) (k : ℕ) (
     → front ≡ filter_map (λ lba. option_map (winner_with lba) (f lba)) (range_with_len 0 (k + 1))
 unwon f best k d front table inside is front-is =
     let here : f k ≡ None = sym (row_there (length best) f (option_map bare) best k d table inside) ∙ ap (option_map bare) is in
-    front-is ∙ sym (filter_map_one (λ lba. option_map (winner_with lba) (f lba)) k
+    front-is ∙ sym (made_last (λ lba. option_map (winner_with lba) (f lba)) k
     ∙ ap (λ o. filter_map (λ lba. option_map (winner_with lba) (f lba)) (range_with_len 0 k) ++ cons_option (option_map (winner_with k) o) []) here
     ∙ append-nil (filter_map (λ lba. option_map (winner_with lba) (f lba)) (range_with_len 0 k)))
 

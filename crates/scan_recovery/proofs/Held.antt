@@ -14,27 +14,23 @@ use Rattle.pblk_model.specs.EndRecord.{end_of}
 use Rattle.pblk_model.specs.Records.{Record, named, mark_at, bears, record_at, records_after, line_records, records}
 use Rattle.pblk_model.specs.Contents.{head, end_after, counts, counted_after, counted, is_newer, newer, is_of, winner, sector_of, contents}
 use Rattle.pblk_laws.proofs.FilledLists.{range_split}
-use Rattle.pblk_meta.specs.Records.{start_numbers}
-use Rattle.scan_recovery.specs.declared.survey.Survey.{Survey}
 use Rattle.scan_recovery.specs.declared.trace.Trace.{Trace}
 use Rattle.scan_recovery.specs.Held.{held_by, thin_winner}
 use Rattle.scan_recovery.specs.Holding.{has_record}
 use Rattle.scan_recovery.specs.Sectors.{sectors_in}
-use Rattle.scan_recovery.specs.Survey.{IsSurvey}
-use Rattle.scan_recovery.specs.Tally.{named_count}
-use Rattle.scan_recovery.specs.Traces.{IsTable, bare, bares, without_sector}
-use Rattle.scan_recovery.proofs.Founds.{thin, winner_thin}
-use Rattle.scan_recovery.proofs.Results.{counted_are}
+use Rattle.scan_recovery.specs.Traces.{bare, without_sector}
 use Rattle.world_laws.proofs.WinnerLines.{if_map, if_then}
 use Rattle.scan_recovery.proofs.ScanSteps.{kept_all}
 use Rattle.scan_recovery.proofs.Surveys.{flat_one}
-use Rattle.scan_recovery.proofs.Tables.{table_list, table_same, take_one}
+use Rattle.scan_recovery.proofs.Tables.{table_list}
 use Rattle.pblk_model.proofs.Lists.{all_append}
 use Rattle.pblk_model.proofs.Maps.{all_filter, range_last}
 use Rattle.pblk_model.proofs.Options.{some_mapped}
 use Rattle.pblk_model.proofs.Parts.{all_get as all_at, all_get_some, drop_front, take_front}
 use Rattle.pblk_model.proofs.BytesLemmas.{zeros_length}
 use Rattle.pblk_model.proofs.ImageLemmas.{line_fit}
+use Rattle.pblk_model.specs.Tables.{IsTable}
+use Rattle.pblk_model.proofs.TableLemmas.{take_one}
 
 -- Records and their blocks.
 
@@ -217,9 +213,6 @@ live_is i ws table =
     ∙ count_map (has_record (counted i)) is_some (thin_winner i) (range_with_len 0 i.shape.capacity)
     (λ lba. some_mapped without_sector (winner (counted i) lba) ∙ some_winner (λ r. is_of lba r.lba) (counted i))
 
-pub named_is : (rs thins : List Record) → thins ≡ thin rs → named_count thins ≡ named_count rs
-named_is rs thins is = ap named_count is ∙ count_map (λ r. is_some r.lba) (λ r. is_some r.lba) without_sector rs (λ r. refl)
-
 -- one element more
 pub count_one : {X : Type 0} (p : X → Bool) (xs : List X) (k : ℕ) (d : X) (b : Bool) → k < length xs → p (get_or xs k d) ≡ b
     → length (filter p (take (k + 1) xs)) ≡ length (filter p (take k xs)) + cond b 1 0
@@ -227,32 +220,3 @@ count_one p xs k d b inside is =
     ap (λ ys. length (filter p ys)) (take_one xs k d inside) ∙ ap length (filter-append p (take k xs) (get_or xs k d ∷ []))
     ∙ length-append (filter p (take k xs)) (filter p (get_or xs k d ∷ []))
     ∙ ap (λ n. length (filter p (take k xs)) + n) (cond_length (p (get_or xs k d)) (get_or xs k d) [] ∙ ap (λ c. cond c 1 0) is)
-
-pub named_both : (rs qs : List Record) → named_count (rs ++ qs) ≡ named_count rs + named_count qs
-named_both rs qs = ap length (filter-append (λ r. is_some r.lba) rs qs) ∙ length-append (filter (λ r. is_some r.lba) rs) (filter (λ r. is_some r.lba) qs)
-
-pub winners_are : (i : Image) (v : Survey) (ws : List (Option Record)) → IsSurvey i i.shape.chunks v
-    → IsTable i.shape.capacity (winner (counted_after (bares v.traces.items) (option_map start_numbers v.head))) ws
-    → IsTable i.shape.capacity (thin_winner i) ws
-winners_are i v ws S table =
-    table_same i.shape.capacity (winner (counted_after (bares v.traces.items) (option_map start_numbers v.head))) (thin_winner i) ws table
-    (λ j below. sym (ap (λ x. winner x j) (counted_are i i.shape v refl S) ∙ winner_thin (counted i) j))
-
--- through the slices that are passed
-
-pub winners_here : (i : Image) (v : Survey) (size : ℕ) (ts : List Trace) (best ws : List (Option Trace)) → IsSurvey i i.shape.chunks v → size ≡ i.shape.capacity
-    → ts ≡ v.traces.items → ws ≡ best
-    → IsTable size (winner (counted_after (bares ts) (option_map start_numbers v.head))) (map (option_map bare) best)
-    → IsTable i.shape.capacity (thin_winner i) (map (option_map bare) ws)
-winners_here i v size ts best ws S size-is ts-is ws-is table =
-    let here = subst (λ (xs : List Trace). IsTable size (winner (counted_after (bares xs) (option_map start_numbers v.head))) (map (option_map bare) best))
-    ts-is table in
-    let all = subst (λ n. IsTable n (winner (counted_after (bares v.traces.items) (option_map start_numbers v.head))) (map (option_map bare) best)) size-is
-    here in
-    subst (λ (xs : List (Option Trace)). IsTable i.shape.capacity (thin_winner i) (map (option_map bare) xs)) (sym ws-is)
-    (winners_are i v (map (option_map bare) best) S all)
-
-pub lines_here : (n m : ℕ) (ts us : List Trace) → n ≡ m → us ≡ ts → AllByRecursion (λ t. t.line < m) ts → AllByRecursion (λ t. t.line < n) us
-lines_here n m ts us n-is us-is h =
-    subst (λ k. AllByRecursion (λ (t : Trace). t.line < k) us) (sym n-is)
-    (subst (λ (xs : List Trace). AllByRecursion (λ (t : Trace). t.line < m) xs) (sym us-is) h)

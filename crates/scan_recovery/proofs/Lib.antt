@@ -3,7 +3,9 @@ pub mod PadLoops
 pub mod SectorLists
 pub mod Tables
 pub mod Tallies
-pub mod Totals
+pub mod Counts
+pub mod LateEnds
+pub mod Countings
 pub mod Lines
 pub mod Surveys
 pub mod Founds
@@ -12,10 +14,12 @@ pub mod LineStates
 pub mod FetchSteps
 pub mod FetchLines
 pub mod ScanSteps
+pub mod Scans
 pub mod Held
 pub mod MediaLines
 pub mod Wears
 pub mod UnitLogs
+pub mod Growths
 pub mod Losses
 pub mod WorldLosses
 pub mod HandedBack

@@ -1,40 +1,18 @@
 -- The chunks of a line, unit by unit.
-use Rattle.std.proofs.Common.{◌≡◌, ℕ, ◌+◌, ◌<◌, ◌≤◌, suc, inl, inr, Bool, true, false, cond, ◌&&◌, List, [], ◌∷◌, length, map, Option, Some, None, refl, sym, ap, ◌∙◌, arith, add-zero, zero-add}
-use Rattle.std.specs.List.{cons_option, filter, filter_map, enumerate_from, list_all, range_with_len, slice_get}
+use Rattle.std.proofs.Common.{◌≡◌, ℕ, ◌+◌, ◌<◌, ◌≤◌, suc, inl, inr, Bool, true, false, ◌&&◌, List, [], ◌∷◌, length, Option, Some, None, refl, sym, ap, ◌∙◌, arith}
+use Rattle.std.specs.List.{cons_option, filter_map, list_all, slice_get}
 use Rattle.std.specs.Option.{option_and_then, option_map_or}
 use Rattle.std.proofs.lemmas.Bool.{cases_lt}
 use Rattle.pblk_model.specs.Chunk.{Chunk}
 use Rattle.pblk_model.specs.declared.chunk.ChunkState.{ChunkState}
-use Rattle.pblk_model.specs.Image.{Image, is_online_in, line_units}
+use Rattle.pblk_model.specs.Image.{Image, is_online_in}
 use Rattle.pblk_laws.specs.LineBlocks.{chunk_in}
 use Rattle.pblk_world.specs.Lines.{are_empty, is_empty_state}
 use Rattle.scan_recovery.specs.Units.{IsStateOf}
-use Rattle.pblk_model.proofs.ChunkLemmas.{map_cond}
 use Rattle.world_laws.proofs.FoundStates.{some_used}
+use Rattle.pblk_laws.proofs.LineUnits.{is_online_at}
 
--- whether a unit's chunk of the line isn't Offline
-abbrev pub is_on : Image → ℕ → ℕ → Bool
-is_on i line unit = option_map_or (λ (c : Chunk). is_online_in c.state) (chunk_in i line unit) false
-
-abbrev on_unit : ℕ → ℕ × List Chunk → Bool
-on_unit line unit = option_map_or (λ (c : Chunk). is_online_in c.state) (slice_get unit.1 line) false
-
-from_range : (line a : ℕ) (p : ℕ → Bool) (us : List (List Chunk))
-    → ((k : ℕ) → k < length us → p (a + k) ≡ option_map_or (λ (c : Chunk). is_online_in c.state)
-    (option_and_then (λ chunks. slice_get chunks line) (slice_get us k)) false)
-    → map (λ (u : ℕ × List Chunk). u.0) (filter (on_unit line) (enumerate_from a us)) ≡ filter p (range_with_len a (length us))
-from_range line a p [] h = refl
-from_range line a p (u ∷ us) h =
-    let first : p a ≡ on_unit line (a, u) = ap p (sym (add-zero a)) ∙ h 0 (omega arith) in
-    map_cond (on_unit line (a, u)) (a, u) (filter (on_unit line) (enumerate_from (a + 1) us))
-    ∙ ap (λ xs. cond (on_unit line (a, u)) (a ∷ xs) xs)
-    (from_range line (a + 1) p us (λ k below. (let place : a + 1 + k ≡ a + suc k = omega arith in ap p place ∙ h (suc k) (omega arith))))
-    ∙ ap (λ b. cond b (a ∷ filter p (range_with_len (a + 1) (length us))) (filter p (range_with_len (a + 1) (length us)))) (sym first)
-
-pub line_units_range : (i : Image) (line : ℕ) → line_units i line ≡ filter (is_on i line) (range_with_len 0 (length i.units))
-line_units_range i line = from_range line 0 (is_on i line) i.units (λ k below. ap (is_on i line) (zero-add k))
-
-pub on_is : (i : Image) (line unit : ℕ) (state : ChunkState) → IsStateOf i line unit state → is_on i line unit ≡ is_online_in state
+pub on_is : (i : Image) (line unit : ℕ) (state : ChunkState) → IsStateOf i line unit state → is_online_at i line unit ≡ is_online_in state
 on_is i line unit state (c, there, is) = ap (λ o. option_map_or (λ (c : Chunk). is_online_in c.state) o false) there ∙ ap is_online_in (sym is)
 
 -- Whether a line is empty.

@@ -1,6 +1,6 @@
 -- Reading a line's records from its blocks, step by step.
-use Rattle.std.proofs.Common.{◌≡◌, ℕ, ◌+◌, ◌-◌, ◌<◌, ◌≤◌, ◌==◌, ◌&&◌, zero, suc, Bool, true, false, cond, List, [], ◌∷◌, ◌++◌, length, take, drop, get_or, Option, Some, None, refl, sym, ap, ◌∙◌, arith, append_assoc, append-nil, length-drop}
-use Rattle.std.specs.List.{cons_option, flat_map}
+use Rattle.std.proofs.Common.{◌≡◌, ℕ, ◌-◌, ◌<◌, ◌≤◌, ◌==◌, ◌&&◌, Bool, true, false, cond, List, [], ◌∷◌, ◌++◌, length, take, drop, Option, Some, None, refl, sym, ap, ◌∙◌, arith, length-drop}
+use Rattle.std.specs.List.{flat_map}
 use Rattle.std.specs.Option.{option_map}
 use Rattle.std.proofs.lemmas.Option.{none-some, same_Some}
 use Rattle.std.proofs.lemmas.Bool.{lt-ltb, le-ltb}
@@ -10,13 +10,8 @@ use Rattle.pblk_model.specs.LineOrder.{start_len, end_len}
 use Rattle.pblk_model.specs.Marks.{meta_lba}
 use Rattle.pblk_model.specs.StartRecord.{StartRecord, have_meta, marked_start, read_start}
 use Rattle.pblk_model.specs.EndRecord.{EndRecord, read_end}
-use Rattle.pblk_model.specs.Records.{Record}
-use Rattle.scan_recovery.specs.declared.trace.Trace.{Trace}
-use Rattle.scan_recovery.specs.Reading.{run_of, sectors_of, have_mark, start_from, start_among, end_from, end_among, record_in, traces_from}
-use Rattle.scan_recovery.specs.Traces.{bare, bares, without_sector}
-use Rattle.scan_recovery.proofs.PackedLines.{drop_one}
-use Rattle.pblk_model.proofs.Maps.{map_last}
-use Rattle.pblk_model.proofs.Parts.{drop_past, take_all}
+use Rattle.scan_recovery.specs.Reading.{run_of, sectors_of, have_mark, start_from, start_among, end_from, end_among}
+use Rattle.pblk_model.proofs.Parts.{take_all}
 
 -- Runs of written blocks.
 
@@ -146,44 +141,6 @@ end_reads s line g seq n bs bytes o n-is long mark some o-is =
     ap (end_from s line g seq) w.run ∙ ap (λ b. cond b (read_end s line g seq (bytes_of w.blocks)) None) (sym (mark_run seq run w.blocks w.run) ∙ mark)
     ∙ ap (read_end s line g seq) w.bytes_are in
     o-is ∙ sym (end_long s line g seq n bs n-is long ∙ read)
-
--- The records.
-
-some_trace : (front : List Record) (o : Option Record) (rest : List Record) (r : Record) → o ≡ Some r → front ++ cons_option o rest ≡ (front ++ r ∷ []) ++ rest
-some_trace front o rest r is = ap (λ x. front ++ cons_option x rest) is ∙ sym (append_assoc front (r ∷ []) rest)
-
-traces_one : (s : Shape) (line seq : ℕ) (e : Option EndRecord) (bs : List (Option Block)) (k : ℕ) (d : Option Block) → k < length bs
-    → traces_from s line seq e k (drop k bs) ≡ cons_option (option_map without_sector (record_in s line seq e k (get_or bs k d)))
-    (traces_from s line seq e (k + 1) (drop (k + 1) bs))
-unfolding traces_from
-traces_one s line seq e bs k d inside = ap (traces_from s line seq e k) (drop_one bs k d inside)
-
-pub trace_more : (s : Shape) (line seq : ℕ) (e : Option EndRecord) (bs : List (Option Block)) (k : ℕ) (d : Option Block) (front now : List Trace) (t : Trace)
-    (o : Option Trace) (total : List Record) → k < length bs
-    → option_map bare o ≡ option_map without_sector (record_in s line seq e k (get_or bs k d)) → o ≡ Some t → now ≡ front ++ t ∷ []
-    → bares front ++ traces_from s line seq e k (drop k bs) ≡ total → bares now ++ traces_from s line seq e (k + 1) (drop (k + 1) bs) ≡ total
-trace_more s line seq e bs k d front now t o total inside o-is some now-is so_far =
-    let rest : List Record = traces_from s line seq e (k + 1) (drop (k + 1) bs) in
-    let r : option_map without_sector (record_in s line seq e k (get_or bs k d)) ≡ Some (bare t) = sym o-is ∙ ap (option_map bare) some in
-    ap (λ ts. bares ts ++ rest) now-is ∙ ap (λ rs. rs ++ rest) (map_last bare front t)
-    ∙ sym (some_trace (bares front) (option_map without_sector (record_in s line seq e k (get_or bs k d))) rest (bare t) r)
-    ∙ ap (λ rs. bares front ++ rs) (sym (traces_one s line seq e bs k d inside)) ∙ so_far
-
-pub trace_none : (s : Shape) (line seq : ℕ) (e : Option EndRecord) (bs : List (Option Block)) (k : ℕ) (d : Option Block) (front : List Trace) (o : Option Trace)
-    (total : List Record) → k < length bs
-    → option_map bare o ≡ option_map without_sector (record_in s line seq e k (get_or bs k d)) → o ≡ None
-    → bares front ++ traces_from s line seq e k (drop k bs) ≡ total → bares front ++ traces_from s line seq e (k + 1) (drop (k + 1) bs) ≡ total
-trace_none s line seq e bs k d front o total inside o-is none so_far =
-    let rest : List Record = traces_from s line seq e (k + 1) (drop (k + 1) bs) in
-    let r : option_map without_sector (record_in s line seq e k (get_or bs k d)) ≡ None = sym o-is ∙ ap (option_map bare) none in
-    ap (λ x. bares front ++ cons_option x rest) (sym r) ∙ ap (λ rs. bares front ++ rs) (sym (traces_one s line seq e bs k d inside)) ∙ so_far
-
-pub traces_done : (s : Shape) (line seq : ℕ) (e : Option EndRecord) (bs : List (Option Block)) (k : ℕ) (front : List Trace) (total : List Record)
-    → length bs ≤ k
-    → bares front ++ traces_from s line seq e k (drop k bs) ≡ total → bares front ≡ total
-unfolding traces_from
-traces_done s line seq e bs k front total past so_far = sym (append-nil (bares front))
-    ∙ sym (ap (λ x. bares front ++ traces_from s line seq e k x) (drop_past bs k past)) ∙ so_far
 
 -- the blocks behind a place
 pub tail_is : {X : Type 0} (bs : List X) (k : ℕ) → take (length bs - k) (drop k bs) ≡ drop k bs

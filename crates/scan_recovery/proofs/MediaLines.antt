@@ -1,12 +1,12 @@
 -- The chunks of a drive, and the lines among them.
-use Rattle.std.proofs.Common.{◌≡◌, ℕ, ◌*◌, ◌^◌, ◌<◌, ◌≤◌, zero, suc, List, [], ◌∷◌, length, map, get_or, Option, Some, None, refl, sym, ap, ◌∙◌, subst, arith}
-use Rattle.std.specs.List.{AllByRecursion, range_with_len, slice_get}
+use Rattle.std.proofs.Common.{◌≡◌, ℕ, ◌*◌, ◌^◌, ◌<◌, ◌≤◌, zero, suc, List, [], ◌∷◌, length, map, get_or, Some, None, refl, sym, ap, ◌∙◌, subst, arith}
+use Rattle.std.specs.List.{AllByRecursion, slice_get}
 use Rattle.std.proofs.lemmas.List.{length-map}
 use Rattle.std.proofs.lemmas.Option.{none-some, same_Some, slice_get-get_or}
 use Rattle.pblk_model.specs.declared.shape.Shape.{Shape}
 use Rattle.pblk_model.specs.Accepted.{IsAccepted}
 use Rattle.pblk_model.specs.Shape.{units}
-use Rattle.pblk_model.specs.Chunk.{Block, Chunk}
+use Rattle.pblk_model.specs.Chunk.{Chunk}
 use Rattle.pblk_model.specs.LineOrder.{line_order}
 use Rattle.pblk_model.specs.Image.{Image, IsFit, line_units, width, block_at}
 use Rattle.pblk_model.specs.ImageFile as file
@@ -21,11 +21,9 @@ use Rattle.ocssd_drive.specs.Units as drive
 use Rattle.ocssd_drive.specs.Units.{WornUnit, stored_chunks}
 use Rattle.scan_recovery.specs.declared.media.Media.TheInside.{Inside}
 use Rattle.scan_recovery.specs.Media.{IsMedia, media_image}
-use Rattle.scan_recovery.specs.Reading.{line_blocks}
 use Rattle.scan_recovery.specs.Units.{AreFit, IsUnitOf, image_of}
 use Rattle.scan_recovery.proofs.FetchLines.{block_placed, line_few, line_short, placed_by, unit_placed}
 use Rattle.scan_recovery.proofs.PadLoops.{fit_image}
-use Rattle.scan_recovery.proofs.Surveys.{blocks_length}
 use Rattle.scan_recovery.proofs.Tallies.{row_there}
 use Rattle.pblk_model.proofs.AcceptedLemmas.{line_is_short}
 use Rattle.pblk_model.proofs.OrderedBlocks.{order_length}
@@ -136,11 +134,6 @@ image_fits m i sound view = (
 pub short_line : (i : Image) (line : ℕ) → IsAccepted i.shape → IsFit i → width i line * i.shape.clba ≤ 65536
 short_line i line accepted fit = line_is_short i.shape (width i line) accepted (width_within i line fit)
 
-pub line_done : (i : Image) (line n : ℕ) (bs : List (Option Block)) → n ≡ width i line * i.shape.clba → bs ≡ map (block_at i line) (range_with_len 0 n)
-    → bs ≡ line_blocks i line
-unfolding line_blocks
-line_done i line n bs n-is is = is ∙ ap (λ k. map (block_at i line) (range_with_len 0 k)) n-is
-
 pub count_is : (m : Inside) (i : Image) (t : Shape) (line n : ℕ) → media_image m ≡ i → t ≡ m.layout → n ≡ width i line
     → n * t.clba ≡ width i line * i.shape.clba
 count_is m i t line n view shape n-is = ap (λ k. k * t.clba) n-is ∙ ap (λ (s : Shape). width i line * s.clba) shape
@@ -150,8 +143,3 @@ pub count_short : (m : Inside) (i : Image) (t : Shape) (line n : ℕ) → IsMedi
 count_short m i t line n sound view shape n-is =
     let fits = image_fits m i sound view in
     subst (λ k. k ≤ 65536) (sym (count_is m i t line n view shape n-is)) (short_line i line fits.0 fits.1)
-
-pub few_blocks : (m : Inside) (i : Image) (line : ℕ) (bs : List (Option Block)) → IsMedia m → media_image m ≡ i → bs ≡ line_blocks i line → length bs ≤ 65536
-few_blocks m i line bs sound view is =
-    let fits = image_fits m i sound view in
-    subst (λ k. k ≤ 65536) (sym (ap length is ∙ blocks_length i line)) (short_line i line fits.0 fits.1)

@@ -1,34 +1,19 @@
 -- Tables, and the positions that records bear.
-use Rattle.std.proofs.Common.{◌≡◌, ◌≢◌, ℕ, ◌+◌, ◌-◌, ◌<◌, ◌≤◌, ◌⊎◌, zero, suc, inl, inr, Bool, true, false, ◌&&◌, ◌||◌, ◌==◌, nat_le, List, [], ◌∷◌, ◌++◌, length, take, drop, get_or, slice_index_or, replicate, map, append-nil, add-zero, Some, refl, sym, ap, ◌∙◌, arith}
+use Rattle.std.proofs.Common.{◌≡◌, ◌≢◌, ℕ, ◌+◌, ◌-◌, ◌<◌, ◌≤◌, zero, suc, Bool, true, false, ◌&&◌, ◌||◌, ◌==◌, nat_le, List, [], ◌∷◌, ◌++◌, length, take, drop, get_or, slice_index_or, replicate, map, append-nil, add-zero, Some, refl, sym, ap, ◌∙◌, arith}
 use Rattle.std.specs.List.{slice_get, slice_set, range_with_len}
-use Rattle.std.proofs.lemmas.List.{length-set}
 use Rattle.std.proofs.lemmas.List.Folds.{list_any-append}
-use Rattle.std.proofs.lemmas.Option.{same_Some, slice_get_within, slice_get-get_or}
-use Rattle.std.proofs.lemmas.Bool.{le-leb, lt-leb, eq-eqb, ne_eqb, cases_lt}
-use native.Mathlib.Decide.{ℕ_discrete}
+use Rattle.std.proofs.lemmas.Option.{same_Some, slice_get-get_or}
+use Rattle.std.proofs.lemmas.Bool.{le-leb, lt-leb, eq-eqb, ne_eqb}
 use Rattle.pblk_model.specs.StartRecord.{StartRecord}
 use Rattle.pblk_model.specs.Records.{Record}
 use Rattle.pblk_model.specs.Contents.{is_borne}
-use Rattle.scan_recovery.specs.Traces.{IsTable, borne_at}
+use Rattle.scan_recovery.specs.Traces.{borne_at}
 use Rattle.pblk_model.proofs.Lists.{length_replicate}
 use Rattle.pblk_model.proofs.Maps.{map_last}
-use Rattle.pblk_model.proofs.Parts.{drop_past, get_last, get_set_other, get_set_same, take_all}
+use Rattle.pblk_model.proofs.Parts.{drop_past, take_all}
 use Rattle.pblk_model.proofs.Tests.{and_false}
-
--- one entry changes
-pub table_set : {X : Type 0} (n : ℕ) (f g : ℕ → X) (xs : List X) (k : ℕ) (x : X) → IsTable n f xs → k < n → g k ≡ x → ((j : ℕ) → j ≢ k → g j ≡ f j)
-    → IsTable n g (slice_set xs k x)
-table_set n f g xs k x h inside here others = record {
-  count = length-set xs k x ∙ h.count;
-  each = λ j below. at_place j below (ℕ_discrete j k);
-} where
-  at_place : (j : ℕ) → j < n → Dec (j ≡ k) → slice_get (slice_set xs k x) j ≡ Some (g j)
-  at_place j below (yes same) = ap (slice_get (slice_set xs k x)) same ∙ get_set_same xs k x (omega (arith, h.count)) ∙ ap Some (sym here ∙ ap g (sym same))
-  at_place j below (no other) = get_set_other xs k j x other ∙ h.each j below ∙ ap Some (sym (others j other))
-
--- no entry changes
-pub table_same : {X : Type 0} (n : ℕ) (f g : ℕ → X) (xs : List X) → IsTable n f xs → ((j : ℕ) → j < n → g j ≡ f j) → IsTable n g xs
-table_same n f g xs h same = record { count = h.count; each = λ j below. h.each j below ∙ ap Some (sym (same j below)) }
+use Rattle.pblk_model.specs.Tables.{IsTable}
+use Rattle.pblk_model.proofs.TableLemmas.{table_set, table_same, get_table, take_one}
 
 get_replicate : {X : Type 0} (n : ℕ) (x : X) (k : ℕ) → k < n → slice_get (replicate n x) k ≡ Some x
 get_replicate zero x k h = absurd (omega arith)
@@ -37,11 +22,6 @@ get_replicate (suc n) x (suc k) h = get_replicate n x k (omega arith)
 
 pub table_new : {X : Type 0} (n : ℕ) (f : ℕ → X) (x : X) → ((k : ℕ) → k < n → f k ≡ x) → IsTable n f (replicate n x)
 table_new n f x h = record { count = length_replicate n x; each = λ k below. get_replicate n x k below ∙ ap Some (sym (h k below)) }
-
--- a table of fewer entries
-
-pub get_table : {X : Type 0} (n : ℕ) (f : ℕ → X) (xs : List X) (k : ℕ) (x : X) → IsTable n f xs → slice_get xs k ≡ Some x → f k ≡ x
-get_table n f xs k x h there = same_Some (f k) x (sym (h.each k (omega (arith, slice_get_within xs k x there, h.count))) ∙ there)
 
 -- Positions that are borne.
 
@@ -117,33 +97,9 @@ pub vec_written : {X : Type 0} (len : ℕ) (xs items : List X) → length xs ≡
 vec_written len xs items a b = ap (λ ys. take len (xs ++ ys)) (drop_past items (length xs) (omega arith)) ∙ ap (take len) (append-nil xs)
     ∙ take_all xs len (omega arith)
 
--- one more element of what was passed
-pub take_one : {X : Type 0} (xs : List X) (k : ℕ) (d : X) → k < length xs → take (k + 1) xs ≡ take k xs ++ get_or xs k d ∷ []
-take_one [] k d h = absurd (omega arith)
-take_one (x ∷ xs) zero d h = refl
-take_one (x ∷ xs) (suc k) d h = let e : suc k + 1 ≡ suc (k + 1) = omega arith in ap (λ n. take n (x ∷ xs)) e ∙ ap (λ ys. x ∷ ys) (take_one xs k d (omega arith))
-
 pub map_take_one : {X Y : Type 0} (f : X → Y) (xs : List X) (k : ℕ) (d : X) → k < length xs
     → map f (take (k + 1) xs) ≡ map f (take k xs) ++ f (get_or xs k d) ∷ []
 map_take_one f xs k d h = ap (map f) (take_one xs k d h) ∙ map_last f (take k xs) (get_or xs k d)
-
--- one entry more at the end
-
-get_before : {X : Type 0} (xs : List X) (x : X) (k : ℕ) → k < length xs → slice_get (xs ++ x ∷ []) k ≡ slice_get xs k
-get_before [] x k h = absurd (omega arith)
-get_before (y ∷ xs) x zero h = refl
-get_before (y ∷ xs) x (suc k) h = get_before xs x k (omega arith)
-
-length_one : {X : Type 0} (xs : List X) (x : X) → length (xs ++ x ∷ []) ≡ length xs + 1
-length_one [] x = refl
-length_one (y ∷ xs) x = let more = length_one xs x in omega arith
-
-pub table_push : {X : Type 0} (n : ℕ) (f : ℕ → X) (xs : List X) (x : X) → IsTable n f xs → x ≡ f n → IsTable (n + 1) f (xs ++ x ∷ [])
-table_push n f xs x h is = record { count = length_one xs x ∙ ap (λ k. k + 1) h.count; each = λ k below. at_place k below (cases_lt k n) } where
-  at_place : (k : ℕ) → k < n + 1 → (k < n) ⊎ (n ≤ k) → slice_get (xs ++ x ∷ []) k ≡ Some (f k)
-  at_place k below (inl less) = get_before xs x k (omega (arith, h.count)) ∙ h.each k less
-  at_place k below (inr most) = let here : k ≡ length xs = omega (arith, h.count) in let at : k ≡ n = omega arith in ap (slice_get (xs ++ x ∷ [])) here
-      ∙ get_last xs x ∙ ap Some (is ∙ ap f (sym at))
 
 -- a table as a list
 pub table_list : {X : Type 0} (n : ℕ) (f : ℕ → X) (xs : List X) → IsTable n f xs → xs ≡ map f (range_with_len 0 n)

@@ -1,24 +1,25 @@
 -- Which records count, and the tables of what they come to.
-use Rattle.std.proofs.Common.{◌≡◌, ◌≢◌, ℕ, ◌+◌, ◌<◌, ◌≤◌, zero, suc, max, inl, inr, Bool, true, false, cond, ◌&&◌, ◌||◌, ◌==◌, nat_le, nat_lt, List, [], ◌∷◌, ◌++◌, length, map, take, get_or, replicate, append-nil, Option, Some, None, refl, sym, ap, ◌∙◌, subst, arith}
+use Rattle.std.proofs.Common.{◌≡◌, ◌≢◌, ℕ, ◌+◌, ◌-◌, ◌^◌, ◌<◌, ◌≤◌, zero, suc, max, min, inl, inr, Bool, true, false, cond, ◌&&◌, ◌||◌, ◌==◌, nat_le, nat_lt, List, [], ◌∷◌, ◌++◌, length, map, take, get_or, replicate, append-nil, Option, Some, None, refl, sym, ap, ◌∙◌, subst, arith, length-append}
 use Rattle.std.specs.List.{AllByRecursion, slice_get, slice_set, list_any, filter, find, fold}
-use Rattle.std.specs.Option.{option_map}
+use Rattle.std.specs.Option.{is_some, option_map}
 use Rattle.std.proofs.lemmas.List.{length-map, map-set}
-use Rattle.std.proofs.lemmas.List.Elements.{filter-append}
 use Rattle.std.proofs.lemmas.Grind.{fold-append}
 use Rattle.std.proofs.lemmas.Option.{same_Some, slice_get-map, slice_get-get_or}
-use Rattle.std.proofs.lemmas.Bool.{leb-true, eq-eqb, ne_eqb, cases_eq}
+use Rattle.std.proofs.lemmas.Bool.{leb-true, ltb-true, eq-eqb, ne_eqb, cases_eq}
 use Rattle.pblk_model.specs.declared.shape.Shape.{Shape}
-use Rattle.pblk_model.specs.StartRecord.{Row, StartRecord, rows_fit, start_fits}
+use Rattle.pblk_model.specs.StartRecord.{Row, StartRecord, rows_fit}
 use Rattle.pblk_model.specs.Records.{Record}
-use Rattle.pblk_model.specs.Contents.{counts, newer, newest, is_of, winner}
+use Rattle.pblk_model.specs.Contents.{newer, is_of, winner}
 use Rattle.world_laws.specs.Finding.{top_of}
 use Rattle.scan_recovery.specs.declared.trace.Trace.{Trace}
 use Rattle.scan_recovery.specs.declared.counting.Tally.{Tally}
-use Rattle.scan_recovery.specs.Tally.{IsTally}
-use Rattle.scan_recovery.specs.Traces.{IsTable, bare, bares, is_below_row, head_row}
-use Rattle.scan_recovery.proofs.Tables.{table_set, table_same, table_new, map_take_one}
+use Rattle.scan_recovery.specs.Tally.{IsTally, named_count}
+use Rattle.scan_recovery.specs.Traces.{bare, bares, is_below_row}
+use Rattle.scan_recovery.proofs.Tables.{table_new, map_take_one}
 use Rattle.pblk_model.proofs.Parts.{all_get}
-use Rattle.pblk_model.proofs.ContentsLemmas.{of_same}
+use Rattle.pblk_model.proofs.ContentsLemmas.{of_same, filter_one, winner_more, of_other}
+use Rattle.pblk_model.specs.Tables.{IsTable}
+use Rattle.pblk_model.proofs.TableLemmas.{table_set, table_same}
 
 and_left : (a b : Bool) → a && b ≡ true → a ≡ true
 and_left true b h = refl
@@ -38,6 +39,7 @@ bounds_none x row other = ap (λ b. b && (row.seq == x.seq) && nat_lt x.position
 
 pub record RowFacts (s : Shape) (r : StartRecord) (least : ℕ) (row : Row) (rows : List Row) : Type 0 where
   pub low : least ≤ row.line
+  pub old : row.seq < r.first_seq
   pub rest : rows_fit s r (row.line + 1) rows ≡ true
 
 pub row_facts : (s : Shape) (r : StartRecord) (least : ℕ) (row : Row) (rows : List Row) → rows_fit s r least (row ∷ rows) ≡ true → RowFacts s r least row rows
@@ -48,7 +50,8 @@ row_facts s r least row rows h =
     let d = and_left _ _ c in
     let e = and_left _ _ d in
     let f : nat_le least row.line ≡ true = and_left _ _ e in
-    record { low = leb-true least row.line f; rest = and_right _ (rows_fit s r (row.line + 1) rows) h }
+    let older : nat_lt row.seq r.first_seq ≡ true = and_right _ _ b in
+    record { low = leb-true least row.line f; old = ltb-true row.seq r.first_seq older; rest = and_right _ (rows_fit s r (row.line + 1) rows) h }
 
 none_match : (s : Shape) (r : StartRecord) (least : ℕ) (rows : List Row) (x : Record) → rows_fit s r least rows ≡ true → x.line < least
     → list_any (bounds x) rows ≡ false
@@ -62,7 +65,7 @@ or_none : (a b : Bool) → b ≡ false → a || b ≡ a
 or_none true b h = refl
 or_none false b h = h
 
-any_is_row : (s : Shape) (r : StartRecord) (least : ℕ) (rows : List Row) (x : Record) → rows_fit s r least rows ≡ true
+pub any_is_row : (s : Shape) (r : StartRecord) (least : ℕ) (rows : List Row) (x : Record) → rows_fit s r least rows ≡ true
     → list_any (bounds x) rows ≡ is_below_row (find (λ row. row.line == x.line) rows) x
 any_is_row s r least [] x h = refl
 any_is_row s r least (row ∷ rows) x h =
@@ -80,25 +83,10 @@ any_is_row s r least (row ∷ rows) x h =
           ∙ sym (ap (λ b. is_below_row (cond b (Some row) (find (λ row. row.line == x.line) rows)) x) miss)
     ]
 
-pub counts_by_row : (s : Shape) (line g end : ℕ) (h : StartRecord) (row : Option Row) (x : Record) (below : Bool) → start_fits s line g h ≡ true
-    → row ≡ head_row (Some h) x.line
-    → (nat_le h.first_seq x.seq && nat_lt x.position end) ≡ false → below ≡ is_below_row row x → below ≡ counts h end x
-counts_by_row s line g end h row x below fits row-is older below-is =
-    let rows : rows_fit s h 0 h.rows ≡ true = and_right _ (rows_fit s h 0 h.rows) fits in
-    below-is ∙ ap (λ o. is_below_row o x) row-is ∙ sym (any_is_row s h 0 h.rows x rows)
-    ∙ sym (ap (λ b. b || list_any (bounds x) h.rows) older)
-
 -- One record more.
 
-filter_one : (p : Record → Bool) (rs : List Record) (r : Record) → filter p (rs ++ r ∷ []) ≡ filter p rs ++ cond (p r) (r ∷ []) []
-filter_one p rs r = filter-append p rs (r ∷ [])
-
-newest_one : (rs : List Record) (b : Bool) (r : Record) → newest (rs ++ cond b (r ∷ []) []) ≡ cond b (newer (newest rs) r) (newest rs)
-newest_one rs true r = fold-append newer None rs (r ∷ [])
-newest_one rs false r = fold-append newer None rs []
-
-pub winner_more : (rs : List Record) (r : Record) (lba : ℕ) → winner (rs ++ r ∷ []) lba ≡ cond (is_of lba r.lba) (newer (winner rs lba) r) (winner rs lba)
-winner_more rs r lba = ap newest (filter_one (λ r. is_of lba r.lba) rs r) ∙ newest_one (filter (λ r. is_of lba r.lba) rs) (is_of lba r.lba) r
+pub filter_by : (p : Record → Bool) (rs : List Record) (r : Record) (b : Bool) → p r ≡ b → filter p (rs ++ r ∷ []) ≡ filter p rs ++ cond b (r ∷ []) []
+filter_by p rs r b is = filter_one p rs r ∙ ap (λ x. filter p rs ++ cond x (r ∷ []) []) is
 
 abbrev higher : ℕ → Record → ℕ
 higher top r = max top (r.position + 1)
@@ -125,9 +113,6 @@ tops_noted lines rs tops r top h inside top-is =
 
 abbrev seen : List (Option Trace) → List (Option Record)
 seen ws = map (option_map bare) ws
-
-of_other : (lba j : ℕ) (o : Option ℕ) → o ≡ Some lba → j ≢ lba → is_of j o ≡ false
-of_other lba j o e other = ap (is_of j) e ∙ ne_eqb lba j (λ x. other (sym x))
 
 other_winner : (rs : List Record) (r : Record) (j lba : ℕ) → r.lba ≡ Some lba → j ≢ lba → winner (rs ++ r ∷ []) j ≡ winner rs j
 other_winner rs r j lba e other = winner_more rs r j ∙ ap (λ b. cond b (newer (winner rs j) r) (winner rs j)) (of_other lba j r.lba e other)
@@ -159,10 +144,25 @@ winners_void sectors rs ws t h void =
     table_same sectors (winner rs) (winner (rs ++ bare t ∷ [])) (seen ws) h
     (λ j below. winner_more rs (bare t) j ∙ ap (λ o. cond (is_of j o) (newer (winner rs j) (bare t)) (winner rs j)) void)
 
--- The records that count, one more.
+-- How many have a sector, one more.
 
-filter_by : (p : Record → Bool) (rs : List Record) (r : Record) (b : Bool) → p r ≡ b → filter p (rs ++ r ∷ []) ≡ filter p rs ++ cond b (r ∷ []) []
-filter_by p rs r b is = filter_one p rs r ∙ ap (λ x. filter p rs ++ cond x (r ∷ []) []) is
+named_one : (rs : List Record) (r : Record) (b : Bool) → is_some r.lba ≡ b → named_count (rs ++ r ∷ []) ≡ named_count rs + cond b 1 0
+named_one rs r b is =
+    ap length (filter_by (λ r. is_some r.lba) rs r b is) ∙ length-append (filter (λ r. is_some r.lba) rs) (cond b (r ∷ []) [])
+    ∙ ap (λ n. named_count rs + n) (by b) where
+      by : (b : Bool) → length (cond b (r ∷ []) []) ≡ cond b 1 0
+      by true = refl
+      by false = refl
+
+pub named_more : (rs : List Record) (r : Record) (lba n m : ℕ) → r.lba ≡ Some lba → n ≡ min (named_count rs) (2 ^ 64 - 1) → m ≡ min (n + 1) (2 ^ 64 - 1)
+    → m ≡ min (named_count (rs ++ r ∷ [])) (2 ^ 64 - 1)
+named_more rs r lba n m is n-is m-is = let one = named_one rs r true (ap is_some is) in omega (arith, one, n-is, m-is)
+
+pub named_void : (rs : List Record) (r : Record) (n : ℕ) → r.lba ≡ None → n ≡ min (named_count rs) (2 ^ 64 - 1)
+    → n ≡ min (named_count (rs ++ r ∷ [])) (2 ^ 64 - 1)
+named_void rs r n is n-is = let one = named_one rs r false (ap is_some is) in omega (arith, one, n-is)
+
+-- The records that count, one more.
 
 pub counted_yes : (p : Record → Bool) (ts : List Trace) (k : ℕ) (d : Trace) → k < length ts → p (bare (get_or ts k d)) ≡ true
     → filter p (bares (take (k + 1) ts)) ≡ filter p (bares (take k ts)) ++ bare (get_or ts k d) ∷ []
@@ -178,8 +178,11 @@ row_there n f g xs k d h inside =
     same_Some (g (get_or xs k d)) (f k)
     (sym (slice_get-map g xs k ∙ ap (option_map g) (slice_get-get_or xs k d inside)) ∙ h.each k (omega (arith, h.count, length-map xs g)))
 
-pub line_there : (n : ℕ) (ts : List Trace) (k : ℕ) (d : Trace) → AllByRecursion (λ t. t.line < n) ts → k < length ts → (get_or ts k d).line < n
+line_there : (n : ℕ) (ts : List Trace) (k : ℕ) (d : Trace) → AllByRecursion (λ t. t.line < n) ts → k < length ts → (get_or ts k d).line < n
 line_there n ts k d h inside = all_get (λ (t : Trace). t.line < n) ts k (get_or ts k d) h (slice_get-get_or ts k d inside)
+
+pub line_below : (n m : ℕ) (ts : List Trace) (k : ℕ) (d : Trace) → AllByRecursion (λ t. t.line < m) ts → k < length ts → n ≡ m → (get_or ts k d).line < n
+line_below n m ts k d h inside same = subst (λ l. (get_or ts k d).line < l) (sym same) (line_there m ts k d h inside)
 
 pub no_winners : (sectors : ℕ) → IsTable sectors (winner []) (seen (replicate sectors None))
 no_winners sectors = rw (map_replicate sectors) (table_new sectors (winner []) None (λ k below. refl)) where
@@ -190,8 +193,10 @@ no_winners sectors = rw (map_replicate sectors) (table_new sectors (winner []) N
 pub no_tops : (lines : ℕ) → IsTable lines (top_of []) (replicate lines 0)
 no_tops lines = table_new lines (top_of []) 0 (λ k below. refl)
 
-pub tally_none : (sectors lines : ℕ) (t : Tally) → t.winners.items ≡ replicate sectors None → t.tops.items ≡ replicate lines 0 → IsTally sectors lines [] t
-tally_none sectors lines t winners tops = record {
+pub tally_none : (sectors lines : ℕ) (t : Tally) → t.winners.items ≡ replicate sectors None → t.tops.items ≡ replicate lines 0 → t.named ≡ 0
+    → IsTally sectors lines [] t
+tally_none sectors lines t winners tops named = record {
+  named = named;
   winners = subst (λ ws. IsTable sectors (winner []) (seen ws)) (sym winners) (no_winners sectors);
   tops = subst (λ ts. IsTable lines (top_of []) ts) (sym tops) (no_tops lines);
 }

@@ -7,7 +7,8 @@ use Rattle.pblk_model.specs.Contents.{counted, winner}
 use Rattle.scan_recovery.specs.declared.holding.Held.{Held}
 use Rattle.scan_recovery.specs.declared.trace.Trace.{Trace}
 use Rattle.scan_recovery.specs.Holding.{IsSummaryOf}
-use Rattle.scan_recovery.specs.Traces.{IsTable, bare, without_sector}
+use Rattle.scan_recovery.specs.Traces.{bare, without_sector}
+use Rattle.pblk_model.specs.Tables.{IsTable}
 
 -- the newest counted record of a sector, but for what it holds
 abbrev pub thin_winner : Image → ℕ → Option Record

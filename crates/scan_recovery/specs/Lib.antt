@@ -4,7 +4,10 @@ pub mod Sectors
 pub mod Holding
 pub mod Traces
 pub mod Tally
+pub mod Mounts
+pub mod Counted
 pub mod Reading
+pub mod Starts
 pub mod Survey
 pub mod Find
 pub mod Fetches

@@ -6,8 +6,8 @@ use Rattle.pblk_model.specs.Image.{Image, line_units}
 use Rattle.pblk_model.specs.Shape.{units}
 use Rattle.pblk_layout.specs.Online.{units_in}
 use Rattle.scan_recovery.specs.declared.media.Media.TheInside.{Inside}
-use Rattle.scan_recovery.specs.Traces.{IsTable}
 use Rattle.scan_recovery.specs.Units.{AreFit, image_of}
+use Rattle.pblk_model.specs.Tables.{IsTable}
 
 -- the image that they are
 abbrev pub media_image : Inside → Image

@@ -1,6 +1,6 @@
 -- What the blocks of a line are, read one after another: each is there where it is written.
-use Rattle.std.specs.Prelude.{ℕ, ◌+◌, ◌-◌, ◌*◌, ◌==◌, ◌&&◌, if◌then◌else◌, nat_lt, Bool, false, List, [], ◌∷◌, ◌++◌, length, map, take, drop, Option, Some, None}
-use Rattle.std.specs.List.{cons_option, flat_map, list_all, range_with_len}
+use Rattle.std.specs.Prelude.{ℕ, ◌-◌, ◌*◌, ◌==◌, ◌&&◌, if◌then◌else◌, nat_lt, min, Bool, false, List, [], ◌∷◌, ◌++◌, length, map, take, drop, slice_get, Option, Some, None}
+use Rattle.std.specs.List.{filter_map, flat_map, list_all, range_with_len}
 use Rattle.std.specs.Option.{option_and_then, option_map, option_map_or}
 use Rattle.pblk_model.specs.declared.shape.Shape.{Shape}
 use Rattle.pblk_model.specs.Chunk.{Block}
@@ -9,12 +9,24 @@ use Rattle.pblk_model.specs.Marks.{meta_lba}
 use Rattle.pblk_model.specs.Image.{Image, width, block_at}
 use Rattle.pblk_model.specs.StartRecord.{StartRecord, have_meta, marked_start, read_start}
 use Rattle.pblk_model.specs.EndRecord.{EndRecord, read_end}
-use Rattle.pblk_model.specs.Records.{Record, bears, mark_at}
+use Rattle.pblk_model.specs.declared.chunk.Mark.{Mark}
+use Rattle.pblk_model.specs.Records.{Record, mark_at, record_at}
 use Rattle.scan_recovery.specs.Traces.{without_sector}
 
--- the blocks of a line, by line address
-unfoldable pub line_blocks : Image → ℕ → List (Option Block)
-line_blocks i line = map (block_at i line) (range_with_len 0 (width i line * i.shape.clba))
+-- the blocks of a line from a line address on
+unfoldable pub blocks_at : Image → ℕ → ℕ → ℕ → List (Option Block)
+blocks_at i line a n = map (block_at i line) (range_with_len a n)
+
+-- how many blocks a line has, written or not
+abbrev pub line_len : Image → ℕ → ℕ
+line_len i line = width i line * i.shape.clba
+
+-- those at its front, where its start record stands, and those at its end, where its end record does
+abbrev pub front_blocks : Image → ℕ → List (Option Block)
+front_blocks i line = blocks_at i line 0 (min (start_len i.shape) (line_len i line))
+
+abbrev pub tail_blocks : Image → ℕ → List (Option Block)
+tail_blocks i line = let from = line_len i line - end_len i.shape (width i line) in blocks_at i line from (line_len i line - from)
 
 -- blocks that are all written
 abbrev pub run_of : List (Option Block) → Option (List Block)
@@ -46,11 +58,14 @@ end_from s line g seq run = option_and_then (λ blocks. if have_meta seq blocks 
 unfoldable pub end_among : Shape → ℕ → ℕ → ℕ → List (Option Block) → Option EndRecord
 end_among s line g seq bs = if nat_lt (length bs) (end_len s g) then None else end_from s line g seq (run_of (drop (length bs - end_len s g) bs))
 
--- the record of a block at a line address
-abbrev pub record_in : Shape → ℕ → ℕ → Option EndRecord → ℕ → Option Block → Option Record
-record_in s line seq e a o = option_and_then (λ block. option_and_then (bears s line seq a block) (mark_at s e a block)) o
+-- the mark that an end record has for a line address
+abbrev pub pair_at : Shape → EndRecord → ℕ → Option Mark
+pair_at s e a = if nat_lt a (start_len s) then None else slice_get e.pairs (a - start_len s)
 
--- the records of blocks from a line address on, but for their sectors
-unfoldable pub traces_from : Shape → ℕ → ℕ → Option EndRecord → ℕ → List (Option Block) → List Record
-traces_from s line seq e a [] = []
-traces_from s line seq e a (o ∷ bs) = cons_option (option_map without_sector (record_in s line seq e a o)) (traces_from s line seq e (a + 1) bs)
+-- the mark that the block at a line address counts with, if it is written and has one
+abbrev pub mark_of : Image → ℕ → Option EndRecord → ℕ → Option Mark
+mark_of i line e a = option_and_then (mark_at i.shape e a) (block_at i line a)
+
+-- the records of the first n line addresses of a line with this start record, but for their sectors
+abbrev pub records_to : Image → ℕ → StartRecord → ℕ → List Record
+records_to i line start n = filter_map (λ a. option_map without_sector (record_at i line start a)) (range_with_len 0 n)

@@ -1,5 +1,5 @@
 -- Records without their sectors, and tables of them by number.
-use Rattle.std.specs.Prelude.{ℕ, ◌+◌, ◌<◌, ◌≡◌, ◌==◌, ◌&&◌, nat_lt, Bool, false, List, [], map, length, slice_get, Option, Some, None}
+use Rattle.std.specs.Prelude.{ℕ, ◌+◌, ◌≡◌, ◌==◌, ◌&&◌, nat_lt, Bool, false, List, [], map, Option, Some, None}
 use Rattle.std.specs.List.{find}
 use Rattle.std.specs.Option.{option_and_then}
 use Rattle.pblk_model.specs.StartRecord.{Row, StartRecord}
@@ -21,11 +21,6 @@ without_sector r = record { line = r.line; seq = r.seq; at = r.at; position = r.
 -- these are the records' traces
 abbrev pub AreTraces : List Trace → List Record → Type 0
 AreTraces ts rs = bares ts ≡ map without_sector rs
-
--- for each number below n what f gives of it
-pub record IsTable {X : Type 0} (n : ℕ) (f : ℕ → X) (xs : List X) : Type 0 where
-  pub count : length xs ≡ n
-  pub each : (k : ℕ) → k < n → slice_get xs k ≡ Some (f k)
 
 -- whether records bear the position that lies so far behind a head's front
 abbrev pub borne_at : List Record → StartRecord → ℕ → Bool

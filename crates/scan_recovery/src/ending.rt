@@ -5,7 +5,8 @@ ghost use Rattle.std.specs.Option.{option_map};
 ghost use Rattle.pblk_model.specs.Records.{Record};
 ghost use Rattle.pblk_model.specs.Contents.{least_missing, end_after};
 ghost use Rattle.pblk_meta.specs.Records.{start_numbers};
-ghost use Rattle.scan_recovery.specs.Traces.{IsTable, bare, bares, borne_at};
+ghost use Rattle.pblk_model.specs.Tables.{IsTable};
+ghost use Rattle.scan_recovery.specs.Traces.{bare, bares, borne_at};
 
 use crate::trace::Trace;
 use pblk_meta::StartRecord;

@@ -1,6 +1,7 @@
 //! Fetching the blocks of a line.
 
-ghost use Rattle.std.specs.Prelude.{◌≡◌, ◌<◌, ◌^◌, true, false, Some, None, length, map, IfOk, OnOk};
+ghost use Rattle.std.specs.Prelude.{◌≡◌, ◌*◌, ◌-◌, ◌<◌, ◌≤◌, ◌^◌, true, false, Some, None, length, map, IfOk, OnOk};
+ghost use Rattle.std.specs.Option.{option_map};
 ghost use Rattle.pblk_model.specs.Accepted.{IsAccepted};
 ghost use Rattle.pblk_model.specs.Image.{line_units};
 ghost use Rattle.pblk_model.specs.Shape.{units as unit_count};
@@ -8,8 +9,8 @@ ghost use Rattle.pblk_layout.specs.Online.{units_in};
 ghost use Rattle.pblk_laws.specs.LineBlocks.{written_at};
 ghost use Rattle.unit_port.specs.Commands.{AreKept};
 ghost use Rattle.world_laws.specs.Finding.{NoneOpen};
-ghost use Rattle.scan_recovery.specs.Fetches.{IsReadableAt, WereFetched, error_of};
-ghost use Rattle.scan_recovery.specs.Reading.{line_blocks};
+ghost use Rattle.scan_recovery.specs.Fetches.{IsReadableAt, WereFewFetched, error_of, one_if, only_of};
+ghost use Rattle.scan_recovery.specs.Reading.{blocks_at};
 ghost use Rattle.scan_recovery.specs.Units.{AreFit, image_of};
 
 use crate::error::ScanErr;
@@ -19,13 +20,16 @@ use pblk_layout::{Layout, LineUnits};
 use pblk_model::{Got, Mark, Shape};
 use unit_port::Unit;
 
-/// Fetches the written blocks of a line, by line address. `online` are its online units.
-pub(crate) fn fetch_line<U: Unit>(
+/// Fetches the written ones of the blocks of a line at these line addresses. `online` are its online
+/// units.
+pub(crate) fn fetch_run<U: Unit>(
     buffer: &mut LineBuffer,
     units: &mut [U],
     shape: &Shape,
     line: u32,
     online: LineUnits,
+    from: u32,
+    to: u32,
 ) -> Result<(), ScanErr>
     requires size { buffer.old.size ≡ shape.now.sector }
     requires accepted { IsAccepted shape.now }
@@ -35,21 +39,52 @@ pub(crate) fn fetch_line<U: Unit>(
     requires online { let i = image_of shape.now (map U.model units.old)
         in units_in online ≡ line_units i line }
     requires below { online < 2 ^ unit_count shape.now }
+    requires range { from ≤ to }
+    requires inside { to ≤ length (units_in online) * shape.now.clba }
     ensures blocks { let i = image_of shape.now (map U.model units.old)
-        in OnOk result (buffer.new.blocks ≡ line_blocks i line) }
+        in OnOk result (buffer.new.blocks ≡ blocks_at i line from (to - from)) }
     ensures size { buffer.new.size ≡ buffer.old.size }
-    ensures fetched { WereFetched shape.now (map U.model units.old) (map U.model units.new)
-        (error_of result) }
+    ensures fetched { WereFewFetched shape.now (map U.model units.old) (map U.model units.new)
+        (error_of result) (only_of line (to - from)) }
     ensures kept { AreKept (map U.model units.old) (map U.model units.new) }
     ensures wear { map U.wear units.new ≡ map U.wear units.old }
 {
     buffer.clear();
     let layout = Layout::new(shape);
-    for at in 0..online.width() * shape.clba {
+    for at in from..to {
         let (unit, block) = layout.place(online.bits(), at);
         buffer.fetch(units, shape, line, unit, block)?;
     }
     Ok(())
+}
+
+/// Fetches a block, if it is written, and gives its mark. Its sector goes into `out`.
+pub(crate) fn fetch_mark<U: Unit>(
+    units: &mut [U],
+    shape: &Shape,
+    line: u32,
+    unit: u32,
+    block: u32,
+    out: &mut [u8],
+) -> Result<Option<Mark>, ScanErr>
+    requires fit { AreFit shape.now (map U.model units.old) }
+    requires closed { NoneOpen (image_of shape.now (map U.model units.old)) }
+    requires unit { unit < length units.old }
+    requires line { line < shape.now.chunks }
+    requires size { length out.old ≡ shape.now.sector }
+    ensures mark { let i = image_of shape.now (map U.model units.old)
+        in IfOk result (λ m. m ≡ option_map (λ b. b.mark) (written_at i line (unit, block))) }
+    ensures fetched { let i = image_of shape.now (map U.model units.old)
+        in WereFewFetched shape.now (map U.model units.old) (map U.model units.new)
+        (error_of result) (only_of line (one_if (written_at i line (unit, block)))) }
+    ensures kept { AreKept (map U.model units.old) (map U.model units.new) }
+    ensures wear { map U.wear units.new ≡ map U.wear units.old }
+{
+    if !is_written(units, shape, line, unit, block) {
+        return Ok(None);
+    }
+    let mark = fetch_into(units, shape, line, unit, block, out)?;
+    Ok(Some(mark))
 }
 
 /// Whether a block of a chunk is written.
@@ -91,8 +126,8 @@ pub(crate) fn fetch_into<U: Unit>(
     ensures block { let i = image_of shape.now (map U.model units.old)
         in IfOk result (λ mark. written_at i line (unit, block)
         ≡ Some (record { sector = out.new; mark = mark })) }
-    ensures fetched { WereFetched shape.now (map U.model units.old) (map U.model units.new)
-        (error_of result) }
+    ensures fetched { WereFewFetched shape.now (map U.model units.old) (map U.model units.new)
+        (error_of result) (only_of line 1) }
     ensures kept { AreKept (map U.model units.old) (map U.model units.new) }
     ensures wear { map U.wear units.new ≡ map U.wear units.old }
 {

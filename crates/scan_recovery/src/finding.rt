@@ -1,20 +1,21 @@
 //! What a survey of all lines comes to.
 
-ghost use Rattle.std.specs.Prelude.{◌≡◌, ◌&&◌, not, ◌<◌, ◌≤◌, ◌^◌, ℕ, List, map, length, Option, IfOk, IfSome};
+ghost use Rattle.std.specs.Prelude.{◌≡◌, ◌&&◌, not, ◌<◌, ◌≤◌, ◌^◌, ℕ, map, length, Option, IfOk};
 ghost use Rattle.std.specs.List.{AllByRecursion, filter, filter_map, range_with_len};
 ghost use Rattle.std.specs.Option.{is_some, option_map, option_map_or};
-ghost use Rattle.pblk_model.specs.Image.{Image};
+ghost use Rattle.pblk_model.specs.Accepted.{IsAccepted};
+ghost use Rattle.pblk_model.specs.Image.{Image, IsFit};
 ghost use Rattle.pblk_model.specs.Records.{Record};
 ghost use Rattle.pblk_meta.specs.Records.{row_numbers, start_numbers};
 ghost use Rattle.pblk_world.specs.Lines.{is_stray};
 ghost use Rattle.world_laws.specs.Finding.{IsFoundOf, is_young, taken_states, winner_with};
 ghost use Rattle.scan_recovery.specs.Find.{bound_from, row_from};
+ghost use Rattle.scan_recovery.specs.Mounts.{IsMount, IsMountOf};
 ghost use Rattle.scan_recovery.specs.Survey.{IsSurvey, seen_line};
-ghost use Rattle.scan_recovery.specs.Tally.{HasStartFits};
-ghost use Rattle.scan_recovery.specs.Traces.{IsTable, bare};
+ghost use Rattle.pblk_model.specs.Tables.{IsTable};
+ghost use Rattle.scan_recovery.specs.Traces.{bare};
 
-use crate::counting::{rows_by_line, tally_of};
-use crate::ending::end_after;
+use crate::mount::Mount;
 use crate::survey::{SeenLine, Survey};
 use crate::trace::Trace;
 use pblk_meta::{Row, StartRecord};
@@ -26,29 +27,32 @@ use std::alloc::{AllocError, Global};
 pub(crate) fn found_of(
     alloc: Global,
     shape: &Shape,
-    survey: &Survey,
+    survey: Survey,
+    mount: &Mount,
     chunks: Vec<ChunkState>,
 ) -> Result<Found, AllocError>
-    requires head { IfSome survey.now.head HasStartFits }
-    requires few { length survey.now.traces.items ≤ 2 ^ 26 }
-    requires lines { length survey.now.lines.items ≡ shape.now.chunks }
-    requires within { AllByRecursion (λ t. t.line < shape.now.chunks) survey.now.traces.items }
-    ensures { (i : Image) → i.shape ≡ shape.now → IsSurvey i shape.now.chunks survey.now
+    requires accepted { IsAccepted shape.now }
+    requires mount { IsMount mount.now }
+    requires rows { length mount.now.rows.items ≡ shape.now.chunks }
+    requires lines { length survey.lines.items ≡ shape.now.chunks }
+    requires tops { length survey.count.tally.tops.items ≡ shape.now.chunks }
+    requires few { length survey.count.late.items ≤ 2 ^ 26 }
+    requires within { AllByRecursion (λ t. t.line < shape.now.chunks) survey.count.late.items }
+    ensures { (i : Image) → IsFit i → i.shape ≡ shape.now
+        → IsMountOf i mount.now → IsSurvey i shape.now.chunks survey
         → chunks.items ≡ taken_states i
         → IfOk result (IsFoundOf i) }
 {
-    let head = &survey.head;
-    let end = end_after(alloc, &survey.traces, head)?;
-    let rows = rows_by_line(alloc, head, shape.chunks)?;
-    let tally = tally_of(alloc, &survey.traces, head, end, &rows, shape.capacity)?;
-    let winners = winners_in(alloc, &tally.winners)?;
+    let counted = survey.count.finish(alloc, mount)?;
+    let winners = winners_in(alloc, &counted.tally.winners)?;
     let strays = strays_in(alloc, &survey.lines)?;
-    let lines = line_rows(alloc, &survey.lines, head, &rows, &tally.tops)?;
+    let head = &mount.head;
+    let lines = line_rows(alloc, &survey.lines, head, &mount.rows, &counted.tally.tops)?;
     Ok(Found {
         winners: Items::from_vec(winners),
         head: line_of(head),
         front: front_of(head),
-        end,
+        end: counted.end,
         strays: Items::from_vec(strays),
         chunks: Items::from_vec(chunks),
         lines: Items::from_vec(lines),

@@ -1,29 +1,34 @@
 //! What the image of a drive holds for its user (Bjørling, González, Bonnet, FAST 2017, recovery).
 
-ghost use Rattle.std.specs.Prelude.{◌≡◌, ◌+◌, ◌*◌, ◌<◌, ◌≤◌, ◌^◌, ℕ, length, map, IfOk, IfSome, OnOk};
-ghost use Rattle.std.specs.List.{AllByRecursion, filter, flat_map, range_with_len};
+ghost use Rattle.std.specs.Prelude.{◌≡◌, ◌+◌, ◌*◌, ◌<◌, Some, length, map, IfOk, IfSome, OnOk};
+ghost use Rattle.std.specs.List.{filter, flat_map, range_with_len};
 ghost use Rattle.std.specs.Option.{is_some, option_map};
 ghost use Rattle.pblk_model.specs.Accepted.{IsAccepted};
-ghost use Rattle.pblk_model.specs.Contents.{counted_after, sector_of};
+ghost use Rattle.pblk_model.specs.Contents.{sector_of};
 ghost use Rattle.pblk_model.specs.Image.{IsFit};
 ghost use Rattle.pblk_model.specs.ImageFile.{image_of};
-ghost use Rattle.pblk_meta.specs.Records.{row_numbers, start_numbers};
+ghost use Rattle.pblk_model.specs.EndRecord.{end_of};
+ghost use Rattle.pblk_model.specs.StartRecord.{StartRecord as HeadRecord, start_of};
+ghost use Rattle.pblk_meta.specs.Records.{end_numbers, start_numbers};
 ghost use Rattle.ocssd_drive.specs.Drive.{stored};
 ghost use Rattle.scan_recovery.specs.Held.{IsHeld, held_by, thin_winner};
 ghost use Rattle.scan_recovery.specs.Holding.{IsContentsOf, IsSummaryOf, head_of};
-ghost use Rattle.scan_recovery.specs.Survey.{IsSurvey};
-ghost use Rattle.scan_recovery.specs.Tally.{HasStartFits};
-ghost use Rattle.scan_recovery.specs.Traces.{IsTable, bare, bares, head_row};
+ghost use Rattle.scan_recovery.specs.Mounts.{IsMountOf};
+ghost use Rattle.scan_recovery.specs.Starts.{IsStarts, line_start};
+ghost use Rattle.scan_recovery.specs.Survey.{IsCountTo};
+ghost use Rattle.pblk_model.specs.Tables.{IsTable};
+ghost use Rattle.scan_recovery.specs.Traces.{bare};
 
-use crate::counting::{named_in, rows_by_line, tally_of};
-use crate::ending::end_after;
+use crate::counting::Count;
+use crate::line_records::{count_block, end_in, mark_at};
 use crate::media::Media;
+use crate::mount::Mount;
 use crate::sectors::{Contents, Head, Sectors, Summary};
-use crate::survey::Survey;
+use crate::starts::{LineStart, Starts};
 use crate::trace::Trace;
 use ocssd_drive::Drive;
 use pblk_layout::Layout;
-use pblk_meta::StartRecord;
+use pblk_meta::{EndRecord, StartRecord};
 use std::alloc::{AllocError, Global};
 
 /// What the image of a drive holds: the user sectors, each the newest of its records that count,
@@ -32,13 +37,12 @@ use std::alloc::{AllocError, Global};
 ///
 /// All written blocks are looked at where they lie, those of Open chunks too, which can't all be
 /// fetched. No unit is commanded, and the drive stays as it is. Fails only for want of memory:
-/// beside the sectors, each of which is copied once, it takes a few dozen bytes for a block.
+/// beside the sectors, each of which is copied once, it takes as much as `summary`.
 pub fn contents(alloc: Global, drive: &Drive) -> Result<Contents, AllocError>
     ensures { IfOk result (IsContentsOf (image_of (stored drive.now))) }
 {
     let media = Media::new(alloc, drive)?;
-    let survey = survey_of(alloc, &media)?;
-    let held = held_in(alloc, &media, &survey)?;
+    let held = held_in(alloc, &media)?;
     let shape = media.shape();
     let bytes = sector_bytes(alloc, &media, &held.winners)?;
     Ok(Contents {
@@ -50,50 +54,14 @@ pub fn contents(alloc: Global, drive: &Drive) -> Result<Contents, AllocError>
 /// What the image of a drive holds, but for the user sectors: `contents` without them. No sector is
 /// copied.
 ///
-/// Fails only for want of memory, of which it takes a few dozen bytes for a block.
+/// Fails only for want of memory, of which it takes a few dozen bytes for a user sector, for a line
+/// and for a block whose position is past the front of the newest start record.
 pub fn summary(alloc: Global, drive: &Drive) -> Result<Summary, AllocError>
     ensures { IfOk result (IsSummaryOf (image_of (stored drive.now))) }
 {
     let media = Media::new(alloc, drive)?;
-    let survey = survey_of(alloc, &media)?;
-    let held = held_in(alloc, &media, &survey)?;
+    let held = held_in(alloc, &media)?;
     Ok(held.summary)
-}
-
-// What the lines bear.
-fn survey_of(alloc: Global, media: &Media<'_>) -> Result<Survey, AllocError>
-    requires accepted { IsAccepted media.now.shape }
-    requires fit { IsFit media.now }
-    ensures { IfOk result (IsSurvey media.now media.now.shape.chunks) }
-{
-    let shape = media.shape();
-    let layout = Layout::new(&shape);
-    let mut survey = Survey::new(alloc);
-    for line in 0..shape.chunks {
-        add_line(alloc, &mut survey, media, &layout, line)?;
-    }
-    Ok(survey)
-}
-
-// Adds a line.
-fn add_line(
-    alloc: Global,
-    survey: &mut Survey,
-    media: &Media<'_>,
-    layout: &Layout,
-    line: u32,
-) -> Result<(), AllocError>
-    requires layout { layout.now ≡ media.now.shape }
-    requires accepted { IsAccepted media.now.shape }
-    requires fit { IsFit media.now }
-    requires line { line < media.now.shape.chunks }
-    requires survey { IsSurvey media.now line survey.old }
-    ensures { OnOk result (IsSurvey media.now (line + 1) survey.new) }
-{
-    let width = media.width(line);
-    let used = media.is_used(line);
-    let blocks = media.blocks(alloc, line)?;
-    survey.add(alloc, layout, line, width, used, &blocks)
 }
 
 // The newest of the records that count of each sector, and the rest of what an image holds.
@@ -103,32 +71,152 @@ pub(crate) struct Held {
     pub summary: Summary,
 }
 
-// What an image holds whose lines were surveyed, but for the sectors' bytes.
-fn held_in(alloc: Global, media: &Media<'_>, survey: &Survey) -> Result<Held, AllocError>
+// What an image holds, but for the sectors' bytes.
+fn held_in(alloc: Global, media: &Media<'_>) -> Result<Held, AllocError>
     requires accepted { IsAccepted media.now.shape }
     requires fit { IsFit media.now }
-    requires survey { IsSurvey media.now media.now.shape.chunks survey.now }
-    requires head { IfSome survey.now.head HasStartFits }
-    requires few { length survey.now.traces.items ≤ 2 ^ 26 }
-    requires within { let inside = media.now.shape.chunks
-        in AllByRecursion (λ t. t.line < inside) survey.now.traces.items }
     ensures { IfOk result (IsHeld media.now) }
 {
     let shape = media.shape();
-    let head = &survey.head;
-    let end = end_after(alloc, &survey.traces, head)?;
-    let rows = rows_by_line(alloc, head, shape.chunks)?;
-    let tally = tally_of(alloc, &survey.traces, head, end, &rows, shape.capacity)?;
+    let starts = starts_of(alloc, media)?;
+    let mount = Mount::new(alloc, starts.head, shape.chunks)?;
+    let count = count_of(alloc, media, &starts.lines, &mount)?;
+    let counted = count.finish(alloc, &mount)?;
     let summary = Summary {
-        end,
-        counted: named_in(&survey.traces, head, end, &rows),
-        live: live_in(&tally.winners),
-        head: head_in(head),
+        end: counted.end,
+        counted: counted.tally.named,
+        live: live_in(&counted.tally.winners),
+        head: head_in(&mount.head),
     };
     Ok(Held {
-        winners: tally.winners,
+        winners: counted.tally.winners,
         summary,
     })
+}
+
+// The fronts of the lines.
+fn starts_of(alloc: Global, media: &Media<'_>) -> Result<Starts, AllocError>
+    requires accepted { IsAccepted media.now.shape }
+    requires fit { IsFit media.now }
+    ensures { IfOk result (IsStarts media.now media.now.shape.chunks) }
+{
+    let shape = media.shape();
+    let layout = Layout::new(&shape);
+    let mut starts = Starts::new(alloc);
+    for line in 0..shape.chunks {
+        add_front(alloc, &mut starts, media, &layout, line)?;
+    }
+    Ok(starts)
+}
+
+// Adds the front of a line.
+fn add_front(
+    alloc: Global,
+    starts: &mut Starts,
+    media: &Media<'_>,
+    layout: &Layout,
+    line: u32,
+) -> Result<(), AllocError>
+    requires layout { layout.now ≡ media.now.shape }
+    requires accepted { IsAccepted media.now.shape }
+    requires fit { IsFit media.now }
+    requires line { line < media.now.shape.chunks }
+    requires starts { IsStarts media.now line starts.old }
+    ensures { OnOk result (IsStarts media.now (line + 1) starts.new) }
+{
+    let used = media.is_used(line);
+    let to = layout.start_len().min(media.len(line));
+    let blocks = media.blocks(alloc, line, 0, to)?;
+    starts.add(alloc, layout, line, media.width(line), used, &blocks)
+}
+
+// What the records of the lines come to, of whose fronts these were read.
+fn count_of(
+    alloc: Global,
+    media: &Media<'_>,
+    starts: &[LineStart],
+    mount: &Mount,
+) -> Result<Count, AllocError>
+    requires accepted { IsAccepted media.now.shape }
+    requires fit { IsFit media.now }
+    requires starts { IsTable media.now.shape.chunks (line_start media.now) starts.now }
+    requires mount { IsMountOf media.now mount.now }
+    ensures { IfOk result (IsCountTo media.now media.now.shape.chunks) }
+{
+    let shape = media.shape();
+    let layout = Layout::new(&shape);
+    let mut count = Count::new(alloc, shape.capacity, shape.chunks)?;
+    for line in 0..shape.chunks {
+        count_line(
+            alloc,
+            &mut count,
+            media,
+            &layout,
+            mount,
+            line,
+            starts[line as usize],
+        )?;
+    }
+    Ok(count)
+}
+
+// Counts what a line bears, whose front tells this.
+fn count_line(
+    alloc: Global,
+    count: &mut Count,
+    media: &Media<'_>,
+    layout: &Layout,
+    mount: &Mount,
+    line: u32,
+    start: LineStart,
+) -> Result<(), AllocError>
+    requires layout { layout.now ≡ media.now.shape }
+    requires accepted { IsAccepted media.now.shape }
+    requires fit { IsFit media.now }
+    requires line { line < media.now.shape.chunks }
+    requires mount { IsMountOf media.now mount.now }
+    requires start { start ≡ line_start media.now line }
+    requires count { IsCountTo media.now line count.old }
+    ensures { OnOk result (IsCountTo media.now (line + 1) count.new) }
+{
+    let Some(seq) = start.seq else {
+        return Ok(());
+    };
+    let len = media.len(line);
+    let width = media.width(line);
+    let from = len.saturating_sub(layout.end_len(width));
+    let blocks = media.blocks(alloc, line, from, len)?;
+    let end = end_in(alloc, layout, line, width, seq, &blocks)?;
+    count_blocks(count, media, layout, mount, line, seq, &end)
+}
+
+// Counts what the blocks of a line bear, which has this sequence number and this end record.
+fn count_blocks(
+    count: &mut Count,
+    media: &Media<'_>,
+    layout: &Layout,
+    mount: &Mount,
+    line: u32,
+    seq: u64,
+    end: &Option<EndRecord>,
+) -> Result<(), AllocError>
+    requires layout { layout.now ≡ media.now.shape }
+    requires accepted { IsAccepted media.now.shape }
+    requires line { line < media.now.shape.chunks }
+    requires mount { IsMountOf media.now mount.now }
+    requires seq { option_map (λ r. r.seq) (start_of media.now line) ≡ Some seq }
+    requires end { (start : HeadRecord) → start.seq ≡ seq
+        → end_of media.now line start ≡ option_map end_numbers end.now }
+    requires count { IsCountTo media.now line count.old }
+    ensures { OnOk result (IsCountTo media.now (line + 1) count.new) }
+{
+    for at in 0..media.len(line) {
+        if let Some(block) = media.block(line, at) {
+            let mark = mark_at(layout.shape(), end, at, &block);
+            count_block(count, mount, layout.shape(), line, seq, at, mark)?;
+        }
+    }
+    Ok(())
 }
 
 fn head_in(head: &Option<StartRecord>) -> Option<Head>

@@ -5,7 +5,7 @@ ghost use Rattle.pblk_model.specs.declared.chunk.Mark.{Mark as ModelMark};
 ghost use Rattle.pblk_laws.specs.LineBlocks.{written_at};
 ghost use Rattle.unit_port.specs.Commands.{AreKept};
 ghost use Rattle.world_laws.specs.Finding.{NoneOpen};
-ghost use Rattle.scan_recovery.specs.Fetches.{WereFetched, error_of};
+ghost use Rattle.scan_recovery.specs.Fetches.{WereFewFetched, error_of, only_of};
 ghost use Rattle.scan_recovery.specs.Packed.{packed, written_count};
 ghost use Rattle.scan_recovery.specs.Units.{AreFit, image_of};
 
@@ -18,7 +18,7 @@ use std::marker::Model;
 use unit_port::Unit;
 
 /// Blocks that were fetched, one after another, each where it is written. Their sectors lie in one
-/// buffer, which serves line after line. Contracts see how many bytes a sector has, and the list of
+/// buffer, which serves run after run. Contracts see how many bytes a sector has, and the list of
 /// the model's `Block`s.
 #[derive(Debug, Drop)]
 pub(crate) struct LineBuffer {
@@ -84,8 +84,8 @@ impl LineBuffer {
             in OnOk result (self.new.blocks
             ≡ self.old.blocks ++ written_at i line (unit, block) ∷ []) }
         ensures size { self.new.size ≡ self.old.size }
-        ensures fetched { WereFetched shape.now (map U.model units.old) (map U.model units.new)
-            (error_of result) }
+        ensures fetched { WereFewFetched shape.now (map U.model units.old) (map U.model units.new)
+            (error_of result) (only_of line 1) }
         ensures kept { AreKept (map U.model units.old) (map U.model units.new) }
         ensures wear { map U.wear units.new ≡ map U.wear units.old }
     {

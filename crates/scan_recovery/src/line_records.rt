@@ -1,16 +1,20 @@
 //! What the blocks of a line bear, once they were read.
 
-ghost use Rattle.std.specs.Prelude.{◌≡◌, ◌<◌, ◌≤◌, ◌^◌, ◌++◌, ◌&&◌, ◌==◌, length, false, IfOk, OnOk, IfSome};
-ghost use Rattle.std.specs.Option.{option_map, option_map_or};
+ghost use Rattle.std.specs.Prelude.{ℕ, List, [], ◌≡◌, ◌<◌, ◌≤◌, ◌^◌, ◌++◌, ◌&&◌, ◌==◌, length, false, IfOk, OnOk, IfSome};
+ghost use Rattle.std.specs.List.{cons_option};
+ghost use Rattle.std.specs.Option.{option_and_then, option_map, option_map_or};
 ghost use Rattle.pblk_model.specs.Accepted.{IsAccepted};
 ghost use Rattle.pblk_model.specs.Shape.{units};
 ghost use Rattle.pblk_model.specs.Marks.{meta_lba};
-ghost use Rattle.pblk_model.specs.Records.{mark_at, named};
+ghost use Rattle.pblk_model.specs.Records.{Record, mark_at, named};
 ghost use Rattle.pblk_meta.specs.Records.{end_numbers, start_numbers};
-ghost use Rattle.scan_recovery.specs.Reading.{have_mark, sectors_of, start_among, end_among, record_in, traces_from};
+ghost use Rattle.scan_recovery.specs.Mounts.{IsCount, IsMount, head_of, marked};
+ghost use Rattle.scan_recovery.specs.Reading.{have_mark, sectors_of, start_among, end_among, pair_at};
 ghost use Rattle.scan_recovery.specs.Tally.{HasStartFits};
-ghost use Rattle.scan_recovery.specs.Traces.{bare, bares, without_sector};
+ghost use Rattle.scan_recovery.specs.Traces.{bare};
 
+use crate::counting::Count;
+use crate::mount::Mount;
 use crate::trace::Trace;
 use pblk_layout::Layout;
 use pblk_meta::{EndRecord, StartRecord};
@@ -129,21 +133,33 @@ pub(crate) fn end_in(
     EndRecord::read(alloc, &bytes, layout, line, width, seq)
 }
 
-// The mark that a block counts with: its pair in the end record where that is whole, else its own.
-fn mark_at(shape: &Shape, end: &Option<EndRecord>, at: u32, block: &Block<'_>) -> Option<Mark>
+/// The mark that the end record of a line has for the block at a line address, if it has one.
+pub(crate) fn pair_at(shape: &Shape, end: &EndRecord, at: u32) -> Option<Mark>
+    requires { IsAccepted shape.now }
+    ensures { result ≡ pair_at shape.now (end_numbers end.now) at }
+{
+    let start = shape.start_len();
+    if at < start {
+        None
+    } else {
+        end.pairs.as_slice().get((at - start) as usize).copied()
+    }
+}
+
+/// The mark that a written block at a line address counts with, if it has one: that of the line's
+/// end record where that is whole, else its own.
+pub(crate) fn mark_at(
+    shape: &Shape,
+    end: &Option<EndRecord>,
+    at: u32,
+    block: &Block<'_>,
+) -> Option<Mark>
     requires { IsAccepted shape.now }
     ensures { result ≡ mark_at shape.now (option_map end_numbers end.now) at block.now }
 {
     match end {
         None => Some(block.mark),
-        Some(end) => {
-            let start = shape.start_len();
-            if at < start {
-                None
-            } else {
-                end.pairs.as_slice().get((at - start) as usize).copied()
-            }
-        }
+        Some(end) => pair_at(shape, end, at),
     }
 }
 
@@ -160,22 +176,10 @@ fn named(shape: &Shape, mark: Mark) -> Option<Option<u64>>
     }
 }
 
-// What a block at a line address bears.
-fn trace_at(
-    shape: &Shape,
-    line: u32,
-    seq: u64,
-    end: &Option<EndRecord>,
-    at: u32,
-    block: &Option<Block<'_>>,
-) -> Option<Trace>
-    requires { IsAccepted shape.now }
-    ensures { option_map bare result
-        ≡ option_map without_sector
-        (record_in shape.now line seq (option_map end_numbers end.now) at block.now) }
+// What a block at a line address bears by the mark that it counts with.
+fn trace_at(shape: &Shape, line: u32, seq: u64, at: u32, mark: Mark) -> Option<Trace>
+    ensures { option_map bare result ≡ marked shape.now line seq at mark }
 {
-    let block = block.as_ref()?;
-    let mark = mark_at(shape, end, at, block)?;
     let lba = named(shape, mark)?;
     Some(Trace {
         line,
@@ -186,26 +190,30 @@ fn trace_at(
     })
 }
 
-/// Adds what the blocks of a line with this sequence number and this end record bear, in line
-/// order.
-pub(crate) fn trace_all(
-    traces: &mut Vec<Trace>,
+/// Counts what a block at a line address bears. `mark` is the mark that it counts with, if it is
+/// written and has one.
+pub(crate) fn count_block(
+    count: &mut Count,
+    mount: &Mount,
     shape: &Shape,
     line: u32,
     seq: u64,
-    end: &Option<EndRecord>,
-    blocks: &[Option<Block<'_>>],
+    at: u32,
+    mark: Option<Mark>,
 ) -> Result<(), AllocError>
-    requires accepted { IsAccepted shape.now }
-    requires few { length blocks.now ≤ 65536 }
-    ensures traces { OnOk result (bares traces.new.items
-        ≡ bares traces.old.items ++ traces_from shape.now line seq (option_map end_numbers end.now)
-        0 blocks.now) }
+    requires mount { IsMount mount.now }
+    requires line { line < length mount.now.rows.items }
+    requires tops { length count.old.tally.tops.items ≡ length mount.now.rows.items }
+    ensures { (sectors : ℕ) (rs : List Record)
+        → IsCount sectors (length mount.now.rows.items) (head_of mount.now) rs count.old
+        → OnOk result (IsCount sectors (length mount.now.rows.items) (head_of mount.now)
+        (rs ++ cons_option (option_and_then (marked shape.now line seq at) mark) []) count.new) }
 {
-    for (at, block) in blocks.iter().enumerate() {
-        if let Some(trace) = trace_at(shape, line, seq, end, at as u32, block) {
-            traces.push(trace)?;
-        }
+    let Some(mark) = mark else {
+        return Ok(());
+    };
+    if let Some(trace) = trace_at(shape, line, seq, at, mark) {
+        count.add(mount, &trace)?;
     }
     Ok(())
 }

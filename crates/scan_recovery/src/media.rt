@@ -1,6 +1,6 @@
 //! The chunks of a drive, read where they lie.
 
-ghost use Rattle.std.specs.Prelude.{◌≡◌, ◌<◌, ◌≤◌, ◌^◌, ℕ, not, length, map, slice_get, Some, IfOk};
+ghost use Rattle.std.specs.Prelude.{◌≡◌, ◌*◌, ◌-◌, ◌<◌, ◌≤◌, ◌^◌, ℕ, not, length, map, slice_get, Some, IfOk};
 ghost use Rattle.std.specs.List.{AllByRecursion};
 ghost use Rattle.pblk_model.specs.Accepted.{IsAccepted};
 ghost use Rattle.pblk_model.specs.Image.{IsFit, block_at, line_units, width};
@@ -10,8 +10,8 @@ ghost use Rattle.pblk_layout.specs.Online.{units_in};
 ghost use Rattle.pblk_laws.specs.LineBlocks.{written_at};
 ghost use Rattle.pblk_world.specs.Lines.{are_empty};
 ghost use Rattle.ocssd_drive.specs.Drive.{stored};
-ghost use Rattle.scan_recovery.specs.Reading.{line_blocks};
-ghost use Rattle.scan_recovery.specs.Traces.{IsTable};
+ghost use Rattle.scan_recovery.specs.Reading.{blocks_at};
+ghost use Rattle.pblk_model.specs.Tables.{IsTable};
 ghost use Rattle.scan_recovery.specs.Units.{AreFit, image_of};
 
 use crate::line_records::Block;
@@ -98,19 +98,29 @@ impl<'a> Media<'a> {
         written_in(self.units, shape, line, unit, block)
     }
 
-    /// The blocks of a line, by line address, each where it is written.
+    /// How many blocks a line has, written or not.
+    pub(crate) fn len(&self, line: u32) -> u32
+        requires { line < self.now.shape.chunks }
+        ensures len { result ≡ width self.now line * self.now.shape.clba }
+        ensures few { result ≤ 65536 }
+    {
+        self.width(line) * self.layout.shape().clba
+    }
+
+    /// The blocks of a line at these line addresses, each where it is written.
     pub(crate) fn blocks(
         &self,
         alloc: Global,
         line: u32,
+        from: u32,
+        to: u32,
     ) -> Result<Vec<Option<Block<'a>>>, AllocError>
-        requires { line < self.now.shape.chunks }
-        ensures blocks { IfOk result (λ v. v.items ≡ line_blocks self.now line) }
-        ensures few { IfOk result (λ v. length v.items ≤ 65536) }
+        requires line { line < self.now.shape.chunks }
+        requires range { from ≤ to }
+        ensures blocks { IfOk result (λ v. v.items ≡ blocks_at self.now line from (to - from)) }
     {
-        let count = self.width(line) * self.layout.shape().clba;
-        let mut blocks = Vec::with_capacity(alloc, count as usize)?;
-        for at in 0..count {
+        let mut blocks = Vec::with_capacity(alloc, (to - from) as usize)?;
+        for at in from..to {
             blocks.push(self.block(line, at))?;
         }
         Ok(blocks)

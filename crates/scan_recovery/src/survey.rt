@@ -1,17 +1,12 @@
 //! What the lines of a drive bear, one after another.
 
-ghost use Rattle.std.specs.Prelude.{◌≡◌, ◌+◌, ◌<◌, ◌≤◌, ℕ, length, OnOk};
-ghost use Rattle.std.specs.Option.{option_map};
-ghost use Rattle.pblk_model.specs.Accepted.{IsAccepted};
-ghost use Rattle.pblk_model.specs.Image.{Image, IsFit};
-ghost use Rattle.pblk_model.specs.Shape.{units};
-ghost use Rattle.pblk_meta.specs.Records.{start_numbers};
-ghost use Rattle.scan_recovery.specs.Survey.{IsLine, IsSurvey, is_later};
+ghost use Rattle.std.specs.Prelude.{◌≡◌, ◌+◌, ◌<◌, ℕ, length, IfOk, OnOk};
+ghost use Rattle.pblk_model.specs.Image.{Image};
+ghost use Rattle.scan_recovery.specs.Survey.{IsSeen, IsSurvey, seen_line};
+ghost use Rattle.pblk_model.specs.Tables.{IsTable};
 
-use crate::line_records::{Block, end_in, start_in, trace_all};
-use crate::trace::Trace;
-use pblk_layout::Layout;
-use pblk_meta::StartRecord;
+use crate::counting::Count;
+use crate::starts::LineStart;
 use std::alloc::{AllocError, Global};
 
 /// What is found of a line: its sequence number where its start record is whole, whether its end
@@ -23,83 +18,33 @@ pub(crate) struct SeenLine {
     pub used: bool,
 }
 
-/// What is found of the lines that were read so far: a row for each, what their blocks bear, and
-/// the head among them.
+/// What is found of the lines that were read so far: a row for each, and what their records come
+/// to.
 #[derive(Debug, Drop)]
 pub(crate) struct Survey {
     pub lines: Vec<SeenLine>,
-    pub traces: Vec<Trace>,
-    pub head: Option<StartRecord>,
-}
-
-// Whether a start record of this sequence number is later than the best so far.
-fn is_later(best: &Option<StartRecord>, seq: u64) -> bool
-    ensures { result ≡ is_later (option_map start_numbers best.now) seq }
-{
-    match best {
-        None => true,
-        Some(best) => best.seq < seq,
-    }
+    pub count: Count,
 }
 
 impl Survey {
-    /// That of no lines.
-    pub(crate) fn new(alloc: Global) -> Survey
-        ensures { (i : Image) → IsSurvey i 0 result }
+    /// That of no lines, on a drive of so many user sectors and lines.
+    pub(crate) fn new(alloc: Global, sectors: u64, lines: u32) -> Result<Survey, AllocError>
+        ensures { (i : Image) → i.shape.capacity ≡ sectors → i.shape.chunks ≡ lines
+            → IfOk result (IsSurvey i 0) }
     {
-        Survey {
+        Ok(Survey {
             lines: Vec::new(alloc),
-            traces: Vec::new(alloc),
-            head: None,
-        }
+            count: Count::new(alloc, sectors, lines)?,
+        })
     }
-
-    /// Adds the next line, which has this width and these blocks. `used` says whether it has a
-    /// chunk that is neither Free nor Offline.
-    pub(crate) fn add(
-        &mut self,
-        alloc: Global,
-        layout: &Layout,
-        line: u32,
-        width: u32,
-        used: bool,
-        blocks: &[Option<Block<'_>>],
-    ) -> Result<(), AllocError>
-        requires accepted { IsAccepted layout.now }
-        requires line { line < layout.now.chunks }
-        requires width { width ≤ units layout.now }
-        requires few { length blocks.now ≤ 65536 }
-        ensures { (i : Image) → i.shape ≡ layout.now → IsFit i → IsLine i line width used blocks.now
-            → IsSurvey i line self.old
-            → OnOk result (IsSurvey i (line + 1) self.new) }
+    /// Adds the row of the next line, whose front told this.
+    pub(crate) fn push(&mut self, start: LineStart, full: bool) -> Result<(), AllocError>
+        ensures row { (i : Image) (line : ℕ) → IsSeen i line start full → IsTable line (seen_line i) self.old.lines.items
+            → OnOk result (IsTable (line + 1) (seen_line i) self.new.lines.items) }
+        ensures count { self.new.count ≡ self.old.count }
     {
-        let Some(start) = start_in(alloc, layout, line, width, blocks)? else {
-            let row = SeenLine {
-                seq: None,
-                full: false,
-                used,
-            };
-            self.lines.push(row)?;
-            return Ok(());
-        };
-        let end = end_in(alloc, layout, line, width, start.seq, blocks)?;
-        trace_all(
-            &mut self.traces,
-            layout.shape(),
-            line,
-            start.seq,
-            &end,
-            blocks,
-        )?;
-        let row = SeenLine {
-            seq: Some(start.seq),
-            full: end.is_some(),
-            used,
-        };
-        self.lines.push(row)?;
-        if is_later(&self.head, start.seq) {
-            self.head = Some(start);
-        }
+        let LineStart { seq, used } = start;
+        self.lines.push(SeenLine { seq, full, used })?;
         Ok(())
     }
 }

@@ -21,7 +21,7 @@ static IMAGES: [Case; 10] = [
             "head 0, front 0, end 0",
             "line 0 seq 1 bound 0 top 0 young",
             "chunks c---------------",
-            "events 28 0",
+            "events 32 0",
         ],
     },
     // The hole is written over by a mount that bounds the old line at 0.
@@ -43,7 +43,7 @@ static IMAGES: [Case; 10] = [
             "line 0 seq 1 bound 0 top 0",
             "line 1 seq 2 bound 0 top 4 young",
             "chunks cc-------c------",
-            "events 57 29",
+            "events 65 33",
         ],
     },
     // Two full lines, and what is left where a chunk of the older one was reset.
@@ -67,7 +67,7 @@ static IMAGES: [Case; 10] = [
             "line 0 seq 1 bound 0 top 40 full young",
             "line 1 seq 2 bound 0 top 80 full young",
             "chunks cc------cc------",
-            "events 48 48",
+            "events 8 8",
         ],
     },
     Case {
@@ -91,7 +91,7 @@ static IMAGES: [Case; 10] = [
             "line 1 seq 2 bound 0 top 80 full young",
             "stray 0",
             "chunks -c------cc------",
-            "events 24 48",
+            "events 4 4",
         ],
     },
     // A fetch that fails ends the scan; the unit's four programs count before it.
@@ -126,7 +126,7 @@ static IMAGES: [Case; 10] = [
             "sector 0 of position 0 at 0.4 to sector 19",
             "line 0 seq 1 bound 0 top 20 full young",
             "chunks c-------c-------",
-            "events 12 24",
+            "events 4 4",
         ],
     },
     // So does one behind a full line: of the newer line's stripes those at 24, 32 and 40 are missing.
@@ -154,7 +154,7 @@ static IMAGES: [Case; 10] = [
             "line 0 seq 1 bound 0 top 40 full young",
             "line 1 seq 2 bound 0 top 60 full young",
             "chunks cc------cc------",
-            "events 36 48",
+            "events 8 8",
         ],
     },
     // A position that was given up is no gap, and a sector that there isn't bears no position.
@@ -177,7 +177,7 @@ static IMAGES: [Case; 10] = [
             "sector 7 of position 2 at 0.6",
             "line 0 seq 1 bound 0 top 3 young",
             "chunks c-------c-------",
-            "events 29 29",
+            "events 33 33",
         ],
     },
     // A line of one chunk: of its 24 blocks 4 are start record, 16 data and 4 end record.
@@ -198,7 +198,7 @@ static IMAGES: [Case; 10] = [
             "sector 0 of position 0 at 2.4 to sector 15",
             "line 2 seq 1 bound 0 top 16 full young",
             "chunks --c-------x-----",
-            "events 24 0",
+            "events 8 0",
         ],
     },
     // A line that lost a chunk has no whole start record any more. One with Pads alone has none either.
@@ -220,7 +220,7 @@ static IMAGES: [Case; 10] = [
             "stray 0",
             "stray 6",
             "chunks c-------x-----c-",
-            "events 24 30",
+            "events 4 6",
         ],
     },
 ];
@@ -255,7 +255,7 @@ static NEWEST: [Case; 7] = [
             "line 0 seq 1 bound 0 top 3 young",
             "line 1 seq 2 bound 0 top 4 young",
             "chunks cc------cc------",
-            "events 8 4",
+            "events 16 4",
         ],
     },
     // Of one position the later sequence number, in either line.
@@ -285,7 +285,7 @@ static NEWEST: [Case; 7] = [
             "line 0 seq 1 bound 0 top 2 young",
             "line 1 seq 2 bound 0 top 3 young",
             "chunks cc------cc------",
-            "events 8 4",
+            "events 16 4",
         ],
     },
     Case {
@@ -313,7 +313,7 @@ static NEWEST: [Case; 7] = [
             "line 0 seq 2 bound 0 top 2 young",
             "line 1 seq 1 bound 0 top 3 young",
             "chunks cc------cc------",
-            "events 8 4",
+            "events 16 4",
         ],
     },
     // Of one sequence number too the later line address, in one line and in two.
@@ -335,7 +335,7 @@ static NEWEST: [Case; 7] = [
             "sector 3 of position 0 at 0.5",
             "line 0 seq 1 bound 0 top 1 young",
             "chunks c-------c-------",
-            "events 4 2",
+            "events 8 2",
         ],
     },
     Case {
@@ -364,7 +364,7 @@ static NEWEST: [Case; 7] = [
             "line 0 seq 1 bound 0 top 2 young",
             "line 1 seq 1 bound 0 top 3 young",
             "chunks cc------cc------",
-            "events 8 4",
+            "events 16 4",
         ],
     },
     // Of one line address too the lesser line.
@@ -393,7 +393,7 @@ static NEWEST: [Case; 7] = [
             "line 0 seq 1 bound 0 top 2 young",
             "line 1 seq 1 bound 0 top 3 young",
             "chunks cc------cc------",
-            "events 8 4",
+            "events 16 4",
         ],
     },
     // The end record gives the marks of its blocks, and they are weighed as they are.
@@ -421,7 +421,7 @@ static NEWEST: [Case; 7] = [
             "line 0 seq 1 bound 0 top 40 full young",
             "line 1 seq 2 bound 0 top 4 young",
             "chunks cc------cc------",
-            "events 28 26",
+            "events 12 6",
         ],
     },
 ];
@@ -449,7 +449,7 @@ static BOUNDS: [Case; 3] = [
             "line 0 seq 1 bound 1 top 1",
             "line 1 seq 3 bound 0 top 2 young",
             "chunks cc------cc------",
-            "events 58 58",
+            "events 66 66",
         ],
     },
     Case {
@@ -472,7 +472,7 @@ static BOUNDS: [Case; 3] = [
             "line 0 seq 1 bound 0 top 0",
             "line 1 seq 3 bound 0 top 2 young",
             "chunks cc------cc------",
-            "events 58 58",
+            "events 66 66",
         ],
     },
     Case {
@@ -495,7 +495,7 @@ static BOUNDS: [Case; 3] = [
             "line 0 seq 1 bound 0 top 0",
             "line 1 seq 3 bound 0 top 2 young",
             "chunks cc------cc------",
-            "events 58 58",
+            "events 66 66",
         ],
     },
 ];

@@ -47,7 +47,7 @@ static CASES: [Case; 8] = [
             "sector 5 of position 0 at 0.4",
             "line 0 seq 1 bound 0 top 1 young",
             "chunks c-------c-------",
-            "events 29 29",
+            "events 33 33",
         ],
     },
     // The drive stops at the first one, which lands two blocks of its four.
@@ -95,7 +95,7 @@ static CASES: [Case; 8] = [
             "sector 5 of position 0 at 0.4",
             "line 0 seq 1 bound 0 top 1 young",
             "chunks c-------c-------",
-            "events 29 29",
+            "events 33 33",
         ],
     },
     // A line is padded before the next one, and in it a unit before the next one.
@@ -132,7 +132,7 @@ static CASES: [Case; 8] = [
             "sector 5 of position 0 at 0.4",
             "line 0 seq 1 bound 0 top 1 young",
             "chunks c-------c-------",
-            "events 12 29",
+            "events 16 33",
         ],
     },
 ];

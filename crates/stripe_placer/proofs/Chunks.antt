@@ -15,6 +15,7 @@ use Rattle.stripe_placer.specs.declared.slot.Chunk.TheVariants as chunk
 use Rattle.stripe_placer.proofs.Numbered.{get_mapped, set_mapped, found_in_range, none_in_range, IsFirst, first_is, some_in_range, no_in_range}
 use Rattle.pblk_model.proofs.Maps.{length_mapped}
 use Rattle.pblk_model.proofs.Tests.{and_both, and_false, le_of_lt_false, lt_true, not_before, not_true as not_not}
+use Rattle.pblk_model.proofs.Numbers.{not_less}
 
 abbrev pub chunk_of : List Chunk → ℕ → ℕ → Chunk
 chunk_of chunks w j = slice_index_or chunks (j % w) chunk.Open
@@ -36,12 +37,6 @@ same_eq i = grind (arith, nat_tests)
 
 pub other_eq : (i j : ℕ) → i ≢ j → nat_eq i j ≡ false
 other_eq i j h = grind (arith, nat_tests)
-
-not_less : (i b : ℕ) → (i < b → ⊥) → b ≤ i
-not_less i b h = elim (nat_lt i b) as (λ t. nat_lt i b ≡ t → b ≤ i) [
-  | true ↦ λ e. absurd (h (grind (arith, nat_tests)))
-  | false ↦ λ e. grind (arith, nat_tests)
-] refl
 
 pub lt_both : (i a b : ℕ) → (i < a → i < b) → (i < b → i < a) → nat_lt i a ≡ nat_lt i b
 lt_both i a b f g = elim (nat_lt i a) as (λ t. nat_lt i a ≡ t → t ≡ nat_lt i b) [
@@ -377,9 +372,6 @@ placed_outcomes chunks w next n j h p =
     (λ i inside apart. ap (outcome_in chunks w next) (omega arith) ∙ placed_other chunks w next n j i h p apart
     ∙ ap (outcome_in (slice_set chunks (j % w) (chunk.Unanswered j)) w (j + 1)) (omega arith))
 
-not_less_than : (a b : ℕ) → (a < b → ⊥) → b ≤ a
-not_less_than a b h = not_less a b h
-
 -- the other chunks fit on
 placed_fit : (chunks : List Chunk) (w next n j k : ℕ) (c : Chunk) → 0 < w → IsPlaceable chunks w next n j → k ≢ j % w → k < w
     → slice_index_or chunks k chunk.Open ≡ c → FitsChunk c k w next → FitsChunk c k w (j + 1)
@@ -387,7 +379,7 @@ placed_fit chunks w next n j k chunk.Open some p apart inside is fit = tt
 placed_fit chunks w next n j k (chunk.Unanswered i) some p apart inside is fit = (
   fit.0,
   omega (arith, fit.1, p.from),
-  not_less_than (i + w) (j + 1) (λ h.
+  not_less (i + w) (j + 1) (λ h.
       let round : (i + w) % w ≡ k = add-mod_right i w ∙ fit.0 in
       elim (nat_eq (i + w) j) as (λ b. nat_eq (i + w) j ≡ b → ⊥) [
         | true ↦ λ e. apart (sym round ∙ ap (λ m. m % w) (eqb-true (i + w) j e))

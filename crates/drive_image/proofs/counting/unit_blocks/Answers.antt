@@ -4,12 +4,14 @@ use Rattle.pblk_model.specs.Chunk.{pointer}
 use Rattle.pblk_model.specs.ImageFile.{StoredChunk}
 use Rattle.ocssd_drive.specs.Units.{stored_chunks}
 use Rattle.drive_image.specs.Storing.{written_in}
-use Rattle.drive_image.proofs.Adding.{sum_all, sum_take}
-use Rattle.drive_image.proofs.Ends.{one_more, unit_few}
+use Rattle.drive_image.proofs.Adding.{sum_all}
 use Rattle.drive_image.proofs.Wholes.{unit_length}
 use Rattle.drive_image.proofs.counting.unit_blocks.Goals as goal
 use Rattle.drive_image.proofs.counting.unit_blocks.Goals.{After-state-state}
 use Rattle.pblk_model.proofs.ChunkLemmas.{pointer_within}
+use Rattle.pblk_model.proofs.Numbers.{blocks_more}
+use Rattle.pblk_model.proofs.AcceptedLemmas.{unit_few}
+use Rattle.pblk_model.proofs.Maps.{sum_take}
 
 -- the pointer that was found is within the chunk
 within : (c : After-state-state) → c.state-state.result.1 ≤ c.args.kept.now.unit.shape.clba
@@ -24,7 +26,7 @@ overflow_add-blocks c =
     let s = c.args.kept.now.unit.shape in
     let low = within (goal.at.overflow_add-blocks c).After-state-state in
     let sum : c.loop-chunk.blocks + c.state-state.result.1 ≤ c.args.chunks * s.clba =
-    one_more c.args.chunks c.loop-chunk.chunk s.clba c.loop-chunk.blocks c.state-state.result.1 c.loop-chunk-test.true c.loop-chunk.invariant.few low in
+    blocks_more c.args.chunks c.loop-chunk.chunk s.clba c.loop-chunk.blocks c.state-state.result.1 c.loop-chunk-test.true c.loop-chunk.invariant.few low in
     let all : s.chunks * s.clba ≤ 268435456 = unit_few s c.requires.accepted in
     let same : c.args.chunks * s.clba ≡ s.chunks * s.clba = ap (λ n. n * s.clba) c.requires.chunks in
     omega arith
@@ -38,7 +40,7 @@ loop-chunk-preserved c =
       counted = ap (λ m. m + c.state-state.result.1) c.loop-chunk.invariant.counted
           ∙ (ap (λ m. written_in (take n ks) + m) c.state-state.ensures.pointer
           ∙ sym (sum_take (λ (k : StoredChunk). pointer k.chunk) ks n _ c.kept_chunk-wear.ensures.kept));
-      few = one_more (n + 1) n s.clba c.loop-chunk.blocks c.state-state.result.1 (omega arith) c.loop-chunk.invariant.few
+      few = blocks_more (n + 1) n s.clba c.loop-chunk.blocks c.state-state.result.1 (omega arith) c.loop-chunk.invariant.few
           (within (goal.at.loop-chunk-preserved c).After-state-state);
     }
 

@@ -5,9 +5,10 @@ use Rattle.pblk_model.specs.ImageFile.{chunk_refusal, pointer_at}
 use Rattle.ocssd_geometry.specs.Numbers.{numbers_of}
 use Rattle.drive_image.specs.Parts.{descriptor_refusal}
 use Rattle.drive_image.proofs.Sums.{none_more, some_first}
-use Rattle.drive_image.proofs.Ends.{few_blocks, one_more}
+use Rattle.drive_image.proofs.Ends.{few_blocks}
 use Rattle.drive_image.proofs.descriptors.check_descriptors.Goals as goal
 use Rattle.pblk_model.proofs.Maps.{sum_more}
+use Rattle.pblk_model.proofs.Numbers.{blocks_more}
 
 pub returns-in_err-blocks-clause-refused : goal.returns-in_err-blocks-clause-refused
 returns-in_err-blocks-clause-refused c =
@@ -20,7 +21,7 @@ pub overflow_add-blocks : goal.overflow_add-blocks
 overflow_add-blocks c =
     let clba = c.args.geometry.now.clba in
     let sum : c.loop-n.blocks + c.in_ok-blocks.field-0 ≤ c.args.count * clba =
-    one_more c.args.count c.loop-n.n clba c.loop-n.blocks c.in_ok-blocks.field-0 c.loop-n-test.true c.loop-n.invariant.few c.in_ok-blocks.ensures.within in
+    blocks_more c.args.count c.loop-n.n clba c.loop-n.blocks c.in_ok-blocks.field-0 c.loop-n-test.true c.loop-n.invariant.few c.in_ok-blocks.ensures.within in
     let few : c.args.count * clba ≤ 268435456 = few_blocks c.args.bytes.now
     (numbers_of c.args.geometry.now) c.args.count c.requires.numbers c.requires.shape c.requires.count in
     omega arith
@@ -35,7 +36,7 @@ loop-n-preserved c =
     record {
       passed = none_more (chunk_refusal b) n c.loop-n.invariant.passed (sym c.in_ok-blocks.ensures.refused);
       counted = ap (λ m. m + c.in_ok-blocks.field-0) before ∙ (ap (λ m. sum_by (pointer_at b) (range_with_len 0 n) + m) here ∙ sym sum);
-      few = one_more (n + 1) n c.args.geometry.now.clba c.loop-n.blocks c.in_ok-blocks.field-0
+      few = blocks_more (n + 1) n c.args.geometry.now.clba c.loop-n.blocks c.in_ok-blocks.field-0
           (omega arith) c.loop-n.invariant.few c.in_ok-blocks.ensures.within;
     }
 

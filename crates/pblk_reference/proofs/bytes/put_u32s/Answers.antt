@@ -1,7 +1,8 @@
 use Rattle.std.proofs.Common.{◌++◌, ap, ◌∙◌}
 use Rattle.pblk_model.specs.Bytes.{le32}
-use Rattle.pblk_reference.proofs.Words.{piece_more, pieces_all}
+use Rattle.pblk_reference.proofs.Words.{piece_more}
 use Rattle.pblk_reference.proofs.bytes.put_u32s.Goals as goal
+use Rattle.pblk_model.proofs.Maps.{pieces_all}
 
 pub loop-number-preserved : goal.loop-number-preserved
 loop-number-preserved c =

@@ -1,6 +1,7 @@
 use Rattle.pblk_reference.specs.Words.{pair_words}
-use Rattle.pblk_reference.proofs.Words.{piece_more, pieces_all}
+use Rattle.pblk_reference.proofs.Words.{piece_more}
 use Rattle.pblk_reference.proofs.end_record.put_pairs.Goals as goal
+use Rattle.pblk_model.proofs.Maps.{pieces_all}
 
 pub loop-pair-preserved : goal.loop-pair-preserved
 unfolding pair_words

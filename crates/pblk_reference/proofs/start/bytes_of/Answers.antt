@@ -1,7 +1,8 @@
 use Rattle.std.proofs.Common.{[], ◌++◌, ap, ◌∙◌}
 use Rattle.pblk_model.specs.Chunk.{Block}
-use Rattle.pblk_reference.proofs.Words.{piece_more, pieces_all}
+use Rattle.pblk_reference.proofs.Words.{piece_more}
 use Rattle.pblk_reference.proofs.start.bytes_of.Goals as goal
+use Rattle.pblk_model.proofs.Maps.{pieces_all}
 
 pub loop-block-preserved : goal.loop-block-preserved
 loop-block-preserved c =

@@ -1,7 +1,8 @@
 use Rattle.std.proofs.Common.{◌++◌, ap, ◌∙◌}
 use Rattle.pblk_reference.specs.Words.{row_words}
-use Rattle.pblk_reference.proofs.Words.{piece_more, pieces_all}
+use Rattle.pblk_reference.proofs.Words.{piece_more}
 use Rattle.pblk_reference.proofs.start.put_rows.Goals as goal
+use Rattle.pblk_model.proofs.Maps.{pieces_all}
 
 pub loop-row-preserved : goal.loop-row-preserved
 loop-row-preserved c =

@@ -1,8 +1,9 @@
 use Rattle.std.proofs.Common.{take, length, sym, subst, arith}
 use Rattle.pblk_meta.specs.Records.{start_numbers}
-use Rattle.scan_recovery.specs.Traces.{IsTable, bare, bares, borne_at}
+use Rattle.scan_recovery.specs.Traces.{bare, bares, borne_at}
 use Rattle.scan_recovery.proofs.Tables.{vec_written, map_take_one}
 use Rattle.scan_recovery.proofs.ending.borne_from.Goals as goal
+use Rattle.pblk_model.specs.Tables.{IsTable}
 
 pub loop-t-preserved : goal.loop-t-preserved
 loop-t-preserved c =

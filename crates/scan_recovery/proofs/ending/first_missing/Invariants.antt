@@ -1,7 +1,7 @@
 use Rattle.std.proofs.Common.{◌≡◌, ℕ, ◌+◌, ◌-◌, Bool, length}
 use Rattle.pblk_model.specs.Contents.{least_missing}
-use Rattle.scan_recovery.specs.Traces.{IsTable}
 use Rattle.scan_recovery.proofs.ending.first_missing.Given as goal
+use Rattle.pblk_model.specs.Tables.{IsTable}
 
 abbrev pub invariant-loop-seen : goal.invariant-loop-seen
 invariant-loop-seen l = record {

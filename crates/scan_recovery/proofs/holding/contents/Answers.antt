@@ -5,18 +5,10 @@ use Rattle.pblk_model.specs.Image.{Image}
 use Rattle.scan_recovery.specs.declared.sectors.Contents.{Contents}
 use Rattle.scan_recovery.specs.Held.{thin_winner}
 use Rattle.scan_recovery.specs.Holding.{IsContentsOf}
-use Rattle.scan_recovery.specs.Traces.{IsTable, bare}
+use Rattle.scan_recovery.specs.Traces.{bare}
 use Rattle.scan_recovery.proofs.Held.{sectors_are}
-use Rattle.scan_recovery.proofs.ScanSteps.{survey_few, survey_within}
 use Rattle.scan_recovery.proofs.holding.contents.Goals as goal
-
-pub held_in-requires-clause-few : goal.held_in-requires-clause-few
-held_in-requires-clause-few c =
-    survey_few c.in_ok-media.media c.in_ok-media.media.shape.chunks c.in_ok-survey.survey c.in_ok-media.ensures.accepted c.in_ok-media.ensures.fit
-    c.in_ok-media.ensures.accepted.drive.lines_high c.in_ok-survey.ensures
-
-pub held_in-requires-clause-within : goal.held_in-requires-clause-within
-held_in-requires-clause-within c = survey_within c.in_ok-media.media c.in_ok-media.media.shape.chunks c.in_ok-survey.survey c.in_ok-survey.ensures
+use Rattle.pblk_model.specs.Tables.{IsTable}
 
 pub sector_bytes-requires-clause-winners : goal.sector_bytes-requires-clause-winners
 sector_bytes-requires-clause-winners c =

@@ -3,12 +3,12 @@ use Rattle.std.specs.List.{AllByRecursion}
 use Rattle.pblk_layout.specs.Online.{units_in}
 use Rattle.pblk_model.specs.Image.{line_units}
 use Rattle.pblk_model.specs.Shape.{units}
-use Rattle.scan_recovery.specs.Traces.{IsTable}
 use Rattle.scan_recovery.specs.Units.{image_of}
-use Rattle.scan_recovery.proofs.Tables.{table_push}
 use Rattle.scan_recovery.proofs.media.online_by_line.Goals as goal
 use Rattle.pblk_model.proofs.Lists.{all_append}
 use Rattle.pblk_model.proofs.Maps.{map_last}
+use Rattle.pblk_model.specs.Tables.{IsTable}
+use Rattle.pblk_model.proofs.TableLemmas.{table_push}
 
 pub loop-line-preserved : goal.loop-line-preserved
 loop-line-preserved c =

@@ -3,9 +3,9 @@ use Rattle.std.specs.List.{AllByRecursion}
 use Rattle.pblk_layout.specs.Online.{units_in}
 use Rattle.pblk_model.specs.Image.{line_units}
 use Rattle.pblk_model.specs.Shape.{units}
-use Rattle.scan_recovery.specs.Traces.{IsTable}
 use Rattle.scan_recovery.specs.Units.{image_of}
 use Rattle.scan_recovery.proofs.media.online_by_line.Given as goal
+use Rattle.pblk_model.specs.Tables.{IsTable}
 
 abbrev pub invariant-loop-line : goal.invariant-loop-line
 invariant-loop-line l = record {

@@ -3,30 +3,33 @@ use Rattle.ocssd_drive.specs.Drive.{DriveView, stored}
 use Rattle.ocssd_drive.specs.DriveFields.{drive_view}
 use Rattle.ocssd_drive.specs.Drive.{shape_of}
 use Rattle.ocssd_drive.specs.Units.{WornUnit}
-use Rattle.ocssd_drive.proofs.Drives.{unit_within, whole_again}
-use Rattle.ocssd_drive.proofs.Restoring.{IsUnitAt, unit_at, restored_is, stored-restored}
+use Rattle.ocssd_drive.proofs.Drives.{unit_found, unit_within, whole_again}
+use Rattle.ocssd_drive.proofs.Restoring.{restored_is, stored-restored}
 use Rattle.ocssd_drive.proofs.drive.Drive.restore_spelled.Goals as goal
-use Rattle.ocssd_drive.proofs.drive.Drive.restore_spelled.Goals.{After-index_mut-found}
-
--- the unit that was found is the drive's
-found : (c : After-index_mut-found) → IsUnitAt (drive_view c.self.inside) c.args.unit c.index_mut-found.result.now
-found c = unit_at (drive_view c.self.inside) c.args.unit _ c.self.invariant (rw (← c.self.view_is) at c.requires.unit) c.index_mut-found.ensures.value
 
 pub restore_spelled-requires-clause-chunk : goal.restore_spelled-requires-clause-chunk
-restore_spelled-requires-clause-chunk c = rw ((found c).fits.fits.count, (found c).fits.shape) (rw (← c.self.view_is) at c.requires.chunk)
+restore_spelled-requires-clause-chunk c =
+    let at = unit_found c.self.inside c.args.self.now c.args.unit _ c.self.invariant c.self.view_is c.requires.unit c.index_mut-found.ensures.value in
+    rw (at.fits.fits.count, at.fits.shape) (rw (← c.self.view_is) at c.requires.chunk)
 
 pub restore_spelled-requires-clause-whole : goal.restore_spelled-requires-clause-whole
-restore_spelled-requires-clause-whole c = rw ((found c).fits.shape) (rw (← c.self.view_is) at c.requires.whole)
+restore_spelled-requires-clause-whole c =
+    let at = unit_found c.self.inside c.args.self.now c.args.unit _ c.self.invariant c.self.view_is c.requires.unit c.index_mut-found.ensures.value in
+    rw (at.fits.shape) (rw (← c.self.view_is) at c.requires.whole)
 
 pub restore_spelled-requires-clause-place : goal.restore_spelled-requires-clause-place
-restore_spelled-requires-clause-place c = rw ((found c).fits.shape) (rw (← c.self.view_is) at c.requires.place)
+restore_spelled-requires-clause-place c =
+    let at = unit_found c.self.inside c.args.self.now c.args.unit _ c.self.invariant c.self.view_is c.requires.unit c.index_mut-found.ensures.value in
+    rw (at.fits.shape) (rw (← c.self.view_is) at c.requires.place)
 
 pub restore_spelled-requires-clause-multiple : goal.restore_spelled-requires-clause-multiple
-restore_spelled-requires-clause-multiple c = rw ((found c).fits.shape) (rw (← c.self.view_is) at c.requires.multiple)
+restore_spelled-requires-clause-multiple c =
+    let at = unit_found c.self.inside c.args.self.now c.args.unit _ c.self.invariant c.self.view_is c.requires.unit c.index_mut-found.ensures.value in
+    rw (at.fits.shape) (rw (← c.self.view_is) at c.requires.multiple)
 
 pub returns-clause-restored : goal.returns-clause-restored
 returns-clause-restored c =
-    let at = found (goal.at.returns-clause-restored c).After-index_mut-found in
+    let at = unit_found c.self.inside c.args.self.now c.args.unit _ c.self.invariant c.self.view_is c.requires.unit c.index_mut-found.ensures.value in
     let d : DriveView = drive_view c.self.inside in
     let r = c.restore_spelled.ensures.restored in
     rw (← c.self.view_is) (record {
@@ -41,7 +44,7 @@ pub index_mut-found-requires : goal.index_mut-found-requires
 index_mut-found-requires c = unit_within c.self.inside c.args.self.now c.args.unit c.self.invariant c.self.view_is c.requires.unit
 
 pub invariant_of-self : goal.invariant_of-self
-invariant_of-self c = whole_again (drive_view c.self.inside) c.args.unit _ _ c.self.invariant (found (goal.at.invariant_of-self c).After-index_mut-found) c.restore_spelled.ensures.fits (ap (λ (u : WornUnit). u.unit.shape) c.restore_spelled.ensures.restored.is)
+invariant_of-self c = whole_again (drive_view c.self.inside) c.args.unit _ _ c.self.invariant (unit_found c.self.inside c.args.self.now c.args.unit _ c.self.invariant c.self.view_is c.requires.unit c.index_mut-found.ensures.value) c.restore_spelled.ensures.fits (ap (λ (u : WornUnit). u.unit.shape) c.restore_spelled.ensures.restored.is)
 
 pub returns-clause-numbers : goal.returns-clause-numbers
 returns-clause-numbers c = ap shape_of c.self.view_is

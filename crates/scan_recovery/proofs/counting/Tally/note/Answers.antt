@@ -2,7 +2,7 @@ use Rattle.std.proofs.Common.{◌+◌, ◌<◌, length, max, Some, sym, ap, ◌�
 use Rattle.std.proofs.lemmas.Option.{slice_get-get_or}
 use Rattle.scan_recovery.specs.Traces.{bare}
 use Rattle.scan_recovery.proofs.Tables.{get_default}
-use Rattle.scan_recovery.proofs.Tallies.{tops_noted, winners_noted, winners_past, winners_void}
+use Rattle.scan_recovery.proofs.Tallies.{named_more, named_void, tops_noted, winners_noted, winners_past, winners_void}
 use Rattle.scan_recovery.proofs.counting.Tally.note.Goals as goal
 
 pub returns-then-place-len-clause-tally : goal.returns-then-place-len-clause-tally
@@ -16,6 +16,7 @@ returns-then-place-len-clause-tally c = λ sectors lines rs h.
       tops = tops_noted lines rs c.args.self.now.tops.items (bare c.args.t.now) c.max.result h.tops c.requires.line
           (c.max.ensures ∙ ap (λ n. max n (c.args.t.now.position + 1))
           (c.index.ensures ∙ get_default c.args.self.now.tops.items c.args.t.now.line c.index.result.now 0 c.requires.line));
+      named = named_more rs (bare c.args.t.now) c.in-Some.lba c.args.self.now.named c.saturating_add-self.result c.in-Some.is h.named c.saturating_add-self.ensures;
     }
 
 pub returns-else-place-len-clause-tally : goal.returns-else-place-len-clause-tally
@@ -26,6 +27,7 @@ returns-else-place-len-clause-tally c = λ sectors lines rs h.
       tops = tops_noted lines rs c.args.self.now.tops.items (bare c.args.t.now) c.max.result h.tops c.requires.line
           (c.max.ensures ∙ ap (λ n. max n (c.args.t.now.position + 1))
           (c.index.ensures ∙ get_default c.args.self.now.tops.items c.args.t.now.line c.index.result.now 0 c.requires.line));
+      named = named_more rs (bare c.args.t.now) c.in-Some.lba c.args.self.now.named c.saturating_add-self.result c.in-Some.is h.named c.saturating_add-self.ensures;
     }
 
 pub returns-in_default-clause-tally : goal.returns-in_default-clause-tally
@@ -35,4 +37,5 @@ returns-in_default-clause-tally c = λ sectors lines rs h.
       tops = tops_noted lines rs c.args.self.now.tops.items (bare c.args.t.now) c.max.result h.tops c.requires.line
           (c.max.ensures ∙ ap (λ n. max n (c.args.t.now.position + 1))
           (c.index.ensures ∙ get_default c.args.self.now.tops.items c.args.t.now.line c.index.result.now 0 c.requires.line));
+      named = named_void rs (bare c.args.t.now) c.args.self.now.named c.in_default.is h.named;
     }

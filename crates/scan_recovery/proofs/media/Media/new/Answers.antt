@@ -7,11 +7,11 @@ use Rattle.pblk_model.specs.Shape.{units}
 use Rattle.pblk_layout.specs.Online.{units_in}
 use Rattle.ocssd_drive.specs.Drive.{DriveView}
 use Rattle.ocssd_drive.specs.Units.{WornUnit}
-use Rattle.scan_recovery.specs.Traces.{IsTable}
 use Rattle.scan_recovery.specs.Units.{image_of}
 use Rattle.scan_recovery.proofs.MediaLines.{image_is, units_fit}
 use Rattle.scan_recovery.proofs.PadLoops.{fit_image}
 use Rattle.scan_recovery.proofs.media.Media.new.Goals as goal
+use Rattle.pblk_model.specs.Tables.{IsTable}
 
 pub online_by_line-requires : goal.online_by_line-requires
 online_by_line-requires c = record {

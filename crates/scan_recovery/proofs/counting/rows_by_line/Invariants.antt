@@ -1,8 +1,0 @@
-use Rattle.std.proofs.Common.{map}
-use Rattle.std.specs.Option.{option_map}
-use Rattle.pblk_meta.specs.Records.{row_numbers, start_numbers}
-use Rattle.scan_recovery.specs.Traces.{IsTable, head_row}
-use Rattle.scan_recovery.proofs.counting.rows_by_line.Given as goal
-
-abbrev pub invariant-loop-line : goal.invariant-loop-line
-invariant-loop-line l = IsTable l.line (head_row (option_map start_numbers l.head)) (map (option_map row_numbers) l.rows.items)
