@@ -1,6 +1,7 @@
 -- Units that are armed with nothing stay so, and none of their fetches fails or is stopped.
-use Rattle.std.proofs.Common.{◌≡◌, ℕ, List, [], ◌∷◌, ◌++◌, true, false, Some, sym, ap, ◌∙◌, subst}
+use Rattle.std.proofs.Common.{◌≡◌, ◌≢◌, ℕ, List, [], ◌∷◌, ◌++◌, true, false, Some, Result, Ok, Err, refl, sym, ap, ◌∙◌, subst}
 use Rattle.std.specs.List.{slice_get, slice_set}
+use Rattle.std.specs.Result.{IfErr}
 use Rattle.std.proofs.lemmas.Bool.{false≢true}
 use Rattle.std.proofs.lemmas.Option.{same_Some, slice_get_within}
 use native.Mathlib.Decide.{ℕ_discrete}
@@ -8,11 +9,13 @@ use Rattle.pblk_model.specs.declared.shape.Shape.{Shape}
 use Rattle.pblk_model.specs.UnitLog.{UnitOutcome, Answered, Failed, Stopped}
 use Rattle.pblk_model.proofs.Parts.{get_set_other, get_set_same}
 use Rattle.unit_port.specs.Armed.{IsUnarmed, is_fail, is_stop}
-use Rattle.unit_port.specs.Commands.{AreNext, AreUnarmed, EventAt, IsNext, after_one, with_event}
+use Rattle.unit_port.specs.Commands.{AreNext, AreUnarmed, EventAt, IsNext, after_all, after_one, with_event}
 use Rattle.unit_port.specs.Did.{failed_or_stopped}
 use Rattle.unit_port.specs.Unit.{ModelUnit}
 use Rattle.unit_port.proofs.Units.{after_one_is}
 use Rattle.scan_recovery.specs.Fetches.{WereFetched}
+use Rattle.scan_recovery.specs.Pads.{ArePads, WerePadded}
+use Rattle.scan_recovery.specs.declared.error.ScanErr.{ScanErr}
 use Rattle.scan_recovery.specs.declared.error.ScanErr.TheVariants as scan
 
 unarmed_at : (us : List ModelUnit) (e : EventAt) (u : ModelUnit) (k : ℕ) (v : ModelUnit) → slice_get us e.unit ≡ Some u → AreUnarmed us → slice_get (slice_set us e.unit (with_event u e.event)) k ≡ Some v → Dec (k ≡ e.unit)
@@ -39,3 +42,31 @@ pub none_fails : (s : Shape) (old new : List ModelUnit) (unit event : ℕ) → A
 none_fails s old new unit event calm (events, h) =
     let (front, last, is, good, of, lost, end) = h.ends in
     none_lost old front last calm (subst (AreNext old) is h.next) lost
+
+-- Padding.
+
+none_stops : (s : Shape) (us : List ModelUnit) (front : List EventAt) (last : EventAt) → AreUnarmed us → ArePads s us (front ++ last ∷ []) → is_stop last.event.outcome ≡ true → ⊥
+none_stops s us [] last calm pads stops = false≢true (sym (pads.1.quiet (calm last.unit pads.1.unit pads.1.there)).1 ∙ stops)
+none_stops s us (e ∷ front) last calm pads stops = none_stops s (after_one us e) front last (unarmed_after us e calm pads.1) pads.2 stops
+
+still_unarmed : (s : Shape) (us : List ModelUnit) (events : List EventAt) → AreUnarmed us → ArePads s us events → AreUnarmed (after_all us events)
+still_unarmed s us [] calm pads = calm
+still_unarmed s us (e ∷ events) calm pads = still_unarmed s (after_one us e) events (unarmed_after us e calm pads.1) pads.2
+
+unarmed_padded : (s : Shape) (old new : List ModelUnit) (r : Result (Unit {0}) ScanErr) → AreUnarmed old → WerePadded s old new r → AreUnarmed new
+unarmed_padded s old new r calm (events, h) = subst AreUnarmed (sym h.units) (still_unarmed s old events calm h.pads)
+
+pub padded_unarmed : (s : Shape) (old new : List ModelUnit) (r : Result (Unit {0}) ScanErr) → (r ≢ Err scan.Memory → WerePadded s old new r) → (r ≡ Err scan.Memory → new ≡ old) → AreUnarmed old → AreUnarmed new
+padded_unarmed s old new (Ok done) padded same calm = unarmed_padded s old new (Ok done) calm (padded (λ e. cc e))
+padded_unarmed s old new (Err (scan.Drive unit event)) padded same calm = unarmed_padded s old new (Err (scan.Drive unit event)) calm (padded (λ e. cc e))
+padded_unarmed s old new (Err scan.Memory) padded same calm = subst AreUnarmed (sym (same refl)) calm
+
+no_stop : (s : Shape) (old new : List ModelUnit) (unit event : ℕ) → AreUnarmed old → WerePadded s old new (Err (scan.Drive unit event)) → ⊥
+no_stop s old new unit event calm (events, h) =
+    let (front, last, is, quiet, of, stops, end) = h.ends in
+    none_stops s old front last calm (subst (ArePads s old) is h.pads) stops
+
+pub padded_wanting : (s : Shape) (old new : List ModelUnit) (r : Result (Unit {0}) ScanErr) → (r ≢ Err scan.Memory → WerePadded s old new r) → AreUnarmed old → IfErr r (λ e. e ≡ scan.Memory)
+padded_wanting s old new (Ok done) padded calm = tt
+padded_wanting s old new (Err (scan.Drive unit event)) padded calm = absurd (no_stop s old new unit event calm (padded (λ e. cc e)))
+padded_wanting s old new (Err scan.Memory) padded calm = refl

@@ -1,13 +1,12 @@
 -- What is kept of the chunks of units that fit a shape, and the greatest of their write pointers.
-use Rattle.std.proofs.Common.{◌≡◌, ◌≢◌, ℕ, ◌≤◌, ◌%◌, List, [], ◌∷◌, zero, suc, map, max, Option, Some, None, refl, sym, ap, ◌∙◌, subst, arith}
+use Rattle.std.proofs.Common.{◌≡◌, ◌≢◌, ℕ, ◌≤◌, ◌%◌, List, [], ◌∷◌, zero, suc, map, max, Option, Some, None, refl, ap, ◌∙◌, subst, arith}
 use Rattle.std.specs.List.{AllByRecursion, fold, slice_get}
 use Rattle.std.specs.Option.{option_and_then, option_map_or}
-use Rattle.std.proofs.lemmas.Option.{none-some, same_Some, slice_get-map}
+use Rattle.std.proofs.lemmas.Option.{none-some, same_Some}
 use Rattle.pblk_model.specs.declared.shape.Shape.{Shape}
 use Rattle.pblk_model.specs.declared.chunk.ChunkState.TheVariants.{Open}
 use Rattle.pblk_model.specs.Chunk.{Chunk, IsChunk}
 use Rattle.pblk_model.proofs.ChunkLemmas.{pointer_within}
-use Rattle.pblk_model.proofs.Options.{map_some}
 use Rattle.pblk_model.proofs.Parts.{all_by_get, all_get}
 use Rattle.pblk_laws.specs.LineBlocks.{chunk_in}
 use Rattle.unit_port.specs.Unit.{ModelUnit}
@@ -15,16 +14,8 @@ use Rattle.world_laws.specs.Finding.{NoneOpen}
 use Rattle.scan_recovery.specs.Units.{AreFit, image_of}
 use Rattle.stripe_parity.specs.declared.kept.KeptChunk.{KeptChunk}
 use Rattle.stripe_parity.specs.ParityFile.{IsKept, greatest_pointer, kept_chunks, kept_of, pointer_in}
-use Rattle.stripe_parity.proofs.Chunks.{chunk_fits}
-
--- an element of a mapped list comes of one of the list
-pub got_mapped : {X Y : Type 0} (f : X → Y) (xs : List X) (k : ℕ) (y : Y) → slice_get (map f xs) k ≡ Some y → (x : X) × (slice_get xs k ≡ Some x) × (f x ≡ y)
-got_mapped f xs k y h = map_some f (slice_get xs k) y (sym (slice_get-map f xs k) ∙ h)
-
--- what all of a mapped list is
-pub all_of_map : {X Y : Type 0} (P : Y → Type 0) (f : X → Y) (xs : List X) → AllByRecursion P (map f xs) → AllByRecursion (λ x. P (f x)) xs
-all_of_map P f [] all = tt
-all_of_map P f (x ∷ xs) all = (all.0, all_of_map P f xs all.1)
+use Rattle.scan_recovery.proofs.FetchSteps.{chunk_fits}
+use Rattle.pblk_model.proofs.Maps.{map_back}
 
 -- a chunk of a unit, from the unit's list
 pub chunk_from : (s : Shape) (us : List ModelUnit) (unit chunk : ℕ) (media : List Chunk) (c : Chunk) → slice_get (map (λ (u : ModelUnit). u.media) us) unit ≡ Some media
@@ -40,9 +31,9 @@ kept_fits s c fits closed = record { closed = closed; place = fits.place; multip
 pub all_kept : (s : Shape) (us : List ModelUnit) → AreFit s us → NoneOpen (image_of s us) → AllByRecursion (AllByRecursion (IsKept s)) (kept_chunks (image_of s us))
 all_kept s us fit closed =
     all_by_get (AllByRecursion (IsKept s)) (kept_chunks (image_of s us)) (λ unit of there.
-    let m = got_mapped (map kept_of) (map (λ (u : ModelUnit). u.media) us) unit of there in
+    let m = map_back (map kept_of) (map (λ (u : ModelUnit). u.media) us) unit of there in
     subst (AllByRecursion (IsKept s)) m.2 (all_by_get (IsKept s) (map kept_of m.0) (λ chunk k at.
-    let c = got_mapped kept_of m.0 chunk k at in
+    let c = map_back kept_of m.0 chunk k at in
     let here = chunk_from s us unit chunk m.0 c.0 m.1 c.1 in
     subst (IsKept s) c.2 (kept_fits s c.0 (chunk_fits s us chunk unit c.0 fit here) (closed chunk unit c.0 here)))))
 

@@ -2,11 +2,13 @@ pub mod Calm
 pub mod Chunks
 pub mod Counts
 pub mod Differences
+pub mod FileParts
 pub mod KeptChunks
 pub mod KeptLists
 pub mod LostBlocks
 pub mod MadeChunks
 pub mod MadeRows
+pub mod OneParity
 pub mod ParityIs
 pub mod Placing
 pub mod Putting

@@ -1,6 +1,6 @@
 -- Blocks that are added at the end of two lists.
 use Rattle.std.proofs.Common.{◌≡◌, ℕ, ◌+◌, ◌*◌, List, [], ◌∷◌, ◌++◌, length, map, sym, ap, ap₂, ◌∙◌, arith}
-use Rattle.std.specs.List.{AllByRecursion, range_with_len}
+use Rattle.std.specs.List.{range_with_len}
 use Rattle.std.proofs.lemmas.List.{take_all}
 use Rattle.std.proofs.lemmas.List.FromFn.{length-map-range_with_len, map-range_with_len_more}
 use Rattle.pblk_model.specs.declared.chunk.Mark.{Mark}
@@ -23,8 +23,3 @@ row_more f n old new b is added last =
 -- how many marks there are
 pub marks_are : (size n : ℕ) (bytes : List ℕ) (marks : List Mark) (f : ℕ → Block) → blocks_of size bytes marks ≡ map f (range_with_len 0 n) → length marks ≡ n
 marks_are size n bytes marks f is = sym (length-blocks_of size bytes marks) ∙ ap length is ∙ length-map-range_with_len f 0 n
-
--- one more of which all holds
-pub all_last : {X : Type 0} (P : X → Type 0) (xs : List X) (x : X) → AllByRecursion P xs → P x → AllByRecursion P (xs ++ x ∷ [])
-all_last P [] x all is = (is, tt)
-all_last P (y ∷ xs) x all is = (all.0, all_last P xs x all.1 is)

@@ -6,7 +6,7 @@ use Rattle.pblk_model.specs.declared.shape.Shape.{Shape}
 use Rattle.pblk_model.specs.Accepted.{IsAccepted}
 use Rattle.pblk_model.specs.Chunk.{Block, IsBlock}
 use Rattle.pblk_model.specs.Image.{Image}
-use Rattle.pblk_model.proofs.Maps.{length_mapped, row_at}
+use Rattle.pblk_model.proofs.Maps.{length_mapped, row_at, map_back}
 use Rattle.pblk_model.proofs.Parts.{all_by_get}
 use Rattle.ocssd_chunks.specs.DriveChunk.{DriveChunk}
 use Rattle.ocssd_drive.specs.Units.{IsChunkIn}
@@ -15,14 +15,14 @@ use Rattle.world_laws.specs.Finding.{NoneOpen}
 use Rattle.scan_recovery.specs.Units.{AreFit, image_of}
 use Rattle.stripe_parity.specs.declared.kept.KeptChunk.{KeptChunk}
 use Rattle.stripe_parity.specs.ParityFile.{IsParity, greatest_pointer, kept_chunks, kept_of, parity_block, parity_of, parity_row}
-use Rattle.stripe_parity.proofs.KeptChunks.{all_kept, got_mapped}
+use Rattle.stripe_parity.proofs.KeptChunks.{all_kept}
 
 -- as many chunks are kept of each unit as it has
 pub as_many : (s : Shape) (us : List ModelUnit) → AreFit s us → AllByRecursion (λ (of : List KeptChunk). length of ≡ s.chunks) (kept_chunks (image_of s us))
 as_many s us fit =
     all_by_get (λ (of : List KeptChunk). length of ≡ s.chunks) (kept_chunks (image_of s us)) (λ unit of there.
-    let m = got_mapped (map kept_of) (map (λ (u : ModelUnit). u.media) us) unit of there in
-    let u = got_mapped (λ (v : ModelUnit). v.media) us unit m.0 m.1 in
+    let m = map_back (map kept_of) (map (λ (u : ModelUnit). u.media) us) unit of there in
+    let u = map_back (λ (v : ModelUnit). v.media) us unit m.0 m.1 in
     let fits = fit.each unit u.0 u.1 in
     ap length (sym m.2) ∙ length-map m.0 kept_of ∙ ap length (sym u.2) ∙ fits.fits.count ∙ ap (λ (x : Shape). x.chunks) fits.shape)
 

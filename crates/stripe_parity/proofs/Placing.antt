@@ -8,13 +8,12 @@ use Rattle.pblk_model.specs.declared.shape.Shape.{Shape}
 use Rattle.pblk_model.specs.Shape.{units}
 use Rattle.pblk_model.specs.Chunk.{Chunk}
 use Rattle.pblk_model.specs.Image.{Image}
-use Rattle.pblk_model.proofs.Maps.{get_mapped}
+use Rattle.pblk_model.proofs.Maps.{get_mapped, map_back}
 use Rattle.pblk_model.proofs.Parts.{all_get, get_set_same, got_within, set_same}
 use Rattle.unit_port.specs.Unit.{ModelUnit}
 use Rattle.ocssd_drive.specs.Drive.{DriveView, IsWhole, changed_at, shape_of, with_replaced, with_units}
 use Rattle.ocssd_drive.specs.Units.{IsUnitOf, WornUnit, with_chunk}
 use Rattle.stripe_parity.specs.Rebuilding.{drive_image, with_unit}
-use Rattle.stripe_parity.proofs.KeptChunks.{got_mapped}
 
 -- the chunks of units, by unit
 abbrev pub media_of : List WornUnit → List (List Chunk)
@@ -52,8 +51,8 @@ set_twice (z ∷ xs) (suc i) x y = ap (λ ys. z ∷ ys) (set_twice xs i x y)
 -- the unit at a place of a drive, from its chunks
 pub worn_at : (us : List WornUnit) (unit : ℕ) (media : List Chunk) → slice_get (media_of us) unit ≡ Some media → (w : WornUnit) × (slice_get us unit ≡ Some w) × (w.unit.media ≡ media)
 worn_at us unit media there =
-    let u = got_mapped (λ (u : ModelUnit). u.media) (map (λ (w : WornUnit). w.unit) us) unit media there in
-    let w = got_mapped (λ (v : WornUnit). v.unit) us unit u.0 u.1 in
+    let u = map_back (λ (u : ModelUnit). u.media) (map (λ (w : WornUnit). w.unit) us) unit media there in
+    let w = map_back (λ (v : WornUnit). v.unit) us unit u.0 u.1 in
     (w.0, w.1, ap (λ (v : ModelUnit). v.media) w.2 ∙ u.2)
 
 changed_media : (us : List WornUnit) (unit chunk : ℕ) (c : Chunk) (media : List Chunk) → slice_get (media_of us) unit ≡ Some media

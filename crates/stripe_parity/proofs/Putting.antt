@@ -1,9 +1,9 @@
 -- Bytes that are added to a list piece by piece.
-use Rattle.std.proofs.Common.{◌≡◌, ℕ, ◌+◌, ◌≤◌, List, [], ◌∷◌, ◌++◌, length, take, cond, Some, refl, sym, ap, ◌∙◌, append_assoc, append-nil}
+use Rattle.std.proofs.Common.{◌≡◌, ℕ, ◌+◌, List, [], ◌∷◌, ◌++◌, length, take, cond, Some, refl, sym, ap, ◌∙◌, append_assoc, append-nil}
 use Rattle.std.specs.Prelude.{Result, Ok, Err}
 use Rattle.std.specs.List.{flat_map, slice_get}
 use Rattle.std.specs.Result.{is_ok}
-use Rattle.pblk_model.proofs.Parts.{take_all, take_more}
+use Rattle.pblk_model.proofs.Parts.{take_more}
 use Rattle.stripe_parity.specs.Puts.{Puts}
 
 pub puts_one : {T E : Type 0} (r : Result T E) (old new bytes : List ℕ) → new ≡ cond (is_ok r) (old ++ bytes) old → Puts r old new bytes
@@ -19,7 +19,7 @@ puts_after (Err e) old mid new first bytes was (more, next) = (first ++ more, ne
 pub some_more : (old mid new first : List ℕ) → mid ≡ old ++ first → (more : List ℕ) × (new ≡ mid ++ more) → (more : List ℕ) × (new ≡ old ++ more)
 some_more old mid new first was (more, next) = (first ++ more, next ∙ ap (λ l. l ++ more) was ∙ append_assoc old first more)
 
-flat_more : {X : Type 0} (f : X → List ℕ) (xs : List X) (x : X) → flat_map f (xs ++ x ∷ []) ≡ flat_map f xs ++ f x
+pub flat_more : {X : Type 0} (f : X → List ℕ) (xs : List X) (x : X) → flat_map f (xs ++ x ∷ []) ≡ flat_map f xs ++ f x
 flat_more f [] x = append-nil (f x)
 flat_more f (y ∷ xs) x = ap (λ l. f y ++ l) (flat_more f xs x) ∙ sym (append_assoc (f y) (flat_map f xs) (f x))
 
@@ -29,10 +29,6 @@ pub puts_next : {X : Type 0} (f : X → List ℕ) (xs : List X) (i : ℕ) (x : X
 puts_next f xs i x old mid new there was next =
     next ∙ ap (λ l. l ++ f x) was ∙ append_assoc old (flat_map f (take i xs)) (f x)
     ∙ ap (λ l. old ++ l) (sym (flat_more f (take i xs) x) ∙ ap (flat_map f) (sym (take_more xs i x there)))
-
--- those of all elements
-pub puts_all : {X : Type 0} (f : X → List ℕ) (xs : List X) (i : ℕ) (old new : List ℕ) → length xs ≤ i → new ≡ old ++ flat_map f (take i xs) → new ≡ old ++ flat_map f xs
-puts_all f xs i old new end was = was ∙ ap (λ l. old ++ flat_map f l) (take_all xs i end)
 
 -- three parts, one after another
 pub three_put : (o0 o1 o2 o3 a b c : List ℕ) → o1 ≡ o0 ++ a → o2 ≡ o1 ++ b → o3 ≡ o2 ++ c → o3 ≡ o0 ++ (a ++ (b ++ c))

@@ -1,6 +1,6 @@
 -- Why a unit wasn't made anew, and what is left then.
 use Rattle.std.proofs.Common.{◌≡◌, ℕ, List, map, Some, refl, sym, ap, ap₂, ◌∙◌, subst}
-use Rattle.std.specs.Prelude.{Option}
+use Rattle.std.specs.Prelude.{Option, Result, Ok, Err, IfErr}
 use Rattle.pblk_model.specs.declared.shape.Shape.{Shape}
 use Rattle.pblk_model.specs.Image.{Image}
 use Rattle.unit_port.specs.Commands.{AreUnarmed}
@@ -11,11 +11,12 @@ use Rattle.scan_recovery.specs.declared.error.ScanErr.{ScanErr}
 use Rattle.scan_recovery.specs.declared.error.ScanErr.TheVariants as scan
 use Rattle.scan_recovery.specs.Fetches.{WereFetched}
 use Rattle.scan_recovery.specs.Units.{image_of}
+use Rattle.stripe_parity.specs.declared.error.ParityErr.{ParityErr}
 use Rattle.stripe_parity.specs.declared.error.ParityErr.TheVariants as errors
 use Rattle.stripe_parity.specs.declared.kept.KeptChunk.{KeptChunk}
 use Rattle.stripe_parity.specs.ParityFile.{ParityFile, parity_of}
 use Rattle.stripe_parity.specs.Rebuilding.{AgreeBut, AreAsKept, IsFirstDifference, drive_image}
-use Rattle.stripe_parity.specs.Refusals.{IsRefusal, lost_fetch, refusal_of}
+use Rattle.stripe_parity.specs.Refusals.{IsFetchRefusal, IsRefusal, fetch_error, lost_fetch, refusal_of}
 use Rattle.stripe_parity.proofs.Calm.{none_fails}
 use Rattle.stripe_parity.proofs.RebuiltUnits.{agree_as_kept}
 
@@ -32,6 +33,14 @@ refused_as p i lost scan.Memory same = same
 pub wanting : (s : Shape) (old new : List ModelUnit) (e : ScanErr) → AreUnarmed old → WereFetched s old new (Some e) → refusal_of e ≡ errors.Memory
 wanting s old new (scan.Drive unit event) calm ran = absurd (none_fails s old new unit event calm ran)
 wanting s old new scan.Memory calm ran = refl
+
+calm_refusal : (s : Shape) (old new : List ModelUnit) (why : ScanErr) → AreUnarmed old → WereFetched s old new (lost_fetch (refusal_of why)) → refusal_of why ≡ errors.Memory
+calm_refusal s old new (scan.Drive unit event) calm ran = absurd (none_fails s old new unit event calm ran)
+calm_refusal s old new scan.Memory calm ran = refl
+
+pub made_wanting : {T : Type 0} (s : Shape) (old new : List ModelUnit) (r : Result T ParityErr) → AreUnarmed old → IfErr r IsFetchRefusal → WereFetched s old new (fetch_error r) → IfErr r (λ e. e ≡ errors.Memory)
+made_wanting s old new (Ok x) calm refused ran = tt
+made_wanting s old new (Err e) calm (why, is) ran = is ∙ calm_refusal s old new why calm (subst (λ x. WereFetched s old new (lost_fetch x)) is ran)
 
 -- a drive that agrees with the first one on the other units doesn't differ there
 pub no_difference : (p : ParityFile) (first i : Image) (lost unit chunk : ℕ) → p ≡ parity_of first → AgreeBut lost first i → IsFirstDifference p.chunks i lost unit chunk → ⊥

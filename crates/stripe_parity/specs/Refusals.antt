@@ -1,5 +1,5 @@
 -- Refusals, beside those of the fetches that they come from.
-use Rattle.std.specs.Prelude.{ℕ, Option, Some, None, Result, Ok, Err}
+use Rattle.std.specs.Prelude.{ℕ, ◌≡◌, Option, Some, None, Result, Ok, Err}
 use Rattle.pblk_model.specs.Image.{Image}
 use Rattle.scan_recovery.specs.declared.error.ScanErr.{ScanErr}
 use Rattle.scan_recovery.specs.declared.error.ScanErr.TheVariants as scan
@@ -24,6 +24,10 @@ lost_fetch errors.Long = None
 lost_fetch (errors.State unit chunk) = None
 lost_fetch (errors.Differs unit chunk) = None
 lost_fetch errors.Memory = None
+
+-- a call is refused for a fetch that wasn't done, or for want of memory
+abbrev pub IsFetchRefusal : ParityErr → Type 0
+IsFetchRefusal e = (why : ScanErr) × (e ≡ refusal_of why)
 
 abbrev pub fetch_error : {T : Type 0} → Result T ParityErr → Option ScanErr
 fetch_error (Ok x) = None

@@ -17,6 +17,7 @@ mod kept;
 mod law;
 mod making;
 mod parity;
+mod reading;
 mod rebuilding;
 mod writing;
 mod xoring;

@@ -1,6 +1,6 @@
 //! The parity of a drive.
 
-ghost use Rattle.std.specs.Prelude.{ℕ, ◌≡◌, ◌<◌, ◌++◌, length, map, slice_get, IfOk, IfNone, IfSome, OnErr, OnOk, Some};
+ghost use Rattle.std.specs.Prelude.{ℕ, ◌≡◌, ◌<◌, ◌++◌, length, map, slice_get, IfErr, IfOk, IfNone, IfSome, OnErr, OnOk, Some};
 ghost use Rattle.pblk_model.specs.Accepted.{IsAccepted};
 ghost use Rattle.pblk_model.specs.Chunk.{Block};
 ghost use Rattle.pblk_model.specs.Image.{Image};
@@ -10,11 +10,12 @@ ghost use Rattle.unit_port.specs.Commands.{AreKept};
 ghost use Rattle.world_laws.specs.Finding.{NoneOpen};
 ghost use Rattle.scan_recovery.specs.Fetches.{WereFetched, error_of};
 ghost use Rattle.scan_recovery.specs.Units.{AreFit, image_of};
-ghost use Rattle.stripe_parity.specs.ParityBytes.{parity_bytes};
+ghost use Rattle.stripe_parity.specs.declared.error.ParityErr.TheVariants.{Memory};
+ghost use Rattle.stripe_parity.specs.ParityBytes.{IsFileRefusal, parity_bytes};
 ghost use Rattle.stripe_parity.specs.Puts.{Puts};
-ghost use Rattle.stripe_parity.specs.ParityFile.{IsParity, kept_in, parity_of};
+ghost use Rattle.stripe_parity.specs.ParityFile.{IsParity, ParityFile, kept_in, parity_of};
 ghost use Rattle.stripe_parity.specs.Rebuilding.{AgreeBut, AreAsKept, HasSectors, IsFirstDifference, IsRebuiltBlock, kept_pointer};
-ghost use Rattle.stripe_parity.specs.Refusals.{fetch_error};
+ghost use Rattle.stripe_parity.specs.Refusals.{IsFetchRefusal, fetch_error};
 
 use crate::adding::add_units;
 use crate::differing::first_difference;
@@ -22,6 +23,7 @@ use crate::error::ParityErr;
 use crate::keeping::kept_units;
 use crate::kept::KeptChunk;
 use crate::making::make_rows;
+use crate::reading::{check_header, read_rows, read_units};
 use crate::writing::{header_of, put, put_rows, put_units};
 use crate::xoring::MAX_SECTOR;
 use ocssd_chunks::Chunk;
@@ -65,6 +67,7 @@ pub fn make<U: Unit>(alloc: Global, units: &mut [U], shape: &Shape) -> Result<Pa
     requires closed { NoneOpen (image_of shape.now (map U.model units.old)) }
     ensures parity { let i = image_of shape.now (map U.model units.old)
         in IfOk result (λ p. p ≡ parity_of i) }
+    ensures refused { IfErr result IsFetchRefusal }
     ensures fetched { WereFetched shape.now (map U.model units.old) (map U.model units.new)
         (fetch_error result) }
     ensures kept { AreKept (map U.model units.old) (map U.model units.new) }
@@ -80,6 +83,37 @@ pub fn make<U: Unit>(alloc: Global, units: &mut [U], shape: &Shape) -> Result<Pa
 }
 
 impl Parity {
+    /// The parity of a file of a drive of this shape.
+    ///
+    /// The file is read part by part: the header, the states and write pointers of all chunks, the exclusive
+    /// ors. In each part `Short` comes first, with the input's length, where the input ends within the part.
+    /// Then come `Magic`, `Version` and `Numbers`, where the header isn't the one of such a drive; `State`
+    /// with the first chunk, by unit and then by chunk, whose state and write pointer can't be. `Long` comes
+    /// where bytes remain. The exclusive ors may be any.
+    ///
+    /// `Memory` aside, no file of a parity is refused.
+    pub fn read(alloc: Global, bytes: &[u8], shape: &Shape) -> Result<Parity, ParityErr>
+        requires { IsAccepted shape.now }
+        ensures form { IfOk result (λ p. parity_bytes p ≡ bytes.now) }
+        ensures shape { IfOk result (λ p. p.shape ≡ shape.now) }
+        ensures refused { IfErr result (IsFileRefusal shape.now bytes.now) }
+
+        // What is written of a parity is read as it, or memory is wanting.
+        ensures again { (p : ParityFile) → IsParity p → p.shape ≡ shape.now
+            → parity_bytes p ≡ bytes.now → IfOk result (λ q. q ≡ p) }
+        ensures wanting { (p : ParityFile) → IsParity p → p.shape ≡ shape.now
+            → parity_bytes p ≡ bytes.now → IfErr result (λ e. e ≡ Memory) }
+    {
+        check_header(bytes, shape)?;
+        let kept = read_units(alloc, bytes, shape)?;
+        let rows = read_rows(alloc, bytes, shape, &kept)?;
+        Ok(Parity {
+            shape: *shape,
+            kept,
+            rows,
+        })
+    }
+
     /// The numbers of the drive.
     pub fn shape(&self) -> Shape
         ensures shape { result ≡ self.now.shape }
@@ -138,6 +172,7 @@ impl Parity {
             in (first : Image) (was : Block) → HasSectors first → self.now ≡ parity_of first
             → AgreeBut lost first i → written_at first chunk (lost, block) ≡ Some was
             → IfOk result (λ m. was ≡ record { sector = out.new; mark = m }) }
+        ensures refused { IfErr result IsFetchRefusal }
         ensures fetched { WereFetched self.now.shape (map U.model units.old) (map U.model units.new)
             (fetch_error result) }
         ensures kept { AreKept (map U.model units.old) (map U.model units.new) }

@@ -13,7 +13,7 @@ use Rattle.scan_recovery.specs.Fetches.{WereFetched}
 use Rattle.scan_recovery.proofs.UnitsLemmas.{drive_fits}
 use Rattle.stripe_parity.specs.ParityFile.{parity_of}
 use Rattle.stripe_parity.specs.Refusals.{fetch_error}
-use Rattle.stripe_parity.proofs.Refused.{image_from, image_kept}
+use Rattle.stripe_parity.proofs.Refused.{image_from, image_kept, made_wanting}
 use Rattle.stripe_parity.proofs.Wholes.{as_many, whole_after, written_over}
 use Rattle.stripe_parity.proofs.drives.make_for.Goals as goal
 
@@ -71,3 +71,9 @@ returns-clause-whole c = invariant_of-drive c
 pub returns-clause-untouched : goal.returns-clause-untouched
 returns-clause-untouched c =
     image_kept c.shape-shape.result c.args.drive.now _ (fetch_error c.make.result) c.shape-shape.ensures.shape (returns-clause-numbers c) (subst (λ (s : Shape). WereFetched s (map (λ (u : WornUnit). u.unit) c.args.drive.now.units) (map (λ (u : WornUnit). u.unit) (with_items c.drive.inside.units c.make.new.units).items) (fetch_error c.make.result)) (sym c.shape-shape.ensures.shape) (returns-clause-fetched c))
+
+pub returns-clause-wanting : goal.returns-clause-wanting
+returns-clause-wanting c = λ calm.
+    made_wanting c.shape-shape.result (map (λ (u : WornUnit). u.unit) c.args.drive.now.units) (map (λ (u : WornUnit). u.unit) c.make.new.units) c.make.result calm c.make.ensures.refused
+    (subst (λ (us : List WornUnit). WereFetched c.shape-shape.result (map (λ (u : WornUnit). u.unit) us) (map (λ (u : WornUnit). u.unit) c.make.new.units) (fetch_error c.make.result))
+    (c.deref_mut.ensures.value ∙ ap (λ (v : DriveView). v.units) c.drive.view_is) c.make.ensures.fetched)

@@ -5,7 +5,7 @@ use Rattle.pblk_model.specs.Accepted.{IsAccepted}
 use Rattle.pblk_model.specs.Contents.{contents, end}
 use Rattle.pblk_model.specs.Image.{Image}
 use Rattle.pblk_model.specs.Sealed.{IsSealed}
-use Rattle.unit_port.specs.Commands.{AreKept}
+use Rattle.unit_port.specs.Commands.{AreKept, AreUnarmed}
 use Rattle.world_laws.specs.Finding.{NoneOpen}
 use Rattle.ocssd_drive.specs.Drive.{DriveView, shape_of, with_units}
 use Rattle.ocssd_drive.specs.DriveFields.{drive_view}
@@ -13,6 +13,7 @@ use Rattle.ocssd_drive.specs.Units.{WornUnit}
 use Rattle.scan_recovery.specs.Units.{image_of}
 use Rattle.scan_recovery.proofs.UnitsLemmas.{drive_fits}
 use Rattle.stripe_parity.specs.Rebuilding.{drive_image}
+use Rattle.stripe_parity.proofs.Calm.{padded_unarmed, padded_wanting}
 use Rattle.stripe_parity.proofs.Refused.{image_from}
 use Rattle.stripe_parity.proofs.Wholes.{as_many, whole_after, written_over}
 use Rattle.stripe_parity.proofs.drives.pad_drive.Goals as goal
@@ -74,3 +75,18 @@ returns-clause-numbers c =
 
 pub returns-clause-whole : goal.returns-clause-whole
 returns-clause-whole c = invariant_of-drive c
+
+-- the units before and after
+units_before : (c : After-pad) → map (λ (u : WornUnit). u.unit) c.deref_mut.result.now ≡ map (λ (u : WornUnit). u.unit) c.args.drive.now.units
+units_before c = ap (map (λ (u : WornUnit). u.unit)) (c.deref_mut.ensures.value ∙ ap (λ (d : DriveView). d.units) c.drive.view_is)
+
+pub returns-clause-wanting : goal.returns-clause-wanting
+returns-clause-wanting c = λ calm.
+    let at = (goal.at.returns-clause-wanting c).After-pad in
+    padded_wanting c.shape-shape.result (map (λ (u : WornUnit). u.unit) c.deref_mut.result.now) (map (λ (u : WornUnit). u.unit) c.pad.new.units) c.pad.result c.pad.ensures.padded (subst AreUnarmed (sym (units_before at)) calm)
+
+pub returns-clause-unarmed : goal.returns-clause-unarmed
+returns-clause-unarmed c = λ calm.
+    let at = (goal.at.returns-clause-unarmed c).After-pad in
+    rw (many at) (padded_unarmed c.shape-shape.result (map (λ (u : WornUnit). u.unit) c.deref_mut.result.now) (map (λ (u : WornUnit). u.unit) c.pad.new.units) c.pad.result c.pad.ensures.padded c.pad.ensures.memory
+    (subst AreUnarmed (sym (units_before at)) calm))

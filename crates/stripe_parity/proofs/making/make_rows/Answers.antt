@@ -13,9 +13,10 @@ use Rattle.scan_recovery.proofs.PadLoops.{fit_kept}
 use Rattle.stripe_parity.specs.declared.kept.KeptChunk.{KeptChunk}
 use Rattle.stripe_parity.specs.ParityFile.{greatest_pointer, kept_chunks, parity_block, parity_row}
 use Rattle.stripe_parity.proofs.KeptChunks.{all_kept, greatest_fits}
-use Rattle.stripe_parity.proofs.MadeRows.{all_last, row_more}
+use Rattle.stripe_parity.proofs.MadeRows.{row_more}
 use Rattle.stripe_parity.proofs.ParityIs.{all_within, as_many}
 use Rattle.stripe_parity.proofs.making.make_rows.Goals as goal
+use Rattle.pblk_model.proofs.Lists.{with_last}
 
 pub greatest-count-requires : goal.greatest-count-requires
 greatest-count-requires g c =
@@ -90,7 +91,7 @@ loop-chunk-preserved g c =
           (map (λ (r : DriveChunk). r.chunk.blocks) c.push_chunk.new.chunks.items) c.in_ok-row.row.chunk.blocks c.loop-chunk.invariant.rows
           (ap (map (λ (r : DriveChunk). r.chunk.blocks)) c.in_ok-push_chunk.ensures ∙ map_last (λ (r : DriveChunk). r.chunk.blocks) c.loop-chunk.rows.items c.in_ok-row.row) row;
       wear = c.in_ok-row.ensures.wear ∙ c.loop-chunk.invariant.wear;
-      fits = subst (AllByRecursion (IsChunkIn s)) (sym c.in_ok-push_chunk.ensures) (all_last (IsChunkIn s) c.loop-chunk.rows.items c.in_ok-row.row c.loop-chunk.invariant.fits c.in_ok-row.ensures.fits);
+      fits = subst (AllByRecursion (IsChunkIn s)) (sym c.in_ok-push_chunk.ensures) (with_last (IsChunkIn s) c.loop-chunk.rows.items c.in_ok-row.row c.loop-chunk.invariant.fits c.in_ok-row.ensures.fits);
     }
 
 pub returns-clause-rows : goal.returns-clause-rows

@@ -14,8 +14,8 @@ use Rattle.scan_recovery.proofs.FetchSteps.{fetched_joined, no_memory, none_fetc
 use Rattle.scan_recovery.proofs.PadLoops.{fit_kept}
 use Rattle.stripe_parity.specs.Rebuilding.{AreAsKept, IsRebuiltChunk}
 use Rattle.stripe_parity.proofs.MadeChunks.{each_more, nothing_there}
-use Rattle.stripe_parity.proofs.MadeRows.{all_last}
 use Rattle.stripe_parity.proofs.rebuilding.unit_chunks.Goals as goal
+use Rattle.pblk_model.proofs.Lists.{with_last}
 
 pub loop-chunk-init : goal.loop-chunk-init
 loop-chunk-init g c =
@@ -84,7 +84,7 @@ loop-chunk-preserved g c =
       each = subst (λ (cs : List Chunk). (k : ℕ) (x : Chunk) → slice_get cs k ≡ Some x → IsRebuiltChunk p (image_of s us) c.args.lost k x) (sym added)
           (each_more (λ k x. IsRebuiltChunk p (image_of s us) c.args.lost k x) (map f old) c.in_ok-made.made.chunk c.loop-chunk.invariant.each
           (subst (λ k. IsRebuiltChunk p (image_of s us) c.args.lost k c.in_ok-made.made.chunk) (sym many) here));
-      fits = subst (AllByRecursion (IsChunkIn s)) (sym c.in_ok-push_chunk.ensures) (all_last (IsChunkIn s) old c.in_ok-made.made c.loop-chunk.invariant.fits c.in_ok-made.ensures.fits);
+      fits = subst (AllByRecursion (IsChunkIn s)) (sym c.in_ok-push_chunk.ensures) (with_last (IsChunkIn s) old c.in_ok-made.made c.loop-chunk.invariant.fits c.in_ok-made.ensures.fits);
     }
 
 pub returns-clause-chunks : goal.returns-clause-chunks

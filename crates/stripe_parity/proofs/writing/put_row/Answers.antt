@@ -2,8 +2,9 @@ use Rattle.std.proofs.Common.{take, sym, arith}
 use Rattle.std.specs.List.{flat_map}
 use Rattle.std.proofs.lemmas.Result.{err_from_is_err_and}
 use Rattle.pblk_model.specs.ImageFile.{block_bytes}
-use Rattle.stripe_parity.proofs.Putting.{some_more, puts_all, puts_next}
+use Rattle.stripe_parity.proofs.Putting.{some_more, puts_next}
 use Rattle.stripe_parity.proofs.writing.put_row.Goals as goal
+use Rattle.pblk_model.proofs.Maps.{pieces_all}
 
 pub returns-in_err-put_block : goal.returns-in_err-put_block
 returns-in_err-put_block c =
@@ -16,4 +17,4 @@ loop-block-preserved c =
     (sym c.in-Some.ensures.block) c.loop-block.invariant c.in_ok-put_block.ensures
 
 pub returns : goal.returns
-returns c = puts_all block_bytes c.args.row.now.chunk.blocks c.loop-block.block c.args.out.now.items c.loop-block.out.items (omega (arith, c.loop-block-test.false, c.state-state.ensures.pointer)) c.loop-block.invariant
+returns c = pieces_all block_bytes c.args.row.now.chunk.blocks c.loop-block.block c.args.out.now.items c.loop-block.out.items (omega (arith, c.loop-block-test.false, c.state-state.ensures.pointer)) c.loop-block.invariant

@@ -3,10 +3,10 @@ use Rattle.std.specs.List.{flat_map}
 use Rattle.std.proofs.lemmas.List.{length-map}
 use Rattle.std.proofs.lemmas.Option.{slice_get_read}
 use Rattle.std.proofs.lemmas.Result.{err_from_is_err_and}
-use Rattle.pblk_model.proofs.Maps.{get_mapped}
+use Rattle.pblk_model.proofs.Maps.{get_mapped, pieces_all}
 use Rattle.stripe_parity.specs.declared.kept.KeptChunk.{KeptChunk}
 use Rattle.stripe_parity.specs.ParityBytes.{kept_bytes}
-use Rattle.stripe_parity.proofs.Putting.{some_more, puts_all, puts_next}
+use Rattle.stripe_parity.proofs.Putting.{some_more, puts_next}
 use Rattle.stripe_parity.proofs.writing.put_units.Goals as goal
 
 pub returns-in_err-put_unit : goal.returns-in_err-put_unit
@@ -21,4 +21,4 @@ loop-of-preserved c =
     (c.in_ok-put_unit.ensures ∙ ap (λ (ks : List KeptChunk). c.loop-of.out.items ++ flat_map kept_bytes ks) c.deref.ensures.value)
 
 pub returns : goal.returns
-returns c = puts_all (flat_map kept_bytes) (map (λ (of : Vec KeptChunk Global). of.items) c.args.kept.now) c.loop-of.of-index c.args.out.now.items c.loop-of.out.items (omega (arith, c.loop-of-test.false, length-map c.args.kept.now (λ (of : Vec KeptChunk Global). of.items))) c.loop-of.invariant
+returns c = pieces_all (flat_map kept_bytes) (map (λ (of : Vec KeptChunk Global). of.items) c.args.kept.now) c.loop-of.of-index c.args.out.now.items c.loop-of.out.items (omega (arith, c.loop-of-test.false, length-map c.args.kept.now (λ (of : Vec KeptChunk Global). of.items))) c.loop-of.invariant
