@@ -18,6 +18,7 @@ pub mod UsedResets
 pub mod NotedResets
 pub mod FreeSteps
 pub mod StripeEntries
+pub mod StripesLeft
 pub mod RoomChanges
 pub mod FullChunks
 pub mod PlacedOnce
@@ -33,7 +34,9 @@ pub mod WholeChunks
 pub mod LostEvents
 pub mod NothingFailed
 pub mod TidyFound
+pub mod StripeChanges
 pub mod UnresetSteps
+pub mod ChunkResets
 pub mod UnresetChanges
 pub mod FreeChanges
 pub mod WaitingChanges

@@ -1,12 +1,13 @@
--- How the number of lines that are to be reset changes with each step, and that a reset leaves what
--- there is of addresses together with those of such lines.
+-- How the numbers of lines and of chunks that are to be reset change with each step, and that a
+-- reset leaves what there is of addresses together with those of such lines.
 use Rattle.std.proofs.Common.{◌≡◌, ℕ, ◌+◌, ◌*◌, ◌<◌, ◌≤◌, ◌&&◌, not, nat_lt, suc, Bool, true, false, Some, None, Option, is_some, List, ◌∷◌, length, refl, sym, subst, ap, ap₂, ◌∙◌, arith, if◌then◌else◌}
-use Rattle.std.specs.List.{range_with_len}
+use Rattle.std.specs.List.{filter, range_with_len}
 use Rattle.std.specs.Option.{option_and_then, option_map}
 use Rattle.std.proofs.lemmas.Option.{same_Some}
 use Rattle.pblk_model.specs.Image.{Image}
 use Rattle.std.proofs.Math.Nat.{mul-add, mul-one}
 use Rattle.pblk_model.specs.LineOrder.{data_len}
+use Rattle.pblk_model.specs.Shape.{units}
 use Rattle.pblk_model.specs.StartRecord.{StartRecord, start_of}
 use Rattle.pblk_model.specs.UnitLog.{UnitEvent}
 use Rattle.pblk_world.specs.Answering.{MayNoteReset}
@@ -27,9 +28,11 @@ use Rattle.world_laws.proofs.ToldDecisions.{opening_told}
 use Rattle.world_laws.proofs.ToldImages.{image_same, told_back}
 use Rattle.core_laws.specs.Stepping.{after}
 use Rattle.core_laws.proofs.FreedWidths as widths
+use Rattle.core_laws.proofs.RangeSums.{sum_same}
 use Rattle.core_laws.proofs.SteppingLemmas.{found_kept}
-use Rattle.rest_laws.specs.RoomSteps.{free_data, is_unreset, keeps_unreset, unreset_lines}
+use Rattle.rest_laws.specs.RoomSteps.{free_data, is_unreset, is_used_at, keeps_unreset, unreset_chunks, unreset_in, unreset_lines}
 use Rattle.rest_laws.specs.Tidy.{AreWide}
+use Rattle.rest_laws.proofs.ChunkResets.{chunks_freed, chunks_kept, chunks_landed, chunks_opened, chunks_reset}
 use Rattle.rest_laws.proofs.RoomChanges.{before, by_logs, land_whole, line_freed, may, note_whole, reset_gives, told, unit_tells_none, whole}
 use Rattle.rest_laws.proofs.RoomyShapes.{eight_stripes}
 use Rattle.rest_laws.proofs.UnresetSteps.{unreset_freed, unreset_kept, unreset_landed, unreset_opened, unreset_reset}
@@ -42,6 +45,13 @@ module _ (i : Image) (s : Step) (w : World) (mount : IsLegalMount i (s ∷ w)) w
       ap (λ (xs : List ℕ). length xs) (filter_same (is_unreset i (log_of (s ∷ w))) (is_unreset i (log_of w)) (λ line.
       ap₂ (λ (log : List Logged) (j : Image). is_given_up log line && not (are_empty j line)) same.own
       (image_same i (log_of w) (log_of (s ∷ w)) same)) (range_with_len 0 i.shape.chunks))
+
+  pub unit_keeps_chunks : (unit : ℕ) → s.author ≡ suc unit → unreset_chunks i (log_of (s ∷ w)) ≡ unreset_chunks i (log_of w)
+  unit_keeps_chunks unit own =
+      let same : AreSameTold i (log_of w) (log_of (s ∷ w)) = unit_tells_none i s w mount unit own in
+      sum_same (unreset_in i (log_of (s ∷ w))) (unreset_in i (log_of w)) (λ line.
+      ap₂ (λ (log : List Logged) (j : Image). if is_given_up log line then length (filter (is_used_at j line) (range_with_len 0 (units i.shape))) else 0)
+      same.own (image_same i (log_of w) (log_of (s ∷ w)) same)) (range_with_len 0 i.shape.chunks)
 
   module _ (own : s.author ≡ 0) (b : Begun) (begins : begun (log_of w 0) ≡ Some b) where
     abbrev knows : List ℕ
@@ -80,6 +90,44 @@ module _ (i : Image) (s : Step) (w : World) (mount : IsLegalMount i (s ∷ w)) w
         by_logs i s w mount (Open line start) own is b begins (λ ls. unreset_lines i ls ≡ unreset_lines i (log_of w))
         (unreset_opened i w was b begins knows named_may.0 line start now)
 
+    -- so do these with the chunks that are to be reset
+    pub engine_keeps_chunks : (e : EngineEvent) → s.logged.event ≡ Decides e → keeps_unreset e ≡ true
+        → unreset_chunks i (log_of (s ∷ w)) ≡ unreset_chunks i (log_of w)
+    engine_keeps_chunks (Begin x) is keeps = absurd cc
+    engine_keeps_chunks (Lost unit number) is keeps = absurd cc
+    engine_keeps_chunks (ResetDone unit number) is keeps = absurd cc
+    engine_keeps_chunks (Free line) is keeps = absurd cc
+    engine_keeps_chunks (Take entry mark) is keeps =
+        by_logs i s w mount (Take entry mark) own is b begins (λ ls. unreset_chunks i ls ≡ unreset_chunks i (log_of w))
+        (chunks_kept i (log_of w) (Take entry mark) knows b begins refl (λ unit. refl) (λ line.
+        life_more (log_of w 0) (record { event = Decides (Take entry mark); knows = knows }) line))
+    engine_keeps_chunks (Place stripe) is keeps =
+        by_logs i s w mount (Place stripe) own is b begins (λ ls. unreset_chunks i ls ≡ unreset_chunks i (log_of w))
+        (chunks_kept i (log_of w) (Place stripe) knows b begins refl (λ unit. refl) (λ line.
+        life_more (log_of w 0) (record { event = Decides (Place stripe); knows = knows }) line))
+    engine_keeps_chunks (Again unit number) is keeps =
+        by_logs i s w mount (Again unit number) own is b begins (λ ls. unreset_chunks i ls ≡ unreset_chunks i (log_of w))
+        (chunks_kept i (log_of w) (Again unit number) knows b begins refl (λ u. refl) (λ line.
+        life_more (log_of w 0) (record { event = Decides (Again unit number); knows = knows }) line))
+    engine_keeps_chunks (Landed unit number) is keeps =
+        by_logs i s w mount (Landed unit number) own is b begins (λ ls. unreset_chunks i ls ≡ unreset_chunks i (log_of w))
+        (chunks_landed i w was b begins knows unit number (land_whole (log_of w) s.logged unit number
+        (whole i s w mount (Landed unit number) own is b begins) (may i s w mount (Landed unit number) own is b begins).2))
+    engine_keeps_chunks (Open line start) is keeps =
+        let named_may = may i s w mount (Open line start) own is b begins in
+        let now : MayOpen i (log_of w) named_may.0 line start =
+        opening_told i (prefixes s.logged (log_of w)) (log_of w)
+        (told_back i (log_of w) (prefixes s.logged (log_of w)) (told i s w mount (Open line start) own is b begins)) named_may.0 line start named_may.2 in
+        by_logs i s w mount (Open line start) own is b begins (λ ls. unreset_chunks i ls ≡ unreset_chunks i (log_of w))
+        (chunks_opened i w was b begins knows named_may.0 line start now)
+
+    pub free_adds_chunks : (line : ℕ) → s.logged.event ≡ Decides (Free line)
+        → unreset_chunks i (log_of (s ∷ w)) ≤ unreset_chunks i (log_of w) + units i.shape
+    free_adds_chunks line is =
+        let it = line_freed i s w mount own b begins line is in
+        by_logs i s w mount (Free line) own is b begins (λ ls. unreset_chunks i ls ≤ unreset_chunks i (log_of w) + units i.shape)
+        (chunks_freed i w was b begins knows line it.0 it.1 it.3)
+
     pub free_adds : (line : ℕ) → s.logged.event ≡ Decides (Free line) → unreset_lines i (log_of (s ∷ w)) ≡ unreset_lines i (log_of w) + 1
     free_adds line is =
         let it = line_freed i s w mount own b begins line is in
@@ -107,6 +155,11 @@ module _ (i : Image) (s : Step) (w : World) (mount : IsLegalMount i (s ∷ w)) w
           (subst (λ m. unreset_lines i (log_of w) ≡ unreset_lines i (after (log_of w) (ResetDone unit number) knows)
           + (if are_empty (known_image i (after (log_of w) (ResetDone unit number) knows)) m then 1 else 0)) same
           (unreset_reset i w was b begins knows unit number now))
+
+      pub reset_takes_chunk : unreset_chunks i (log_of w) ≡ unreset_chunks i (log_of (s ∷ w)) + 1
+      reset_takes_chunk =
+          by_logs i s w mount (ResetDone unit number) own is b begins (λ ls. unreset_chunks i (log_of w) ≡ unreset_chunks i ls + 1)
+          (chunks_reset i w was b begins knows unit number now)
 
       -- the line has no sequence number
       unnumbered : (life : LineLife) → life_of (log_of w 0) u.chunk ≡ life → has_number i (log_of w) life u.chunk ≡ false

@@ -42,12 +42,12 @@ counted : (test : ℕ → Bool) (xs : List ℕ) → length (filter test xs) ≡ 
 counted test [] = refl
 counted test (x ∷ xs) = passing_first test x xs ∙ ap (λ n. as_number (test x) + n) (counted test xs) ∙ sym (sum_by-cons (ones test) x xs)
 
-count_same : (f g : ℕ → Bool) (n : ℕ) → ((k : ℕ) → g k ≡ f k) → length (filter g (range_with_len 0 n)) ≡ length (filter f (range_with_len 0 n))
+pub count_same : (f g : ℕ → Bool) (n : ℕ) → ((k : ℕ) → g k ≡ f k) → length (filter g (range_with_len 0 n)) ≡ length (filter f (range_with_len 0 n))
 count_same f g n same =
     counted g (range_with_len 0 n) ∙ sum_same (ones g) (ones f) (λ k. ap as_number (same k)) (range_with_len 0 n) ∙ sym (counted f (range_with_len 0 n))
 
 -- one passes now, and no other changes
-count_more : (f g : ℕ → Bool) (n k x : ℕ) → k < n → as_number (g k) ≡ as_number (f k) + x → ((m : ℕ) → m ≢ k → g m ≡ f m)
+pub count_more : (f g : ℕ → Bool) (n k x : ℕ) → k < n → as_number (g k) ≡ as_number (f k) + x → ((m : ℕ) → m ≢ k → g m ≡ f m)
     → length (filter g (range_with_len 0 n)) ≡ length (filter f (range_with_len 0 n)) + x
 count_more f g n k x inside here beside =
     let first : k ≡ 0 + k = omega arith in
@@ -59,7 +59,7 @@ count_more f g n k x inside here beside =
 -- ---- one line
 
 -- what gives a line up is by its life and how the mount began
-given_kept : (logs : Logs) (e : EngineEvent) (knows : List ℕ) (b : Begun) (line : ℕ) → begun (logs 0) ≡ Some b
+pub given_kept : (logs : Logs) (e : EngineEvent) (knows : List ℕ) (b : Begun) (line : ℕ) → begun (logs 0) ≡ Some b
     → life_of (after logs e knows 0) line ≡ life_of (logs 0) line → is_given_up (after logs e knows 0) line ≡ is_given_up (logs 0) line
 given_kept logs e knows b line begins life =
     ap₂ (λ (o : Option Begun) (l : LineLife). is_given_up_by (option_map_or (λ (x : Begun). x.beginning.strays) o []) line l)

@@ -145,7 +145,7 @@ module _ (i : Image) (w : World) (mount : IsLegalMount i w) (b : Begun) (begins 
       let below : line < length at.0 = get_below at.0 line d.0 at.2 in
       omega arith
 
-  none_there : slice_get i.units unit ≡ None → ⊥
+  pub none_there : slice_get i.units unit ≡ None → ⊥
   unfolding chunk_after
   none_there none =
       none-some its_deed.found (sym (ap (λ (o : Option (List Chunk)). option_and_then (λ (cs : List Chunk).
@@ -226,6 +226,11 @@ module _ (i : Image) (w : World) (mount : IsLegalMount i w) (b : Begun) (begins 
       → are_empty (known_image i (engine_prefix k (log_of w))) may.reset.chunk ≡ false
   unempty k knew within =
       let c = used_then k knew within in some_used line (known_image i (engine_prefix k (log_of w))).units unit c.0 c.1 c.2
+
+  -- by all that the engine has decided the chunk is used, too
+  pub used_now : (c : Chunk) × (chunk_in (known_image i (log_of w)) may.reset.chunk unit ≡ Some c) × (is_empty_state c.state ≡ false)
+  used_now = subst (λ (logs : Logs). (c : Chunk) × (chunk_in (known_image i logs) may.reset.chunk unit ≡ Some c) × (is_empty_state c.state ≡ false))
+      (whole_prefix (log_of w)) (used_then (length (log_of w 0)) all_known (omega arith))
 
   -- nor is it by all that the engine has decided
   pub unempty_now : are_empty (known_image i (log_of w)) may.reset.chunk ≡ false

@@ -30,7 +30,8 @@
 //!   entries were granted within the ring, and copies were begun where data addresses were left.
 //! - A stripe with an entry takes as many data addresses as it has blocks. The last reset of a line
 //!   that was given up gives back the line's. All else leaves them as they are. So the Free lines'
-//!   are known, how many lines are to be reset, and what waits.
+//!   are known, how many lines are to be reset, and how many chunks of them, what
+//!   waits, and how many stripes are left to the opened lines.
 //! - In every legal mount, whatever fails, is stopped or is lost: let each copy have been begun
 //!   while its source was the place of its sector's latest, in the victim that was at work then,
 //!   and let one be under way at a time. Let the victim at work have no live sector, and let all
@@ -78,7 +79,8 @@ pub use resting::{
     only_the_last_line_is_open, the_front_freed_is_near,
 };
 pub use room::{
-    a_reset_not_noted_is_of_a_line_to_be_reset, free_lines_are_opened_and_come_by_resets,
+    a_reset_not_noted_is_of_a_line_to_be_reset, each_reset_leaves_one_chunk_less,
+    each_stripe_leaves_one_less, free_lines_are_opened_and_come_by_resets,
     freed_lines_are_to_be_reset, stripes_take_addresses_and_resets_give_them,
     what_waits_was_taken_and_not_placed,
 };

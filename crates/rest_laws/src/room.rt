@@ -1,10 +1,11 @@
 //! Laws on the room of a drive: each is the contract of a function that does nothing.
 
-ghost use Rattle.std.specs.Prelude.{◌≡◌, ◌+◌, ◌*◌, ◌<◌, ℕ, suc, if◌then◌else◌, true, false};
+ghost use Rattle.std.specs.Prelude.{◌≡◌, ◌+◌, ◌*◌, ◌/◌, ◌<◌, ◌≤◌, ℕ, suc, if◌then◌else◌, true, false};
 ghost use Rattle.std.specs.Prelude.{◌∷◌, length, min};
 ghost use Rattle.pblk_model.specs.declared.chunk.Mark.{Mark};
 ghost use Rattle.pblk_model.specs.Image.{Image};
 ghost use Rattle.pblk_model.specs.LineOrder.{data_len};
+ghost use Rattle.pblk_model.specs.Shape.{units};
 ghost use Rattle.pblk_model.specs.StartRecord.{StartRecord};
 ghost use Rattle.pblk_model.specs.UnitLog.{UnitEvent};
 ghost use Rattle.pblk_world.specs.Answering.{MayNoteReset};
@@ -17,11 +18,12 @@ ghost use Rattle.pblk_world.specs.Space.{addresses, free_addresses, full_data, p
 ghost use Rattle.pblk_world.specs.World.{Logs, World, log_of};
 ghost use Rattle.pblk_world.specs.LegalMounts.{IsLegalMount, NoStripeLost};
 ghost use Rattle.pblk_world.specs.Orders.{AreReset};
-ghost use Rattle.core_laws.specs.OpenAddresses.{keeps_placed};
+ghost use Rattle.core_laws.specs.OpenAddresses.{keeps_addresses, keeps_placed};
 ghost use Rattle.rest_laws.specs.EngineSteps.{IsEngineStep, NotesReset};
 ghost use Rattle.rest_laws.specs.RoomSteps.{free_data, free_lines, has_entry};
 ghost use Rattle.rest_laws.specs.RoomSteps.{keeps_free, keeps_room};
-ghost use Rattle.rest_laws.specs.RoomSteps.{keeps_unreset, unreset_lines};
+ghost use Rattle.rest_laws.specs.RoomSteps.{keeps_unreset, stripes_left, unreset_chunks};
+ghost use Rattle.rest_laws.specs.RoomSteps.{unreset_lines};
 ghost use Rattle.rest_laws.specs.Tidy.{AreWide};
 
 /// What each step of a legal mount that has begun makes of the unplaced data addresses. A step of a
@@ -84,6 +86,45 @@ pub fn freed_lines_are_to_be_reset()
         → AreWide (known_image i (log_of (s ∷ w)))
         → addresses i (log_of (s ∷ w)) + full_data i.shape * unreset_lines i (log_of (s ∷ w))
         ≡ addresses i (log_of w) + full_data i.shape * unreset_lines i (log_of w) }
+{}
+
+/// How many stripes the opened lines have still to get, up to their ends: of their records and of
+/// entries. A step of a unit leaves their number as it is (clause `unit`), and so do most of the
+/// engine's (clause `kept`). Where no stripe was lost, a stripe that is placed makes it one less
+/// (clause `stripe`). A line that is opened adds its own (clause `opened`), and one that is freed
+/// adds none (clause `freed`).
+pub fn each_stripe_leaves_one_less()
+    ensures unit { (i : Image) (s : Step) (w : World) (unit : ℕ) → IsLegalMount i (s ∷ w)
+        → s.author ≡ suc unit → stripes_left i (log_of (s ∷ w)) ≡ stripes_left i (log_of w) }
+    ensures kept { (i : Image) (s : Step) (w : World) (e : EngineEvent) → IsEngineStep i s w e
+        → keeps_addresses e ≡ true → stripes_left i (log_of (s ∷ w)) ≡ stripes_left i (log_of w) }
+    ensures stripe { (i : Image) (s : Step) (w : World) (stripe : Stripe)
+        → IsEngineStep i s w (Place stripe) → NoStripeLost (log_of w 0)
+        → stripes_left i (log_of w) ≡ stripes_left i (log_of (s ∷ w)) + 1 }
+    ensures opened { (i : Image) (s : Step) (w : World) (line : ℕ) (start : StartRecord)
+        → IsEngineStep i s w (Open line start) → stripes_left i (log_of (s ∷ w))
+        ≡ stripes_left i (log_of w) + start.width * i.shape.clba / i.shape.ws_opt }
+    ensures freed { (i : Image) (s : Step) (w : World) (line : ℕ) → IsEngineStep i s w (Free line)
+        → stripes_left i (log_of (s ∷ w)) ≤ stripes_left i (log_of w) }
+{}
+
+/// How many chunks are to be reset: those of freed lines and of strays that aren't yet Free or
+/// Offline. They are no more than their lines have (clause `few`). A step of a unit leaves their
+/// number as it is (clause `unit`), and so do most of the engine's (clause `kept`). A line that is
+/// freed adds one for each unit at most (clause `free`), and a reset that is noted makes it one
+/// less (clause `reset`).
+pub fn each_reset_leaves_one_chunk_less()
+    ensures few { (i : Image) (logs : Logs)
+        → unreset_chunks i logs ≤ units i.shape * unreset_lines i logs }
+    ensures unit { (i : Image) (s : Step) (w : World) (unit : ℕ) → IsLegalMount i (s ∷ w)
+        → s.author ≡ suc unit → unreset_chunks i (log_of (s ∷ w)) ≡ unreset_chunks i (log_of w) }
+    ensures kept { (i : Image) (s : Step) (w : World) (e : EngineEvent) → IsEngineStep i s w e
+        → keeps_unreset e ≡ true
+        → unreset_chunks i (log_of (s ∷ w)) ≡ unreset_chunks i (log_of w) }
+    ensures free { (i : Image) (s : Step) (w : World) (line : ℕ) → IsEngineStep i s w (Free line)
+        → unreset_chunks i (log_of (s ∷ w)) ≤ unreset_chunks i (log_of w) + units i.shape }
+    ensures reset { (i : Image) (s : Step) (w : World) (e : UnitEvent) → NotesReset i s w e
+        → unreset_chunks i (log_of w) ≡ unreset_chunks i (log_of (s ∷ w)) + 1 }
 {}
 
 /// A reset that may be noted is of a line that is given up and not empty (clauses `given` and

@@ -1,8 +1,8 @@
 -- What is kept of a settling: a sum of what is left to be done, which falls with each pump.
-use Rattle.std.proofs.Common.{ℕ, suc, ◌+◌, ◌-◌, ◌*◌, ◌≤◌, ◌≡◌, inl, inr, refl, subst, arith}
+use Rattle.std.proofs.Common.{ℕ, suc, ◌+◌, ◌-◌, ◌*◌, ◌<◌, ◌≤◌, ◌≡◌, min, inl, inr, refl, subst, arith}
 use Rattle.std.proofs.Math.Nat.{mul-le-mul_left}
 use Rattle.std.proofs.lemmas.Bool.{cases_lt}
-use Rattle.room_law.specs.Settling.{Drive, State, Victim, NoVictim, AtWork, Spare, live_of, at_work, Pad, ForEarlier, ForVictim, ForOther, Pump, ResetChunk, ResetLine, PlaceRecord, PlaceFull, PlacePadded, OpenLine, CopySector, Turn, Choose, ChooseOther, ChooseSpare, FreeVictim, FreeOther, MayPump, MayResetLine, MayPlaceFull, MayPad, MayOpenLine, MayCopy, MayTurn, MayChoose, MayChooseOther, MayChooseSpare, MayFreeVictim, MayFreeOther, padded, pumped, turned}
+use Rattle.room_law.specs.Settling.{Drive, State, Victim, NoVictim, AtWork, Spare, live_of, at_work, Pad, ForEarlier, ForVictim, ForOther, Pump, ResetChunk, ResetLine, PlaceRecord, PlaceFull, PlacePadded, OpenLine, CopySector, Turn, Choose, ChooseFailed, ChooseEarly, ChooseSpare, FreeVictim, FreeOther, FreeMore, MayPump, MayResetLine, MayPlaceFull, MayPad, MayOpenLine, MayCopy, MayTurn, MayChoose, MayChooseFailed, MayChooseEarly, MayChooseSpare, MayFreeVictim, MayFreeOther, MayFreeMore, padded, pumped, turned}
 use Rattle.room_law.proofs.Stripes.{times, one_fewer}
 
 -- What each is worth: an address that is placed, and one that is missing; a padded stripe; and a
@@ -19,6 +19,7 @@ pub record AreWeights (z : Drive) (w : Weights) : Type 0 where
   pub pad : w.pad ≡ w.placed * z.stripe + w.missing * (z.stripe - 1)
   pub copied : w.copied ≡ (w.placed + 2) * z.line + w.pad
   pub stripe : 1 ≤ z.stripe
+  pub line : 1 ≤ z.line
   -- what a victim with few live sectors gives pays for its copies and for a padded stripe
   pub gain : (live gained : ℕ) → 4 * live ≤ 3 * z.line → live + gained ≡ z.line
       → (w.placed + 2) * live + w.pad ≤ w.missing * gained
@@ -50,21 +51,25 @@ IsVictim line soon earlier copies once padding (Spare live) = IsSpare line soon 
 pub record Kept (z : Drive) (w : Weights) (total pumps : ℕ) (s : State) : Type 0 where
   -- the addresses of the open line that are placed
   pub gone : ℕ
-  -- how many addresses are missing of five lines
+  -- how many addresses are missing of six lines
   pub missing : ℕ
   -- whether a spare victim may still be copied, whether a stripe with an earlier entry may still be
   -- padded, and whether one may for the victim
   pub once : ℕ
   pub first : ℕ
   pub padding : ℕ
+  -- for how many earlier entries a line may still be opened before another data stripe is placed
+  pub pending : ℕ
   pub left : s.left + gone ≡ z.line
-  pub covers : 5 * z.line + (s.earlier + s.copies) + live_of s.victim
+  pub covers : 6 * z.line + (s.earlier + s.copies) + live_of s.victim
       ≤ s.left + z.line * (s.free + s.resetting + at_work s.victim) + missing
   pub victim : IsVictim z.line (s.free + s.resetting) s.earlier s.copies once padding s.victim
   pub spared : once ≡ 0 → 1 ≤ s.earlier → 1 ≤ s.copies
   pub firsts : 1 ≤ s.earlier → 1 ≤ first
+  pub opens : s.earlier ≤ pending + 1
+  pub opens_all : s.left < z.line → s.earlier ≤ pending
   pub sum : pumps + (s.chunks + z.units * s.held + s.records + w.placed * gone + (w.placed + 1) * (s.earlier + s.copies)
-      + worth w padding s.victim + w.missing * missing + w.copied * (s.others + once) + w.pad * (s.pads + first)) ≤ total
+      + worth w padding s.victim + w.missing * missing + w.copied * (s.failed + once + s.early + pending) + w.pad * (s.pads + first)) ≤ total
 
 -- Resets, and stripes of records.
 
@@ -76,11 +81,14 @@ chunk_reset z w total k s may h = record {
   once = h.once;
   first = h.first;
   padding = h.padding;
+  pending = h.pending;
   left = h.left;
   covers = h.covers;
   victim = h.victim;
   spared = h.spared;
   firsts = h.firsts;
+  opens = h.opens;
+  opens_all = h.opens_all;
   sum = omega (arith, h.sum, may);
 }
 
@@ -92,12 +100,15 @@ line_reset z w total k s may h = record {
   once = h.once;
   first = h.first;
   padding = h.padding;
+  pending = h.pending;
   left = h.left;
-  covers = subst (λ (soon : ℕ). 5 * z.line + (s.earlier + s.copies) + live_of s.victim
+  covers = subst (λ (soon : ℕ). 6 * z.line + (s.earlier + s.copies) + live_of s.victim
       ≤ s.left + z.line * (soon + at_work s.victim) + h.missing) same h.covers;
   victim = subst (λ (soon : ℕ). IsVictim z.line soon s.earlier s.copies h.once h.padding s.victim) same h.victim;
   spared = h.spared;
   firsts = h.firsts;
+  opens = h.opens;
+  opens_all = h.opens_all;
   sum = omega (arith, h.sum, may.chunk);
 }
   where
@@ -112,11 +123,14 @@ record_placed z w total k s may h = record {
   once = h.once;
   first = h.first;
   padding = h.padding;
+  pending = h.pending;
   left = h.left;
   covers = h.covers;
   victim = h.victim;
   spared = h.spared;
   firsts = h.firsts;
+  opens = h.opens;
+  opens_all = h.opens_all;
   sum = omega (arith, h.sum, may);
 }
 
@@ -130,6 +144,7 @@ opened z w total k s v weights may h = record {
   once = h.once;
   first = h.first;
   padding = h.padding;
+  pending = h.pending - min s.earlier 1;
   left = omega arith;
   covers = let fewer : z.line * (s.free + s.resetting + at_work v) ≡ z.line * (s.free - 1 + s.resetting + at_work v) + z.line =
       fewer_by z.line (s.free + s.resetting + at_work v) (s.free - 1 + s.resetting + at_work v) (omega (arith, may.has_free)) in
@@ -137,10 +152,17 @@ opened z w total k s v weights may h = record {
   victim = still v h.victim;
   spared = h.spared;
   firsts = h.firsts;
+  opens = omega (arith, h.opens_all none);
+  opens_all = λ low. absurd (omega (arith, low));
   sum = let all : w.placed * h.gone ≡ w.placed * z.line = times w.placed h.gone z.line (omega (arith, h.left, may.none_left)) in
-      omega (arith, h.sum, all, weights.opening);
+      let fewer : w.copied * (s.failed + h.once + min s.earlier 1 + (h.pending - min s.earlier 1)) ≤ w.copied * (s.failed + h.once + s.early + h.pending) =
+      mul-le-mul_left w.copied (omega (arith, h.opens_all none)) in
+      omega (arith, h.sum, all, fewer, weights.opening);
 }
   where
+    none : s.left < z.line
+    none = omega (arith, may.none_left, weights.line)
+
     fewer_by : (a x y : ℕ) → x ≡ y + 1 → a * x ≡ a * y + a
     fewer_by a x y e = let all : a * x ≡ a * (y + 1) = times a x (y + 1) e in omega (arith, all)
 
@@ -169,11 +191,14 @@ full_placed z w total k s v weights may h = record {
   once = h.once;
   first = h.first;
   padding = h.padding;
+  pending = h.pending;
   left = omega (arith, h.left, may.has_address);
   covers = omega (arith, h.covers, may.has_address, fewer);
   victim = still v h.victim;
   spared = λ spent waits. omega (arith, waits, h.spared spent (omega (arith, waits)));
   firsts = λ waits. h.firsts (omega (arith, waits));
+  opens = omega (arith, h.opens);
+  opens_all = λ low. omega (arith, h.opens, weights.stripe);
   sum = let gone : w.placed * (h.gone + z.stripe) ≡ w.placed * h.gone + w.placed * z.stripe =
       placed_more w.placed (h.gone + z.stripe) h.gone z.stripe refl in
       let waits : (w.placed + 1) * (s.earlier + s.copies)
@@ -209,11 +234,14 @@ pad_placed z w total k s v first padding pads weights address some h victim paid
   once = h.once;
   first = first;
   padding = padding;
+  pending = h.pending;
   left = omega (arith, h.left, address);
   covers = omega (arith, h.covers, address, some, weights.stripe);
   victim = victim;
   spared = λ spent waits. absurd (omega (arith, waits));
   firsts = λ waits. absurd (omega (arith, waits));
+  opens = omega arith;
+  opens_all = λ low. omega arith;
   sum = let gone : w.placed * (h.gone + z.stripe) ≡ w.placed * h.gone + w.placed * z.stripe =
       placed_more w.placed (h.gone + z.stripe) h.gone z.stripe refl in
       let lacks : w.missing * (h.missing + (z.stripe - 1)) ≡ w.missing * h.missing + w.missing * (z.stripe - 1) =
@@ -273,6 +301,7 @@ copied_one z w total k s (AtWork live) weights may h = record {
   once = h.once;
   first = h.first;
   padding = h.padding;
+  pending = h.pending;
   left = h.left;
   covers = omega (arith, h.covers, may.has_live);
   victim = record {
@@ -281,6 +310,8 @@ copied_one z w total k s (AtWork live) weights may h = record {
   };
   spared = λ spent waits. omega arith;
   firsts = h.firsts;
+  opens = h.opens;
+  opens_all = h.opens_all;
   sum = let less : (w.placed + 2) * live ≡ (w.placed + 2) * (live - 1) + (w.placed + 2) * 1 =
       placed_more (w.placed + 2) live (live - 1) 1 (omega (arith, may.has_live)) in
       omega (arith, h.sum, less);
@@ -291,6 +322,7 @@ copied_one z w total k s (Spare live) weights may h = record {
   once = h.once - 1;
   first = h.first;
   padding = 1;
+  pending = h.pending;
   left = h.left;
   covers = omega (arith, h.covers, may.has_live);
   victim = record {
@@ -299,12 +331,14 @@ copied_one z w total k s (Spare live) weights may h = record {
   };
   spared = λ spent waits. omega arith;
   firsts = h.firsts;
+  opens = h.opens;
+  opens_all = h.opens_all;
   sum = let less : (w.placed + 2) * (live - 1 + 1) ≤ (w.placed + 2) * z.line =
       mul-le-mul_left (w.placed + 2) (omega (arith, may.has_live, h.victim.live_in)) in
       let whole : (w.placed + 2) * (live - 1 + 1) ≡ (w.placed + 2) * (live - 1) + (w.placed + 2) * 1 =
       placed_more (w.placed + 2) (live - 1 + 1) (live - 1) 1 refl in
-      let one : w.copied * (s.others + h.once) ≡ w.copied * (s.others + (h.once - 1)) + w.copied * 1 =
-      placed_more w.copied (s.others + h.once) (s.others + (h.once - 1)) 1 (omega (arith, some)) in
+      let one : w.copied * (s.failed + h.once + s.early + h.pending) ≡ w.copied * (s.failed + (h.once - 1) + s.early + h.pending) + w.copied * 1 =
+      placed_more w.copied (s.failed + h.once + s.early + h.pending) (s.failed + (h.once - 1) + s.early + h.pending) 1 (omega (arith, some)) in
       omega (arith, h.sum, less, whole, one, weights.copied, h.victim.no_copy);
 }
   where
@@ -341,11 +375,14 @@ chosen z w total k live s NoVictim weights may h = record {
   once = h.once;
   first = h.first;
   padding = 1;
+  pending = h.pending;
   left = h.left;
   covers = omega (arith, h.covers, enough, one_more z.line (s.free + s.resetting), fits);
   victim = record { live_in = omega (arith, fits); paid = λ some. omega arith };
   spared = h.spared;
   firsts = h.firsts;
+  opens = h.opens;
+  opens_all = h.opens_all;
   sum = let less : w.missing * h.missing ≡ w.missing * (h.missing - gained) + w.missing * gained =
       placed_more w.missing h.missing (h.missing - gained) gained (omega (arith, enough)) in
       omega (arith, h.sum, less, weights.gain live gained may.fits fits);
@@ -363,24 +400,52 @@ chosen z w total k live s NoVictim weights may h = record {
     enough : gained ≤ h.missing
     enough = omega (arith, h.covers, few, h.left)
 
-chosen_other : (z : Drive) (w : Weights) (total k live : ℕ) (s : State) (v : Victim) → AreWeights z w
-    → MayChooseOther z (record s { victim = v }) live → Kept z w total k (record s { victim = v })
-    → Kept z w total k (turned z (record s { victim = v }) (ChooseOther live))
-chosen_other z w total k live s (AtWork was) weights may h = absurd (omega (arith, may.none))
-chosen_other z w total k live s (Spare was) weights may h = absurd (omega (arith, may.none))
-chosen_other z w total k live s NoVictim weights may h = record {
+chosen_failed : (z : Drive) (w : Weights) (total k live : ℕ) (s : State) (v : Victim) → AreWeights z w
+    → MayChooseFailed z (record s { victim = v }) live → Kept z w total k (record s { victim = v })
+    → Kept z w total k (turned z (record s { victim = v }) (ChooseFailed live))
+chosen_failed z w total k live s (AtWork was) weights may h = absurd (omega (arith, may.none))
+chosen_failed z w total k live s (Spare was) weights may h = absurd (omega (arith, may.none))
+chosen_failed z w total k live s NoVictim weights may h = record {
   gone = h.gone;
   missing = h.missing;
   once = h.once;
   first = h.first;
   padding = 1;
+  pending = h.pending;
   left = h.left;
   covers = omega (arith, h.covers, one_more z.line (s.free + s.resetting), may.fits);
   victim = record { live_in = omega (arith, may.fits); paid = λ some. omega arith };
   spared = h.spared;
   firsts = h.firsts;
-  sum = let one : w.copied * (s.others + h.once) ≡ w.copied * (s.others - 1 + h.once) + w.copied * 1 =
-      placed_more w.copied (s.others + h.once) (s.others - 1 + h.once) 1 (omega (arith, may.may)) in
+  opens = h.opens;
+  opens_all = h.opens_all;
+  sum = let one : w.copied * (s.failed + h.once + s.early + h.pending) ≡ w.copied * (s.failed - 1 + h.once + s.early + h.pending) + w.copied * 1 =
+      placed_more w.copied (s.failed + h.once + s.early + h.pending) (s.failed - 1 + h.once + s.early + h.pending) 1 (omega (arith, may.is_failed)) in
+      let few : (w.placed + 2) * live ≤ (w.placed + 2) * z.line = mul-le-mul_left (w.placed + 2) (omega (arith, may.fits)) in
+      omega (arith, h.sum, one, few, weights.copied);
+}
+
+chosen_early : (z : Drive) (w : Weights) (total k live : ℕ) (s : State) (v : Victim) → AreWeights z w
+    → MayChooseEarly z (record s { victim = v }) live → Kept z w total k (record s { victim = v })
+    → Kept z w total k (turned z (record s { victim = v }) (ChooseEarly live))
+chosen_early z w total k live s (AtWork was) weights may h = absurd (omega (arith, may.none))
+chosen_early z w total k live s (Spare was) weights may h = absurd (omega (arith, may.none))
+chosen_early z w total k live s NoVictim weights may h = record {
+  gone = h.gone;
+  missing = h.missing;
+  once = h.once;
+  first = h.first;
+  padding = 1;
+  pending = h.pending;
+  left = h.left;
+  covers = omega (arith, h.covers, one_more z.line (s.free + s.resetting), may.fits);
+  victim = record { live_in = omega (arith, may.fits); paid = λ some. omega arith };
+  spared = h.spared;
+  firsts = h.firsts;
+  opens = h.opens;
+  opens_all = h.opens_all;
+  sum = let one : w.copied * (s.failed + h.once + s.early + h.pending) ≡ w.copied * (s.failed + h.once + (s.early - 1) + h.pending) + w.copied * 1 =
+      placed_more w.copied (s.failed + h.once + s.early + h.pending) (s.failed + h.once + (s.early - 1) + h.pending) 1 (omega (arith, may.is_early)) in
       let few : (w.placed + 2) * live ≤ (w.placed + 2) * z.line = mul-le-mul_left (w.placed + 2) (omega (arith, may.fits)) in
       omega (arith, h.sum, one, few, weights.copied);
 }
@@ -396,6 +461,7 @@ chosen_spare z w total k live s NoVictim may h = record {
   once = h.once;
   first = h.first;
   padding = h.padding;
+  pending = h.pending;
   left = h.left;
   covers = omega (arith, h.covers, one_more z.line (s.free + s.resetting), may.fits);
   victim = record {
@@ -409,6 +475,8 @@ chosen_spare z w total k live s NoVictim may h = record {
   };
   spared = h.spared;
   firsts = h.firsts;
+  opens = h.opens;
+  opens_all = h.opens_all;
   sum = h.sum;
 }
 
@@ -427,11 +495,14 @@ victim_freed z w total k s (AtWork live) may h = record {
   once = h.once;
   first = h.first;
   padding = h.padding;
+  pending = h.pending;
   left = h.left;
   covers = omega (arith, h.covers, may.no_live, times z.line (s.free + s.resetting + 1) (s.free + (s.resetting + 1) + 0) (omega arith));
   victim = may.no_copy;
   spared = h.spared;
   firsts = h.firsts;
+  opens = h.opens;
+  opens_all = h.opens_all;
   sum = omega (arith, h.sum, freed_one z s may.held);
 }
 victim_freed z w total k s (Spare live) may h = record {
@@ -440,11 +511,14 @@ victim_freed z w total k s (Spare live) may h = record {
   once = h.once;
   first = h.first;
   padding = h.padding;
+  pending = h.pending;
   left = h.left;
   covers = omega (arith, h.covers, may.no_live, times z.line (s.free + s.resetting + 1) (s.free + (s.resetting + 1) + 0) (omega arith));
   victim = may.no_copy;
   spared = h.spared;
   firsts = h.firsts;
+  opens = h.opens;
+  opens_all = h.opens_all;
   sum = omega (arith, h.sum, freed_one z s may.held);
 }
 
@@ -452,10 +526,11 @@ other_freed : (z : Drive) (w : Weights) (total k : ℕ) (s : State) (v : Victim)
     → Kept z w total k (record s { victim = v }) → Kept z w total k (turned z (record s { victim = v }) FreeOther)
 other_freed z w total k s v weights may h = record {
   gone = h.gone;
-  missing = h.missing;
+  missing = h.missing - z.line;
   once = h.once;
   first = h.first;
   padding = h.padding;
+  pending = h.pending;
   left = h.left;
   covers = omega (
     arith,
@@ -466,11 +541,62 @@ other_freed z w total k s v weights may h = record {
   victim = still v h.victim;
   spared = h.spared;
   firsts = h.firsts;
-  sum = let one : w.copied * (s.others + h.once) ≡ w.copied * (s.others - 1 + h.once) + w.copied * 1 =
-      placed_more w.copied (s.others + h.once) (s.others - 1 + h.once) 1 (omega (arith, may.may)) in
+  opens = h.opens;
+  opens_all = h.opens_all;
+  sum = let less : w.missing * h.missing ≡ w.missing * (h.missing - z.line) + w.missing * z.line =
+      placed_more w.missing h.missing (h.missing - z.line) z.line (omega (arith, enough)) in
       let pads : w.pad * (s.pads + 1 + h.first) ≡ w.pad * (s.pads + h.first) + w.pad * 1 =
       placed_more w.pad (s.pads + 1 + h.first) (s.pads + h.first) 1 (omega arith) in
-      omega (arith, h.sum, one, pads, freed_one z s may.held, weights.copied);
+      omega (arith, h.sum, less, pads, freed_one z s may.held, weights.gain 0 z.line (omega arith) (omega arith));
+}
+  where
+    still : (v : Victim) → IsVictim z.line (s.free + s.resetting) s.earlier s.copies h.once h.padding v
+        → IsVictim z.line (s.free + (s.resetting + 1)) s.earlier s.copies h.once h.padding v
+    still NoVictim is = is
+    still (AtWork live) is = is
+    still (Spare live) is = record {
+      live_in = is.live_in;
+      no_copy = is.no_copy;
+      none_waits = is.none_waits;
+      many = λ spent. omega (arith, is.many spent);
+    }
+
+    few : z.line * (s.free + s.resetting + at_work v) ≤ z.line * (3 + at_work v)
+    few = mul-le-mul_left z.line (omega (arith, may.few))
+
+    one : (v : Victim) → at_work v ≤ 1
+    one NoVictim = omega arith
+    one (AtWork live) = omega arith
+    one (Spare live) = omega arith
+
+    most : z.line * (3 + at_work v) ≤ z.line * 4
+    most = mul-le-mul_left z.line (omega (arith, one v))
+
+    enough : z.line ≤ h.missing
+    enough = omega (arith, h.covers, few, most, h.left)
+
+more_freed : (z : Drive) (w : Weights) (total k : ℕ) (s : State) (v : Victim) → MayFreeMore s
+    → Kept z w total k (record s { victim = v }) → Kept z w total k (turned z (record s { victim = v }) FreeMore)
+more_freed z w total k s v may h = record {
+  gone = h.gone;
+  missing = h.missing;
+  once = h.once;
+  first = h.first;
+  padding = h.padding;
+  pending = h.pending;
+  left = h.left;
+  covers = omega (
+    arith,
+    h.covers,
+    one_more z.line (s.free + s.resetting + at_work v),
+    times z.line (s.free + s.resetting + at_work v + 1) (s.free + (s.resetting + 1) + at_work v) (omega arith),
+  );
+  victim = still v h.victim;
+  spared = h.spared;
+  firsts = h.firsts;
+  opens = h.opens;
+  opens_all = h.opens_all;
+  sum = omega (arith, h.sum, freed_one z s may.held);
 }
   where
     still : (v : Victim) → IsVictim z.line (s.free + s.resetting) s.earlier s.copies h.once h.padding v
@@ -487,7 +613,9 @@ other_freed z w total k s v weights may h = record {
 pub turned_on : (z : Drive) (w : Weights) (total k : ℕ) (s : State) (t : Turn) → AreWeights z w → MayTurn z s t → Kept z w total k s
     → Kept z w total k (turned z s t)
 turned_on z w total k s (Choose live) weights may h = chosen z w total k live s s.victim weights may h
-turned_on z w total k s (ChooseOther live) weights may h = chosen_other z w total k live s s.victim weights may h
+turned_on z w total k s (ChooseFailed live) weights may h = chosen_failed z w total k live s s.victim weights may h
+turned_on z w total k s (ChooseEarly live) weights may h = chosen_early z w total k live s s.victim weights may h
 turned_on z w total k s (ChooseSpare live) weights may h = chosen_spare z w total k live s s.victim may h
 turned_on z w total k s FreeVictim weights may h = victim_freed z w total k s s.victim may h
 turned_on z w total k s FreeOther weights may h = other_freed z w total k s s.victim weights may h
+turned_on z w total k s FreeMore weights may h = more_freed z w total k s s.victim may h

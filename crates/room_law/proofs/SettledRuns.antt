@@ -51,6 +51,7 @@ are_weights z is = record {
   pad = refl;
   copied = omega arith;
   stripe = is.some;
+  line = omega (arith, nine z is);
   gain = gains z is;
 }
 
@@ -69,21 +70,24 @@ victim_worth w line = (w.placed + 2) * line + w.pad
 
 abbrev total_of : Drive → Weights → State → ℕ
 total_of z w s = s.chunks + z.units * s.held + s.records + w.placed * (z.line - s.left) + (w.placed + 1) * (s.earlier + s.copies)
-    + victim_worth w z.line + w.missing * (5 * z.line) + w.copied * (s.others + 1) + w.pad * (s.pads + 1)
+    + victim_worth w z.line + w.missing * (6 * z.line) + w.copied * (s.failed + 1 + s.early + s.earlier) + w.pad * (s.pads + 1)
 
 begins : (z : Drive) (w : Weights) (claimed lines : ℕ) (s : State) (v : Victim) → IsStart z claimed lines (record s { victim = v })
     → Kept z w (total_of z w s) 0 (record s { victim = v })
 begins z w claimed lines s v is = record {
   gone = z.line - s.left;
-  missing = 5 * z.line;
+  missing = 6 * z.line;
   once = 1;
   first = 1;
   padding = 1;
+  pending = s.earlier;
   left = omega (arith, is.left);
   covers = omega (arith, covered v is.live, is.has_room, is.no_copy);
   victim = victim v is.live;
   spared = λ spent waits. absurd (omega (arith, spent));
   firsts = λ waits. omega arith;
+  opens = omega arith;
+  opens_all = λ low. omega arith;
   sum = omega (arith, within v is.live);
 }
   where
@@ -159,15 +163,16 @@ copied_few z is = elim (cases_lt 1 z.stripe) [
         let none : 7 * (share z + 3) * (z.stripe - 1) ≡ 7 * (share z + 3) * 0 = ap (λ (x : ℕ). 7 * (share z + 3) * x) (omega (arith, one)) in
         omega (arith, stripe, none)
 
-total_few : (z : Drive) (claimed lines : ℕ) (s : State) → IsDrive z → IsStart z claimed lines s → total_of z (weights z) s ≤ most_pumps z claimed lines
+total_few : (z : Drive) (claimed lines : ℕ) (s : State) → IsDrive z → IsStart z claimed lines s
+    → total_of z (weights z) s ≤ most_pumps z claimed lines
 total_few z claimed lines s drive is =
     let copied = copied_few z drive in
     let b : ℕ = blocks z in
     let resets : z.units * (s.resetting + s.held) ≤ z.units * lines = mul-le-mul_left z.units (omega (arith, is.all)) in
     let gone : (share z + 1) * (z.line - s.left) ≤ (share z + 1) * z.line = mul-le-mul_left (share z + 1) (omega arith) in
     let waits : (share z + 2) * (s.earlier + s.copies) ≤ (share z + 2) * claimed = mul-le-mul_left (share z + 2) (omega (arith, is.earlier, is.no_copy)) in
-    let others : (weights z).copied * (s.others + 1) ≤ (weights z).copied * (claimed + lines + 3) =
-    mul-le-mul_left (weights z).copied (omega (arith, is.others)) in
+    let others : (weights z).copied * (s.failed + 1 + s.early + s.earlier) ≤ (weights z).copied * (claimed + lines + 2) =
+    mul-le-mul_left (weights z).copied (omega (arith, is.failed, is.early, is.earlier)) in
     let pads : (weights z).pad * (s.pads + 1) ≤ (weights z).pad * 2 = mul-le-mul_left (weights z).pad (omega (arith, is.pads)) in
     let lines_few : ((weights z).copied + z.units) * lines ≤ 8 * blocks z * lines = mul-le-mul_right lines copied.0 in
     let claimed_few : ((weights z).copied + (share z + 2)) * claimed ≤ 8 * blocks z * claimed = mul-le-mul_right claimed copied.1 in

@@ -2,7 +2,7 @@
 -- or claims and no command fails. It speaks of a target on a tidy drive, where each line has the
 -- same number of data addresses. A step's condition is what the law needs of the target, and often
 -- less than what the target does.
-use Rattle.std.specs.Prelude.{ℕ, suc, ◌+◌, ◌-◌, ◌*◌, ◌<◌, ◌≤◌, ◌≡◌}
+use Rattle.std.specs.Prelude.{ℕ, suc, ◌+◌, ◌-◌, ◌*◌, ◌<◌, ◌≤◌, ◌≡◌, min}
 
 -- how many addresses a data stripe has (WS_OPT), how many data addresses a line has, on how many
 -- units it lies, and how many stripes its start record and its end record have together
@@ -46,9 +46,12 @@ pub record State : Type 0 where
   pub earlier : ℕ
   pub copies : ℕ
   pub victim : Victim
-  -- how many lines may still be freed that aren't at work, or come to work with more live sectors
-  -- than three in four
-  pub others : ℕ
+  -- how many lines are failed that didn't come to work: they may have more live sectors than three
+  -- in four as they do
+  pub failed : ℕ
+  -- whether a line may so, since a line was opened for an entry that was taken before, and its
+  -- start record isn't on the drive
+  pub early : ℕ
   -- how often a stripe may be padded still while the victim at work has live sectors: as often as a
   -- line was freed that wasn't at work
   pub pads : ℕ
@@ -97,13 +100,15 @@ pub data Pump : Type 0 where
   CopySector : Pump
 
 -- What happens between pumps: a line with so many live sectors comes to work, the victim at work is
--- freed, or another line is.
+-- freed, or another line is, where few lines are Free or to be reset, and where many are.
 pub data Turn : Type 0 where
   Choose : ℕ → Turn
-  ChooseOther : ℕ → Turn
+  ChooseFailed : ℕ → Turn
+  ChooseEarly : ℕ → Turn
   ChooseSpare : ℕ → Turn
   FreeVictim : Turn
   FreeOther : Turn
+  FreeMore : Turn
 
 -- When a pump may be made.
 
@@ -155,10 +160,15 @@ pub record MayChoose (z : Drive) (s : State) (live : ℕ) : Type 0 where
   pub few : free_soon s ≤ 3
   pub fits : 4 * live ≤ 3 * z.line
 
-pub record MayChooseOther (z : Drive) (s : State) (live : ℕ) : Type 0 where
+pub record MayChooseFailed (z : Drive) (s : State) (live : ℕ) : Type 0 where
   pub none : at_work s.victim ≡ 0
   pub fits : live + z.stripe ≤ z.line
-  pub may : 1 ≤ s.others
+  pub is_failed : 1 ≤ s.failed
+
+pub record MayChooseEarly (z : Drive) (s : State) (live : ℕ) : Type 0 where
+  pub none : at_work s.victim ≡ 0
+  pub fits : live + z.stripe ≤ z.line
+  pub is_early : 1 ≤ s.early
 
 pub record MayChooseSpare (z : Drive) (s : State) (live : ℕ) : Type 0 where
   pub none : at_work s.victim ≡ 0
@@ -174,14 +184,20 @@ pub record MayFreeVictim (s : State) : Type 0 where
 
 pub record MayFreeOther (s : State) : Type 0 where
   pub held : 1 ≤ s.held
-  pub may : 1 ≤ s.others
+  pub few : free_soon s ≤ 3
+
+pub record MayFreeMore (s : State) : Type 0 where
+  pub held : 1 ≤ s.held
+  pub many : 4 ≤ free_soon s
 
 abbrev pub MayTurn : Drive → State → Turn → Type 0
 MayTurn z s (Choose live) = MayChoose z s live
-MayTurn z s (ChooseOther live) = MayChooseOther z s live
+MayTurn z s (ChooseFailed live) = MayChooseFailed z s live
+MayTurn z s (ChooseEarly live) = MayChooseEarly z s live
 MayTurn z s (ChooseSpare live) = MayChooseSpare z s live
 MayTurn z s FreeVictim = MayFreeVictim s
 MayTurn z s FreeOther = MayFreeOther s
+MayTurn z s FreeMore = MayFreeMore s
 
 -- What they leave.
 
@@ -206,6 +222,7 @@ pumped z s OpenLine = record s {
   free = s.free - 1;
   held = s.held + 1;
   records = s.records + z.records;
+  early = min s.earlier 1;
 }
 pumped z s CopySector = record s { copies = s.copies + 1; victim = copied s.victim }
 
@@ -214,10 +231,12 @@ freed z s = record s { resetting = s.resetting + 1; held = s.held - 1; chunks = 
 
 abbrev pub turned : Drive → State → Turn → State
 turned z s (Choose live) = record s { victim = AtWork live }
-turned z s (ChooseOther live) = record s { victim = AtWork live; others = s.others - 1 }
+turned z s (ChooseFailed live) = record s { victim = AtWork live; failed = s.failed - 1 }
+turned z s (ChooseEarly live) = record s { victim = AtWork live; early = s.early - 1 }
 turned z s (ChooseSpare live) = record s { victim = Spare live }
 turned z s FreeVictim = record (freed z s) { victim = NoVictim }
-turned z s FreeOther = record (freed z s) { others = s.others - 1; pads = s.pads + 1 }
+turned z s FreeOther = record (freed z s) { pads = s.pads + 1 }
+turned z s FreeMore = freed z s
 
 -- It begins with so many claimed positions that aren't on the drive, which have all been taken, on
 -- a drive of so many lines. They have room.
@@ -230,7 +249,8 @@ pub record IsStart (z : Drive) (claimed lines : ℕ) (s : State) : Type 0 where
   pub has_room : s.earlier ≤ s.left + z.line * s.free
   pub no_copy : s.copies ≡ 0
   pub live : live_of s.victim ≤ z.line
-  pub others : s.others ≤ claimed + lines + 2
+  pub failed : s.failed ≤ lines
+  pub early : s.early ≤ 1
   pub pads : s.pads ≤ 1
 
 -- from the first state the other is reached by so many pumps
