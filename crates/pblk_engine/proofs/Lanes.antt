@@ -10,7 +10,7 @@ use Rattle.unit_port.specs.declared.unit.UnitErr.TheVariants as causes
 use Rattle.pblk_engine.specs.Closings.{closing_of, set_of}
 use Rattle.pblk_engine.specs.Fetches.{TellsCause}
 use Rattle.pblk_engine.specs.Lanes.{HasRunAs, NoStops}
-use Rattle.pblk_engine.specs.Pumps.{AreOfRole, GoesOn, HasCollected, HasPumped, IsFaultOf, NoFaults, TellsCauses, fault_of}
+use Rattle.pblk_engine.specs.Pumps.{AreOfRole, GoesOn, HasCollectedRun, HasPumped, IsFaultOf, NoFaults, TellsCauses, fault_of}
 use Rattle.pblk_engine.specs.Workers.{Made, WorkerView}
 use Rattle.pblk_engine.specs.declared.closing.Closing.{Closing}
 use Rattle.pblk_engine.specs.declared.closing.IsSet.{IsSet}
@@ -74,13 +74,20 @@ pub gone_then : (role : Role) (i : Image) (handed : List ModelUnit) (a b c : Wor
     → ((more : List Made) → c.made ≡ b.made ++ more → AreOfRole role more) → HasGone role a c
 gone_then role i handed a b c did x is made = gone_more role a b c is.more x is.on (made is.more is.on.made) (no_stops is.more is.tells.0)
 
--- a fetch failed
-pub gone_failed : (i : Image) (handed : List ModelUnit) (a b c : WorkerView) (e : FetchErr) → HasGone roles.Collector a b → HasCollected i handed b c (Err e)
+-- sectors were copied
+pub gone_copied : (handed : List ModelUnit) (a b c : WorkerView) (did : Did) → HasGone roles.Collector a b → HasCollectedRun handed b c (Ok did)
+    → HasGone roles.Collector a c
+gone_copied handed a b c did x is = gone_more roles.Collector a b c is.more x is.on is.fetched (no_stops is.more is.tells.0)
+
+-- a fetch failed, after others that gave their blocks
+pub gone_failed : (handed : List ModelUnit) (a b c : WorkerView) (e : FetchErr) → HasGone roles.Collector a b → HasCollectedRun handed b c (Err e)
     → e.cause ≡ causes.Failed → HasGone roles.Collector a c
-gone_failed i handed a b c e x is failed =
-    gone_more roles.Collector a b c is.pumped.more x is.pumped.on is.fetched
-    (all_imply (λ (m : Made). TellsCause e.cause m.event.outcome) (λ (m : Made). is_stop m.event.outcome ≡ false)
-    (λ m told. failed_goes m.event.outcome (subst (λ cause. TellsCause cause m.event.outcome) failed told)) is.pumped.more is.caused)
+gone_failed handed a b c e x is failed =
+    let fault = is.tells.0 in
+    gone_more roles.Collector a b c is.more x is.on is.fetched
+    (subst NoStops (sym fault.all)
+    (all_append (λ (m : Made). is_stop m.event.outcome ≡ false) fault.others (fault.last ∷ []) (no_stops fault.others fault.none)
+    (failed_goes fault.last.event.outcome (subst (λ cause. TellsCause cause fault.last.event.outcome) failed is.tells.1), tt)))
 
 -- ---- how it ends
 
@@ -116,11 +123,9 @@ lane_stopped closing i handed a b c e x is made =
     (lost_stopped fault.last.event
     (last_of (λ (m : Made). is_fetch m.event.command ≡ false) fault.others fault.last (subst (AreOfRole roles.Lane) fault.all its)) fault.lost)
 
-pub collector_stopped : (closing : Closing) (i : Image) (handed : List ModelUnit) (a b c : WorkerView) (e : FetchErr) → HasGone roles.Collector a b
-    → HasCollected i handed b c (Err e) → e.cause ≡ causes.Stopped → HasRunAs roles.Collector closing a c (ends.Stopped e.unit)
-collector_stopped closing i handed a b c e x is stopped =
-    let fault = is.pumped.tells.0 in
-    let told = last_of (λ (m : Made). TellsCause e.cause m.event.outcome) fault.others fault.last
-    (subst (λ (ms : List Made). TellsCauses ms (Err e)) fault.all is.caused) in
-    stopped_then roles.Collector closing handed a b c is.pumped.more (fault_of e) x is.pumped.on is.fetched fault
-    (subst (λ cause. TellsCause cause fault.last.event.outcome) stopped told)
+pub collector_stopped : (closing : Closing) (handed : List ModelUnit) (a b c : WorkerView) (e : FetchErr) → HasGone roles.Collector a b
+    → HasCollectedRun handed b c (Err e) → e.cause ≡ causes.Stopped → HasRunAs roles.Collector closing a c (ends.Stopped e.unit)
+collector_stopped closing handed a b c e x is stopped =
+    let fault = is.tells.0 in
+    stopped_then roles.Collector closing handed a b c is.more (fault_of e) x is.on is.fetched fault
+    (subst (λ cause. TellsCause cause fault.last.event.outcome) stopped is.tells.1)

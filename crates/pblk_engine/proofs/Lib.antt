@@ -64,6 +64,7 @@ pub mod RoleCommands
 pub mod MadePrograms
 pub mod OpenedLines
 pub mod PumpSteps
+pub mod CopyRuns
 pub mod Lanes
 pub mod WaitSteps
 pub mod Settlings
@@ -75,4 +76,5 @@ pub mod RunFetches
 pub mod ReadLooks
 pub mod ReadAnswers
 mod WorkedOff
+mod Ticks
 mod LaterRests

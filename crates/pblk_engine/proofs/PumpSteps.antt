@@ -1,9 +1,10 @@
 -- What a pump answers, by what its worker made and learned.
-use Rattle.std.proofs.Common.{◌≡◌, ◌≢◌, inl, inr, ℕ, suc, ◌≤◌, true, false, Result, Ok, Err, List, [], ◌∷◌, length, refl, sym, subst, ap, ◌∙◌}
+use Rattle.std.proofs.Common.{◌≡◌, ◌≢◌, inl, inr, ℕ, suc, ◌≤◌, true, false, Result, Ok, Err, List, [], ◌∷◌, ◌++◌, ◌+◌, ◌<◌, length, length-append, refl, sym, subst, ap, ◌∙◌, arith}
+use Rattle.std.specs.Prelude.{IfOk}
 use Rattle.pblk_model.specs.ChunkStep.{Gave, Read}
 use Rattle.pblk_model.specs.Image.{Image}
 use Rattle.pblk_model.specs.UnitLog.{UnitEvent, UnitOutcome, Answered, Failed, Stopped}
-use Rattle.pblk_world.specs.AtRest.{IsAtRest}
+use Rattle.pblk_world.specs.AtRest.{IsAtRest, IsCopyDue}
 use Rattle.scan_recovery.specs.DriveFaults.{is_drive_fault, is_fetch}
 use Rattle.unit_port.specs.Armed.{is_fail, is_stop}
 use Rattle.unit_port.specs.Did.{failed_or_stopped}
@@ -20,7 +21,7 @@ use Rattle.pblk_engine.specs.ChunkResets.{HasReset}
 use Rattle.pblk_engine.specs.Deeds.{HasDone}
 use Rattle.pblk_engine.specs.Fetches.{TellsCause, TellsFetch}
 use Rattle.pblk_engine.specs.Opens.{HasOpened}
-use Rattle.pblk_engine.specs.Pumps.{AreOfRole, GoesOn, HasCollected, HasFetched, HasPumped, IsBusy, IsFetch, IsNothing, IsOnly, NoFaults}
+use Rattle.pblk_engine.specs.Pumps.{AreOfRole, GoesOn, HasCollected, HasComeOn, HasFetched, HasPumped, IsBusy, IsFetch, IsNothing, IsOnly, IsWork, NoFaults, WasCopyDue}
 use Rattle.pblk_engine.specs.Pumps.{TellsPump, fault_of, pumped_of}
 use Rattle.pblk_engine.specs.Workers.{Made, WorkerView}
 use Rattle.pblk_engine.specs.declared.errors.DriveErr.{DriveErr}
@@ -28,7 +29,8 @@ use Rattle.pblk_engine.specs.declared.errors.FetchErr.{FetchErr}
 use Rattle.pblk_engine.specs.declared.outcomes.Did.{Did}
 use Rattle.pblk_engine.specs.declared.outcomes.Did.TheVariants as dids
 use Rattle.pblk_engine.specs.declared.outcomes.Role.TheVariants as roles
-use Rattle.pblk_engine.proofs.GoingOn.{answer_kept, fault_one, fetch_lost, goes_still, goes_then, reset_kept, stop_lost}
+use Rattle.chronicle.proofs.Rests.{still_begun}
+use Rattle.pblk_engine.proofs.GoingOn.{all_known, answer_kept, fault_one, fetch_lost, goes_still, goes_then, reset_kept, stop_lost}
 use Rattle.pblk_engine.proofs.OpenedLines.{opened_since}
 
 -- ---- fetches
@@ -91,16 +93,20 @@ module _ (i : Image) (handed : List ModelUnit) (old new : WorkerView) (unit : �
     record { made = is.made; only = refl; asked = is.asked; told = is.tells },
   )
 
-  pub collected_copied : HasFetched handed unit old new (Ok tt) → HasCollected i handed old new (Ok dids.Copied)
-  collected_copied is = record {
-    pumped = record { more = is.made ∷ []; on = is.on; tells = only_fetch is };
+  -- a copy was due at the look
+  due_then : (is : HasFetched handed unit old new (Ok tt)) → IsCopyDue i (logs_of old.known) → WasCopyDue i old.known new.known
+  due_then is due = record { looked = old.known; since = all_known old.known; within = is.on.keeps; due = due }
+
+  pub collected_copied : IsCopyDue i (logs_of old.known) → HasFetched handed unit old new (Ok tt) → HasCollected i handed old new (Ok dids.Copied)
+  collected_copied due is = let it = only_fetch is in record {
+    pumped = record { more = is.made ∷ []; on = is.on; tells = (it.0, (it.1, due_then is due)) };
     fetched = fetch_only (Ok tt) is;
     caused = tt;
   }
 
-  pub collected_refused : HasFetched handed unit old new (Ok tt) → HasCollected i handed old new (Ok dids.NotCopied)
-  collected_refused is = let it = only_fetch is in record {
-    pumped = record { more = is.made ∷ []; on = is.on; tells = (it.0, inr it.1) };
+  pub collected_refused : IsCopyDue i (logs_of old.known) → HasFetched handed unit old new (Ok tt) → HasCollected i handed old new (Ok dids.NotCopied)
+  collected_refused due is = let it = only_fetch is in record {
+    pumped = record { more = is.made ∷ []; on = is.on; tells = (it.0, (inr it.1, due_then is due)) };
     fetched = fetch_only (Ok tt) is;
     caused = tt;
   }
@@ -135,8 +141,16 @@ module _ (i : Image) (handed : List ModelUnit) (w : WorkerView) where
   pub pumped_other : HasPumped i handed w w (Ok dids.Other)
   pumped_other = record { more = []; on = goes_still w; tells = (tt, refl) }
 
-  pub collected_full : HasCollected i handed w w (Ok dids.NotCopied)
-  collected_full = record { pumped = record { more = []; on = goes_still w; tells = (tt, inl refl) }; fetched = tt; caused = tt }
+  pub collected_full : IsCopyDue i (logs_of w.known) → HasCollected i handed w w (Ok dids.NotCopied)
+  collected_full due = record {
+    pumped = record {
+      more = [];
+      on = goes_still w;
+      tells = (tt, (inl refl, record { looked = w.known; since = all_known w.known; within = all_known w.known; due = due }));
+    };
+    fetched = tt;
+    caused = tt;
+  }
 
   pub collected_other : HasCollected i handed w w (Ok dids.Other)
   collected_other = record { pumped = record { more = []; on = goes_still w; tells = (tt, refl) }; fetched = tt; caused = tt }
@@ -150,6 +164,10 @@ pumped_opened i handed old new on is = record { more = []; on = on; tells = (tt,
 
 -- ---- a worker that learned before
 
+due_since : (i : Image) (early old new : Prefixes) → ArePrefixes early old → WasCopyDue i old new → WasCopyDue i early new
+due_since i early old new keeps is =
+    record { looked = is.looked; since = still_begun early old is.looked keeps is.since; within = is.within; due = is.due }
+
 pub tells_since : (i : Image) (handed : List ModelUnit) (early old new : Prefixes) (more : List Made) (result : Result Did DriveErr) → ArePrefixes early old
     → TellsPump i handed old new more result → TellsPump i handed early new more result
 tells_since i handed early old new more (Err e) keeps is = is
@@ -157,8 +175,8 @@ tells_since i handed early old new more (Ok dids.Opened) keeps is = (is.0, (is.1
 tells_since i handed early old new more (Ok dids.Programmed) keeps is = is
 tells_since i handed early old new more (Ok (dids.Lost unit)) keeps is = is
 tells_since i handed early old new more (Ok dids.Reset) keeps is = is
-tells_since i handed early old new more (Ok dids.Copied) keeps is = is
-tells_since i handed early old new more (Ok dids.NotCopied) keeps is = is
+tells_since i handed early old new more (Ok dids.Copied) keeps is = (is.0, (is.1.0, due_since i early old new keeps is.1.1))
+tells_since i handed early old new more (Ok dids.NotCopied) keeps is = (is.0, (is.1.0, due_since i early old new keeps is.1.1))
 tells_since i handed early old new more (Ok dids.Other) keeps is = is
 tells_since i handed early old new more (Ok (dids.Nothing why)) keeps is = is
 
@@ -175,6 +193,31 @@ pub collected_since : (i : Image) (handed : List ModelUnit) (early old new : Wor
 unfolding pumped_since
 collected_since i handed early old new result first is =
     record { pumped = pumped_since i handed early old new (pumped_of result) first is.pumped; fetched = is.fetched; caused = is.caused }
+
+-- ---- a pump that did something
+
+-- with one command more
+one_more : (old new : WorkerView) (more : List Made) → GoesOn old new more → (m : Made) → more ≡ m ∷ [] → length old.made < length new.made
+one_more old new more on m only =
+    let all : new.made ≡ old.made ++ m ∷ [] = on.made ∙ ap (λ (ms : List Made). old.made ++ ms) only in
+    let many : length new.made ≡ length old.made + 1 = ap (λ (ms : List Made). length ms) all ∙ length-append old.made (m ∷ []) in
+    omega (arith, many)
+
+pub came_on : (i : Image) (handed : List ModelUnit) (old new : WorkerView) (did : Did) → IsWork did → HasPumped i handed old new (Ok did) → HasComeOn old new
+came_on i handed old new dids.Programmed work is = inl (one_more old new is.more is.on is.tells.1.made is.tells.1.only)
+came_on i handed old new (dids.Lost unit) work is = inl (one_more old new is.more is.on is.tells.1.0.made is.tells.1.0.only)
+came_on i handed old new dids.Reset work is = inl (one_more old new is.more is.on is.tells.1.made is.tells.1.only)
+came_on i handed old new dids.Copied work is = inl (one_more old new is.more is.on is.tells.1.0.made is.tells.1.0.only)
+came_on i handed old new dids.NotCopied work is = absurd (work.0 refl)
+came_on i handed old new dids.Opened work is = inr is.tells.1.1
+came_on i handed old new dids.Other work is = absurd (work.1 refl)
+came_on i handed old new (dids.Nothing why) work is = absurd (work.2 why refl)
+
+-- of one that wasn't lost
+pub came_on_then : (i : Image) (handed : List ModelUnit) (old new : WorkerView) (result : Result Did DriveErr) → HasPumped i handed old new result
+    → IfOk result (λ did. IsWork did → HasComeOn old new)
+came_on_then i handed old new (Ok did) is = λ work. came_on i handed old new did work is
+came_on_then i handed old new (Err e) is = tt
 
 -- ---- where there is nothing to do
 

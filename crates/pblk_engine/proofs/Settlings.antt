@@ -128,6 +128,16 @@ pub none_of_both : (one two : List Made) → NoFaults one → NoFaults two → N
 none_of_both [] two a b = b
 none_of_both (m ∷ one) two a b = (a.0, none_of_both one two a.1 b)
 
+-- a look at which nothing was done
+pub worked_none : (w : WorkerView) → HasWorked w w []
+worked_none w = record {
+  number = refl;
+  keeps = record { each = λ author. prefix_refl (logs_of w.known author) };
+  made = sym (append-nil w.made);
+  asked = omega arith;
+  asked_before = omega arith;
+}
+
 pub worked_then : (a b c : WorkerView) (one two : List Made) → HasWorked a b one → HasWorked b c two → HasWorked a c (one ++ two)
 worked_then a b c one two x y = record {
   number = y.number ∙ x.number;
@@ -179,13 +189,7 @@ module _ (i : Image) (key : Key) (handed : List ModelUnit) (pass : Part) where
   pub gone_none : (w : WorkerView) → HasGoneOn w w
   gone_none w = record {
     more = [];
-    on = record {
-      number = refl;
-      keeps = record { each = λ author. prefix_refl (logs_of w.known author) };
-      made = sym (append-nil w.made);
-      asked = omega arith;
-      asked_before = omega arith;
-    };
+    on = worked_none w;
     none = tt;
   }
 

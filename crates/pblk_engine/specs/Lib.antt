@@ -29,4 +29,5 @@ pub mod Copying
 pub mod Waits
 pub mod Takes
 pub mod Settlings
+pub mod Ticks
 pub mod Closed

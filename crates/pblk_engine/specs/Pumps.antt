@@ -1,11 +1,11 @@
 -- What a worker's calls of an engine did, by what the worker knows and the commands that it made.
-use Rattle.std.specs.Prelude.{ℕ, ◌≤◌, ◌≡◌, ◌≢◌, ◌⊎◌, ⊤, Bool, false, true, List, [], ◌∷◌, ◌++◌, length, Result, Ok, Err}
+use Rattle.std.specs.Prelude.{ℕ, ◌<◌, ◌≤◌, ◌≡◌, ◌≢◌, ◌⊎◌, ⊤, Bool, false, true, List, [], ◌∷◌, ◌++◌, length, Result, Ok, Err}
 use Rattle.std.specs.List.{AllByRecursion}
 use Rattle.pblk_model.specs.Chunk.{Block}
 use Rattle.pblk_model.specs.ChunkStep.{ChunkCommand, Done, Gave, Read, Reset, Write}
 use Rattle.pblk_model.specs.Image.{Image}
 use Rattle.pblk_model.specs.UnitLog.{UnitOutcome, Answered, Failed}
-use Rattle.pblk_world.specs.AtRest.{IsAtRest, pad_target}
+use Rattle.pblk_world.specs.AtRest.{IsAtRest, IsCopyDue, pad_target}
 use Rattle.pblk_world.specs.World.{Logs}
 use Rattle.scan_recovery.specs.DriveFaults.{is_drive_fault, is_fetch}
 use Rattle.unit_port.specs.Armed.{is_stop}
@@ -93,6 +93,14 @@ pub record HasFetched (handed : List ModelUnit) (unit : ℕ) (old new : WorkerVi
   pub asked : IsFetch made.event.command
   pub tells : TellsFetch unit (number_told handed unit made.number) result made.event.outcome
 
+-- At a look, which knew what was known before and of which all is known after, a sector of the
+-- victim at work was to be copied.
+pub record WasCopyDue (i : Image) (old new : Prefixes) : Type 0 where
+  pub looked : Prefixes
+  pub since : ArePrefixes old looked
+  pub within : ArePrefixes looked new
+  pub due : IsCopyDue i (logs_of looked)
+
 -- What a pump did, by the commands that its worker made in it, and by what the worker knows of the
 -- logs before it and after it.
 abbrev pub TellsDid : Image → Prefixes → Prefixes → List Made → Did → Type 0
@@ -100,8 +108,8 @@ TellsDid i old new more dids.Programmed = IsOnly more IsWrite (λ outcome. outco
 TellsDid i old new more (dids.Lost unit) =
     (is : IsOnly more IsWrite HasFailed) × (is.made.unit ≡ unit)
 TellsDid i old new more dids.Reset = IsOnly more (λ command. command ≡ Reset) (λ outcome. is_stop outcome ≡ false)
-TellsDid i old new more dids.Copied = IsOnly more IsFetch HasGiven
-TellsDid i old new more dids.NotCopied = (more ≡ []) ⊎ IsOnly more IsFetch HasGiven
+TellsDid i old new more dids.Copied = IsOnly more IsFetch HasGiven × WasCopyDue i old new
+TellsDid i old new more dids.NotCopied = ((more ≡ []) ⊎ IsOnly more IsFetch HasGiven) × WasCopyDue i old new
 TellsDid i old new more dids.Opened = (more ≡ []) × HasOpened old new
 TellsDid i old new more dids.Other = more ≡ []
 TellsDid i old new more (dids.Nothing why) = (more ≡ []) × IsNothing i new why
@@ -111,6 +119,15 @@ TellsDid i old new more (dids.Nothing why) = (more ≡ []) × IsNothing i new wh
 abbrev pub TellsPump : Image → List ModelUnit → Prefixes → Prefixes → List Made → Result Did DriveErr → Type 0
 TellsPump i handed old new more (Ok did) = NoFaults more × TellsDid i old new more did
 TellsPump i handed old new more (Err e) = IsFaultOf handed more e × (length more ≡ 1)
+
+-- A pump that answers so did a piece of work. A copy whose claim was refused is none, as where the
+-- ring has no room for it.
+abbrev pub IsWork : Did → Type 0
+IsWork did = (did ≢ dids.NotCopied) × (did ≢ dids.Other) × ((why : Why) → did ≢ dids.Nothing why)
+
+-- The worker made a command, or the engine's log has a line more that was opened.
+abbrev pub HasComeOn : WorkerView → WorkerView → Type 0
+HasComeOn old new = (length old.made < length new.made) ⊎ HasOpened old.known new.known
 
 -- what a role does
 abbrev pub IsOfRole : Role → Did → Type 0
@@ -156,3 +173,17 @@ pub record HasCollected (i : Image) (handed : List ModelUnit) (old new : WorkerV
   pub pumped : HasPumped i handed old new (pumped_of result)
   pub fetched : AreOfRole roles.Collector pumped.more
   pub caused : TellsCauses pumped.more result
+
+-- What a run of copies answers, with the fetches that its worker made in it. Each gave its block; or
+-- the last didn't, and it is told why. It answers that it copied only where it made one at least.
+abbrev pub TellsRun : List ModelUnit → List Made → Result Did FetchErr → Type 0
+TellsRun handed more (Ok did) = NoFaults more × (did ≡ dids.Copied → 0 < length more)
+TellsRun handed more (Err e) = (is : IsFaultOf handed more (fault_of e)) × TellsCause e.cause is.last.event.outcome
+
+-- Sectors were copied one after another, at most 16.
+pub record HasCollectedRun (handed : List ModelUnit) (old new : WorkerView) (result : Result Did FetchErr) : Type 0 where
+  pub more : List Made
+  pub on : GoesOn old new more
+  pub fetched : AreOfRole roles.Collector more
+  pub few : length more ≤ 16
+  pub tells : TellsRun handed more result

@@ -2,11 +2,12 @@
 ghost use Rattle.std.specs.Prelude.{◌≡◌, ◌≢◌, ◌⊎◌, ◌<◌, ◌≤◌, ◌++◌, List, Ok, Some, IfOk, IsOk};
 ghost use Rattle.std.specs.Sync.Mutex.{mutex_guard_value};
 ghost use Rattle.pblk_model.specs.Shape.{units};
+ghost use Rattle.pblk_world.specs.AtRest.{IsCopyDue};
 ghost use Rattle.pblk_core.specs.declared.work.Why.{Why as WhyOf};
 ghost use Rattle.pblk_core.specs.declared.work.Work.TheVariants as works;
 ghost use Rattle.chronicle.specs.Prefixes.{logs_of};
 ghost use Rattle.pblk_engine.specs.Copying.{IsFetched};
-ghost use Rattle.pblk_engine.specs.Pumps.{AreOfRole, HasCollected, HasFetched, IsOfRole};
+ghost use Rattle.pblk_engine.specs.Pumps.{AreOfRole, HasCollected, HasCollectedRun, HasFetched, IsOfRole};
 ghost use Rattle.pblk_engine.specs.Workers.{Made};
 ghost use Rattle.pblk_engine.specs.declared.outcomes.Did.TheVariants as dids;
 ghost use Rattle.pblk_engine.specs.declared.outcomes.Role.TheVariants as roles;
@@ -21,6 +22,10 @@ use crate::worker::Worker;
 use pblk_core::Work;
 use std::sync::{MutexGuard, Wait};
 use unit_port::Unit;
+
+// How many sectors are copied in one hold of the engine's lock, at most. A hold is longer the more
+// they are, and to hand the lock on takes longer than to copy one.
+const RUN: u32 = 16;
 
 impl<M: Mount, U: Unit> Engine<M, U> {
     // Has the block of a sector fetched, which is copied next, into the heart's buffer.
@@ -61,6 +66,7 @@ impl<M: Mount, U: Unit> Engine<M, U> {
         requires unit { of.now.unit < units M.past.image.shape }
         requires known { worker.old.known ≡ heart.old.author.known }
         requires reached { heart.old.intake.intake.taken ≤ heart.old.intake.found.claimed }
+        requires due { IsCopyDue M.past.image (logs_of worker.old.known) }
         ensures collected { HasCollected M.past.image M.handed worker.old worker.new result }
         ensures copied { IfOk result (λ did. (did ≡ dids.Copied) ⊎ (did ≡ dids.NotCopied)) }
     {
@@ -77,12 +83,12 @@ impl<M: Mount, U: Unit> Engine<M, U> {
     pub(crate) fn copy<R: Wait>(
         &self,
         rt: &R,
-        mut heart: MutexGuard<'_, Heart<M>>,
+        heart: &mut Heart<M>,
         work: Work,
         worker: &mut Worker<M>,
     ) -> Result<Did, FetchErr>
-        requires named { work ≡ (mutex_guard_value heart).work }
-        requires known { worker.old.known ≡ (mutex_guard_value heart).author.known }
+        requires named { work ≡ heart.old.work }
+        requires known { worker.old.known ≡ heart.old.author.known }
         ensures collected { HasCollected M.past.image M.handed worker.old worker.new result }
         ensures made { (more : List Made) → worker.new.made ≡ worker.old.made ++ more
             → AreOfRole roles.Collector more }
@@ -91,24 +97,60 @@ impl<M: Mount, U: Unit> Engine<M, U> {
         ensures some { (why : WhyOf) → result ≢ Ok (dids.Nothing why) }
     {
         match heart.next_copy(&self.ring) {
-            NextCopy::At(of) => self.copy_sector(rt, &mut heart, worker, &of),
+            NextCopy::At(of) => self.copy_sector(rt, heart, worker, &of),
             NextCopy::Full => Ok(Did::NotCopied),
             NextCopy::Nothing => Ok(Did::Other),
         }
     }
 
-    /// Takes what is filled, and copies the sector that is to be copied next. It does what `pump`
-    /// does in the role Collector. `Err` comes where the fetch of the sector's block failed or was
-    /// stopped, and tells which. Then the sector is still to be copied.
-    pub fn collect<R: Wait>(&self, rt: &R, worker: &mut Worker<M>) -> Result<Did, FetchErr>
+    // Takes what is filled, and copies the sector that is to be copied next.
+    fn collect_next<R: Wait>(
+        &self,
+        rt: &R,
+        heart: &mut Heart<M>,
+        worker: &mut Worker<M>,
+    ) -> Result<Did, FetchErr>
         ensures collected { HasCollected M.past.image M.handed worker.old worker.new result }
         ensures role { IfOk result (IsOfRole roles.Collector) }
     {
-        let mut heart = self.hold(rt);
-        let beating = &mut *heart;
-        beating.take_filled(&self.chronicle, &self.ring);
-        self.tell(beating, worker);
-        let work = beating.next_work();
+        heart.take_filled(&self.chronicle, &self.ring);
+        self.tell(heart, worker);
+        let work = heart.next_work();
         self.copy(rt, heart, work, worker)
+    }
+
+    // Copies the sectors that are to be copied next, one after another.
+    fn collect_run<R: Wait>(
+        &self,
+        rt: &R,
+        heart: &mut Heart<M>,
+        worker: &mut Worker<M>,
+    ) -> Result<Did, FetchErr>
+        ensures collected { HasCollectedRun M.handed worker.old worker.new result }
+    {
+        for copied in 0..RUN {
+            match self.collect_next(rt, heart, worker)? {
+                Did::Copied => {}
+                _ if copied > 0 => return Ok(Did::Copied),
+                did => return Ok(did),
+            }
+        }
+        Ok(Did::Copied)
+    }
+
+    /// Copies the sectors that are to be copied next, one after another, in one hold of the engine's
+    /// lock. It ends where no copy can be made, and after 16 copies. Before each it takes what is
+    /// filled. `Copied` comes exactly where it made a copy. Else the answer is that of a pump in the
+    /// role Collector.
+    ///
+    /// `Err` comes where the fetch of a sector's block failed or was stopped, and tells which. Then
+    /// that sector is still to be copied. The copies before it were made.
+    pub fn collect<R: Wait>(&self, rt: &R, worker: &mut Worker<M>) -> Result<Did, FetchErr>
+        ensures collected { HasCollectedRun M.handed worker.old worker.new result }
+    {
+        let mut heart = self.hold(rt);
+        let answer = self.collect_run(rt, &mut heart, worker);
+        self.release(heart);
+        answer
     }
 }

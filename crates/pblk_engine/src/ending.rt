@@ -24,7 +24,9 @@ use crate::worker::Worker;
 use chronicle::{Author, Chronicle, Token};
 use pblk_core::Core;
 use sector_pool::Pool;
+use std::marker::Brand;
 use std::sync::Wait;
+use std::sync::ledger::Blank;
 use unit_port::Unit;
 use write_ring::{Batch, Intake, Pass, Ring};
 
@@ -233,7 +235,7 @@ impl<M: Mount, U: Unit> Engine<M, U> {
     {
         let mut first = first;
         let mut pass = pass;
-        let (apart, settled) = self.work_off(rt, &mut first, &mut pass);
+        let (apart, settled) = self.work_off::<R, Brand>(rt, &mut first, &mut pass, Blank::new(1));
         let Apart {
             ring,
             chronicle,

@@ -9,7 +9,6 @@ use crate::mount::Mount;
 use crate::places::ArmPlaces;
 use crate::worker::Worker;
 use chronicle::Chronicle;
-use crossbeam_utils::Backoff;
 use numbered_locks::NumberedLocks;
 use std::marker::Model;
 use std::sync::atomic::AtomicU64;
@@ -48,12 +47,15 @@ impl<M: Mount, U: Unit> Model for Engine<M, U> {
 }
 
 // How often a thread looks whether the engine's lock is free before it sleeps.
-const TURNS: u32 = 12;
+const TURNS: u32 = 100;
+
+// How many loads there are between two such looks. They are a fraction of a microsecond.
+const LOADS: u32 = 400;
 
 impl<M: Mount, U: Unit> Engine<M, U> {
     /// Takes the engine's lock. Most holds are shorter than the time in which a thread is put to
     /// sleep and woken. So where somebody has the lock, the thread looks again for some turns, with
-    /// longer and longer pauses, before it sleeps.
+    /// short pauses, before it sleeps.
     pub(crate) fn hold<R: Wait>(&self, rt: &R) -> MutexGuard<'_, Heart<M>> {
         if let Some(heart) = self.heart.try_lock() {
             return heart;
@@ -64,16 +66,29 @@ impl<M: Mount, U: Unit> Engine<M, U> {
         heart
     }
 
-    // Waits for the engine's lock: first with pauses, and then it sleeps.
+    // Waits for the engine's lock: first it looks again and again, and then it sleeps.
     fn wait<R: Wait>(&self, rt: &R) -> MutexGuard<'_, Heart<M>> {
-        let backoff = Backoff::new();
         for _ in 0..TURNS {
+            self.pause();
             if let Some(heart) = self.heart.try_lock() {
                 return heart;
             }
-            backoff.snooze();
         }
         self.heart.lock(rt)
+    }
+
+    // Passes a little time. Each turn has a load, since a loop without one takes none.
+    fn pause(&self) {
+        for _ in 0..LOADS {
+            let _ = self.queue.load(Relaxed);
+        }
+    }
+
+    /// Ends a hold of the engine's lock, and then wakes a session that waits for a grant, where
+    /// more was granted meanwhile. To wake a thread takes longer than most holds.
+    pub(crate) fn release(&self, heart: MutexGuard<'_, Heart<M>>) {
+        drop(heart);
+        self.ring.tell_grant();
     }
 
     /// Whether a thread waits for the engine's lock now. Nothing is promised of the answer.

@@ -131,6 +131,7 @@ impl<M: Mount, U: Unit> Engine<M, U> {
             stops,
         );
         self.tell(&mut heart, worker);
+        self.release(heart);
     }
 
     // Places the stripe that the core names, has its unit program it, and tells the engine how that
@@ -150,7 +151,7 @@ impl<M: Mount, U: Unit> Engine<M, U> {
         ensures some { (why : WhyOf) → result ≢ Ok (dids.Nothing why) }
     {
         let (note, stops) = self.place_stripe(&mut heart, worker);
-        drop(heart);
+        self.release(heart);
         let (note, how, event) = self.program_stripe(rt, note, worker, stops);
         self.answer_program(rt, note, worker, how, stops);
         let unit = worker.stripe().unit();

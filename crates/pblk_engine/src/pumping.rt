@@ -4,7 +4,7 @@ ghost use Rattle.std.specs.Sync.Mutex.{mutex_guard_value};
 ghost use Rattle.pblk_model.specs.Shape.{units};
 ghost use Rattle.pblk_core.specs.declared.work.Why.{Why as WhyOf};
 ghost use Rattle.pblk_core.specs.declared.work.Work.TheVariants as works;
-ghost use Rattle.pblk_engine.specs.Pumps.{AreOfRole, HasPumped, IsNothing, IsOfRole};
+ghost use Rattle.pblk_engine.specs.Pumps.{AreOfRole, HasComeOn, HasPumped, IsNothing, IsOfRole, IsWork};
 ghost use Rattle.pblk_engine.specs.Workers.{Made};
 ghost use Rattle.pblk_engine.specs.declared.outcomes.Did.TheVariants as dids;
 ghost use Rattle.pblk_engine.specs.declared.outcomes.Role.TheVariants as roles;
@@ -27,6 +27,11 @@ impl<M: Mount, U: Unit> Engine<M, U> {
     /// done meanwhile by the logs that the worker knows. Where nothing was in flight, the engine's
     /// log is at rest at the length that the worker knows.
     ///
+    /// Where it answers that it did something, it came on: the worker made a command, or the
+    /// engine's log has a line more that was opened. `NotCopied` is no such answer. It comes where
+    /// a sector was to be copied, and its claim was refused: another claim came first, or the ring
+    /// had no room for its copy.
+    ///
     /// `Err` comes where the command that it gave a unit was stopped, or where it fetched a block
     /// to copy it and the fetch failed. It names that event. Whatever the answer, the worker made
     /// commands of this role alone.
@@ -35,6 +40,7 @@ impl<M: Mount, U: Unit> Engine<M, U> {
         ensures role { IfOk result (IsOfRole role) }
         ensures made { (more : List Made) → worker.new.made ≡ worker.old.made ++ more
             → AreOfRole role more }
+        ensures progress { IfOk result (λ did. IsWork did → HasComeOn worker.old worker.new) }
     {
         let mut heart = self.hold(rt);
         let beating = &mut *heart;
@@ -49,7 +55,7 @@ impl<M: Mount, U: Unit> Engine<M, U> {
     pub(crate) fn pump_held<R: Wait>(
         &self,
         rt: &R,
-        heart: MutexGuard<'_, Heart<M>>,
+        mut heart: MutexGuard<'_, Heart<M>>,
         work: Work,
         worker: &mut Worker<M>,
         role: Role,
@@ -71,7 +77,7 @@ impl<M: Mount, U: Unit> Engine<M, U> {
         match (role, work) {
             (_, Work::Nothing(why)) => Ok(Did::Nothing(why)),
             (Role::Collector, _) | (Role::All, Work::Copy) => Ok(self.copy(
-                rt, heart, work, worker,
+                rt, &mut heart, work, worker,
             )?),
             (Role::Lane, Work::Copy) => Ok(Did::Other),
             (_, Work::Program) => self.program(rt, heart, worker),

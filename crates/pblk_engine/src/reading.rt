@@ -1,5 +1,5 @@
 //! Reads of sectors: most blocks are fetched under their unit's lock alone.
-ghost use Rattle.std.specs.Prelude.{◌≡◌, ◌<◌, ◌≤◌, true, length, Ok, IfSome, IsNone, IsOk};
+ghost use Rattle.std.specs.Prelude.{◌≡◌, ◌<◌, ◌≤◌, true, false, length, Ok, IsOk};
 ghost use Rattle.chronicle.specs.Prefixes.{AreLegalLogs, ArePrefixes, Prefixes, logs_of};
 ghost use Rattle.pblk_model.specs.Shape.{units};
 ghost use Rattle.pblk_world.specs.Fronts.{taken};
@@ -18,7 +18,7 @@ use std::sync::Wait;
 use unit_port::Unit;
 
 impl<M: Mount, U: Unit> Engine<M, U> {
-    // Looks at a run of sectors, unless not all that was seen is taken.
+    // Looks at a run of sectors, unless not all that was seen is taken. Tells whether it did.
     fn try_look<R: Wait>(
         &self,
         rt: &R,
@@ -26,20 +26,23 @@ impl<M: Mount, U: Unit> Engine<M, U> {
         seen: u64,
         lba: u64,
         out: &mut [u8],
-    ) -> Option<RunLook>
+        look: &mut RunLook,
+    ) -> bool
         requires run { IsRun M.past.image.shape lba (length out.old) }
-        ensures looked { IfSome result (HasLooked M.past worker.old worker.new seen lba out.new) }
-        ensures same { IsNone result → worker.new ≡ worker.old }
+        ensures looked { result ≡ true → HasLooked M.past worker.old worker.new seen lba out.new
+            look.new }
+        ensures same { result ≡ false → worker.new ≡ worker.old }
         ensures size { length out.new ≡ length out.old }
     {
         let mut heart = self.hold(rt);
         let beating = &mut *heart;
         beating.take_filled(&self.chronicle, &self.ring);
         if beating.front().position < seen {
-            return None;
+            return false;
         }
         self.tell(beating, worker);
-        Some(beating.look_all(lba, out))
+        beating.look_all(lba, out, look);
+        true
     }
 
     // Looks at a run of sectors once all that was seen is taken.
@@ -50,15 +53,16 @@ impl<M: Mount, U: Unit> Engine<M, U> {
         seen: u64,
         lba: u64,
         out: &mut [u8],
-    ) -> RunLook
+        look: &mut RunLook,
+    )
         requires run { IsRun M.past.image.shape lba (length out.old) }
-        ensures looked { HasLooked M.past worker.old worker.new seen lba out.new result }
+        ensures looked { HasLooked M.past worker.old worker.new seen lba out.new look.new }
         ensures size { length out.new ≡ length out.old }
     {
         let backoff = Backoff::new();
         for _ in rt.forever() {
-            if let Some(look) = self.try_look(rt, worker, seen, lba, out) {
-                return look;
+            if self.try_look(rt, worker, seen, lba, out, look) {
+                return;
             }
             // an entry below is claimed and not filled yet
             backoff.snooze();
@@ -212,7 +216,8 @@ impl<M: Mount, U: Unit> Engine<M, U> {
         let beating = &mut *heart;
         beating.take_filled(&self.chronicle, &self.ring);
         self.tell(beating, worker);
-        let look = beating.look_all(lba, out);
+        let mut look = RunLook::empty();
+        beating.look_all(lba, out, &mut look);
         self.fetch_run_held(rt, beating, worker, &look, lba, out)?;
         Ok(look.front)
     }
@@ -239,7 +244,8 @@ impl<M: Mount, U: Unit> Engine<M, U> {
         ensures read { HasRead M.past M.handed worker.old worker.new seen lba out.new result }
         ensures size { length out.new ≡ length out.old }
     {
-        let look = self.look(rt, worker, seen, lba, out);
+        let mut look = RunLook::empty();
+        self.look(rt, worker, seen, lba, out, &mut look);
         if self.fetch_run(rt, worker, &look, lba, out)? {
             return Ok(look.front);
         }

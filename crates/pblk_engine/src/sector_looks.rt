@@ -44,6 +44,21 @@ pub(crate) struct RunLook {
     pub(crate) places: [Option<SectorPlace>; 16],
 }
 
+impl RunLook {
+    /// A look at nothing, for `look_all` to fill.
+    pub(crate) fn empty() -> RunLook {
+        RunLook {
+            front: Front {
+                position: 0,
+                users: 0,
+            },
+            size: 0,
+            count: 0,
+            places: [None; 16],
+        }
+    }
+}
+
 // How many sectors of this size so many bytes are.
 fn count_of(bytes: usize, size: usize) -> u32
     requires some { 1 ≤ size }
@@ -98,28 +113,25 @@ impl<M: Mount> Heart<M> {
     }
 
     /// Looks at all sectors of a run. Those that aren't on the drive have their latest content in
-    /// `out` then.
-    pub(crate) fn look_all(&self, lba: u64, out: &mut [u8]) -> RunLook
+    /// `out` then. The caller has the look already, so that none is copied in the hold of the lock.
+    pub(crate) fn look_all(&self, lba: u64, out: &mut [u8], look: &mut RunLook)
         requires run { IsRun M.past.image.shape lba (length out.old) }
-        ensures looked { IsRunLook M.past.image (logs_of self.now.author.known) lba out.new result }
+        ensures looked { IsRunLook M.past.image (logs_of self.now.author.known) lba out.new
+            look.new }
         ensures legal { AreLegalLogs M.past.image self.now.author.known }
         ensures begun { ArePrefixes M.past.logs self.now.author.known }
         ensures size { length out.new ≡ length out.old }
     {
         let size = self.sector_size();
         let count = count_of(out.len(), size);
-        let mut places = [None; 16];
         for index in 0..count {
             let at = index as usize * size;
             let part = &mut out[at..at + size];
-            places[index as usize] = self.look_sector(lba + u64::from(index), part);
+            look.places[index as usize] = self.look_sector(lba + u64::from(index), part);
         }
-        RunLook {
-            front: self.front(),
-            size,
-            count,
-            places,
-        }
+        look.front = self.front();
+        look.size = size;
+        look.count = count;
     }
 
     // A note of all that it knows. By that, a slot on the drive leads to a block that can be read.

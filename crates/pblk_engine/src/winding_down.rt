@@ -1,5 +1,5 @@
 //! How an engine is worked off, before it is closed.
-ghost use Rattle.std.specs.Prelude.{◌≡◌, ◌≢◌, ◌≤◌, ◌⊎◌, ℕ, length, true};
+ghost use Rattle.std.specs.Prelude.{◌≡◌, ◌≢◌, ◌<◌, ◌≤◌, ◌⊎◌, ℕ, length, true};
 ghost use Rattle.pblk_world.specs.AtRest.{IsAtRest};
 ghost use Rattle.chronicle.specs.Prefixes.{logs_of};
 ghost use Rattle.pblk_core.specs.declared.work.Why.{Why as WhyOf};
@@ -9,6 +9,7 @@ ghost use Rattle.write_ring.specs.Handles.{AreAllClaims, pass_view};
 ghost use Rattle.pblk_engine.specs.Endings.{IsPassIn};
 ghost use Rattle.pblk_engine.specs.Settlings.{HasLooked, HasSettled, IsWorkedOff, IsWornAt};
 ghost use Rattle.pblk_engine.specs.Closed.{HasWorkedOff, answer_of};
+ghost use Rattle.pblk_engine.specs.Ticks.{HasTicked, TicksAt, pumped_at};
 ghost use Rattle.pblk_engine.specs.Hearts.{IsRingOf};
 ghost use Rattle.pblk_world.specs.Fronts.{synced, taken};
 ghost use Rattle.pblk_world.specs.Space.{is_due};
@@ -23,12 +24,14 @@ use crate::heart::Heart;
 use crate::mount::Mount;
 use crate::outcomes::{Did, Role};
 use crate::places::ArmPlaces;
+use crate::steps::Steps;
 use crate::waiting::is_stuck;
 use crate::worker::Worker;
 use chronicle::Chronicle;
 use crossbeam_utils::Backoff;
 use numbered_locks::NumberedLocks;
 use pblk_core::{Why, Work};
+use std::sync::ledger::{Blank, Ledger};
 use std::sync::{Mutex, Wait};
 use unit_port::Unit;
 use write_ring::{Pass, Ring};
@@ -42,11 +45,16 @@ impl<M: Mount, U: Unit> Engine<M, U> {
     /// `Worn` comes instead where all that was claimed is taken and asked for, not all of it is on
     /// the drive, and there is nothing to do and nothing in flight: then the engine's log is at
     /// rest at the length that the worker knows. `Drive` names the command that was lost.
-    pub fn settle<R: Wait>(
+    ///
+    /// It counts one step for each pump that it makes, also for one that found nothing to do since
+    /// another worker has to come on first. A look that makes no pump counts nothing. What other
+    /// workers do meanwhile isn't counted.
+    pub fn settle<R: Wait, L: Ledger>(
         &self,
         rt: &R,
         worker: &mut Worker<M>,
         pass: &mut Pass,
+        steps: &mut Steps<L>,
     ) -> Result<(), SettleErr>
         requires pass_of { IsPassIn M.ring M.key pass.old }
         requires shares { (pass_view pass.old).pass.shares ≡ 127 }
@@ -54,10 +62,11 @@ impl<M: Mount, U: Unit> Engine<M, U> {
         ensures same_pass { (pass_view pass.new).pass ≡ (pass_view pass.old).pass }
         ensures settled { HasSettled M.past.image M.key M.handed (pass_view pass.old).pass
             worker.old worker.new result }
+        ensures ticks { HasTicked M.past.image M.handed worker.old worker.new steps.old steps.new }
     {
         let backoff = Backoff::new();
         for _ in rt.forever() {
-            match self.settle_once(rt, worker, pass)? {
+            match self.settle_once(rt, worker, pass, steps)? {
                 None => return Ok(()),
                 // another worker has to come on first
                 Some(Did::NotCopied | Did::Nothing(Why::Busy)) => backoff.snooze(),
@@ -68,11 +77,12 @@ impl<M: Mount, U: Unit> Engine<M, U> {
     }
 
     // Looks once, and does one piece of work where that isn't so. `None` comes where it is.
-    fn settle_once<R: Wait>(
+    fn settle_once<R: Wait, L: Ledger>(
         &self,
         rt: &R,
         worker: &mut Worker<M>,
         pass: &mut Pass,
+        steps: &mut Steps<L>,
     ) -> Result<Option<Did>, SettleErr>
         requires pass_of { IsPassIn M.ring M.key pass.old }
         requires shares { (pass_view pass.old).pass.shares ≡ 127 }
@@ -80,6 +90,8 @@ impl<M: Mount, U: Unit> Engine<M, U> {
         ensures same_pass { (pass_view pass.new).pass ≡ (pass_view pass.old).pass }
         ensures looked { HasLooked M.past.image M.key M.handed (pass_view pass.old).pass
             worker.old worker.new result }
+        ensures ticks { TicksAt M.past.image M.handed worker.old worker.new steps.old steps.new
+            (pumped_at result) }
     {
         let mut heart = self.hold(rt);
         heart.take_filled(&self.chronicle, &self.ring);
@@ -94,6 +106,7 @@ impl<M: Mount, U: Unit> Engine<M, U> {
                 have,
             }),
             Settlement::Behind => {
+                steps.tick();
                 let did = self.pump_held(rt, heart, work, worker, Role::All)?;
                 Ok(Some(did))
             }
@@ -213,12 +226,16 @@ pub(crate) struct Apart<M: Mount, U: Unit> {
 impl<M: Mount, U: Unit> Engine<M, U> {
     // Settles it, and takes it apart. Where others have gone on since, it is put together and
     // settled again.
-    pub(crate) fn work_off<R: Wait>(
+    pub(crate) fn work_off<R: Wait, L: Ledger>(
         self,
         rt: &R,
         worker: &mut Worker<M>,
         pass: &mut Pass,
+        blank: Blank,
     ) -> (Apart<M, U>, Result<(), SettleErr>)
+        requires name { blank.name ≡ L.name }
+        requires parts { blank.parts ≡ L.parts }
+        requires some { 0 < L.parts }
         requires pass_of { IsPassIn M.ring M.key pass.old }
         requires shares { (pass_view pass.old).pass.shares ≡ 127 }
         ensures chronicle { result.0.chronicle ≡ M.chronicle }
@@ -231,9 +248,10 @@ impl<M: Mount, U: Unit> Engine<M, U> {
         ensures worked { HasWorkedOff M.past.image M.handed worker.old worker.new
             (logs_of result.0.heart.author.known) result.1 }
     {
+        let mut steps = Steps::<L>::new(blank);
         let mut engine = self;
         for _ in rt.forever() {
-            let settled = engine.settle(rt, worker, pass);
+            let settled = engine.settle(rt, worker, pass, &mut steps);
             let Engine {
                 ring,
                 chronicle,

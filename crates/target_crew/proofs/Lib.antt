@@ -1,3 +1,4 @@
 pub mod ArmedUnits
 pub mod FirstTickets
 pub mod Places
+pub mod OneSession

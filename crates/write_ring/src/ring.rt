@@ -95,6 +95,7 @@ impl Ring {
                     first,
                     sleepers: AtomicU64::new(0),
                     waiters: AtomicU64::new(0),
+                    told: AtomicU64::new(first),
                 };
                 let intake = Intake {
                     seat: intake,
@@ -206,6 +207,7 @@ impl Ring {
             first: _,
             sleepers: _,
             waiters: _,
+            told: _,
         } = self;
         let Pass { mut seat } = pass;
         let Intake {

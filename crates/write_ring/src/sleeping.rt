@@ -39,9 +39,15 @@ impl Ring {
         self.waiters.fetch_sub(1, SeqCst);
     }
 
-    // Wakes one of those who wait for a grant. Where nobody waits it is one load.
-    pub(crate) fn wake_for_grant(&self) {
-        if self.waiters.load(SeqCst) != 0 {
+    /// Wakes one of those who wait for a grant, where more is granted than when the last was woken.
+    /// Where nobody waits it is one load. Whoever grants calls it, once other threads needn't wait
+    /// for it any more, since to wake a thread takes its time. Nothing is promised of when it runs.
+    pub fn tell_grant(&self) {
+        if self.waiters.load(SeqCst) == 0 {
+            return;
+        }
+        let granted = self.table.shared.peek(GRANTED);
+        if self.told.swap(granted, SeqCst) != granted {
             self.table.shared.wake_one(GRANTED);
         }
     }

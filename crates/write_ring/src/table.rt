@@ -31,6 +31,8 @@ pub struct Ring {
     pub(crate) sleepers: AtomicU64,
     // How many threads wait for a grant.
     pub(crate) waiters: AtomicU64,
+    // What was granted when the last of these was woken.
+    pub(crate) told: AtomicU64,
     ghost sized: { table.shared.key.size ≡ size },
     ghost begins: { table.shared.key.first ≡ first },
     ghost small: { size < 2 ^ 32 },

@@ -144,6 +144,5 @@ impl Ring {
         self.table
             .shared
             .store::<Grant>(&mut intake.seat, GRANTED, to);
-        self.wake_for_grant();
     }
 }

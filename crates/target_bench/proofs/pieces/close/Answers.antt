@@ -2,7 +2,7 @@ use Rattle.std.proofs.Common.{◌≡◌, ◌∷◌, ◌++◌, [], List, ap, subs
 use Rattle.std.specs.Result.{is_ok}
 use Rattle.pblk_engine.specs.Workers.{WorkerView}
 use Rattle.block_target.specs.Sessions.{SessionView}
-use Rattle.target_bench.proofs.Back.{all_back}
+use Rattle.target_crew.proofs.OneSession.{all_back}
 use Rattle.target_bench.proofs.pieces.close.Goals as goal
 
 pub close-requires : goal.close-requires

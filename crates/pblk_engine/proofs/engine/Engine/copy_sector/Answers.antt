@@ -16,8 +16,10 @@ returns-in_err-fetch_copy-clause-collected g c =
 
 pub returns-then-put_copy-clause-collected : goal.returns-then-put_copy-clause-collected
 returns-then-put_copy-clause-collected g c =
-    collected_copied g.M.Mount.past.image g.M.Mount.handed c.args.worker.now c.fetch_copy.new.worker c.args.of.now.unit c.in_ok-fetch_copy.ensures.made
+    collected_copied g.M.Mount.past.image g.M.Mount.handed c.args.worker.now c.fetch_copy.new.worker c.args.of.now.unit c.requires.due
+    c.in_ok-fetch_copy.ensures.made
 
 pub returns-else-put_copy-clause-collected : goal.returns-else-put_copy-clause-collected
 returns-else-put_copy-clause-collected g c =
-    collected_refused g.M.Mount.past.image g.M.Mount.handed c.args.worker.now c.fetch_copy.new.worker c.args.of.now.unit c.in_ok-fetch_copy.ensures.made
+    collected_refused g.M.Mount.past.image g.M.Mount.handed c.args.worker.now c.fetch_copy.new.worker c.args.of.now.unit c.requires.due
+    c.in_ok-fetch_copy.ensures.made

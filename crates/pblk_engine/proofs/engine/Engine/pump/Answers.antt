@@ -3,7 +3,7 @@ use Rattle.chronicle.specs.Prefixes.{Prefixes}
 use Rattle.pblk_engine.specs.Pumps.{IsNothing}
 use Rattle.pblk_engine.specs.Workers.{WorkerView}
 use Rattle.pblk_engine.proofs.GoingOn.{goes_told}
-use Rattle.pblk_engine.proofs.PumpSteps.{is_nothing, pumped_since}
+use Rattle.pblk_engine.proofs.PumpSteps.{came_on_then, is_nothing, pumped_since}
 use Rattle.pblk_engine.proofs.engine.Engine.pump.Goals as goal
 
 pub pump_held-requires-clause-reset : goal.pump_held-requires-clause-reset
@@ -19,3 +19,9 @@ pub returns-clause-pumped : goal.returns-clause-pumped
 returns-clause-pumped g c =
     pumped_since g.M.Mount.past.image g.M.Mount.handed c.args.worker.now c.tell.new.worker c.pump_held.new.worker c.pump_held.result
     (goes_told c.args.worker.now c.tell.new.worker c.tell.new.heart.author.known c.tell.ensures.worker c.tell.ensures.keeps) c.pump_held.ensures.pumped
+
+pub returns-clause-progress : goal.returns-clause-progress
+returns-clause-progress g c =
+    came_on_then g.M.Mount.past.image g.M.Mount.handed c.args.worker.now c.pump_held.new.worker c.pump_held.result
+    (pumped_since g.M.Mount.past.image g.M.Mount.handed c.args.worker.now c.tell.new.worker c.pump_held.new.worker c.pump_held.result
+    (goes_told c.args.worker.now c.tell.new.worker c.tell.new.heart.author.known c.tell.ensures.worker c.tell.ensures.keeps) c.pump_held.ensures.pumped)

@@ -1,4 +1,4 @@
-use Rattle.std.proofs.Common.{◌≡◌, ◌≤◌, [], sym, subst, ap, ◌∙◌, arith}
+use Rattle.std.proofs.Common.{◌≡◌, ◌≤◌, [], Option, Result, refl, sym, subst, ap, ◌∙◌, arith}
 use Rattle.std.specs.Prelude.{IsTrue}
 use Rattle.pblk_world.specs.Fronts.{taken}
 use Rattle.write_ring.specs.declared.view.Part.{Part}
@@ -9,7 +9,10 @@ use Rattle.chronicle.specs.Prefixes.{Prefixes, logs_of}
 use Rattle.pblk_engine.specs.Hearts.{HeartView}
 use Rattle.pblk_engine.specs.Pumps.{IsBusy, IsNothing}
 use Rattle.pblk_engine.specs.Settlings.{HasLooked, HasWorked, IsWorkedOff, IsWornAt}
+use Rattle.pblk_engine.specs.Ticks.{TicksAt, pumped_at}
+use Rattle.pblk_engine.specs.declared.errors.SettleErr.{SettleErr}
 use Rattle.pblk_engine.specs.declared.errors.SettleErr.TheVariants as errors
+use Rattle.pblk_engine.specs.declared.outcomes.Did.{Did}
 use Rattle.pblk_engine.proofs.PumpSteps.{is_nothing}
 use Rattle.pblk_engine.proofs.Settlings.{AtRests, look_knows, look_worked, looked_lost, looked_pumped, looked_settled, looked_worn, lost_is}
 use Rattle.pblk_engine.proofs.engine.Engine.settle_once.Given.{Over}
@@ -105,3 +108,29 @@ returns-in_err-did-in-Behind-clause-looked g c =
     (sym (lost_is c.from_residual.result (errors.Drive e.unit e.event) _ (λ w is. is) c.from_residual.ensures.0 c.from_residual.ensures.1))
     (looked_lost i g.M.Mount.key g.M.Mount.handed pass c.args.worker.now c.ask_pad.new.worker c.pump_held.new.worker e
     (worked g (goal.at.returns-in_err-did-in-Behind-clause-looked g c).After-deref-2) c.in_err-did-in-Behind.ensures.pumped)
+
+pub returns-in-Settled-clause-ticks : goal.returns-in-Settled-clause-ticks
+returns-in-Settled-clause-ticks g c = (worked g (goal.at.returns-in-Settled-clause-ticks g c).After-deref-2, refl)
+
+pub returns-in-Worn-clause-ticks : goal.returns-in-Worn-clause-ticks
+returns-in-Worn-clause-ticks g c = (worked g (goal.at.returns-in-Worn-clause-ticks g c).After-deref-2, refl)
+
+pub returns-in_ok-did-in-Behind-clause-ticks : goal.returns-in_ok-did-in-Behind-clause-ticks
+returns-in_ok-did-in-Behind-clause-ticks g c = (
+  c.ask_pad.new.worker,
+  worked g (goal.at.returns-in_ok-did-in-Behind-clause-ticks g c).After-deref-2,
+  c.in_ok-did-in-Behind.ensures.pumped,
+  c.tick.ensures,
+)
+
+pub returns-in_err-did-in-Behind-clause-ticks : goal.returns-in_err-did-in-Behind-clause-ticks
+returns-in_err-did-in-Behind-clause-ticks g c =
+    let e = c.in_err-did-in-Behind.field-0.0 in
+    subst (λ (r : Result (Option Did) SettleErr). TicksAt g.M.Mount.past.image g.M.Mount.handed c.args.worker.now c.pump_held.new.worker
+    c.args.steps.now c.tick.new.self (pumped_at r))
+    (sym (lost_is c.from_residual.result (errors.Drive e.unit e.event) _ (λ w is. is) c.from_residual.ensures.0 c.from_residual.ensures.1)) (
+      c.ask_pad.new.worker,
+      worked g (goal.at.returns-in_err-did-in-Behind-clause-ticks g c).After-deref-2,
+      c.in_err-did-in-Behind.ensures.pumped,
+      c.tick.ensures,
+    )

@@ -1,6 +1,6 @@
 use Rattle.pblk_engine.proofs.GoingOn.{goes_told}
 use Rattle.pblk_engine.proofs.PumpSteps.{collected_since}
-use Rattle.pblk_engine.proofs.engine.Engine.collect.Goals as goal
+use Rattle.pblk_engine.proofs.engine.Engine.collect_next.Goals as goal
 
 pub returns-clause-collected : goal.returns-clause-collected
 returns-clause-collected g c =
