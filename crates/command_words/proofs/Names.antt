@@ -1,11 +1,16 @@
 -- Commands whose words are names alone.
-use Rattle.std.proofs.Common.{String, Global, suc, string_bytes, ◌≡◌, ℕ, ◌<◌, ◌≤◌, List, [], ◌∷◌, length, get_or, map, codes, refl, sym, ap, ◌∙◌, subst, arith}
+use Rattle.std.proofs.Common.{String, Global, suc, string_bytes, ◌≡◌, ℕ, ◌^◌, ◌<◌, ◌≤◌, List, [], ◌∷◌, length, get_or, map, codes, refl, sym, ap, ◌∙◌, subst, arith}
+use Rattle.std.specs.Fmt.{decimal}
 use Rattle.std.specs.List.{AllByRecursion}
+use Rattle.std.specs.Str.Parse.{AllDigits}
+use Rattle.std.proofs.lemmas.Fmt.{decimal_nonempty, digits_decimal}
+use Rattle.std.proofs.lemmas.Str.Parse.{digit_from_value}
 use Rattle.pblk_model.specs.CommandText as text
 use Rattle.command_words.specs.Grammar as model
 use Rattle.command_words.specs.Grammar.{Name, IsPlainWord, IsCommandLine, first_word}
-use Rattle.command_words.specs.Words.{AreWordsOf, IsOneName}
+use Rattle.command_words.specs.Words.{AreSoakWords, AreWordsOf, IsOneName}
 use Rattle.command_words.proofs.Items.{plain_items}
+use Rattle.command_words.proofs.Numbers.{digits}
 
 one_name : (words : List (List ℕ)) (image : List ℕ) (items : List model.Item) → model.AreItems items words → model.names_in items ≡ image ∷ []
     → model.options_in items ≡ [] → model.flags_in items ≡ [] → IsOneName words image
@@ -31,6 +36,47 @@ words_of_show words image (e, plain) = record { items = Name image ∷ []; spell
 
 pub words_of_report : (words : List (List ℕ)) (image : List ℕ) → IsOneName words image → AreWordsOf words (model.Report image)
 words_of_report words image (e, plain) = record { items = Name image ∷ []; spelled = ([], plain, e, refl); of = (refl, refl, refl) }
+
+pub soak_of : (words : List (List ℕ)) (image : List ℕ) (number rounds : ℕ) → AreWordsOf words (model.Soak image number rounds)
+    → AreSoakWords words image number rounds
+soak_of words image number rounds h =
+    let plain = plain_items h.items words h.spelled h.of.1 h.of.2 in
+    let are : words ≡ image ∷ decimal number ∷ decimal rounds ∷ [] = plain.0 ∙ h.of.0 in
+    record { words_are = are; plain = (subst (λ ws. AllByRecursion IsPlainWord ws) are plain.1).0; load = h.of.3 }
+
+digits_plain : (n : ℕ) → n < 2 ^ 64 → IsPlainWord (decimal n)
+digits_plain n small = by (decimal n) (digits_decimal digits n small) (decimal_nonempty n small)
+  where
+    by : (bytes : List ℕ) → AllDigits 10 bytes → 0 < length bytes → IsPlainWord bytes
+    by [] d some = absurd (omega (arith, some))
+    by (x ∷ bytes) d some = λ dash. let r = digit_from_value x d.0 in omega (arith, r, dash)
+
+pub words_of_soak : (words : List (List ℕ)) (image : List ℕ) (number rounds : ℕ) → AreSoakWords words image number rounds
+    → AreWordsOf words (model.Soak image number rounds)
+words_of_soak words image number rounds h = record {
+  items = Name image ∷ Name (decimal number) ∷ Name (decimal rounds) ∷ [];
+  spelled = (
+    decimal number ∷ decimal rounds ∷ [],
+    h.plain,
+    h.words_are,
+    (
+      decimal rounds ∷ [],
+      digits_plain number h.load.number_below,
+      refl,
+      ([], digits_plain rounds (omega (arith, h.load.few)), refl, refl),
+    ),
+  );
+  of = (refl, refl, refl, h.load);
+}
+
+pub three_words : (words : List (String Global)) (w v u : String Global) (one two three : List ℕ) → 3 ≤ length words → length words < 4
+    → w ≡ get_or words 0 w → v ≡ get_or words 1 v → u ≡ get_or words 2 u → one ≡ string_bytes w → two ≡ string_bytes v → three ≡ string_bytes u
+    → map string_bytes words ≡ one ∷ two ∷ three ∷ []
+three_words [] w v u one two three low high a b c d e f = absurd (omega (arith, low))
+three_words (x ∷ []) w v u one two three low high a b c d e f = absurd (omega (arith, low))
+three_words (x ∷ (y ∷ [])) w v u one two three low high a b c d e f = absurd (omega (arith, low))
+three_words (x ∷ (y ∷ (z ∷ []))) w v u one two three low high a b c d e f = cc
+three_words (x ∷ (y ∷ (z ∷ (more ∷ words)))) w v u one two three low high a b c d e f = absurd (omega (arith, high))
 
 pub one_word : (words : List (String Global)) (w : String Global) (word : List ℕ) → 1 ≤ length words → length words < 2 → w ≡ get_or words 0 w
     → word ≡ string_bytes w → map string_bytes words ≡ word ∷ []
@@ -68,6 +114,13 @@ first_byte (byte ∷ bytes) = byte
 not_both : (first : List ℕ) → first ≡ codes "create" → first ≡ codes "report" → ⊥
 not_both first a b = let same : 99 ≡ 114 = ap first_byte (sym a ∙ b) in omega (arith, same)
 
+abbrev second_byte : List ℕ → ℕ
+second_byte [] = 0
+second_byte (byte ∷ bytes) = first_byte bytes
+
+show_or_soak : (first : List ℕ) → first ≡ codes "show" → first ≡ codes "soak" → ⊥
+show_or_soak first a b = let same : 104 ≡ 111 = ap second_byte (sym a ∙ b) in omega (arith, same)
+
 pub as_create : (words rest : List (List ℕ)) (first : List ℕ) (P : model.CommandLine → Type 0) → words ≡ first ∷ rest → first ≡ codes "create"
     → ((image : List ℕ) (numbers : text.CreateNumbers) → AreWordsOf rest (model.Create image numbers) → P (model.Create image numbers))
     → (c : model.CommandLine) → IsCommandLine words c → P c
@@ -76,6 +129,7 @@ as_create words rest first P e is k (model.Geometry image) h = absurd (cc (is, (
 as_create words rest first P e is k (model.Show image) h = absurd (cc (is, (words_of words rest first _ e h).0))
 as_create words rest first P e is k (model.Report image) h = absurd (not_both first is (words_of words rest first _ e h).0)
 as_create words rest first P e is k (model.Run image script options) h = absurd (cc (is, (words_of words rest first _ e h).0))
+as_create words rest first P e is k (model.Soak image number rounds) h = absurd (cc (is, (words_of words rest first _ e h).0))
 
 pub as_geometry : (words rest : List (List ℕ)) (first : List ℕ) (P : model.CommandLine → Type 0) → words ≡ first ∷ rest → first ≡ codes "geometry"
     → ((image : List ℕ) → AreWordsOf rest (model.Geometry image) → P (model.Geometry image)) → (c : model.CommandLine) → IsCommandLine words c → P c
@@ -84,6 +138,7 @@ as_geometry words rest first P e is k (model.Geometry image) h = k image (words_
 as_geometry words rest first P e is k (model.Show image) h = absurd (cc (is, (words_of words rest first _ e h).0))
 as_geometry words rest first P e is k (model.Report image) h = absurd (cc (is, (words_of words rest first _ e h).0))
 as_geometry words rest first P e is k (model.Run image script options) h = absurd (cc (is, (words_of words rest first _ e h).0))
+as_geometry words rest first P e is k (model.Soak image number rounds) h = absurd (cc (is, (words_of words rest first _ e h).0))
 
 pub as_show : (words rest : List (List ℕ)) (first : List ℕ) (P : model.CommandLine → Type 0) → words ≡ first ∷ rest → first ≡ codes "show"
     → ((image : List ℕ) → AreWordsOf rest (model.Show image) → P (model.Show image)) → (c : model.CommandLine) → IsCommandLine words c → P c
@@ -92,6 +147,7 @@ as_show words rest first P e is k (model.Geometry image) h = absurd (cc (is, (wo
 as_show words rest first P e is k (model.Show image) h = k image (words_of words rest first _ e h).1
 as_show words rest first P e is k (model.Report image) h = absurd (cc (is, (words_of words rest first _ e h).0))
 as_show words rest first P e is k (model.Run image script options) h = absurd (cc (is, (words_of words rest first _ e h).0))
+as_show words rest first P e is k (model.Soak image number rounds) h = absurd (show_or_soak first is (words_of words rest first _ e h).0)
 
 pub as_report : (words rest : List (List ℕ)) (first : List ℕ) (P : model.CommandLine → Type 0) → words ≡ first ∷ rest → first ≡ codes "report"
     → ((image : List ℕ) → AreWordsOf rest (model.Report image) → P (model.Report image)) → (c : model.CommandLine) → IsCommandLine words c → P c
@@ -100,6 +156,7 @@ as_report words rest first P e is k (model.Geometry image) h = absurd (cc (is, (
 as_report words rest first P e is k (model.Show image) h = absurd (cc (is, (words_of words rest first _ e h).0))
 as_report words rest first P e is k (model.Report image) h = k image (words_of words rest first _ e h).1
 as_report words rest first P e is k (model.Run image script options) h = absurd (cc (is, (words_of words rest first _ e h).0))
+as_report words rest first P e is k (model.Soak image number rounds) h = absurd (cc (is, (words_of words rest first _ e h).0))
 
 pub as_run : (words rest : List (List ℕ)) (first : List ℕ) (P : model.CommandLine → Type 0) → words ≡ first ∷ rest → first ≡ codes "run"
     → ((image script : List ℕ) (options : model.RunOptions) → AreWordsOf rest (model.Run image script options) → P (model.Run image script options))
@@ -109,3 +166,14 @@ as_run words rest first P e is k (model.Geometry image) h = absurd (cc (is, (wor
 as_run words rest first P e is k (model.Show image) h = absurd (cc (is, (words_of words rest first _ e h).0))
 as_run words rest first P e is k (model.Report image) h = absurd (cc (is, (words_of words rest first _ e h).0))
 as_run words rest first P e is k (model.Run image script options) h = k image script options (words_of words rest first _ e h).1
+as_run words rest first P e is k (model.Soak image number rounds) h = absurd (cc (is, (words_of words rest first _ e h).0))
+
+pub as_soak : (words rest : List (List ℕ)) (first : List ℕ) (P : model.CommandLine → Type 0) → words ≡ first ∷ rest → first ≡ codes "soak"
+    → ((image : List ℕ) (number rounds : ℕ) → AreWordsOf rest (model.Soak image number rounds) → P (model.Soak image number rounds))
+    → (c : model.CommandLine) → IsCommandLine words c → P c
+as_soak words rest first P e is k (model.Create image numbers) h = absurd (cc (is, (words_of words rest first _ e h).0))
+as_soak words rest first P e is k (model.Geometry image) h = absurd (cc (is, (words_of words rest first _ e h).0))
+as_soak words rest first P e is k (model.Show image) h = absurd (show_or_soak first (words_of words rest first _ e h).0 is)
+as_soak words rest first P e is k (model.Report image) h = absurd (cc (is, (words_of words rest first _ e h).0))
+as_soak words rest first P e is k (model.Run image script options) h = absurd (cc (is, (words_of words rest first _ e h).0))
+as_soak words rest first P e is k (model.Soak image number rounds) h = k image number rounds (words_of words rest first _ e h).1

@@ -172,6 +172,12 @@ IsLanes n (word ∷ (other ∷ words)) = ⊥
 abbrev pub flags_of : Bool → List (List ℕ)
 flags_of collector = if collector then codes "collector" ∷ [] else []
 
+-- the number of a load, and how many rounds it has
+pub record IsLoad (number rounds : ℕ) : Type 0 where
+  pub number_below : number < 2 ^ 64
+  pub some : 1 ≤ rounds
+  pub few : rounds ≤ 3125
+
 -- A command, with its file names and numbers.
 pub data CommandLine : Type 0 where
   -- make a blank image of these numbers
@@ -184,6 +190,8 @@ pub data CommandLine : Type 0 where
   Report : List ℕ → CommandLine
   -- run on an image a script, with these options
   Run : List ℕ → List ℕ → RunOptions → CommandLine
+  -- run on an image the load of this number, of so many rounds
+  Soak : List ℕ → ℕ → ℕ → CommandLine
 
 -- what stands after the first word of a command
 abbrev pub AreItemsOf : List Item → CommandLine → Type 0
@@ -195,6 +203,8 @@ AreItemsOf items (Report image) = (names_in items ≡ image ∷ []) × (options_
 AreItemsOf items (Run image script options) = (names_in items ≡ image ∷ script ∷ []) × AllByRecursion IsRunOption (options_in items)
     × IsStop options.stop (values_in (codes "stop") items) × ArePlans options.plans (values_in (codes "fail") items) × (length options.plans ≤ 16)
     × IsLanes options.lanes (values_in (codes "lanes") items) × (flags_in items ≡ flags_of options.collector)
+AreItemsOf items (Soak image number rounds) = (names_in items ≡ image ∷ decimal number ∷ decimal rounds ∷ []) × (options_in items ≡ [])
+    × (flags_in items ≡ []) × IsLoad number rounds
 
 abbrev pub first_word : CommandLine → List ℕ
 first_word (Create image numbers) = codes "create"
@@ -202,6 +212,7 @@ first_word (Geometry image) = codes "geometry"
 first_word (Show image) = codes "show"
 first_word (Report image) = codes "report"
 first_word (Run image script options) = codes "run"
+first_word (Soak image number rounds) = codes "soak"
 
 -- the words are this command
 pub record IsCommandLine (words : List (List ℕ)) (c : CommandLine) : Type 0 where

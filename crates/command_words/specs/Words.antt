@@ -7,7 +7,7 @@ use Rattle.pblk_model.specs.CommandText as text
 use Rattle.unit_port.specs.declared.armed.CommandKind.{CommandKind}
 use Rattle.unit_port.specs.declared.armed.CommandKind.TheVariants as kinds
 use Rattle.command_words.specs.Grammar as model
-use Rattle.command_words.specs.Grammar.{NumberOption, IsPlainWord, IsOptionBefore, IsOneOf, IsRunOption, IsStop, ArePlans, AreItems, AreItemsOf, AreDistinct, names_in, options_in, flags_in, flags_of, value_in, values_in, create_options}
+use Rattle.command_words.specs.Grammar.{NumberOption, IsPlainWord, IsLoad, IsOptionBefore, IsOneOf, IsRunOption, IsStop, ArePlans, AreItems, AreItemsOf, AreDistinct, names_in, options_in, flags_in, flags_of, value_in, values_in, create_options}
 use Rattle.command_words.specs.declared.command.CommandLine.{CommandLine}
 use Rattle.command_words.specs.declared.command.CommandLine.TheVariants as lines
 use Rattle.command_words.specs.declared.command.CreateNumbers.{CreateNumbers}
@@ -47,6 +47,7 @@ seen (lines.Geometry image) = model.Geometry image.now
 seen (lines.Show image) = model.Show image.now
 seen (lines.Report image) = model.Report image.now
 seen (lines.Run image script options) = model.Run image.now script.now (options_seen options)
+seen (lines.Soak image number rounds) = model.Soak image.now number rounds
 
 -- these words after the first one are this command's
 pub record AreWordsOf (words : List (List ℕ)) (c : model.CommandLine) : Type 0 where
@@ -57,6 +58,12 @@ pub record AreWordsOf (words : List (List ℕ)) (c : model.CommandLine) : Type 0
 -- the words are this name alone
 abbrev pub IsOneName : List (List ℕ) → List ℕ → Type 0
 IsOneName words name = (words ≡ name ∷ []) × IsPlainWord name
+
+-- the words are these alone: an image's name, the number of a load, and how many rounds it has
+pub record AreSoakWords (words : List (List ℕ)) (image : List ℕ) (number rounds : ℕ) : Type 0 where
+  pub words_are : words ≡ image ∷ decimal number ∷ decimal rounds ∷ []
+  pub plain : IsPlainWord image
+  pub load : IsLoad number rounds
 
 -- Numbers.
 

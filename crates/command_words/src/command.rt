@@ -67,4 +67,10 @@ pub enum CommandLine<'a> {
         script: &'a str,
         options: RunOptions,
     },
+    /// Makes the load of this number and of so many rounds, 1 to 3,125, and runs it on an image.
+    Soak {
+        image: &'a str,
+        number: u64,
+        rounds: u32,
+    },
 }

@@ -12,6 +12,7 @@ mod number;
 mod options;
 mod plans;
 mod run;
+mod soak;
 mod words;
 
 pub use command::{CommandLine, CreateNumbers, RunOptions};

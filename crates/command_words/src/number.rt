@@ -39,6 +39,18 @@ pub(crate) fn read_lanes(word: &str) -> Option<u32>
     Some(number)
 }
 
+/// The number from 1 to 3,125 that a word spells so.
+pub(crate) fn read_rounds(word: &str) -> Option<u32>
+    ensures found { IfSome result (λ n. (word.now ≡ decimal n) × (1 ≤ n) × (n ≤ 3125)) }
+    ensures none { IfNone result ((n : ℕ) → 1 ≤ n → n ≤ 3125 → word.now ≢ decimal n) }
+{
+    let number = read_small(word)?;
+    if number < 1 || number > 3125 {
+        return None;
+    }
+    Some(number)
+}
+
 // Whether a word begins with `+`, or with a 0 that more follows: Rust's own reading of numbers
 // takes both.
 fn is_padded(word: &[u8]) -> bool

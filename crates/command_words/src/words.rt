@@ -10,9 +10,10 @@ use crate::command::CommandLine;
 use crate::create::read_create;
 use crate::item::is_plain;
 use crate::run::read_run;
+use crate::soak::read_soak;
 
 /// Reads the words of a command line: `create IMAGE`, `geometry IMAGE`, `show IMAGE`, `report
-/// IMAGE` or `run IMAGE SCRIPT`.
+/// IMAGE`, `run IMAGE SCRIPT` or `soak IMAGE NUMBER ROUNDS`.
 ///
 /// Options of `create` stand anywhere after its first word, as `--name value` or `--name=value`,
 /// each at most once: `--groups` and `--units` (in a group) are below 2^16; `--chunks`, `--blocks`,
@@ -23,6 +24,9 @@ use crate::run::read_run;
 /// `--lanes` are each named at most once, and so is `--collector`, which has no value. `--fail` is
 /// named up to 16 times, with `p:unit:nth:cut`, `f:unit:nth` or `r:unit:nth`. Lanes are 0 to 8, and
 /// the nth of a stop is at least 1. The numbers of stops and plans are below 2^32.
+///
+/// The numbers of `soak` are spelled in the same way. That of the load is below 2^64, and the
+/// rounds are 1 to 3,125.
 ///
 /// The other commands have no options. None where the words are no command: the first one is none
 /// of these, a word is missing or too many, a word is empty, a word begins with `-` and isn't one
@@ -60,6 +64,14 @@ pub fn read_words(words: &[String]) -> Option<CommandLine<'_>>
                 image,
                 script,
                 options,
+            })
+        }
+        "soak" => {
+            let (image, number, rounds) = read_soak(rest)?;
+            Some(CommandLine::Soak {
+                image,
+                number,
+                rounds,
             })
         }
         _ => None,

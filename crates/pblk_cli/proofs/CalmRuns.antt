@@ -1,5 +1,5 @@
 -- A run whose text has no `e` line and no `worn` line: its status, its close, and what it writes.
-use Rattle.std.proofs.Common.{◌≡◌, ℕ, ◌+◌, ◌≤◌, ◌==◌, ◌||◌, zero, suc, cond, false, Some, None, Option, List, [], ◌∷◌, ◌++◌, length, map, take, refl, subst, ap, ap₂, ◌∙◌, arith}
+use Rattle.std.proofs.Common.{◌≡◌, ℕ, ◌+◌, ◌≤◌, ◌==◌, ◌||◌, zero, suc, cond, Bool, true, false, Some, None, Option, List, [], ◌∷◌, ◌++◌, length, map, take, refl, subst, ap, ap₂, ◌∙◌, arith}
 use Rattle.std.specs.Prelude.{slice_get, ⊤}
 use Rattle.std.specs.List.{AllByRecursion, cons_option, filter, filter_map, flat_map, list_any, range_with_len, zip}
 use Rattle.std.specs.Option.{unwrap_or}
@@ -106,6 +106,57 @@ module _ (commands : List (List Command)) (t : Transcript) (named : events t ≡
   pub status_zero : status_of_run t ≡ 0
   status_zero = ap₂ (λ a b. cond a 5 (cond b 6 0)) (ap names_any named)
       (ap₂ (λ a b. a || b) (none_worn_in t.outcomes calm) (ap closed_worn closed))
+
+-- ---- a status of 0
+
+or_false : (a b : Bool) → a || b ≡ false → (a ≡ false) × (b ≡ false)
+or_false true b e = absurd (cc e)
+or_false false b e = (refl, e)
+
+line_unworn : (written count : ℕ) (o : Outcome) → is_worn o ≡ false → worn_of written count o ≡ []
+line_unworn written count Silent e = refl
+line_unworn written count (Words front words) e = refl
+line_unworn written count (Flushed front) e = refl
+line_unworn written count (Drive unit event) e = refl
+line_unworn written count (Worn wanted have) e = absurd (cc e)
+
+thread_unworn : (written : ℕ) (cs : List Command) (os : List Outcome) → list_any is_worn os ≡ false → thread_worns written cs os ≡ []
+thread_unworn written cs [] e = refl
+thread_unworn written [] (o ∷ os) e =
+    let parts = or_false (is_worn o) (list_any is_worn os) e in
+    ap₂ (λ xs ys. xs ++ ys) (line_unworn written 0 o parts.0) (thread_unworn written [] os parts.1)
+thread_unworn written (c ∷ cs) (o ∷ os) e =
+    let parts = or_false (is_worn o) (list_any is_worn os) e in
+    ap₂ (λ xs ys. xs ++ ys) (line_unworn written (asked_by c) o parts.0) (thread_unworn (written + written_of c o) cs os parts.1)
+
+threads_unworn : (css : List (List Command)) (oss : List (List Outcome)) → list_any (list_any is_worn) oss ≡ false → threads_worns css oss ≡ []
+threads_unworn css [] e = refl
+threads_unworn [] (os ∷ oss) e =
+    let parts = or_false (list_any is_worn os) (list_any (list_any is_worn) oss) e in
+    ap₂ (λ xs ys. xs ++ ys) (thread_unworn 0 [] os parts.0) (threads_unworn [] oss parts.1)
+threads_unworn (cs ∷ css) (os ∷ oss) e =
+    let parts = or_false (list_any is_worn os) (list_any (list_any is_worn) oss) e in
+    ap₂ (λ xs ys. xs ++ ys) (thread_unworn 0 cs os parts.0) (threads_unworn css oss parts.1)
+
+closing_unworn : (written : ℕ) (c : Closing) → closed_worn c ≡ false → closing_worn written c ≡ []
+closing_unworn written Closed e = refl
+closing_unworn written (ClosedByDrive unit event) e = refl
+closing_unworn written (ClosedWorn wanted have) e = absurd (cc e)
+
+abbrev status_by : Bool → Bool → ℕ
+status_by named worn = cond named 5 (cond worn 6 0)
+
+by_status : (names : List (ℕ × ℕ)) (worn : Bool) → status_by (names_any names) worn ≡ 0 → (names ≡ []) × (worn ≡ false)
+by_status [] true e = absurd (omega (arith, e))
+by_status [] false e = (refl, refl)
+by_status (name ∷ names) worn e = absurd (omega (arith, e))
+
+-- With status 0 no line is an `e` line or a `worn` line.
+pub none_at_zero : (commands : List (List Command)) (t : Transcript) → status_of_run t ≡ 0 → (events t ≡ []) × (worns_of commands t ≡ [])
+none_at_zero commands t done =
+    let of = by_status (events t) (list_any (list_any is_worn) t.outcomes || closed_worn t.closing) done in
+    let parts = or_false (list_any (list_any is_worn) t.outcomes) (closed_worn t.closing) of.1 in
+    (of.0, ap₂ (λ xs ys. xs ++ ys) (threads_unworn commands t.outcomes parts.0) (closing_unworn (length t.history) t.closing parts.1))
 
 -- ---- what is written
 

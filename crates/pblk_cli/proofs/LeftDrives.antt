@@ -1,5 +1,5 @@
 -- The drive that a run leaves.
-use Rattle.std.proofs.Common.{◌≡◌, ℕ, zero, suc, ◌<◌, ◌≤◌, ◌⊎◌, List, [], ◌∷◌, length, map, take, Option, Some, sym, subst, ap, ap₂, ◌∙◌, arith, inl, inr}
+use Rattle.std.proofs.Common.{◌≡◌, ℕ, zero, suc, ◌<◌, ◌≤◌, ◌⊎◌, List, [], ◌∷◌, length, map, take, Option, Some, refl, sym, subst, ap, ap₂, ◌∙◌, arith, inl, inr}
 use Rattle.std.specs.Prelude.{slice_get}
 use Rattle.std.specs.List.{AllByRecursion}
 use Rattle.std.proofs.lemmas.Bool.{cases_order}
@@ -33,8 +33,9 @@ use Rattle.run_report.specs.Report.{transcript_of}
 use Rattle.run_threads.specs.declared.records.Records.{Records}
 use Rattle.step_laws.specs.Opened.{AreArmed}
 use Rattle.command_words.specs.Grammar.{RunOptions, helpers_of}
+use Rattle.pblk_cli.specs.declared.run.Telling.{Telling}
 use Rattle.pblk_cli.specs.Commands.{IsWorldBetween}
-use Rattle.pblk_cli.specs.Running.{IsRunTo, IsStored}
+use Rattle.pblk_cli.specs.Running.{IsRunTo, IsStored, said_by}
 use Rattle.pblk_cli.specs.Serving.{IsLeftBy, IsRan, IsServing, transcript_by, units_of}
 use Rattle.pblk_cli.specs.Status.{status_of_run}
 use Rattle.pblk_cli.specs.Stops.{AreOutcomesBy}
@@ -85,7 +86,7 @@ kept_contents i w mount sealed t size kept history_is =
 
 -- A drive that was loaded, and armed by these options, and what a run left of it.
 module _ (found : DriveView) (options : RunOptions) (word : Option TableId) (script : List (List Command)) (left : DriveView) (records : Records)
-    (status : ℕ) (text bytes : List ℕ) (whole : IsWhole found) (quiet : IsQuiet found) where
+    (telling : Telling) (status : ℕ) (text bytes : List ℕ) (whole : IsWhole found) (quiet : IsQuiet found) where
   abbrev fuse : Option Fuse
   fuse = fitting_fuse (length found.units) options.stop
 
@@ -107,7 +108,7 @@ module _ (found : DriveView) (options : RunOptions) (word : Option TableId) (scr
   unit_count : length i.units ≡ length found.units
   unit_count = ap (λ us. length us) (image_units found whole) ∙ length-map found.units (λ (u : WornUnit). u.unit.media)
 
-  module _ (is : IsRan armed script (helpers_of options) left records) (made : IsStored left script records status text bytes) where
+  module _ (is : IsRan armed script (helpers_of options) left records) (made : IsStored left script records telling status text bytes) where
     abbrev w : World
     w = is.world
 
@@ -173,13 +174,14 @@ module _ (found : DriveView) (options : RunOptions) (word : Option TableId) (scr
         (sym (ap contents left_is ∙ kept_contents i w serving.legal sealed t found.sector serving.kept serving.history_is))
         (serving.run sealed)
 
-    pub run_to : IsRunTo (stored found) options script status text bytes
+    pub run_to : IsRunTo (stored found) options script telling status text bytes
     unfolding world_is
     run_to = record {
       left = stored left;
+      printed = text_of t;
       run = record {
         transcript = t;
-        printed = made.text_is ∙ ap text_of told_is;
+        printed = refl;
         numbers = same_numbers found left whole is.drive.whole numbers_left (is.drive.wear ∙ wear_armed options.plans fuse word found.units);
         world = world_is;
         kept_is = serving.kept ∙ ap (λ (x : Image). users (user_positions (log_of w 0)) (end x)) (sym left_is);
@@ -190,6 +192,7 @@ module _ (found : DriveView) (options : RunOptions) (word : Option TableId) (scr
             serving.recorded.fits;
         spelled = made.spelled;
       };
+      text_is = made.text_is ∙ ap (said_by telling script) told_is;
       status_is = made.status_is ∙ ap status_of_run told_is;
       bytes_are = made.bytes_are;
     }
@@ -207,13 +210,13 @@ armed_by found set plans stop quiet is =
     (are_armed plans (fitting_fuse (length found.units) stop) is.0 found.units quiet)
 
 pub armed_run_to : (found set : DriveView) (options : RunOptions) (plans : List FaultPlan) (script : List (List Command)) (left : DriveView)
-    (records : Records) (status : ℕ) (text bytes : List ℕ) → plans ≡ options.plans → IsQuiet found → IsArmedBy found plans options.stop set
-    → IsRan set script (helpers_of options) left records → IsStored left script records status text bytes
-    → IsRunTo (stored found) options script status text bytes
-armed_run_to found set options plans script left records status text bytes named quiet is ran made =
+    (records : Records) (telling : Telling) (status : ℕ) (text bytes : List ℕ) → plans ≡ options.plans → IsQuiet found → IsArmedBy found plans options.stop set
+    → IsRan set script (helpers_of options) left records → IsStored left script records telling status text bytes
+    → IsRunTo (stored found) options script telling status text bytes
+armed_run_to found set options plans script left records telling status text bytes named quiet is ran made =
     let fuse : Option Fuse = fitting_fuse (length found.units) options.stop in
     let armed_is : set ≡ with_units (armed_units options.plans fuse is.0 found.units) found =
     is.2 ∙ ap (λ ps. with_units (armed_units ps fuse is.0 found.units) found) named in
     let on_armed : IsRan (with_units (armed_units options.plans fuse is.0 found.units) found) script (helpers_of options) left records =
     subst (λ (d : DriveView). IsRan d script (helpers_of options) left records) armed_is ran in
-    run_to found options is.0 script left records status text bytes (whole_before found options.plans fuse is.0 on_armed.drive.was) quiet on_armed made
+    run_to found options is.0 script left records telling status text bytes (whole_before found options.plans fuse is.0 on_armed.drive.was) quiet on_armed made

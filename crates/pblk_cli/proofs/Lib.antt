@@ -2,7 +2,7 @@ pub mod Bits
 pub mod Refusing
 pub mod Reading
 pub mod RunInput
-pub mod FewLanes
+pub mod Limits
 pub mod RunComes
 pub mod StoredUnits
 pub mod HandedDrives
@@ -29,6 +29,8 @@ pub mod Faultless
 pub mod ApartThreads
 pub mod CalmRuns
 pub mod TidyRuns
+pub mod LoadsApart
+pub mod SoakComes
 pub mod OldHeads
 pub mod WornLines
 pub mod EventLines

@@ -23,4 +23,5 @@ tells_come says image bytes old new read (Err (refusals.Image e)) text refused =
 tells_come says image bytes old new read (Err (refusals.Script e)) text refused = refused
 tells_come says image bytes old new read (Err (refusals.Failed name)) text refused = absurd refused
 tells_come says image bytes old new read (Err (refusals.Missing name)) text refused = absurd refused
+tells_come says image bytes old new read (Err refusals.Words) text refused = absurd refused
 tells_come says image bytes old new read (Err refusals.Memory) text refused = (is_there image bytes old read.0, read.1)

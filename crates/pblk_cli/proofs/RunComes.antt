@@ -21,6 +21,7 @@ image_refused_comes image script found commands options old new a b (refusals.Im
 image_refused_comes image script found commands options old new a b (refusals.Script e) h = absurd h
 image_refused_comes image script found commands options old new a b (refusals.Failed name) h = absurd h
 image_refused_comes image script found commands options old new a b (refusals.Missing name) h = absurd h
+image_refused_comes image script found commands options old new a b refusals.Words h = absurd h
 image_refused_comes image script found commands options old new a b refusals.Memory h = (is_there image found old a.0, a.1)
 
 -- the image is one of a drive, and the script is refused
@@ -42,6 +43,7 @@ script_refused_comes image script found commands options d old new a b is (refus
 )
 script_refused_comes image script found commands options d old new a b is (refusals.Failed name) h = absurd h
 script_refused_comes image script found commands options d old new a b is (refusals.Missing name) h = absurd h
+script_refused_comes image script found commands options d old new a b is refusals.Words h = absurd h
 script_refused_comes image script found commands options d old new a b is refusals.Memory h = (is_there image found old a.0, a.1)
 
 abbrev pub input_of : (image script found commands : List ℕ) (options : RunOptions) (d : Drive) (status : ℕ) (text bytes : List ℕ) (old new : FilesView)
@@ -57,7 +59,7 @@ input_of image script found commands options d status text bytes old new a b is 
 }
 
 -- the others are as before both the reads and the write
-others : (image : List ℕ) (old mid new : FilesView) → ((name : List ℕ) → mid.file name ≡ old.file name) → SameOthers image mid.file new.file
+pub others : (image : List ℕ) (old mid new : FilesView) → ((name : List ℕ) → mid.file name ≡ old.file name) → SameOthers image mid.file new.file
     → SameOthers image old.file new.file
 others image old mid new same h = λ other ne. h other ne ∙ same other
 
@@ -70,7 +72,18 @@ pub made : (image script found commands : List ℕ) (options : RunOptions) (d : 
 made image script found commands options d status text bytes old mid new a b is h stored calm same told = record {
   input = input_of image script found commands options d status text bytes old mid a b is h;
   left = h.run.left;
-  run = h.run.run;
+  run = record {
+    transcript = h.run.run.transcript;
+    printed = h.run.text_is;
+    numbers = h.run.run.numbers;
+    world = h.run.run.world;
+    kept_is = h.run.run.kept_is;
+    told = h.run.run.told;
+    relation = h.run.run.relation;
+    sealed = h.run.run.sealed;
+    complete = h.run.run.complete;
+    spelled = h.run.run.spelled;
+  };
   status_is = h.run.status_is;
   stored = (λ new_tells. stored (sym told ∙ new_tells) ∙ ap Some h.run.bytes_are, others image old mid new a.1.0 same, calm ∙ a.1.1);
 }

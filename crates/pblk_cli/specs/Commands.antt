@@ -1,12 +1,12 @@
 -- What each command comes to, by the files before and after: a text, or a refusal with its cause.
 -- No other ending is left.
-use Rattle.std.specs.Prelude.{ℕ, ◌≤◌, ◌≡◌, ◌⊎◌, ⊤, false, List, [], map, length, Some, None, Err}
+use Rattle.std.specs.Prelude.{ℕ, ◌<◌, ◌≤◌, ◌≡◌, ◌⊎◌, ⊤, true, false, List, [], map, length, Some, None, Err}
 use Rattle.pblk_outside.specs.Files.{FilesView}
 use Rattle.pblk_model.specs.declared.script.Command.{Command}
-use Rattle.command_words.specs.Grammar.{CommandLine, Create, Geometry, Show, Report, Run, IsCommandLine, RunOptions, helpers_of}
+use Rattle.command_words.specs.Grammar.{CommandLine, Create, Geometry, Show, Report, Run, Soak, IsCommandLine, IsLoad, RunOptions, helpers_of}
 use Rattle.pblk_model.specs.CommandText.{CreateNumbers, created_refusal, created_drive, created_text, geometry_text, words_line}
 use Rattle.pblk_model.specs.Contents.{contents, end}
-use Rattle.pblk_model.specs.History.{users}
+use Rattle.pblk_model.specs.History.{after, users}
 use Rattle.pblk_model.specs.ImageFile.{Drive, IsImage, image_bytes, image_of, image_refusal}
 use Rattle.pblk_model.specs.ScriptText.{IsScript, read_script}
 use Rattle.pblk_model.specs.Sealed.{IsSealed}
@@ -24,13 +24,15 @@ use Rattle.pblk_world.specs.Reasons.{AreBegun, AreGranted, AreUrgent}
 use Rattle.rest_laws.specs.Tidy.{IsTidy}
 use Rattle.rest_laws.specs.TidyMounts.{HasNoFailures}
 use Rattle.command_text.specs.Says.{Says}
-use Rattle.pblk_cli.specs.Complete.{HasSmallNumbers, IsComplete}
+use Rattle.load_maker.specs.Loads.{load}
+use Rattle.run_report.specs.Totals.{totals_line}
+use Rattle.pblk_cli.specs.Complete.{HasSmallNumbers, IsComplete, script_writes}
 use Rattle.pblk_cli.specs.Contents.{numbers_text, show_text}
 use Rattle.pblk_cli.specs.Status.{status_of_run}
 use Rattle.pblk_cli.specs.Stops.{AreAllTold, AreNames, AreOutcomesBy, HasBegun, fuse_on}
 use Rattle.pblk_cli.specs.Synced.{AreFlushesSynced, IsAllSynced}
 use Rattle.pblk_cli.specs.Worn.{AreRefusedIn}
-use Rattle.pblk_cli.specs.Telling.{Call, Image, Script, Failed, Missing, Memory, Ending, Gives, Refuses, Tells, Holds, IsThere, AreUntouched, Stores, FailsReading, IsMissing, FailsWriting}
+use Rattle.pblk_cli.specs.Telling.{Call, Image, Script, Failed, Missing, Words, Memory, Ending, Gives, Refuses, Tells, Holds, IsThere, AreUntouched, Stores, FailsReading, IsMissing, FailsWriting}
 
 -- Creating.
 
@@ -180,13 +182,14 @@ pub record RunMade (image script : List ℕ) (options : RunOptions) (status : �
   pub status_is : status ≡ status_of_run run.transcript
   pub stored : Stores image (image_bytes left) old new
 
--- a run has as many lanes as the option may say
-abbrev pub HasFewLanes : CommandLine → Type 0
-HasFewLanes (Create image numbers) = ⊤
-HasFewLanes (Geometry image) = ⊤
-HasFewLanes (Show image) = ⊤
-HasFewLanes (Report image) = ⊤
-HasFewLanes (Run image script options) = options.lanes ≤ 8
+-- a run has as many lanes as the option may say, and a load is one that there may be
+abbrev pub IsWithinLimits : CommandLine → Type 0
+IsWithinLimits (Create image numbers) = ⊤
+IsWithinLimits (Geometry image) = ⊤
+IsWithinLimits (Show image) = ⊤
+IsWithinLimits (Report image) = ⊤
+IsWithinLimits (Run image script options) = options.lanes ≤ 8
+IsWithinLimits (Soak image number rounds) = IsLoad number rounds
 
 abbrev pub RunComesTo : List ℕ → List ℕ → RunOptions → Ending → FilesView → FilesView → Type 0
 RunComesTo image script options (Gives status text) old new = RunMade image script options status text old new
@@ -203,7 +206,50 @@ RunComesTo image script options (Refuses (Failed name)) old new = ((name ≡ ima
     ⊎ ((name ≡ image) × RunInput image script old × FailsWriting image old new)
 RunComesTo image script options (Refuses (Missing name)) old new = ((name ≡ image) × IsMissing image old new)
     ⊎ ((name ≡ script) × IsThere image old × IsMissing script old new)
+RunComesTo image script options (Refuses Words) old new = ⊥
 RunComesTo image script options (Refuses Memory) old new = IsThere image old × AreUntouched old new
+
+-- Loads.
+
+-- two lanes and a collector work, and neither a stop nor a failure is named
+abbrev pub soak_options : RunOptions
+soak_options = record { stop = None; plans = []; lanes = 2; collector = true }
+
+-- what a load is run on: the drive of the image, which has sectors enough
+pub record SoakInput (image : List ℕ) (files : FilesView) : Type 0 where
+  pub drive : Drive
+  pub drive_is : IsDriveOf image files drive
+  pub room : 32 ≤ drive.capacity
+
+-- The load of this number was made for the drive, and run. This status is that of the run, and the text
+-- is the line that sums it up. The drive that it left is stored under the image's name, in its one
+-- spelling.
+pub record SoakMade (image : List ℕ) (number rounds status : ℕ) (text : List ℕ) (old new : FilesView) : Type 0 where
+  pub input : SoakInput image old
+  pub left : Drive
+  -- it is a run as that of a script, of which this would be printed
+  pub printed : List ℕ
+  pub run : IsRunBetween input.drive soak_options (load number rounds input.drive.capacity) printed left
+  pub text_is : text ≡ totals_line (load number rounds input.drive.capacity) run.transcript.kept
+  pub status_is : status ≡ status_of_run run.transcript
+  -- over a sealed image, with status 0, the drive left holds what it held, after the load's writes, thread
+  -- after thread
+  pub written : IsSealed (image_of input.drive) → status ≡ 0 → contents (image_of left)
+      ≡ after (contents (image_of input.drive)) (script_writes input.drive.sector (load number rounds input.drive.capacity))
+  pub stored : Stores image (image_bytes left) old new
+
+abbrev pub SoakComesTo : List ℕ → ℕ → ℕ → Ending → FilesView → FilesView → Type 0
+SoakComesTo image number rounds (Gives status text) old new = SoakMade image number rounds status text old new
+-- the image is accepted, and has too few sectors
+SoakComesTo image number rounds (Refuses Words) old new = (d : Drive) × IsDriveOf image old d × (d.capacity < 32) × AreUntouched old new
+SoakComesTo image number rounds (Refuses (Image e)) old new = (bytes : List ℕ) × Holds image bytes old × (image_refusal bytes ≡ Some e)
+    × AreUntouched old new
+SoakComesTo image number rounds (Refuses (Script e)) old new = ⊥
+-- it could not be read; or all was made, and it could not be written
+SoakComesTo image number rounds (Refuses (Failed name)) old new = (name ≡ image) × (FailsReading image old new
+    ⊎ (SoakInput image old × FailsWriting image old new))
+SoakComesTo image number rounds (Refuses (Missing name)) old new = (name ≡ image) × IsMissing image old new
+SoakComesTo image number rounds (Refuses Memory) old new = IsThere image old × AreUntouched old new
 
 -- The program.
 
@@ -213,6 +259,7 @@ ComesTo (Geometry image) ending old new = GeometryComesTo image ending old new
 ComesTo (Show image) ending old new = ShowComesTo image ending old new
 ComesTo (Report image) ending old new = ReportComesTo image ending old new
 ComesTo (Run image script options) ending old new = RunComesTo image script options ending old new
+ComesTo (Soak image number rounds) ending old new = SoakComesTo image number rounds ending old new
 
 -- words that are this command: what it comes to is told
 pub record IsAnswered (words : List (List ℕ)) (c : Call) : Type 0 where

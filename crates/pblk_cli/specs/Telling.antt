@@ -6,7 +6,7 @@ use Rattle.pblk_outside.specs.Files.{FilesView, AddsFault, IsCalm, SameFiles, Sa
 use Rattle.pblk_outside.specs.Sink.{SinkView, TakesPrefix}
 use Rattle.pblk_model.specs.declared.image.ImageErr.{ImageErr}
 use Rattle.pblk_model.specs.declared.script.ScriptErr.{ScriptErr}
-use Rattle.pblk_model.specs.CommandText.{image_line, script_line, failed_line, missing_line, memory_line}
+use Rattle.pblk_model.specs.CommandText.{image_line, script_line, failed_line, missing_line, memory_line, words_line}
 use Rattle.command_text.specs.Says.{Says}
 
 -- A call: the status that it answered, and the files and the output before and after.
@@ -26,6 +26,8 @@ pub data Reason : Type 0 where
   Failed : List ℕ → Reason
   -- it isn't there
   Missing : List ℕ → Reason
+  -- the words, by what the image is
+  Words : Reason
   Memory : Reason
 
 -- What a command comes to: a status and a text, or a refusal.
@@ -38,6 +40,7 @@ status_of (Image e) = 3
 status_of (Script e) = 2
 status_of (Failed name) = 4
 status_of (Missing name) = 4
+status_of Words = 1
 status_of Memory = 7
 
 abbrev pub line_of : Reason → List ℕ
@@ -45,6 +48,7 @@ line_of (Image e) = image_line e
 line_of (Script e) = script_line e
 line_of (Failed name) = failed_line name
 line_of (Missing name) = missing_line name
+line_of Words = words_line
 line_of Memory = memory_line
 
 -- with the command's own status the text was written whole, and with 8 a part of it, and the output failed

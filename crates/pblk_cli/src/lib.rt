@@ -1,5 +1,6 @@
 //! The program behind the command `pblk`: it reads its words, makes images (`create`), tells their
-//! numbers (`geometry`) and what they hold (`show` and `report`), and runs scripts on them (`run`).
+//! numbers (`geometry`) and what they hold (`show` and `report`), and runs scripts (`run`)
+//! and loads (`soak`) on them.
 #![tactic(auto)]
 
 mod create;
@@ -13,6 +14,7 @@ mod refusal;
 mod run;
 mod serving;
 mod show;
+mod soak;
 mod status;
 
 pub use drive_run::run_drive;

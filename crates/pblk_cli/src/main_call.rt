@@ -3,7 +3,7 @@
 ghost use Rattle.std.specs.Prelude.{◌≡◌, ◌≤◌, map, string_bytes};
 ghost use Rattle.std.specs.Process.{exit_status};
 ghost use Rattle.command_words.specs.Words.{seen};
-ghost use Rattle.pblk_cli.specs.Commands.{CallEnds, ComesTo, HasFewLanes};
+ghost use Rattle.pblk_cli.specs.Commands.{CallEnds, ComesTo, IsWithinLimits};
 ghost use Rattle.pblk_cli.specs.Endings.{ending_of};
 ghost use Rattle.pblk_cli.specs.Program.{ProgramEnds};
 
@@ -13,6 +13,7 @@ use crate::output::Output;
 use crate::refusal::{Refusal, finish};
 use crate::run::run;
 use crate::show::{report_numbers, show};
+use crate::soak::soak;
 use command_text::{tell_memory, tell_words};
 use command_words::{CommandLine, read_words};
 use pblk_outside::{Files, Sink, WordsErr};
@@ -26,7 +27,7 @@ use std::thread::Threads;
 /// | Status | Comes |
 /// |---|---|
 /// | 0 | the command did all its work, and its text was written |
-/// | 1 | the words are no command |
+/// | 1 | the words are no command; or `soak` is asked for on an image of fewer than 32 sectors |
 /// | 2 | the script is refused |
 /// | 3 | the image is refused, or what `create` is to make |
 /// | 4 | a file could not be read or written, or isn't there |
@@ -38,6 +39,12 @@ use std::thread::Threads;
 /// With each status but 0, 5, 6 and 8 one line says why. The words are judged first; then files are
 /// read, the image before the script; then the image is judged, then the script; the file is
 /// written before the text. A run may wait: nothing says that its call returns.
+///
+/// `soak` makes the load of a number, of so many rounds, for the drive of the image, and runs it as
+/// `run` runs a script, with two lanes and a collector. In place of the transcript it writes one
+/// line that sums the run up. It names no stop and no plan, so its status isn't 5. All that is said
+/// of a run holds of it. Over a sealed image, with status 0, the image left holds what it held,
+/// after the load's writes, thread after thread.
 ///
 /// Whether the image is sealed or not, an `f` line counts lines of the history that are synced in
 /// the end, and no others. Where neither opening nor the close has a line, all of the history is
@@ -85,7 +92,7 @@ fn do_command<'a, R: Threads + Wait + Sync, F: Files>(
     command: CommandLine<'a>,
     files: &mut F,
 ) -> Result<Output, Refusal<'a>>
-    requires few_lanes { HasFewLanes (seen command) }
+    requires limits { IsWithinLimits (seen command) }
     ensures comes { ComesTo (seen command.entry) (ending_of result)
         (F.view files.old) (F.view files.new) }
     ensures told { (F.view files.new).told ≡ (F.view files.old).told }
@@ -100,6 +107,11 @@ fn do_command<'a, R: Threads + Wait + Sync, F: Files>(
             script,
             options,
         } => run(rt, alloc, image, script, &options, files),
+        CommandLine::Soak {
+            image,
+            number,
+            rounds,
+        } => soak(rt, alloc, image, number, rounds, files),
     }
 }
 

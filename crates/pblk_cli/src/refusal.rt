@@ -6,7 +6,9 @@ ghost use Rattle.pblk_cli.specs.Endings.{reason_of};
 ghost use Rattle.pblk_cli.specs.Telling.{Finishes, Gives, Refuses, Tells, status_of};
 
 use crate::output::Output;
-use command_text::{tell, tell_failed, tell_image, tell_memory, tell_missing, tell_script};
+use command_text::{
+    tell, tell_failed, tell_image, tell_memory, tell_missing, tell_script, tell_words,
+};
 use pblk_model::{ImageErr, ScriptErr};
 use pblk_outside::{Sink, SinkErr};
 use std::alloc::{AllocError, AllocFailed};
@@ -22,6 +24,8 @@ pub(crate) enum Refusal<'a> {
     Failed(&'a str),
     /// The file of this name isn't there.
     Missing(&'a str),
+    /// The words, which ask for more than the image has.
+    Words,
     /// There was no memory.
     Memory,
 }
@@ -48,6 +52,7 @@ impl Refusal<'_> {
         ensures { result ≡ status_of (reason_of self.entry) }
     {
         match self {
+            Refusal::Words => 1,
             Refusal::Script(_) => 2,
             Refusal::Image(_) => 3,
             Refusal::Failed(_) | Refusal::Missing(_) => 4,
@@ -68,6 +73,7 @@ impl Refusal<'_> {
             Refusal::Script(e) => tell_script(out, &e),
             Refusal::Failed(name) => tell_failed(out, name),
             Refusal::Missing(name) => tell_missing(out, name),
+            Refusal::Words => tell_words(out),
             Refusal::Memory => tell_memory(out),
         }
         self.status()

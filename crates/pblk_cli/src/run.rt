@@ -4,7 +4,6 @@ ghost use Rattle.std.specs.Prelude.{◌≡◌, ◌≤◌, IfOk, IfErr};
 ghost use Rattle.pblk_model.specs.Contents.{end};
 ghost use Rattle.pblk_model.specs.ImageFile.{image_of};
 ghost use Rattle.pblk_model.specs.Script.{NeverStuck, ScriptFits};
-ghost use Rattle.pblk_model.specs.Text.{text_of};
 ghost use Rattle.drive_image.specs.Quiet.{IsQuiet};
 ghost use Rattle.ocssd_drive.specs.Drive.{stored};
 ghost use Rattle.run_report.specs.Recorded.{IsRecorded};
@@ -13,7 +12,7 @@ ghost use Rattle.pblk_cli.specs.Commands.{RunComesTo};
 ghost use Rattle.pblk_cli.specs.Endings.{ending_of, reason_of};
 ghost use Rattle.pblk_cli.specs.Reading.{ReadsFile};
 ghost use Rattle.command_words.specs.Words.{options_seen};
-ghost use Rattle.pblk_cli.specs.Running.{CannotReadBoth, RefusesScript, IsRunOfScript, IsRunTo, IsStored};
+ghost use Rattle.pblk_cli.specs.Running.{CannotReadBoth, RefusesScript, IsRunOfScript, IsRunTo, IsStored, said_by};
 
 use crate::drive_run::run_drive;
 use crate::input::{drive_of, read_file};
@@ -25,13 +24,22 @@ use drive_image::into_image;
 use ocssd_drive::Drive;
 use pblk_model::{Script, ScriptErr};
 use pblk_outside::Files;
-use run_report::transcript;
+use run_report::{totals, transcript};
 use run_script::read_script;
 use run_threads::Records;
 use scan_recovery::summary;
 use std::alloc::{AllocError, Global};
 use std::sync::Wait;
 use std::thread::Threads;
+
+/// What is told of a run.
+#[derive(Clone, Copy, Debug)]
+pub(crate) enum Telling {
+    /// Its transcript.
+    Transcript,
+    /// The line that sums it up.
+    Totals,
+}
 
 /// Reads an image and a script, runs the script on the image's drive, stores the drive under the
 /// image's name, and gives the transcript.
@@ -113,7 +121,7 @@ fn read_and_run<'a, R: Threads + Wait + Sync>(
         Ok(script) => script,
         Err(e) => return Err(script_refusal_of(e)),
     };
-    match run_and_store(rt, alloc, drive, options, &script) {
+    match run_and_store(rt, alloc, drive, options, &script, Telling::Transcript) {
         Ok(made) => Ok(made),
         Err(_) => Err(Refusal::Memory),
     }
@@ -130,25 +138,26 @@ fn script_refusal_of<'a>(e: ScriptErr) -> Refusal<'a>
     }
 }
 
-// Runs a script on a drive whose commands fail and stop as the options say,
-// and makes what is stored and what is told.
-fn run_and_store<R: Threads + Wait + Sync>(
+/// Runs a script on a drive whose commands fail and stop as the options say, and makes what is
+/// stored and what is told.
+pub(crate) fn run_and_store<R: Threads + Wait + Sync>(
     rt: &R,
     alloc: Global,
     mut drive: Drive,
     options: &RunOptions,
     script: &Script,
+    telling: Telling,
 ) -> Result<(Vec<u8>, Output), AllocError>
     requires quiet { IsQuiet drive }
     requires fits { ScriptFits drive.capacity script.now }
     requires flows { NeverStuck script.now }
     requires few_lanes { options.now.lanes ≤ 8 }
     ensures { IfOk result (λ made. IsRunTo (stored drive) (options_seen options.now)
-        script.now made.1.status made.1.text.items made.0.items) }
+        script.now telling made.1.status made.1.text.items made.0.items) }
 {
     drive.arm(alloc, options.plans.as_slice(), options.stop)?;
     match run_drive(rt, alloc, drive, script, options.lanes, options.collector) {
-        Ok((drive, records)) => store_run(alloc, drive, script, &records),
+        Ok((drive, records)) => store_run(alloc, drive, script, &records, telling),
         Err((e, _)) => Err(e),
     }
 }
@@ -159,12 +168,13 @@ fn store_run(
     drive: Drive,
     script: &Script,
     records: &Records,
+    telling: Telling,
 ) -> Result<(Vec<u8>, Output), AllocError>
     requires { IsRecorded script.now records.now }
-    ensures { IfOk result (λ made. IsStored drive script.now records.now
+    ensures { IfOk result (λ made. IsStored drive script.now records.now telling
         made.1.status made.1.text.items made.0.items) }
 {
-    let text = transcript_text(alloc, script, &drive, records)?;
+    let text = run_text(alloc, script, &drive, records, telling)?;
     let status = status_of(records);
     // The drive is let go unit by unit, so that it and its image aren't held whole beside each
     // other.
@@ -172,18 +182,22 @@ fn store_run(
     Ok((bytes, Output { status, text }))
 }
 
-// The text of a run's transcript, by what the drive then holds.
-fn transcript_text(
+// What is told of a run, by what the drive then holds.
+fn run_text(
     alloc: Global,
     script: &Script,
     drive: &Drive,
     records: &Records,
+    telling: Telling,
 ) -> Result<Vec<u8>, AllocError>
     requires { IsRecorded script.now records.now }
     ensures { let left = image_of (stored drive.now) in
         IfOk result (λ text. text.items
-        ≡ text_of (transcript_of script.now records.now (end left))) }
+        ≡ said_by telling script.now (transcript_of script.now records.now (end left))) }
 {
     let held = summary(alloc, drive)?;
-    transcript(alloc, script, records, held.end)
+    match telling {
+        Telling::Transcript => transcript(alloc, script, records, held.end),
+        Telling::Totals => totals(alloc, script, records, held.end),
+    }
 }

@@ -30,6 +30,8 @@ mod scripts;
 #[cfg(test)]
 mod show;
 #[cfg(test)]
+mod soak;
+#[cfg(test)]
 mod stops;
 #[cfg(test)]
 mod words;

@@ -10,3 +10,4 @@ pub mod Objects
 pub mod Blanks
 pub mod ListedLines
 pub mod OneListing
+pub mod FewCommands

@@ -6,3 +6,4 @@ pub mod Ports
 pub mod Listing
 pub mod Numbers
 pub mod Objects
+pub mod Totals

@@ -23,6 +23,13 @@ pub fn told(alloc: Global, line: &str) -> Result<String, AllocError> {
                 options,
             },
         ) => run(alloc, image, script, options),
+        Some(
+            CommandLine::Soak {
+                image,
+                number,
+                rounds,
+            },
+        ) => format!(in alloc; "soak [{image}] {number} {rounds}"),
         None => format!(in alloc; "refused"),
     }
 }

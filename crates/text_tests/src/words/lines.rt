@@ -11,6 +11,12 @@ const ACCEPTED: &[(&str, &str)] = &[
     ("show|a", "show [a]"),
     ("report|a", "report [a]"),
     ("run|a|b", "run [a] [b]"),
+    ("soak|a|1|1", "soak [a] 1 1"),
+    ("soak|7|0|3125", "soak [7] 0 3125"),
+    (
+        "soak|a b|18446744073709551615|10",
+        "soak [a b] 18446744073709551615 10",
+    ),
     ("create|a|--groups|3", "create [a] 3 2 8 24 2 4 8 512 64 64"),
     ("create|--groups|3|a", "create [a] 3 2 8 24 2 4 8 512 64 64"),
     ("create|--groups=3|a", "create [a] 3 2 8 24 2 4 8 512 64 64"),

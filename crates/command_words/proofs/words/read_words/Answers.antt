@@ -3,7 +3,7 @@ use Rattle.command_words.specs.Grammar as model
 use Rattle.command_words.specs.Grammar.{IsCommandLine}
 use Rattle.command_words.specs.Words.{numbers_seen, options_seen}
 use Rattle.command_words.proofs.ItemWords.{first_word_of}
-use Rattle.command_words.proofs.Names.{as_create, as_geometry, as_show, as_report, as_run, command_of, name_of_geometry, name_of_show, name_of_report, words_of_geometry, words_of_show, words_of_report}
+use Rattle.command_words.proofs.Names.{as_create, as_geometry, as_show, as_report, as_run, as_soak, command_of, soak_of, words_of_soak, name_of_geometry, name_of_show, name_of_report, words_of_geometry, words_of_show, words_of_report}
 use Rattle.command_words.proofs.words.read_words.Goals as goal
 
 pub returns-in_err-image-in-create-clause-none : goal.returns-in_err-image-in-create-clause-none
@@ -125,3 +125,32 @@ returns-in_ok-image-in-report-clause-found c =
     let first = first_word_of c.args.words.now c.first-item.result c.as_str.result.now c.in-len1-up.len_at_least c.first-item.is c.as_str.ensures.value in
     command_of (map string_bytes c.args.words.now) _ (model.Report c.in_ok-image-in-report.image.now) (rw c.in-report.is at first)
     (words_of_report _ c.in_ok-image-in-report.image.now c.in_ok-image-in-report.ensures.found)
+
+pub returns-in_err-image-in-soak-clause-none : goal.returns-in_err-image-in-soak-clause-none
+returns-in_err-image-in-soak-clause-none c =
+    let first = first_word_of c.args.words.now c.first-item.result c.as_str.result.now c.in-len1-up.len_at_least c.first-item.is c.as_str.ensures.value in
+    rw c.from_residual-in_err-image-in-soak.ensures
+    (as_soak (map string_bytes c.args.words.now) _ c.as_str.result.now (λ x. ⊥) first c.in-soak.is
+    (λ image number rounds h. c.in_err-image-in-soak.ensures.only image number rounds (soak_of _ image number rounds h)))
+
+pub returns-in_err-image-in-soak-clause-only : goal.returns-in_err-image-in-soak-clause-only
+returns-in_err-image-in-soak-clause-only c = λ line h.
+    let first = first_word_of c.args.words.now c.first-item.result c.as_str.result.now c.in-len1-up.len_at_least c.first-item.is c.as_str.ensures.value in
+    absurd (as_soak (map string_bytes c.args.words.now) _ c.as_str.result.now (λ x. ⊥) first c.in-soak.is
+    (λ image number rounds h. c.in_err-image-in-soak.ensures.only image number rounds (soak_of _ image number rounds h)) line h)
+
+pub returns-in_ok-image-in-soak-clause-only : goal.returns-in_ok-image-in-soak-clause-only
+returns-in_ok-image-in-soak-clause-only c =
+    let first = first_word_of c.args.words.now c.first-item.result c.as_str.result.now c.in-len1-up.len_at_least c.first-item.is c.as_str.ensures.value in
+    as_soak (map string_bytes c.args.words.now) _ c.as_str.result.now
+    (λ line. Some (model.Soak c.in_ok-image-in-soak.image.now c.in_ok-image-in-soak.number c.in_ok-image-in-soak.rounds) ≡ Some line) first c.in-soak.is
+    (λ image number rounds h. let same = c.in_ok-image-in-soak.ensures.only image number rounds (soak_of _ image number rounds h) in
+    ap (λ x. Some (model.Soak x c.in_ok-image-in-soak.number c.in_ok-image-in-soak.rounds)) same.0
+    ∙ ap (λ n. Some (model.Soak image n c.in_ok-image-in-soak.rounds)) same.1 ∙ ap (λ n. Some (model.Soak image number n)) same.2)
+
+pub returns-in_ok-image-in-soak-clause-found : goal.returns-in_ok-image-in-soak-clause-found
+returns-in_ok-image-in-soak-clause-found c =
+    let first = first_word_of c.args.words.now c.first-item.result c.as_str.result.now c.in-len1-up.len_at_least c.first-item.is c.as_str.ensures.value in
+    command_of (map string_bytes c.args.words.now) _
+    (model.Soak c.in_ok-image-in-soak.image.now c.in_ok-image-in-soak.number c.in_ok-image-in-soak.rounds) (rw c.in-soak.is at first)
+    (words_of_soak _ c.in_ok-image-in-soak.image.now c.in_ok-image-in-soak.number c.in_ok-image-in-soak.rounds c.in_ok-image-in-soak.ensures.found)

@@ -1,4 +1,4 @@
-use Rattle.pblk_cli.proofs.refusal.Refusal.refuse.Goals.{in-Image, in-Script, in-Failed, in-Missing, in-Memory}
+use Rattle.pblk_cli.proofs.refusal.Refusal.refuse.Goals.{in-Image, in-Script, in-Failed, in-Missing, in-Words, in-Memory}
 use Rattle.pblk_cli.proofs.refusal.Refusal.refuse.Goals as goal
 
 pub returns-clause-tells : goal.returns-clause-tells
@@ -9,6 +9,7 @@ returns-clause-tells g c = (
     | in-Script w ↦ rw (w.in-Script.is, w.out-is) w.tell_script.ensures.said
     | in-Failed w ↦ rw (w.in-Failed.is, w.out-is) w.tell_failed.ensures.said
     | in-Missing w ↦ rw (w.in-Missing.is, w.out-is) w.tell_missing.ensures.said
+    | in-Words w ↦ rw (w.in-Words.is, w.out-is) w.tell_words.ensures.said
     | in-Memory w ↦ rw (w.in-Memory.is, w.out-is) w.tell_memory.ensures.said
   ],
 )
