@@ -1,5 +1,5 @@
-//! Measures the calls of the tables that a target keeps: its pool of frames, its map, its window, its lines and
-//! its placer.
+//! Measures the calls of the tables that a target keeps: its pool of frames, its map, its window, its lines, its
+//! victims and its placer.
 //!
 //! The words are a drive, `small` or `realistic`, and how many rounds. A line for each call has its name, how
 //! often a round makes it, and the nanoseconds of the quickest round. Without the second word there is one
@@ -14,6 +14,7 @@ mod sectors;
 mod sheet;
 mod stripes;
 mod table;
+mod victims;
 mod waits;
 
 use anyhow::{Context, Result, ensure};
@@ -118,6 +119,7 @@ fn main(rt: HostRuntime) -> Result<()> {
     measure_sectors(alloc, &rt, &mut sheet, drive.shape(), asked.rounds)?;
     measure_table(alloc, &rt, &mut sheet, &drive, asked.rounds)?;
     measure_buffer(alloc, &rt, &mut sheet, drive.shape(), asked.rounds)?;
+    victims::measure(alloc, &rt, &mut sheet, asked.rounds)?;
     for _ in 0..asked.rounds {
         stripes::measure(alloc, &rt, &mut sheet, &drive)?;
         waits::measure(alloc, &rt, &mut sheet, &drive)?;
