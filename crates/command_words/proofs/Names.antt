@@ -114,6 +114,12 @@ first_byte (byte ∷ bytes) = byte
 not_both : (first : List ℕ) → first ≡ codes "create" → first ≡ codes "report" → ⊥
 not_both first a b = let same : 99 ≡ 114 = ap first_byte (sym a ∙ b) in omega (arith, same)
 
+create_or_parity : (first : List ℕ) → first ≡ codes "create" → first ≡ codes "parity" → ⊥
+create_or_parity first a b = let same : 99 ≡ 112 = ap first_byte (sym a ∙ b) in omega (arith, same)
+
+parity_or_report : (first : List ℕ) → first ≡ codes "parity" → first ≡ codes "report" → ⊥
+parity_or_report first a b = let same : 112 ≡ 114 = ap first_byte (sym a ∙ b) in omega (arith, same)
+
 abbrev second_byte : List ℕ → ℕ
 second_byte [] = 0
 second_byte (byte ∷ bytes) = first_byte bytes
@@ -128,6 +134,8 @@ as_create words rest first P e is k (model.Create image numbers) h = k image num
 as_create words rest first P e is k (model.Geometry image) h = absurd (cc (is, (words_of words rest first _ e h).0))
 as_create words rest first P e is k (model.Show image) h = absurd (cc (is, (words_of words rest first _ e h).0))
 as_create words rest first P e is k (model.Report image) h = absurd (not_both first is (words_of words rest first _ e h).0)
+as_create words rest first P e is k (model.Parity image parity) h = absurd (create_or_parity first is (words_of words rest first _ e h).0)
+as_create words rest first P e is k (model.Rebuild image parity unit) h = absurd (cc (is, (words_of words rest first _ e h).0))
 as_create words rest first P e is k (model.Run image script options) h = absurd (cc (is, (words_of words rest first _ e h).0))
 as_create words rest first P e is k (model.Soak image number rounds) h = absurd (cc (is, (words_of words rest first _ e h).0))
 
@@ -137,6 +145,8 @@ as_geometry words rest first P e is k (model.Create image numbers) h = absurd (c
 as_geometry words rest first P e is k (model.Geometry image) h = k image (words_of words rest first _ e h).1
 as_geometry words rest first P e is k (model.Show image) h = absurd (cc (is, (words_of words rest first _ e h).0))
 as_geometry words rest first P e is k (model.Report image) h = absurd (cc (is, (words_of words rest first _ e h).0))
+as_geometry words rest first P e is k (model.Parity image parity) h = absurd (cc (is, (words_of words rest first _ e h).0))
+as_geometry words rest first P e is k (model.Rebuild image parity unit) h = absurd (cc (is, (words_of words rest first _ e h).0))
 as_geometry words rest first P e is k (model.Run image script options) h = absurd (cc (is, (words_of words rest first _ e h).0))
 as_geometry words rest first P e is k (model.Soak image number rounds) h = absurd (cc (is, (words_of words rest first _ e h).0))
 
@@ -146,6 +156,8 @@ as_show words rest first P e is k (model.Create image numbers) h = absurd (cc (i
 as_show words rest first P e is k (model.Geometry image) h = absurd (cc (is, (words_of words rest first _ e h).0))
 as_show words rest first P e is k (model.Show image) h = k image (words_of words rest first _ e h).1
 as_show words rest first P e is k (model.Report image) h = absurd (cc (is, (words_of words rest first _ e h).0))
+as_show words rest first P e is k (model.Parity image parity) h = absurd (cc (is, (words_of words rest first _ e h).0))
+as_show words rest first P e is k (model.Rebuild image parity unit) h = absurd (cc (is, (words_of words rest first _ e h).0))
 as_show words rest first P e is k (model.Run image script options) h = absurd (cc (is, (words_of words rest first _ e h).0))
 as_show words rest first P e is k (model.Soak image number rounds) h = absurd (show_or_soak first is (words_of words rest first _ e h).0)
 
@@ -155,6 +167,8 @@ as_report words rest first P e is k (model.Create image numbers) h = absurd (not
 as_report words rest first P e is k (model.Geometry image) h = absurd (cc (is, (words_of words rest first _ e h).0))
 as_report words rest first P e is k (model.Show image) h = absurd (cc (is, (words_of words rest first _ e h).0))
 as_report words rest first P e is k (model.Report image) h = k image (words_of words rest first _ e h).1
+as_report words rest first P e is k (model.Parity image parity) h = absurd (parity_or_report first (words_of words rest first _ e h).0 is)
+as_report words rest first P e is k (model.Rebuild image parity unit) h = absurd (cc (is, (words_of words rest first _ e h).0))
 as_report words rest first P e is k (model.Run image script options) h = absurd (cc (is, (words_of words rest first _ e h).0))
 as_report words rest first P e is k (model.Soak image number rounds) h = absurd (cc (is, (words_of words rest first _ e h).0))
 
@@ -165,8 +179,34 @@ as_run words rest first P e is k (model.Create image numbers) h = absurd (cc (is
 as_run words rest first P e is k (model.Geometry image) h = absurd (cc (is, (words_of words rest first _ e h).0))
 as_run words rest first P e is k (model.Show image) h = absurd (cc (is, (words_of words rest first _ e h).0))
 as_run words rest first P e is k (model.Report image) h = absurd (cc (is, (words_of words rest first _ e h).0))
+as_run words rest first P e is k (model.Parity image parity) h = absurd (cc (is, (words_of words rest first _ e h).0))
+as_run words rest first P e is k (model.Rebuild image parity unit) h = absurd (cc (is, (words_of words rest first _ e h).0))
 as_run words rest first P e is k (model.Run image script options) h = k image script options (words_of words rest first _ e h).1
 as_run words rest first P e is k (model.Soak image number rounds) h = absurd (cc (is, (words_of words rest first _ e h).0))
+
+pub as_parity : (words rest : List (List ℕ)) (first : List ℕ) (P : model.CommandLine → Type 0) → words ≡ first ∷ rest → first ≡ codes "parity"
+    → ((image parity : List ℕ) → AreWordsOf rest (model.Parity image parity) → P (model.Parity image parity)) → (c : model.CommandLine) → IsCommandLine words c
+    → P c
+as_parity words rest first P e is k (model.Create image numbers) h = absurd (create_or_parity first (words_of words rest first _ e h).0 is)
+as_parity words rest first P e is k (model.Geometry image) h = absurd (cc (is, (words_of words rest first _ e h).0))
+as_parity words rest first P e is k (model.Show image) h = absurd (cc (is, (words_of words rest first _ e h).0))
+as_parity words rest first P e is k (model.Report image) h = absurd (parity_or_report first is (words_of words rest first _ e h).0)
+as_parity words rest first P e is k (model.Parity image parity) h = k image parity (words_of words rest first _ e h).1
+as_parity words rest first P e is k (model.Rebuild image parity unit) h = absurd (cc (is, (words_of words rest first _ e h).0))
+as_parity words rest first P e is k (model.Run image script options) h = absurd (cc (is, (words_of words rest first _ e h).0))
+as_parity words rest first P e is k (model.Soak image number rounds) h = absurd (cc (is, (words_of words rest first _ e h).0))
+
+pub as_rebuild : (words rest : List (List ℕ)) (first : List ℕ) (P : model.CommandLine → Type 0) → words ≡ first ∷ rest → first ≡ codes "rebuild"
+    → ((image parity : List ℕ) (unit : ℕ) → AreWordsOf rest (model.Rebuild image parity unit) → P (model.Rebuild image parity unit))
+    → (c : model.CommandLine) → IsCommandLine words c → P c
+as_rebuild words rest first P e is k (model.Create image numbers) h = absurd (cc (is, (words_of words rest first _ e h).0))
+as_rebuild words rest first P e is k (model.Geometry image) h = absurd (cc (is, (words_of words rest first _ e h).0))
+as_rebuild words rest first P e is k (model.Show image) h = absurd (cc (is, (words_of words rest first _ e h).0))
+as_rebuild words rest first P e is k (model.Report image) h = absurd (cc (is, (words_of words rest first _ e h).0))
+as_rebuild words rest first P e is k (model.Parity image parity) h = absurd (cc (is, (words_of words rest first _ e h).0))
+as_rebuild words rest first P e is k (model.Rebuild image parity unit) h = k image parity unit (words_of words rest first _ e h).1
+as_rebuild words rest first P e is k (model.Run image script options) h = absurd (cc (is, (words_of words rest first _ e h).0))
+as_rebuild words rest first P e is k (model.Soak image number rounds) h = absurd (cc (is, (words_of words rest first _ e h).0))
 
 pub as_soak : (words rest : List (List ℕ)) (first : List ℕ) (P : model.CommandLine → Type 0) → words ≡ first ∷ rest → first ≡ codes "soak"
     → ((image : List ℕ) (number rounds : ℕ) → AreWordsOf rest (model.Soak image number rounds) → P (model.Soak image number rounds))
@@ -175,5 +215,7 @@ as_soak words rest first P e is k (model.Create image numbers) h = absurd (cc (i
 as_soak words rest first P e is k (model.Geometry image) h = absurd (cc (is, (words_of words rest first _ e h).0))
 as_soak words rest first P e is k (model.Show image) h = absurd (show_or_soak first (words_of words rest first _ e h).0 is)
 as_soak words rest first P e is k (model.Report image) h = absurd (cc (is, (words_of words rest first _ e h).0))
+as_soak words rest first P e is k (model.Parity image parity) h = absurd (cc (is, (words_of words rest first _ e h).0))
+as_soak words rest first P e is k (model.Rebuild image parity unit) h = absurd (cc (is, (words_of words rest first _ e h).0))
 as_soak words rest first P e is k (model.Run image script options) h = absurd (cc (is, (words_of words rest first _ e h).0))
 as_soak words rest first P e is k (model.Soak image number rounds) h = k image number rounds (words_of words rest first _ e h).1

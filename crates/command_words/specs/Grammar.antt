@@ -188,6 +188,10 @@ pub data CommandLine : Type 0 where
   Show : List ℕ → CommandLine
   -- print the numbers of what an image holds
   Report : List ℕ → CommandLine
+  -- close the Open chunks of an image, and make a file of its parity
+  Parity : List ℕ → List ℕ → CommandLine
+  -- make a unit of an image anew from its parity and the other units
+  Rebuild : List ℕ → List ℕ → ℕ → CommandLine
   -- run on an image a script, with these options
   Run : List ℕ → List ℕ → RunOptions → CommandLine
   -- run on an image the load of this number, of so many rounds
@@ -200,6 +204,9 @@ AreItemsOf items (Create image numbers) = (names_in items ≡ image ∷ []) × A
 AreItemsOf items (Geometry image) = (names_in items ≡ image ∷ []) × (options_in items ≡ []) × (flags_in items ≡ [])
 AreItemsOf items (Show image) = (names_in items ≡ image ∷ []) × (options_in items ≡ []) × (flags_in items ≡ [])
 AreItemsOf items (Report image) = (names_in items ≡ image ∷ []) × (options_in items ≡ []) × (flags_in items ≡ [])
+AreItemsOf items (Parity image parity) = (names_in items ≡ image ∷ parity ∷ []) × (options_in items ≡ []) × (flags_in items ≡ [])
+AreItemsOf items (Rebuild image parity unit) = (names_in items ≡ image ∷ parity ∷ decimal unit ∷ []) × (options_in items ≡ [])
+    × (flags_in items ≡ []) × (unit < 2 ^ 32)
 AreItemsOf items (Run image script options) = (names_in items ≡ image ∷ script ∷ []) × AllByRecursion IsRunOption (options_in items)
     × IsStop options.stop (values_in (codes "stop") items) × ArePlans options.plans (values_in (codes "fail") items) × (length options.plans ≤ 16)
     × IsLanes options.lanes (values_in (codes "lanes") items) × (flags_in items ≡ flags_of options.collector)
@@ -211,6 +218,8 @@ first_word (Create image numbers) = codes "create"
 first_word (Geometry image) = codes "geometry"
 first_word (Show image) = codes "show"
 first_word (Report image) = codes "report"
+first_word (Parity image parity) = codes "parity"
+first_word (Rebuild image parity unit) = codes "rebuild"
 first_word (Run image script options) = codes "run"
 first_word (Soak image number rounds) = codes "soak"
 

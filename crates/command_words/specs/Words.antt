@@ -1,5 +1,5 @@
 -- What is seen of the words that are read, and what has been read of them.
-use Rattle.std.specs.Prelude.{ℕ, ◌≡◌, ◌≢◌, ◌<◌, ◌≤◌, ◌==◌, ◌||◌, ⊤, Bool, false, List, [], ◌∷◌, ◌++◌, length, codes, Option, Some, None}
+use Rattle.std.specs.Prelude.{ℕ, ◌≡◌, ◌≢◌, ◌<◌, ◌≤◌, ◌^◌, ◌==◌, ◌||◌, ⊤, Bool, false, List, [], ◌∷◌, ◌++◌, length, codes, Option, Some, None}
 use Rattle.std.specs.List.{AllByRecursion}
 use Rattle.std.specs.Borrow.{Bor}
 use Rattle.std.specs.Fmt.{decimal}
@@ -46,6 +46,8 @@ seen (lines.Create image numbers) = model.Create image.now (numbers_seen numbers
 seen (lines.Geometry image) = model.Geometry image.now
 seen (lines.Show image) = model.Show image.now
 seen (lines.Report image) = model.Report image.now
+seen (lines.Parity image parity) = model.Parity image.now parity.now
+seen (lines.Rebuild image parity unit) = model.Rebuild image.now parity.now unit
 seen (lines.Run image script options) = model.Run image.now script.now (options_seen options)
 seen (lines.Soak image number rounds) = model.Soak image.now number rounds
 
@@ -58,6 +60,19 @@ pub record AreWordsOf (words : List (List ℕ)) (c : model.CommandLine) : Type 0
 -- the words are this name alone
 abbrev pub IsOneName : List (List ℕ) → List ℕ → Type 0
 IsOneName words name = (words ≡ name ∷ []) × IsPlainWord name
+
+-- the words are two names alone: an image's and that of the file of its parity
+pub record AreParityWords (words : List (List ℕ)) (image parity : List ℕ) : Type 0 where
+  pub words_are : words ≡ image ∷ parity ∷ []
+  pub plain_image : IsPlainWord image
+  pub plain_parity : IsPlainWord parity
+
+-- the words are these names and a unit alone
+pub record AreRebuildWords (words : List (List ℕ)) (image parity : List ℕ) (unit : ℕ) : Type 0 where
+  pub words_are : words ≡ image ∷ parity ∷ decimal unit ∷ []
+  pub plain_image : IsPlainWord image
+  pub plain_parity : IsPlainWord parity
+  pub small : unit < 2 ^ 32
 
 -- the words are these alone: an image's name, the number of a load, and how many rounds it has
 pub record AreSoakWords (words : List (List ℕ)) (image : List ℕ) (number rounds : ℕ) : Type 0 where

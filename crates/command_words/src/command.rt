@@ -61,6 +61,17 @@ pub enum CommandLine<'a> {
     Report {
         image: &'a str,
     },
+    /// Closes the Open chunks of an image, and makes a file of its parity.
+    Parity {
+        image: &'a str,
+        parity: &'a str,
+    },
+    /// Makes a unit of an image anew from the parity in a file and from the other units.
+    Rebuild {
+        image: &'a str,
+        parity: &'a str,
+        unit: u32,
+    },
     /// Runs a script on an image.
     Run {
         image: &'a str,

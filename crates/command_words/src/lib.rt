@@ -10,6 +10,7 @@ mod fuse;
 mod item;
 mod number;
 mod options;
+mod parity;
 mod plans;
 mod run;
 mod soak;

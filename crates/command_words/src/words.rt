@@ -9,11 +9,13 @@ ghost use Rattle.command_words.specs.Words.{AreWordsOf, IsOneName, seen};
 use crate::command::CommandLine;
 use crate::create::read_create;
 use crate::item::is_plain;
+use crate::parity::{read_parity, read_rebuild};
 use crate::run::read_run;
 use crate::soak::read_soak;
 
 /// Reads the words of a command line: `create IMAGE`, `geometry IMAGE`, `show IMAGE`, `report
-/// IMAGE`, `run IMAGE SCRIPT` or `soak IMAGE NUMBER ROUNDS`.
+/// IMAGE`, `parity IMAGE PARITY`, `rebuild IMAGE PARITY UNIT`, `run IMAGE SCRIPT` or `soak IMAGE
+/// NUMBER ROUNDS`.
 ///
 /// Options of `create` stand anywhere after its first word, as `--name value` or `--name=value`,
 /// each at most once: `--groups` and `--units` (in a group) are below 2^16; `--chunks`, `--blocks`,
@@ -25,8 +27,8 @@ use crate::soak::read_soak;
 /// named up to 16 times, with `p:unit:nth:cut`, `f:unit:nth` or `r:unit:nth`. Lanes are 0 to 8, and
 /// the nth of a stop is at least 1. The numbers of stops and plans are below 2^32.
 ///
-/// The numbers of `soak` are spelled in the same way. That of the load is below 2^64, and the
-/// rounds are 1 to 3,125.
+/// The numbers of `rebuild` and `soak` are spelled in the same way. The unit is below 2^32, the number of
+/// the load below 2^64, and the rounds are 1 to 3,125.
 ///
 /// The other commands have no options. None where the words are no command: the first one is none
 /// of these, a word is missing or too many, a word is empty, a word begins with `-` and isn't one
@@ -57,6 +59,18 @@ pub fn read_words(words: &[String]) -> Option<CommandLine<'_>>
         "report" => {
             let image = read_name(rest)?;
             Some(CommandLine::Report { image })
+        }
+        "parity" => {
+            let (image, parity) = read_parity(rest)?;
+            Some(CommandLine::Parity { image, parity })
+        }
+        "rebuild" => {
+            let (image, parity, unit) = read_rebuild(rest)?;
+            Some(CommandLine::Rebuild {
+                image,
+                parity,
+                unit,
+            })
         }
         "run" => {
             let (image, script, options) = read_run(rest)?;

@@ -31,6 +31,7 @@ pub mod CalmRuns
 pub mod TidyRuns
 pub mod LoadsApart
 pub mod SoakComes
+pub mod ParityComes
 pub mod OldHeads
 pub mod WornLines
 pub mod EventLines

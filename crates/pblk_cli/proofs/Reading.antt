@@ -21,6 +21,7 @@ pub tells_come : (says : Drive → List ℕ) (image bytes : List ℕ) (old new :
 tells_come says image bytes old new read (Ok output) (done, d, is, said) refused = (done, d, record { bytes = bytes; read = read.0; is = is }, read.1, said)
 tells_come says image bytes old new read (Err (refusals.Image e)) text refused = (bytes, read.0, refused, read.1)
 tells_come says image bytes old new read (Err (refusals.Script e)) text refused = refused
+tells_come says image bytes old new read (Err (refusals.Parity e)) text refused = refused
 tells_come says image bytes old new read (Err (refusals.Failed name)) text refused = absurd refused
 tells_come says image bytes old new read (Err (refusals.Missing name)) text refused = absurd refused
 tells_come says image bytes old new read (Err refusals.Words) text refused = absurd refused

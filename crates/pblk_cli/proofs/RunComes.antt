@@ -19,6 +19,7 @@ pub image_refused_comes : (image script found commands : List ℕ) (options : Ru
     → ReadsFile script commands old new → (q : Refusal) → RefusesBytes found (reason_of q) → RunComesTo image script options (Refuses (reason_of q)) old new
 image_refused_comes image script found commands options old new a b (refusals.Image e) h = (found, a.0, is_there script commands old b.0, h, a.1)
 image_refused_comes image script found commands options old new a b (refusals.Script e) h = absurd h
+image_refused_comes image script found commands options old new a b (refusals.Parity e) h = absurd h
 image_refused_comes image script found commands options old new a b (refusals.Failed name) h = absurd h
 image_refused_comes image script found commands options old new a b (refusals.Missing name) h = absurd h
 image_refused_comes image script found commands options old new a b refusals.Words h = absurd h
@@ -41,6 +42,7 @@ script_refused_comes image script found commands options d old new a b is (refus
   h,
   a.1,
 )
+script_refused_comes image script found commands options d old new a b is (refusals.Parity e) h = absurd h
 script_refused_comes image script found commands options d old new a b is (refusals.Failed name) h = absurd h
 script_refused_comes image script found commands options d old new a b is (refusals.Missing name) h = absurd h
 script_refused_comes image script found commands options d old new a b is refusals.Words h = absurd h

@@ -22,6 +22,7 @@ pub read_refused_comes : (image : List ℕ) (number rounds : ℕ) (old new : Fil
     → SoakComesTo image number rounds (Refuses (reason_of q)) old new
 read_refused_comes image number rounds old new (refusals.Image e) h = absurd h
 read_refused_comes image number rounds old new (refusals.Script e) h = absurd h
+read_refused_comes image number rounds old new (refusals.Parity e) h = absurd h
 read_refused_comes image number rounds old new (refusals.Failed name) h = (h.0, inl h.1)
 read_refused_comes image number rounds old new (refusals.Missing name) h = h
 read_refused_comes image number rounds old new refusals.Words h = absurd h
@@ -32,6 +33,7 @@ pub bytes_refused_come : (image found : List ℕ) (number rounds : ℕ) (old new
     → (q : Refusal) → RefusesBytes found (reason_of q) → SoakComesTo image number rounds (Refuses (reason_of q)) old new
 bytes_refused_come image found number rounds old new a (refusals.Image e) h = (found, a.0, h, a.1)
 bytes_refused_come image found number rounds old new a (refusals.Script e) h = absurd h
+bytes_refused_come image found number rounds old new a (refusals.Parity e) h = absurd h
 bytes_refused_come image found number rounds old new a (refusals.Failed name) h = absurd h
 bytes_refused_come image found number rounds old new a (refusals.Missing name) h = absurd h
 bytes_refused_come image found number rounds old new a refusals.Words h = absurd h
@@ -42,6 +44,7 @@ pub load_refused_comes : (image found : List ℕ) (number rounds : ℕ) (d : Dri
     → (q : Refusal) → RefusesLoad d.capacity (reason_of q) → SoakComesTo image number rounds (Refuses (reason_of q)) old new
 load_refused_comes image found number rounds d old new a is (refusals.Image e) h = absurd h
 load_refused_comes image found number rounds d old new a is (refusals.Script e) h = absurd h
+load_refused_comes image found number rounds d old new a is (refusals.Parity e) h = absurd h
 load_refused_comes image found number rounds d old new a is (refusals.Failed name) h = absurd h
 load_refused_comes image found number rounds d old new a is (refusals.Missing name) h = absurd h
 load_refused_comes image found number rounds d old new a is refusals.Words h = (d, record { bytes = found; read = a.0; is = is }, h, a.1)

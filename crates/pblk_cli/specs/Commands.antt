@@ -1,13 +1,15 @@
 -- What each command comes to, by the files before and after: a text, or a refusal with its cause.
 -- No other ending is left.
-use Rattle.std.specs.Prelude.{ℕ, ◌<◌, ◌≤◌, ◌≡◌, ◌⊎◌, ⊤, true, false, List, [], map, length, Some, None, Err}
+use Rattle.std.specs.Prelude.{ℕ, ◌<◌, ◌≤◌, ◌≡◌, ◌⊎◌, ⊤, true, false, List, [], map, length, Some, None, Err, codes}
 use Rattle.pblk_outside.specs.Files.{FilesView}
 use Rattle.pblk_model.specs.declared.script.Command.{Command}
-use Rattle.command_words.specs.Grammar.{CommandLine, Create, Geometry, Show, Report, Run, Soak, IsCommandLine, IsLoad, RunOptions, helpers_of}
-use Rattle.pblk_model.specs.CommandText.{CreateNumbers, created_refusal, created_drive, created_text, geometry_text, words_line}
+use Rattle.command_words.specs.Grammar.{CommandLine, Create, Geometry, Show, Report, Parity, Rebuild, Run, Soak, IsCommandLine, IsLoad, RunOptions, helpers_of}
+use Rattle.pblk_model.specs.CommandText.{CreateNumbers, created_refusal, created_drive, created_text, geometry_text, number_line, words_line}
 use Rattle.pblk_model.specs.Contents.{contents, end}
 use Rattle.pblk_model.specs.History.{after, users}
-use Rattle.pblk_model.specs.ImageFile.{Drive, IsImage, image_bytes, image_of, image_refusal}
+use Rattle.pblk_model.specs.Image.{Image as ModelImage}
+use Rattle.pblk_model.specs.Shape.{units}
+use Rattle.pblk_model.specs.ImageFile.{Drive, IsImage, image_bytes, image_of, image_refusal, shape_of}
 use Rattle.pblk_model.specs.ScriptText.{IsScript, read_script}
 use Rattle.pblk_model.specs.Sealed.{IsSealed}
 use Rattle.pblk_model.specs.Text.{Closed, Transcript, text_of}
@@ -23,7 +25,13 @@ use Rattle.pblk_world.specs.Orders.{AreAfterResets, AreOpenedFull, NoneToFree, N
 use Rattle.pblk_world.specs.Reasons.{AreBegun, AreGranted, AreUrgent}
 use Rattle.rest_laws.specs.Tidy.{IsTidy}
 use Rattle.rest_laws.specs.TidyMounts.{HasNoFailures}
+use Rattle.stripe_parity.specs.declared.error.ParityErr.{ParityErr}
+use Rattle.stripe_parity.specs.ParityBytes.{parity_bytes}
+use Rattle.stripe_parity.specs.ParityFile.{IsParity, ParityFile, parity_of}
+use Rattle.stripe_parity.specs.Rebuilding.{AreAsKept, IsRebuilt, kept_blocks}
+use Rattle.world_laws.specs.Finding.{NoneOpen}
 use Rattle.command_text.specs.Says.{Says}
+use Rattle.pblk_cli.specs.Parities.{IsFileOf, IsLostOf, RefusesParity}
 use Rattle.load_maker.specs.Loads.{load}
 use Rattle.run_report.specs.Totals.{totals_line}
 use Rattle.pblk_cli.specs.Complete.{HasSmallNumbers, IsComplete, script_writes}
@@ -32,7 +40,7 @@ use Rattle.pblk_cli.specs.Status.{status_of_run}
 use Rattle.pblk_cli.specs.Stops.{AreAllTold, AreNames, AreOutcomesBy, HasBegun, fuse_on}
 use Rattle.pblk_cli.specs.Synced.{AreFlushesSynced, IsAllSynced}
 use Rattle.pblk_cli.specs.Worn.{AreRefusedIn}
-use Rattle.pblk_cli.specs.Telling.{Call, Image, Script, Failed, Missing, Words, Memory, Ending, Gives, Refuses, Tells, Holds, IsThere, AreUntouched, Stores, FailsReading, IsMissing, FailsWriting}
+use Rattle.pblk_cli.specs.Telling.{Call, Image, Script, OfParity, Failed, Missing, Words, Memory, Ending, Gives, Refuses, Tells, Holds, IsThere, AreUntouched, Stores, FailsReading, IsMissing, FailsWriting}
 
 -- Creating.
 
@@ -182,12 +190,113 @@ pub record RunMade (image script : List ℕ) (options : RunOptions) (status : �
   pub status_is : status ≡ status_of_run run.transcript
   pub stored : Stores image (image_bytes left) old new
 
+-- Parities.
+
+-- A drive whose Open chunks were closed. A sealed one stays sealed and holds what it held.
+pub record IsPadded (found left : Drive) : Type 0 where
+  pub numbers : SameNumbers found left
+  pub closed : NoneOpen (image_of left)
+  pub sealed : IsSealed (image_of found) → IsSealed (image_of left)
+  pub contents : IsSealed (image_of found) → contents (image_of left) ≡ contents (image_of found)
+  pub end : IsSealed (image_of found) → end (image_of left) ≡ end (image_of found)
+  -- its one spelling is an image of it
+  pub spelled : IsImage (image_bytes left) left
+
+-- the file of a drive's parity
+abbrev pub parity_file_of : Drive → List ℕ
+parity_file_of d = parity_bytes (parity_of (image_of d))
+
+-- The Open chunks of a drive were closed; it is stored under the image's name, in its one spelling, and then the
+-- file of its parity under the other name.
+pub record ParityMade (image parity text : List ℕ) (old new : FilesView) : Type 0 where
+  pub drive : Drive
+  pub drive_is : IsDriveOf image old drive
+  pub left : Drive
+  pub padded : IsPadded drive left
+  pub between : FilesView
+  pub stored : Stores image (image_bytes left) old between
+  pub is_parity : IsParity (parity_of (image_of left))
+  pub made : Stores parity (parity_file_of left) between new
+  pub says : text ≡ number_line (codes "parity") (length (parity_file_of left))
+
+abbrev pub ParityComesTo : List ℕ → List ℕ → Ending → FilesView → FilesView → Type 0
+ParityComesTo image parity (Gives status text) old new = (status ≡ 0) × ParityMade image parity text old new
+ParityComesTo image parity (Refuses (Image e)) old new = (bytes : List ℕ) × Holds image bytes old × (image_refusal bytes ≡ Some e) × AreUntouched old new
+-- the image could not be read or written; or it was stored, and the file of the parity could not be written
+ParityComesTo image parity (Refuses (Failed name)) old new = ((name ≡ image) × FailsReading image old new)
+    ⊎ ((name ≡ image) × (d : Drive) × IsDriveOf image old d × FailsWriting image old new)
+    ⊎ ((name ≡ parity) × (d left : Drive) × (between : FilesView) × IsDriveOf image old d × IsPadded d left
+    × Stores image (image_bytes left) old between × FailsWriting parity between new)
+ParityComesTo image parity (Refuses (Missing name)) old new = (name ≡ image) × IsMissing image old new
+ParityComesTo image parity (Refuses Memory) old new = IsThere image old × AreUntouched old new
+ParityComesTo image parity ending old new = ⊥
+
+-- what a unit is made anew from: the drive of the image, and the file of the parity
+pub record RebuildInput (image parity : List ℕ) (files : FilesView) : Type 0 where
+  pub drive : Drive
+  pub drive_is : IsDriveOf image files drive
+  pub bytes : List ℕ
+  pub read : Holds parity bytes files
+
+-- A unit of a drive that was made anew from the file of a parity, of which this is told.
+pub record IsRebuiltFrom (found : Drive) (bytes : List ℕ) (unit : ℕ) (text : List ℕ) (left : Drive) : Type 0 where
+  pub within : unit < units (shape_of found)
+  pub parity : ParityFile
+  pub file : IsFileOf (shape_of found) bytes parity
+  -- the geometry, the settings and the wear indices are as they were
+  pub numbers : SameNumbers found left
+  -- all other units are as the parity says, and are as they were; the chunks of this one come from both
+  pub same : AreAsKept parity.chunks (image_of found) unit
+  pub anew : IsRebuilt parity unit (image_of found) (image_of left)
+  -- Where the parity is that of a drive with which the one found agrees on all units but this, it is that drive again.
+  pub first : (i : ModelImage) → IsLostOf i (image_of found) unit bytes → image_of left ≡ i
+  -- how many blocks were made
+  pub says : text ≡ number_line (codes "rebuilt") (kept_blocks parity.chunks unit)
+  -- its one spelling is an image of it
+  pub spelled : IsImage (image_bytes left) left
+
+-- a unit was made anew, and the drive is stored under the image's name, in its one spelling
+pub record RebuildMade (image parity : List ℕ) (unit : ℕ) (text : List ℕ) (old new : FilesView) : Type 0 where
+  pub input : RebuildInput image parity old
+  pub left : Drive
+  pub rebuilt : IsRebuiltFrom input.drive input.bytes unit text left
+  pub stored : Stores image (image_bytes left) old new
+
+-- The file is refused, or the drive isn't as it says. So is no file of the parity of a drive with which the one found
+-- agrees on all units but this.
+pub record IsRefusedParity (found : Drive) (bytes : List ℕ) (unit : ℕ) (e : ParityErr) : Type 0 where
+  pub within : unit < units (shape_of found)
+  pub why : RefusesParity (image_of found) unit bytes e
+  pub other : (i : ModelImage) → IsLostOf i (image_of found) unit bytes → ⊥
+
+abbrev pub RebuildComesTo : List ℕ → List ℕ → ℕ → Ending → FilesView → FilesView → Type 0
+RebuildComesTo image parity unit (Gives status text) old new = (status ≡ 0) × RebuildMade image parity unit text old new
+-- both files were read, and the image is refused
+RebuildComesTo image parity unit (Refuses (Image e)) old new = (bytes : List ℕ) × Holds image bytes old
+    × IsThere parity old × (image_refusal bytes ≡ Some e) × AreUntouched old new
+-- the image is accepted, and its drive hasn't the unit
+RebuildComesTo image parity unit (Refuses Words) old new = (d : Drive) × IsDriveOf image old d
+    × IsThere parity old × (units (shape_of d) ≤ unit) × AreUntouched old new
+-- the drive has the unit, and the parity is refused
+RebuildComesTo image parity unit (Refuses (OfParity e)) old new = (h : RebuildInput image parity old)
+    × IsRefusedParity h.drive h.bytes unit e × AreUntouched old new
+-- the image, or, where it is there, the parity could not be read; or all was made, and the image could not be written
+RebuildComesTo image parity unit (Refuses (Failed name)) old new = ((name ≡ image) × FailsReading image old new)
+    ⊎ ((name ≡ parity) × IsThere image old × FailsReading parity old new)
+    ⊎ ((name ≡ image) × RebuildInput image parity old × FailsWriting image old new)
+RebuildComesTo image parity unit (Refuses (Missing name)) old new = ((name ≡ image) × IsMissing image old new)
+    ⊎ ((name ≡ parity) × IsThere image old × IsMissing parity old new)
+RebuildComesTo image parity unit (Refuses Memory) old new = IsThere image old × AreUntouched old new
+RebuildComesTo image parity unit ending old new = ⊥
+
 -- a run has as many lanes as the option may say, and a load is one that there may be
 abbrev pub IsWithinLimits : CommandLine → Type 0
 IsWithinLimits (Create image numbers) = ⊤
 IsWithinLimits (Geometry image) = ⊤
 IsWithinLimits (Show image) = ⊤
 IsWithinLimits (Report image) = ⊤
+IsWithinLimits (Parity image parity) = ⊤
+IsWithinLimits (Rebuild image parity unit) = ⊤
 IsWithinLimits (Run image script options) = options.lanes ≤ 8
 IsWithinLimits (Soak image number rounds) = IsLoad number rounds
 
@@ -206,8 +315,8 @@ RunComesTo image script options (Refuses (Failed name)) old new = ((name ≡ ima
     ⊎ ((name ≡ image) × RunInput image script old × FailsWriting image old new)
 RunComesTo image script options (Refuses (Missing name)) old new = ((name ≡ image) × IsMissing image old new)
     ⊎ ((name ≡ script) × IsThere image old × IsMissing script old new)
-RunComesTo image script options (Refuses Words) old new = ⊥
 RunComesTo image script options (Refuses Memory) old new = IsThere image old × AreUntouched old new
+RunComesTo image script options (Refuses reason) old new = ⊥
 
 -- Loads.
 
@@ -244,12 +353,12 @@ SoakComesTo image number rounds (Gives status text) old new = SoakMade image num
 SoakComesTo image number rounds (Refuses Words) old new = (d : Drive) × IsDriveOf image old d × (d.capacity < 32) × AreUntouched old new
 SoakComesTo image number rounds (Refuses (Image e)) old new = (bytes : List ℕ) × Holds image bytes old × (image_refusal bytes ≡ Some e)
     × AreUntouched old new
-SoakComesTo image number rounds (Refuses (Script e)) old new = ⊥
 -- it could not be read; or all was made, and it could not be written
 SoakComesTo image number rounds (Refuses (Failed name)) old new = (name ≡ image) × (FailsReading image old new
     ⊎ (SoakInput image old × FailsWriting image old new))
 SoakComesTo image number rounds (Refuses (Missing name)) old new = (name ≡ image) × IsMissing image old new
 SoakComesTo image number rounds (Refuses Memory) old new = IsThere image old × AreUntouched old new
+SoakComesTo image number rounds (Refuses reason) old new = ⊥
 
 -- The program.
 
@@ -258,6 +367,8 @@ ComesTo (Create image numbers) ending old new = CreateComesTo image numbers endi
 ComesTo (Geometry image) ending old new = GeometryComesTo image ending old new
 ComesTo (Show image) ending old new = ShowComesTo image ending old new
 ComesTo (Report image) ending old new = ReportComesTo image ending old new
+ComesTo (Parity image parity) ending old new = ParityComesTo image parity ending old new
+ComesTo (Rebuild image parity unit) ending old new = RebuildComesTo image parity unit ending old new
 ComesTo (Run image script options) ending old new = RunComesTo image script options ending old new
 ComesTo (Soak image number rounds) ending old new = SoakComesTo image number rounds ending old new
 

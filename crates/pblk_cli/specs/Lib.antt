@@ -4,6 +4,7 @@ pub mod Worn
 pub mod Complete
 pub mod Synced
 pub mod Serving
+pub mod Parities
 pub mod Telling
 pub mod Commands
 pub mod Laws
@@ -11,5 +12,6 @@ pub mod Endings
 pub mod Creating
 pub mod Reading
 pub mod Running
+pub mod Rebuilding
 pub mod Program
 pub mod Contents

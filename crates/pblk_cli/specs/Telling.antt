@@ -7,7 +7,9 @@ use Rattle.pblk_outside.specs.Sink.{SinkView, TakesPrefix}
 use Rattle.pblk_model.specs.declared.image.ImageErr.{ImageErr}
 use Rattle.pblk_model.specs.declared.script.ScriptErr.{ScriptErr}
 use Rattle.pblk_model.specs.CommandText.{image_line, script_line, failed_line, missing_line, memory_line, words_line}
+use Rattle.stripe_parity.specs.declared.error.ParityErr.{ParityErr}
 use Rattle.command_text.specs.Says.{Says}
+use Rattle.pblk_cli.specs.Parities.{parity_line}
 
 -- A call: the status that it answered, and the files and the output before and after.
 pub record Call : Type 0 where
@@ -22,6 +24,8 @@ pub data Reason : Type 0 where
   -- the image, or what it is to be made of
   Image : ImageErr → Reason
   Script : ScriptErr → Reason
+  -- the parity, or it isn't as the drive is
+  OfParity : ParityErr → Reason
   -- a file, by its name, could not be read or written
   Failed : List ℕ → Reason
   -- it isn't there
@@ -38,6 +42,7 @@ pub data Ending : Type 0 where
 abbrev pub status_of : Reason → ℕ
 status_of (Image e) = 3
 status_of (Script e) = 2
+status_of (OfParity e) = 3
 status_of (Failed name) = 4
 status_of (Missing name) = 4
 status_of Words = 1
@@ -46,6 +51,7 @@ status_of Memory = 7
 abbrev pub line_of : Reason → List ℕ
 line_of (Image e) = image_line e
 line_of (Script e) = script_line e
+line_of (OfParity e) = parity_line e
 line_of (Failed name) = failed_line name
 line_of (Missing name) = missing_line name
 line_of Words = words_line

@@ -2,7 +2,7 @@
 
 ghost use Rattle.std.specs.Prelude.{◌≡◌, IfOk, IfErr};
 ghost use Rattle.drive_image.specs.Quiet.{IsQuiet};
-ghost use Rattle.ocssd_drive.specs.Drive.{stored};
+ghost use Rattle.ocssd_drive.specs.Drive.{IsWhole, stored};
 ghost use Rattle.pblk_model.specs.ImageFile.{IsImage};
 ghost use Rattle.pblk_cli.specs.Endings.{reason_of};
 ghost use Rattle.pblk_cli.specs.Reading.{CannotRead, ReadsFile, RefusesBytes};
@@ -39,6 +39,7 @@ pub(crate) fn read_file<'a, F: Files>(
 pub(crate) fn drive_of<'a>(alloc: Global, bytes: Vec<u8>) -> Result<Drive, Refusal<'a>>
     ensures drive { IfOk result (λ drive. IsImage bytes.items (stored drive)) }
     ensures quiet { IfOk result IsQuiet }
+    ensures whole { IfOk result IsWhole }
     ensures refused { IfErr result (λ refusal. RefusesBytes bytes.items (reason_of refusal)) }
 {
     match load(alloc, &bytes) {

@@ -10,6 +10,8 @@ mod input;
 mod laws;
 mod main_call;
 mod output;
+mod parity;
+mod parity_line;
 mod refusal;
 mod run;
 mod serving;

@@ -10,6 +10,7 @@ ghost use Rattle.pblk_cli.specs.Program.{ProgramEnds};
 use crate::create::create;
 use crate::geometry::geometry;
 use crate::output::Output;
+use crate::parity::{make_parity, rebuild_unit};
 use crate::refusal::{Refusal, finish};
 use crate::run::run;
 use crate::show::{report_numbers, show};
@@ -102,6 +103,12 @@ fn do_command<'a, R: Threads + Wait + Sync, F: Files>(
         CommandLine::Geometry { image } => geometry(alloc, image, files),
         CommandLine::Show { image } => show(alloc, image, files),
         CommandLine::Report { image } => report_numbers(alloc, image, files),
+        CommandLine::Parity { image, parity } => make_parity(alloc, image, parity, files),
+        CommandLine::Rebuild {
+            image,
+            parity,
+            unit,
+        } => rebuild_unit(alloc, image, parity, unit, files),
         CommandLine::Run {
             image,
             script,

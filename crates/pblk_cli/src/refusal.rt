@@ -6,12 +6,14 @@ ghost use Rattle.pblk_cli.specs.Endings.{reason_of};
 ghost use Rattle.pblk_cli.specs.Telling.{Finishes, Gives, Refuses, Tells, status_of};
 
 use crate::output::Output;
+use crate::parity_line::tell_parity;
 use command_text::{
     tell, tell_failed, tell_image, tell_memory, tell_missing, tell_script, tell_words,
 };
 use pblk_model::{ImageErr, ScriptErr};
 use pblk_outside::{Sink, SinkErr};
 use std::alloc::{AllocError, AllocFailed};
+use stripe_parity::ParityErr;
 
 /// Why a command is refused.
 #[derive(Clone, Copy)]
@@ -20,6 +22,8 @@ pub(crate) enum Refusal<'a> {
     Image(ImageErr),
     /// The script is refused.
     Script(ScriptErr),
+    /// The parity is refused, or it isn't one of this drive.
+    Parity(ParityErr),
     /// The file of this name could not be read or written.
     Failed(&'a str),
     /// The file of this name isn't there.
@@ -54,7 +58,7 @@ impl Refusal<'_> {
         match self {
             Refusal::Words => 1,
             Refusal::Script(_) => 2,
-            Refusal::Image(_) => 3,
+            Refusal::Image(_) | Refusal::Parity(_) => 3,
             Refusal::Failed(_) | Refusal::Missing(_) => 4,
             Refusal::Memory => 7,
         }
@@ -71,6 +75,7 @@ impl Refusal<'_> {
         match self {
             Refusal::Image(e) => tell_image(out, &e),
             Refusal::Script(e) => tell_script(out, &e),
+            Refusal::Parity(e) => tell_parity(out, &e),
             Refusal::Failed(name) => tell_failed(out, name),
             Refusal::Missing(name) => tell_missing(out, name),
             Refusal::Words => tell_words(out),

@@ -24,6 +24,8 @@ mod loads;
 #[cfg(test)]
 mod mounts;
 #[cfg(test)]
+mod parities;
+#[cfg(test)]
 mod run;
 #[cfg(test)]
 mod scripts;

@@ -30,6 +30,16 @@ pub fn told(alloc: Global, line: &str) -> Result<String, AllocError> {
                 rounds,
             },
         ) => format!(in alloc; "soak [{image}] {number} {rounds}"),
+        Some(CommandLine::Parity { image, parity }) => {
+            format!(in alloc; "parity [{image}] [{parity}]")
+        }
+        Some(
+            CommandLine::Rebuild {
+                image,
+                parity,
+                unit,
+            },
+        ) => format!(in alloc; "rebuild [{image}] [{parity}] {unit}"),
         None => format!(in alloc; "refused"),
     }
 }

@@ -11,6 +11,8 @@ const ACCEPTED: &[(&str, &str)] = &[
     ("show|a", "show [a]"),
     ("report|a", "report [a]"),
     ("run|a|b", "run [a] [b]"),
+    ("parity|a|b", "parity [a] [b]"),
+    ("rebuild|a|b|7", "rebuild [a] [b] 7"),
     ("soak|a|1|1", "soak [a] 1 1"),
     ("soak|7|0|3125", "soak [7] 0 3125"),
     (
@@ -121,6 +123,11 @@ fn commands_are_read(rt: HostRuntime) -> Result<(), Fail> {
 // Words that are no command.
 const REFUSED: &[&str] = &[
     "",
+    "parity|a",
+    "parity|a|b|c",
+    "rebuild|a|b",
+    "rebuild|a|b|-1",
+    "rebuild|a|b|4294967296",
     "Create|a",
     "creat|a",
     "a",

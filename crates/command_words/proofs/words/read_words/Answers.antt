@@ -3,7 +3,8 @@ use Rattle.command_words.specs.Grammar as model
 use Rattle.command_words.specs.Grammar.{IsCommandLine}
 use Rattle.command_words.specs.Words.{numbers_seen, options_seen}
 use Rattle.command_words.proofs.ItemWords.{first_word_of}
-use Rattle.command_words.proofs.Names.{as_create, as_geometry, as_show, as_report, as_run, as_soak, command_of, soak_of, words_of_soak, name_of_geometry, name_of_show, name_of_report, words_of_geometry, words_of_show, words_of_report}
+use Rattle.command_words.proofs.Names.{as_create, as_geometry, as_show, as_report, as_parity, as_rebuild, as_run, as_soak, command_of, soak_of, words_of_soak, name_of_geometry, name_of_show, name_of_report, words_of_geometry, words_of_show, words_of_report}
+use Rattle.command_words.proofs.ParityWords.{parity_of, rebuild_of, words_of_parity, words_of_rebuild}
 use Rattle.command_words.proofs.words.read_words.Goals as goal
 
 pub returns-in_err-image-in-create-clause-none : goal.returns-in_err-image-in-create-clause-none
@@ -125,6 +126,67 @@ returns-in_ok-image-in-report-clause-found c =
     let first = first_word_of c.args.words.now c.first-item.result c.as_str.result.now c.in-len1-up.len_at_least c.first-item.is c.as_str.ensures.value in
     command_of (map string_bytes c.args.words.now) _ (model.Report c.in_ok-image-in-report.image.now) (rw c.in-report.is at first)
     (words_of_report _ c.in_ok-image-in-report.image.now c.in_ok-image-in-report.ensures.found)
+
+pub returns-in_err-image-in-parity-clause-none : goal.returns-in_err-image-in-parity-clause-none
+returns-in_err-image-in-parity-clause-none c =
+    let first = first_word_of c.args.words.now c.first-item.result c.as_str.result.now c.in-len1-up.len_at_least c.first-item.is c.as_str.ensures.value in
+    rw c.from_residual-in_err-image-in-parity.ensures
+    (as_parity (map string_bytes c.args.words.now) _ c.as_str.result.now (λ x. ⊥) first c.in-parity.is
+    (λ image parity h. c.in_err-image-in-parity.ensures.only image parity (parity_of _ image parity h)))
+
+pub returns-in_err-image-in-parity-clause-only : goal.returns-in_err-image-in-parity-clause-only
+returns-in_err-image-in-parity-clause-only c = λ line h.
+    let first = first_word_of c.args.words.now c.first-item.result c.as_str.result.now c.in-len1-up.len_at_least c.first-item.is c.as_str.ensures.value in
+    absurd (as_parity (map string_bytes c.args.words.now) _ c.as_str.result.now (λ x. ⊥) first c.in-parity.is
+    (λ image parity h. c.in_err-image-in-parity.ensures.only image parity (parity_of _ image parity h)) line h)
+
+pub returns-in_ok-image-in-parity-clause-only : goal.returns-in_ok-image-in-parity-clause-only
+returns-in_ok-image-in-parity-clause-only c =
+    let first = first_word_of c.args.words.now c.first-item.result c.as_str.result.now c.in-len1-up.len_at_least c.first-item.is c.as_str.ensures.value in
+    as_parity (map string_bytes c.args.words.now) _ c.as_str.result.now
+    (λ line. Some (model.Parity c.in_ok-image-in-parity.image.now c.in_ok-image-in-parity.parity.now) ≡ Some line) first c.in-parity.is
+    (λ image parity h. let same = c.in_ok-image-in-parity.ensures.only image parity (parity_of _ image parity h) in
+    ap (λ x. Some (model.Parity x c.in_ok-image-in-parity.parity.now)) same.0
+    ∙ ap (λ x. Some (model.Parity image x)) same.1)
+
+pub returns-in_ok-image-in-parity-clause-found : goal.returns-in_ok-image-in-parity-clause-found
+returns-in_ok-image-in-parity-clause-found c =
+    let first = first_word_of c.args.words.now c.first-item.result c.as_str.result.now c.in-len1-up.len_at_least c.first-item.is c.as_str.ensures.value in
+    command_of (map string_bytes c.args.words.now) _
+    (model.Parity c.in_ok-image-in-parity.image.now c.in_ok-image-in-parity.parity.now) (rw c.in-parity.is at first)
+    (words_of_parity _ c.in_ok-image-in-parity.image.now c.in_ok-image-in-parity.parity.now c.in_ok-image-in-parity.ensures.found)
+
+pub returns-in_err-image-in-rebuild-clause-none : goal.returns-in_err-image-in-rebuild-clause-none
+returns-in_err-image-in-rebuild-clause-none c =
+    let first = first_word_of c.args.words.now c.first-item.result c.as_str.result.now c.in-len1-up.len_at_least c.first-item.is c.as_str.ensures.value in
+    rw c.from_residual-in_err-image-in-rebuild.ensures
+    (as_rebuild (map string_bytes c.args.words.now) _ c.as_str.result.now (λ x. ⊥) first c.in-rebuild.is
+    (λ image parity unit h. c.in_err-image-in-rebuild.ensures.only image parity unit (rebuild_of _ image parity unit h)))
+
+pub returns-in_err-image-in-rebuild-clause-only : goal.returns-in_err-image-in-rebuild-clause-only
+returns-in_err-image-in-rebuild-clause-only c = λ line h.
+    let first = first_word_of c.args.words.now c.first-item.result c.as_str.result.now c.in-len1-up.len_at_least c.first-item.is c.as_str.ensures.value in
+    absurd (as_rebuild (map string_bytes c.args.words.now) _ c.as_str.result.now (λ x. ⊥) first c.in-rebuild.is
+    (λ image parity unit h. c.in_err-image-in-rebuild.ensures.only image parity unit (rebuild_of _ image parity unit h)) line h)
+
+pub returns-in_ok-image-in-rebuild-clause-only : goal.returns-in_ok-image-in-rebuild-clause-only
+returns-in_ok-image-in-rebuild-clause-only c =
+    let first = first_word_of c.args.words.now c.first-item.result c.as_str.result.now c.in-len1-up.len_at_least c.first-item.is c.as_str.ensures.value in
+    as_rebuild (map string_bytes c.args.words.now) _ c.as_str.result.now
+    (λ line. Some (model.Rebuild c.in_ok-image-in-rebuild.image.now c.in_ok-image-in-rebuild.parity.now c.in_ok-image-in-rebuild.unit) ≡ Some line) first
+    c.in-rebuild.is
+    (λ image parity unit h. let same = c.in_ok-image-in-rebuild.ensures.only image parity unit (rebuild_of _ image parity unit h) in
+    ap (λ x. Some (model.Rebuild x c.in_ok-image-in-rebuild.parity.now c.in_ok-image-in-rebuild.unit)) same.0
+    ∙ ap (λ x. Some (model.Rebuild image x c.in_ok-image-in-rebuild.unit)) same.1
+    ∙ ap (λ x. Some (model.Rebuild image parity x)) same.2)
+
+pub returns-in_ok-image-in-rebuild-clause-found : goal.returns-in_ok-image-in-rebuild-clause-found
+returns-in_ok-image-in-rebuild-clause-found c =
+    let first = first_word_of c.args.words.now c.first-item.result c.as_str.result.now c.in-len1-up.len_at_least c.first-item.is c.as_str.ensures.value in
+    command_of (map string_bytes c.args.words.now) _
+    (model.Rebuild c.in_ok-image-in-rebuild.image.now c.in_ok-image-in-rebuild.parity.now c.in_ok-image-in-rebuild.unit) (rw c.in-rebuild.is at first)
+    (words_of_rebuild _ c.in_ok-image-in-rebuild.image.now c.in_ok-image-in-rebuild.parity.now c.in_ok-image-in-rebuild.unit
+    c.in_ok-image-in-rebuild.ensures.found)
 
 pub returns-in_err-image-in-soak-clause-none : goal.returns-in_err-image-in-soak-clause-none
 returns-in_err-image-in-soak-clause-none c =
