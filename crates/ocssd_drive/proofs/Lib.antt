@@ -4,7 +4,7 @@ mod ByArms
 mod Changing
 mod Counted
 mod Disarming
-mod Drives
+pub mod Drives
 mod Events
 mod FallPlace
 mod FallingOrder

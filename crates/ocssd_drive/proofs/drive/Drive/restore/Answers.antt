@@ -30,19 +30,24 @@ restore-requires-clause-multiple c =
 pub returns-clause-restored : goal.returns-clause-restored
 returns-clause-restored c =
     let at = unit_found c.self.inside c.args.self.now c.args.unit _ c.self.invariant c.self.view_is c.requires.unit c.index_mut-found.ensures.value in
-    rw (← c.self.view_is) (restored_by (drive_view c.self.inside) c.args.unit c.args.chunk c.args.state c.args.bytes.now c.args.marks.now c.args.wear _ _ at c.restore.ensures.restored)
+    rw (← c.self.view_is) (restored_by
+    (drive_view c.self.inside) c.args.unit c.args.chunk c.args.state c.args.bytes.now c.args.marks.now c.args.wear _ _ at c.restore.ensures.restored)
 
 pub returns-clause-stored : goal.returns-clause-stored
 returns-clause-stored c =
     let at = unit_found c.self.inside c.args.self.now c.args.unit _ c.self.invariant c.self.view_is c.requires.unit c.index_mut-found.ensures.value in
     let d : DriveView = drive_view c.self.inside in
-    rw (← c.self.view_is) (ap stored (restored_by d c.args.unit c.args.chunk c.args.state c.args.bytes.now c.args.marks.now c.args.wear _ _ at c.restore.ensures.restored) ∙ stored-restored d c.args.unit c.args.chunk _ _ at.there)
+    rw (← c.self.view_is) (ap stored
+    (restored_by d c.args.unit c.args.chunk c.args.state c.args.bytes.now c.args.marks.now c.args.wear _ _ at c.restore.ensures.restored)
+    ∙ stored-restored d c.args.unit c.args.chunk _ _ at.there)
 
 pub index_mut-found-requires : goal.index_mut-found-requires
 index_mut-found-requires c = unit_within c.self.inside c.args.self.now c.args.unit c.self.invariant c.self.view_is c.requires.unit
 
 pub invariant_of-self : goal.invariant_of-self
-invariant_of-self c = whole_again (drive_view c.self.inside) c.args.unit _ _ c.self.invariant (unit_found c.self.inside c.args.self.now c.args.unit _ c.self.invariant c.self.view_is c.requires.unit c.index_mut-found.ensures.value) c.restore.ensures.fits (ap (λ (u : WornUnit). u.unit.shape) c.restore.ensures.restored)
+invariant_of-self c = whole_again (drive_view c.self.inside) c.args.unit _ _ c.self.invariant
+    (unit_found c.self.inside c.args.self.now c.args.unit _ c.self.invariant c.self.view_is c.requires.unit c.index_mut-found.ensures.value)
+    c.restore.ensures.fits (ap (λ (u : WornUnit). u.unit.shape) c.restore.ensures.restored)
 
 pub returns-clause-numbers : goal.returns-clause-numbers
 returns-clause-numbers c = ap shape_of c.self.view_is

@@ -44,7 +44,9 @@ pub index_mut-found-requires : goal.index_mut-found-requires
 index_mut-found-requires c = unit_within c.self.inside c.args.self.now c.args.unit c.self.invariant c.self.view_is c.requires.unit
 
 pub invariant_of-self : goal.invariant_of-self
-invariant_of-self c = whole_again (drive_view c.self.inside) c.args.unit _ _ c.self.invariant (unit_found c.self.inside c.args.self.now c.args.unit _ c.self.invariant c.self.view_is c.requires.unit c.index_mut-found.ensures.value) c.restore_spelled.ensures.fits (ap (λ (u : WornUnit). u.unit.shape) c.restore_spelled.ensures.restored.is)
+invariant_of-self c = whole_again (drive_view c.self.inside) c.args.unit _ _ c.self.invariant
+    (unit_found c.self.inside c.args.self.now c.args.unit _ c.self.invariant c.self.view_is c.requires.unit c.index_mut-found.ensures.value)
+    c.restore_spelled.ensures.fits (ap (λ (u : WornUnit). u.unit.shape) c.restore_spelled.ensures.restored.is)
 
 pub returns-clause-numbers : goal.returns-clause-numbers
 returns-clause-numbers c = ap shape_of c.self.view_is
