@@ -1,5 +1,5 @@
 -- Fetches leave the chunks as they were, and give the blocks.
-use Rattle.std.proofs.Common.{◌≡◌, ℕ, ◌+◌, ◌-◌, ◌*◌, ◌^◌, ◌<◌, ◌≤◌, ◌==◌, nat_lt, zero, suc, min, inl, inr, Bool, true, false, cond, List, [], ◌∷◌, ◌++◌, length, map, Option, Some, None, Result, Ok, Err, refl, sym, ap, ◌∙◌, subst, arith, add-zero, append_assoc, length-append}
+use Rattle.std.proofs.Common.{◌≡◌, ◌≢◌, ℕ, ◌+◌, ◌-◌, ◌*◌, ◌^◌, ◌<◌, ◌≤◌, ◌==◌, nat_lt, zero, suc, min, inl, inr, Bool, true, false, cond, List, [], ◌∷◌, ◌++◌, length, map, Option, Some, None, Result, Ok, Err, refl, sym, ap, ◌∙◌, subst, arith, add-zero, append_assoc, length-append}
 use Rattle.std.specs.List.{AllByRecursion, cons_option, filter, filter_map, range_with_len, slice_get, slice_set}
 use Rattle.std.specs.Option.{option_and_then, option_map, option_map_or}
 use Rattle.std.proofs.lemmas.List.{map-set}
@@ -12,6 +12,7 @@ use Rattle.pblk_model.specs.declared.chunk.Mark.{Mark}
 use Rattle.pblk_model.specs.declared.chunk.Got.{Got}
 use Rattle.pblk_model.specs.declared.chunk.Got.TheVariants as got
 use Rattle.pblk_model.specs.declared.chunk.ChunkErr.TheVariants as chunk_errors
+use Rattle.pblk_model.specs.declared.chunk.ChunkState.TheVariants.{Open}
 use Rattle.pblk_model.specs.Chunk.{Chunk, Block, IsChunk, PointerFits, ReadableIn, pointer}
 use Rattle.pblk_model.specs.ChunkStep.{ChunkCommand, Read, Gave, Empty, refusal, read_refusal_in}
 use Rattle.pblk_model.specs.UnitLog.{UnitOutcome, UnitEvent, Answered, IsOutcome, after_outcome, after_event}
@@ -23,7 +24,6 @@ use Rattle.unit_port.specs.declared.unit.UnitErr.TheVariants as unit_errors
 use Rattle.unit_port.specs.Commands.{UnitCommand, EventAt, IsNext, IsTaken, AreNext, with_event, after_one, after_all}
 use Rattle.unit_port.specs.Did.{Did, command_at, failed_or_stopped}
 use Rattle.unit_port.proofs.Units.{after_one_is}
-use Rattle.world_laws.specs.Finding.{NoneOpen}
 use Rattle.scan_recovery.specs.declared.error.ScanErr.{ScanErr}
 use Rattle.scan_recovery.specs.declared.error.ScanErr.TheVariants as errors
 use Rattle.scan_recovery.specs.Units.{image_of, AreFit}
@@ -63,12 +63,12 @@ chunk_fits s us line unit c fit there =
     let of = fit.each unit w.of w.there in
     subst (λ (x : Shape). IsChunk x c) of.shape (all_get (IsChunk w.of.shape) w.of.media line c of.fits.chunks w.chunk)
 
-pub readable_here : (s : Shape) (us : List ModelUnit) (line unit block : ℕ) (c : Chunk) → AreFit s us → NoneOpen (image_of s us)
-    → chunk_in (image_of s us) line unit ≡ Some c → block < pointer c → IsReadableAt (image_of s us) line unit block
-readable_here s us line unit block c fit none there below = record {
+pub readable_here : (s : Shape) (us : List ModelUnit) (line unit block : ℕ) (c : Chunk) → AreFit s us → chunk_in (image_of s us) line unit ≡ Some c
+    → c.state ≢ Open → block < pointer c → IsReadableAt (image_of s us) line unit block
+readable_here s us line unit block c fit there closed below = record {
   found = c;
   there = there;
-  closed = closed_by_block c.state s.clba (pointer c) block (chunk_fits s us line unit c fit there).place below (none line unit c there);
+  closed = closed_by_block c.state s.clba (pointer c) block (chunk_fits s us line unit c fit there).place below closed;
   written = below;
 }
 

@@ -179,7 +179,8 @@ module _ (i : Image) (m : Mount) (lines : List SeenLine) (rows : List (Option Ro
       table_list i.shape.chunks (line_row i) found
       (table_same i.shape.chunks (λ k. row_from lines (head_of m) rows tops k) (line_row i) found table (λ k below. one_row k below))
 
-pub found_rows : (i : Image) (n : ℕ) (m : Mount) (c : Counted) (lines seen : List SeenLine) (rows : List (Option MetaRow)) (tops : List ℕ) (found : List LineRow)
+pub found_rows : (i : Image) (n : ℕ) (m : Mount) (c : Counted) (lines seen : List SeenLine) (rows : List (Option MetaRow)) (tops : List ℕ)
+    (found : List LineRow)
     → IsMountOf i m → IsTable n (seen_line i) lines → n ≡ i.shape.chunks → IsCounted i c → seen ≡ lines → rows ≡ m.rows.items → tops ≡ c.tally.tops.items
     → IsTable (length seen) (λ k. row_from seen (head_of m) (map (option_map row_numbers) rows) tops k) found
     → found ≡ map (line_row i) (range_with_len 0 i.shape.chunks)

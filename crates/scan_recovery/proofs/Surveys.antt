@@ -126,13 +126,15 @@ record_marked i line start e a e-is = rw e-is (by (block_at i line a)) where
   with_mark b (Some m) = named_as b m (named i.shape m)
 
   by : (o : Option Block)
-      → option_map without_sector (option_and_then (λ block. option_and_then (bears i.shape line start.seq a block) (mark_at i.shape (end_of i line start) a block)) o)
+      → option_map without_sector (option_and_then
+      (λ block. option_and_then (bears i.shape line start.seq a block) (mark_at i.shape (end_of i line start) a block)) o)
       ≡ option_and_then (marked i.shape line start.seq a) (option_and_then (mark_at i.shape (end_of i line start) a) o)
   by None = refl
   by (Some b) = with_mark b (mark_at i.shape (end_of i line start) a b)
 
 pub records_one : (i : Image) (line : ℕ) (start : StartRecord) (e : Option EndRecord) (a : ℕ) (o : Option Mark) → e ≡ end_of i line start
-    → o ≡ mark_of i line e a → records_to i line start (a + 1) ≡ records_to i line start a ++ cons_option (option_and_then (marked i.shape line start.seq a) o) []
+    → o ≡ mark_of i line e a → records_to i line start (a + 1) ≡ records_to i line start a
+    ++ cons_option (option_and_then (marked i.shape line start.seq a) o) []
 records_one i line start e a o e-is o-is =
     made_last (λ k. option_map without_sector (record_at i line start k)) a
     ∙ ap (λ x. records_to i line start a ++ cons_option x [])
@@ -261,7 +263,8 @@ seen_more i line start full old now is table now-is =
     let row : ◌≡◌ {A = SeenLine} (record { seq = start.seq; full = full; used = start.used }) (seen_line i line) =
     ap (λ (x : LineStart). record { seq = x.seq; full = full; used = x.used }) is.start_is
     ∙ ap (λ b. record { seq = (line_start i line).seq; full = b; used = (line_start i line).used }) is.full_is in
-    subst (IsTable (line + 1) (seen_line i)) (sym now-is) (table_push line (seen_line i) old (record { seq = start.seq; full = full; used = start.used }) table row)
+    subst (IsTable (line + 1) (seen_line i)) (sym now-is)
+    (table_push line (seen_line i) old (record { seq = start.seq; full = full; used = start.used }) table row)
 
 -- a line is passed whose start record isn't whole
 pub count_passed : (i : Image) (line : ℕ) (c : Count) → start_of i line ≡ None → IsCountTo i line c → IsCountTo i (line + 1) c

@@ -1,12 +1,14 @@
 //! Fetching the blocks of a line.
 
-ghost use Rattle.std.specs.Prelude.{◌≡◌, ◌*◌, ◌-◌, ◌<◌, ◌≤◌, ◌^◌, true, false, Some, None, length, map, IfOk, OnOk};
+ghost use Rattle.std.specs.Prelude.{◌≡◌, ◌≢◌, ◌*◌, ◌-◌, ◌<◌, ◌≤◌, ◌^◌, ℕ, true, false, Some, None, length, map, slice_get, IfOk, OnOk};
 ghost use Rattle.std.specs.Option.{option_map};
+ghost use Rattle.pblk_model.specs.declared.chunk.ChunkState.TheVariants as states;
 ghost use Rattle.pblk_model.specs.Accepted.{IsAccepted};
+ghost use Rattle.pblk_model.specs.Chunk.{Chunk as ModelChunk};
 ghost use Rattle.pblk_model.specs.Image.{line_units};
 ghost use Rattle.pblk_model.specs.Shape.{units as unit_count};
 ghost use Rattle.pblk_layout.specs.Online.{units_in};
-ghost use Rattle.pblk_laws.specs.LineBlocks.{written_at};
+ghost use Rattle.pblk_laws.specs.LineBlocks.{chunk_in, written_at};
 ghost use Rattle.unit_port.specs.Commands.{AreKept};
 ghost use Rattle.world_laws.specs.Finding.{NoneOpen};
 ghost use Rattle.scan_recovery.specs.Fetches.{IsReadableAt, WereFewFetched, error_of, one_if, only_of};
@@ -20,8 +22,8 @@ use pblk_layout::{Layout, LineUnits};
 use pblk_model::{Got, Mark, Shape};
 use unit_port::Unit;
 
-/// Fetches the written ones of the blocks of a line at these line addresses. `online` are its online
-/// units.
+/// Fetches the written ones of the blocks of a line at these line addresses. `online` are its
+/// online units.
 pub(crate) fn fetch_run<U: Unit>(
     buffer: &mut LineBuffer,
     units: &mut [U],
@@ -87,34 +89,33 @@ pub(crate) fn fetch_mark<U: Unit>(
     Ok(Some(mark))
 }
 
-/// Whether a block of a chunk is written.
-pub(crate) fn is_written<U: Unit>(
-    units: &[U],
-    shape: &Shape,
-    line: u32,
-    unit: u32,
-    block: u32,
-) -> bool
+/// Whether a block of a chunk of a unit is written. The chunk isn't Open, so a written block can be
+/// read (Open-Channel SSD Specification 2.0, Chunk states and write pointer).
+pub fn is_written<U: Unit>(units: &[U], shape: &Shape, chunk: u32, unit: u32, block: u32) -> bool
     requires fit { AreFit shape.now (map U.model units.now) }
-    requires closed { NoneOpen (image_of shape.now (map U.model units.now)) }
+    requires closed { (c : ModelChunk)
+        → chunk_in (image_of shape.now (map U.model units.now)) chunk unit ≡ Some c
+        → c.state ≢ states.Open }
     requires unit { unit < length units.now }
-    requires line { line < shape.now.chunks }
+    requires chunk { chunk < shape.now.chunks }
     ensures written { let i = image_of shape.now (map U.model units.now)
-        in result ≡ true → IsReadableAt i line unit block }
+        in result ≡ true → IsReadableAt i chunk unit block }
     ensures unwritten { let i = image_of shape.now (map U.model units.now)
-        in result ≡ false → written_at i line (unit, block) ≡ None }
+        in result ≡ false → written_at i chunk (unit, block) ≡ None }
 {
     // the shape says which chunks there are
     let _ = shape;
-    let (_, pointer) = units[unit as usize].state(line);
+    let (_, pointer) = units[unit as usize].state(chunk);
     block < pointer
 }
 
-/// Fetches a block that can be read.
-pub(crate) fn fetch_into<U: Unit>(
+/// Fetches a block that can be read, and copies its sector to `out`, which has the length of a
+/// sector. The answer is the block's mark. `Drive` comes where the fetch failed or was stopped, and
+/// names its event. No other unit is commanded.
+pub fn fetch_into<U: Unit>(
     units: &mut [U],
     shape: &Shape,
-    line: u32,
+    chunk: u32,
     unit: u32,
     block: u32,
     out: &mut [u8],
@@ -122,18 +123,19 @@ pub(crate) fn fetch_into<U: Unit>(
     requires fit { AreFit shape.now (map U.model units.old) }
     requires unit { unit < length units.old }
     requires size { length out.old ≡ shape.now.sector }
-    requires there { IsReadableAt (image_of shape.now (map U.model units.old)) line unit block }
+    requires there { IsReadableAt (image_of shape.now (map U.model units.old)) chunk unit block }
     ensures block { let i = image_of shape.now (map U.model units.old)
-        in IfOk result (λ mark. written_at i line (unit, block)
+        in IfOk result (λ mark. written_at i chunk (unit, block)
         ≡ Some (record { sector = out.new; mark = mark })) }
     ensures fetched { WereFewFetched shape.now (map U.model units.old) (map U.model units.new)
-        (error_of result) (only_of line 1) }
+        (error_of result) (only_of chunk 1) }
     ensures kept { AreKept (map U.model units.old) (map U.model units.new) }
     ensures wear { map U.wear units.new ≡ map U.wear units.old }
+    ensures others { (k : ℕ) → k ≢ unit → slice_get units.new k ≡ slice_get units.old k }
 {
     // the shape says which blocks there are
     let _ = shape;
-    match fetch_at(units, unit as usize, line, block, out) {
+    match fetch_at(units, unit as usize, chunk, block, out) {
         Ok(Got::Sector(mark)) => Ok(mark),
         Ok(Got::Empty) => unreachable!(),
         Err(_) => Err(ScanErr::Drive {

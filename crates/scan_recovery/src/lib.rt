@@ -3,7 +3,8 @@
 //!
 //! `pad` closes the chunks that a mount left Open, and `scan` tells what a mount begins with on a
 //! drive without Open chunks. `make_ready` does both. `contents` tells what the image of any drive
-//! holds for its user, and `summary` all of that but the sectors.
+//! holds for its user, and `summary` all of that but the sectors. `is_written` and `fetch_into` are
+//! the steps that all of them take at a block.
 #![tactic(auto)]
 
 mod counting;
@@ -27,6 +28,7 @@ mod trace;
 mod unit_calls;
 
 pub use error::ScanErr;
+pub use fetching::{fetch_into, is_written};
 pub use holding::{contents, summary};
 pub use padding::pad;
 pub use readying::make_ready;

@@ -64,7 +64,8 @@ impl Starts {
         requires accepted { IsAccepted layout.now }
         requires line { line < layout.now.chunks }
         requires width { width ≤ units layout.now }
-        ensures { (i : Image) → i.shape ≡ layout.now → IsFit i → IsFront i line width used blocks.now
+        ensures { (i : Image) → i.shape ≡ layout.now → IsFit i
+            → IsFront i line width used blocks.now
             → IsStarts i line self.old
             → OnOk result (IsStarts i (line + 1) self.new) }
     {

@@ -39,7 +39,8 @@ impl Survey {
     }
     /// Adds the row of the next line, whose front told this.
     pub(crate) fn push(&mut self, start: LineStart, full: bool) -> Result<(), AllocError>
-        ensures row { (i : Image) (line : ℕ) → IsSeen i line start full → IsTable line (seen_line i) self.old.lines.items
+        ensures row { (i : Image) (line : ℕ) → IsSeen i line start full
+            → IsTable line (seen_line i) self.old.lines.items
             → OnOk result (IsTable (line + 1) (seen_line i) self.new.lines.items) }
         ensures count { self.new.count ≡ self.old.count }
     {

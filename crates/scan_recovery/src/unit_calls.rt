@@ -1,6 +1,6 @@
 //! Commands of one unit out of several.
 
-ghost use Rattle.std.specs.Prelude.{◌≡◌, ◌*◌, length, map};
+ghost use Rattle.std.specs.Prelude.{ℕ, ◌≡◌, ◌≢◌, ◌*◌, length, map, slice_get};
 ghost use Rattle.pblk_model.specs.Blocks.{blocks_of};
 ghost use Rattle.pblk_model.specs.ChunkStep.{Read, Write};
 ghost use Rattle.unit_port.specs.Unit.{TellsBlock, TellsDone};
@@ -34,7 +34,7 @@ pub(crate) fn program_at<U: Unit>(
     found.program(chunk, at, bytes, marks)
 }
 
-/// Fetches a block of a chunk of a unit.
+/// Fetches a block of a chunk of a unit. No other unit is commanded.
 pub(crate) fn fetch_at<U: Unit>(
     units: &mut [U],
     unit: usize,
@@ -48,6 +48,7 @@ pub(crate) fn fetch_at<U: Unit>(
         (TellsBlock out.old out.new result) (map U.model units.new) }
     ensures kept { AreKept (map U.model units.old) (map U.model units.new) }
     ensures wear { map U.wear units.new ≡ map U.wear units.old }
+    ensures others { (k : ℕ) → k ≢ unit → slice_get units.new k ≡ slice_get units.old k }
 {
     let found = &mut units[unit];
     found.fetch(chunk, block, out)

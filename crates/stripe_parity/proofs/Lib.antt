@@ -1,5 +1,4 @@
 pub mod Calm
-pub mod Chunks
 pub mod Counts
 pub mod Differences
 pub mod FileParts

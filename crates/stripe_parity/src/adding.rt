@@ -9,10 +9,9 @@ ghost use Rattle.scan_recovery.specs.Fetches.{WereFetched, error_of};
 ghost use Rattle.scan_recovery.specs.Units.{AreFit, image_of};
 ghost use Rattle.stripe_parity.specs.Xors.{blocks_but, written_but, xor_given, xor_onto};
 
-use crate::fetching::{fetch_into, is_written};
 use crate::xoring::{xor_bytes, xor_marks};
 use pblk_model::{Mark, Shape};
-use scan_recovery::ScanErr;
+use scan_recovery::{ScanErr, fetch_into, is_written};
 use unit_port::Unit;
 
 /// Replaces a block by its exclusive or with the blocks with a number of the units' chunks with a

@@ -11,7 +11,6 @@ mod adding;
 mod differing;
 mod drives;
 mod error;
-mod fetching;
 mod keeping;
 mod kept;
 mod law;

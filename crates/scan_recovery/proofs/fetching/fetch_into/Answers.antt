@@ -10,13 +10,13 @@ fetch_at-requires-clause-sector g c = λ k u h. ap (λ (x : Shape). x.sector) (c
 
 pub fetch_at-requires-clause-taken : goal.fetch_at-requires-clause-taken
 fetch_at-requires-clause-taken g c =
-    fetch_taken c.args.shape.now (map g.U.Unit.model c.args.units.now) c.args.line c.args.unit c.args.block c.requires.fit c.requires.there
+    fetch_taken c.args.shape.now (map g.U.Unit.model c.args.units.now) c.args.chunk c.args.unit c.args.block c.requires.fit c.requires.there
 
 pub returns-in-Ok-Sector-clause-fetched : goal.returns-in-Ok-Sector-clause-fetched
 returns-in-Ok-Sector-clause-fetched g c =
     let d = c.fetch_at.ensures.did in
     good_few c.args.shape.now (map g.U.Unit.model c.args.units.now)
-    (map g.U.Unit.model c.fetch_at.new.units) c.args.line c.args.unit c.args.block d.0 c.requires.there d.1
+    (map g.U.Unit.model c.fetch_at.new.units) c.args.chunk c.args.unit c.args.block d.0 c.requires.there d.1
     (ap failed_or_stopped (told_sector c.args.out.now c.fetch_at.new.out c.fetch_at.result _ d.0.event.outcome
     (c.in-Ok-Sector.is ∙ ap Ok c.in-Ok-Sector.field-0-is) d.2))
 
@@ -25,6 +25,6 @@ returns-in-Err-clause-fetched g c =
     let d = c.fetch_at.ensures.did in
     let inside : c.args.unit < length c.fetch_at.new.units = omega arith in
     lost_few c.args.shape.now (map g.U.Unit.model c.args.units.now)
-    (map g.U.Unit.model c.fetch_at.new.units) c.args.line c.args.unit c.args.block c.events.result d.0 _ c.requires.there d.1
+    (map g.U.Unit.model c.fetch_at.new.units) c.args.chunk c.args.unit c.args.block c.events.result d.0 _ c.requires.there d.1
     (told_lost c.args.out.now c.fetch_at.new.out c.fetch_at.result c.in-Err.field-0 d.0.event.outcome c.in-Err.is d.2)
     (model_there g.U.Unit.model c.fetch_at.new.units c.args.unit c.index-units-unit.result inside) c.events.ensures.count

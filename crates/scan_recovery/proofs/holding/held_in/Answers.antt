@@ -43,7 +43,8 @@ returns c =
       summary = record {
         end = is.end;
         counted = is.named;
-        live = c.live_in.ensures ∙ ap (λ ws. length (filter is_some ws)) c.deref-2.ensures.value ∙ live_is i c.in_ok-counted.counted.tally.winners.items is.winners;
+        live = c.live_in.ensures ∙ ap (λ ws. length (filter is_some ws)) c.deref-2.ensures.value
+            ∙ live_is i c.in_ok-counted.counted.tally.winners.items is.winners;
         head = c.head_in.ensures ∙ ap (option_map head_of) mount.head_is;
       };
     }

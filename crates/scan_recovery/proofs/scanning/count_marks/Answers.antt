@@ -80,7 +80,8 @@ returns-in_err-mark-clause-fetched g c =
     (map g.U.Unit.model c.fetch_mark.new.units) (Some c.in_err-mark.field-0.0) (only_of c.args.line (written_to i c.args.line c.loop-at.at))
     (only_of c.args.line one) (only_of c.args.line (written_in i c.args.line))
     (λ other. only_both c.args.line (written_to i c.args.line c.loop-at.at) one (written_in i c.args.line) other
-    (written_last i c.args.line c.loop-at.at _ here (omega (arith, c.loop-at-test.true, ap (λ n. n * s.clba) c.width.ensures.width, ap (λ n. n * s.clba) count))))
+    (written_last i c.args.line c.loop-at.at _ here
+    (omega (arith, c.loop-at-test.true, ap (λ n. n * s.clba) c.width.ensures.width, ap (λ n. n * s.clba) count))))
     c.loop-at.invariant.ran c.in_err-mark.ensures.fetched)
 
 pub returns-in_err-mark-clause-kept : goal.returns-in_err-mark-clause-kept
@@ -112,12 +113,14 @@ returns-in_err-count_block-clause-fetched g c =
     ∙ block_placed i c.args.line c.loop-at.at (units_in c.args.online) c.place-unit.result c.requires.accepted c.requires.online there in
     let one = one_if (written_at (image_of s (map g.U.Unit.model c.loop-at.units)) c.args.line c.place-unit.result) in
     let count = ap length c.requires.online ∙ line_units_count i c.args.line in
-    rw (p.1, p.2) (few_memory s (map g.U.Unit.model c.args.units.now) (map g.U.Unit.model c.fetch_mark.new.units) (only_of c.args.line (written_in i c.args.line))
+    rw (p.1, p.2) (few_memory s (map g.U.Unit.model c.args.units.now) (map g.U.Unit.model c.fetch_mark.new.units)
+    (only_of c.args.line (written_in i c.args.line))
     (few_joined s (map g.U.Unit.model c.args.units.now) (map g.U.Unit.model c.loop-at.units)
     (map g.U.Unit.model c.fetch_mark.new.units) None (only_of c.args.line (written_to i c.args.line c.loop-at.at))
     (only_of c.args.line one) (only_of c.args.line (written_in i c.args.line))
     (λ other. only_both c.args.line (written_to i c.args.line c.loop-at.at) one (written_in i c.args.line) other
-    (written_last i c.args.line c.loop-at.at _ here (omega (arith, c.loop-at-test.true, ap (λ n. n * s.clba) c.width.ensures.width, ap (λ n. n * s.clba) count))))
+    (written_last i c.args.line c.loop-at.at _ here
+    (omega (arith, c.loop-at-test.true, ap (λ n. n * s.clba) c.width.ensures.width, ap (λ n. n * s.clba) count))))
     c.loop-at.invariant.ran c.in_ok-mark.ensures.fetched))
 
 pub returns-in_err-count_block-clause-kept : goal.returns-in_err-count_block-clause-kept

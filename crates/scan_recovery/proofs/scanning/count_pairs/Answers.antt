@@ -80,3 +80,6 @@ returns g c =
             ap (λ n. n * c.args.shape.now.clba) count,
           )) (c.loop-at.invariant start.0 start.1);
     }
+
+pub is_written-requires-clause-closed : goal.is_written-requires-clause-closed
+is_written-requires-clause-closed g c = c.requires.closed c.args.line c.place-unit.result.0

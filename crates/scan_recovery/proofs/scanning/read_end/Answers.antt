@@ -33,9 +33,11 @@ returns-in_err-fetch_run-clause-fetched g c =
     let p = err_from_is_err_and c.from_residual.result c.from_residual.ensures.1 in
     let most = end_len c.args.shape.now (length (units_in c.args.online)) in
     rw (p.1, p.2) (few_more c.args.shape.now (map g.U.Unit.model c.args.units.now) (map g.U.Unit.model c.fetch_run.new.units)
-    (Some c.in_err-fetch_run.field-0.0) (only_of c.args.line (c.width-width.result * c.args.shape.now.clba - c.saturating_sub-from.result)) (only_of c.args.line most)
+    (Some c.in_err-fetch_run.field-0.0) (only_of c.args.line (c.width-width.result * c.args.shape.now.clba - c.saturating_sub-from.result))
+    (only_of c.args.line most)
     (λ other. only_up c.args.line (c.width-width.result * c.args.shape.now.clba - c.saturating_sub-from.result) most other
-    (end_few c.args.shape.now c.new-layout.result c.width-width.result (length (units_in c.args.online)) c.end_len.result (c.width-width.result * c.args.shape.now.clba) c.saturating_sub-from.result
+    (end_few c.args.shape.now c.new-layout.result c.width-width.result (length (units_in c.args.online)) c.end_len.result
+    (c.width-width.result * c.args.shape.now.clba) c.saturating_sub-from.result
     c.new-layout.ensures c.width-width.ensures.width c.end_len.ensures.len c.saturating_sub-from.ensures))
     c.in_err-fetch_run.ensures.fetched)
 
@@ -47,7 +49,8 @@ returns-in_err-blocks-clause-fetched g c =
     (few_more c.args.shape.now (map g.U.Unit.model c.args.units.now) (map g.U.Unit.model c.fetch_run.new.units)
     None (only_of c.args.line (c.width-width.result * c.args.shape.now.clba - c.saturating_sub-from.result)) (only_of c.args.line most)
     (λ other. only_up c.args.line (c.width-width.result * c.args.shape.now.clba - c.saturating_sub-from.result) most other
-    (end_few c.args.shape.now c.new-layout.result c.width-width.result (length (units_in c.args.online)) c.end_len.result (c.width-width.result * c.args.shape.now.clba) c.saturating_sub-from.result
+    (end_few c.args.shape.now c.new-layout.result c.width-width.result (length (units_in c.args.online)) c.end_len.result
+    (c.width-width.result * c.args.shape.now.clba) c.saturating_sub-from.result
     c.new-layout.ensures c.width-width.ensures.width c.end_len.ensures.len c.saturating_sub-from.ensures))
     c.in_ok-fetch_run.ensures.fetched))
 
@@ -64,7 +67,8 @@ returns-in_err-end-clause-fetched g c =
     (few_more c.args.shape.now (map g.U.Unit.model c.args.units.now) (map g.U.Unit.model c.fetch_run.new.units)
     None (only_of c.args.line (c.width-width.result * c.args.shape.now.clba - c.saturating_sub-from.result)) (only_of c.args.line most)
     (λ other. only_up c.args.line (c.width-width.result * c.args.shape.now.clba - c.saturating_sub-from.result) most other
-    (end_few c.args.shape.now c.new-layout.result c.width-width.result (length (units_in c.args.online)) c.end_len.result (c.width-width.result * c.args.shape.now.clba) c.saturating_sub-from.result
+    (end_few c.args.shape.now c.new-layout.result c.width-width.result (length (units_in c.args.online)) c.end_len.result
+    (c.width-width.result * c.args.shape.now.clba) c.saturating_sub-from.result
     c.new-layout.ensures c.width-width.ensures.width c.end_len.ensures.len c.saturating_sub-from.ensures))
     c.in_ok-fetch_run.ensures.fetched))
 
@@ -74,7 +78,8 @@ returns-clause-fetched g c =
     few_more c.args.shape.now (map g.U.Unit.model c.args.units.now) (map g.U.Unit.model c.fetch_run.new.units)
     None (only_of c.args.line (c.width-width.result * c.args.shape.now.clba - c.saturating_sub-from.result)) (only_of c.args.line most)
     (λ other. only_up c.args.line (c.width-width.result * c.args.shape.now.clba - c.saturating_sub-from.result) most other
-    (end_few c.args.shape.now c.new-layout.result c.width-width.result (length (units_in c.args.online)) c.end_len.result (c.width-width.result * c.args.shape.now.clba) c.saturating_sub-from.result
+    (end_few c.args.shape.now c.new-layout.result c.width-width.result (length (units_in c.args.online)) c.end_len.result
+    (c.width-width.result * c.args.shape.now.clba) c.saturating_sub-from.result
     c.new-layout.ensures c.width-width.ensures.width c.end_len.ensures.len c.saturating_sub-from.ensures))
     c.in_ok-fetch_run.ensures.fetched
 
@@ -86,7 +91,8 @@ returns-clause-end g c = λ start seq-is.
     end_read i c.args.line start c.new-layout.result c.width-width.result c.args.seq c.deref.result.now _ c.requires.accepted
     (fit_image c.args.shape.now us c.requires.fit) c.new-layout.ensures (c.width-width.ensures.width ∙ count) seq-is
     (c.deref.ensures.value ∙ c.in_ok-blocks.ensures ∙ c.in_ok-fetch_run.ensures.blocks
-    ∙ tail_is i c.args.line c.new-layout.result c.width-width.result c.end_len.result (c.width-width.result * c.args.shape.now.clba) c.saturating_sub-from.result
+    ∙ tail_is i c.args.line c.new-layout.result c.width-width.result c.end_len.result
+    (c.width-width.result * c.args.shape.now.clba) c.saturating_sub-from.result
     c.new-layout.ensures (c.width-width.ensures.width ∙ count) c.end_len.ensures.len
     (ap (λ n. n * c.args.shape.now.clba) (c.width-width.ensures.width ∙ count)) c.saturating_sub-from.ensures)
     c.in_ok-end.ensures.end

@@ -30,7 +30,8 @@ returns-in_err-fetch_run-clause-fetched g c =
     rw (p.1, p.2) (few_more c.args.shape.now (map g.U.Unit.model c.args.units.now) (map g.U.Unit.model c.fetch_run.new.units)
     (Some c.in_err-fetch_run.field-0.0) (only_of c.args.line (c.min-to.result - 0)) (only_of c.args.line (start_len c.args.shape.now))
     (λ other. only_up c.args.line (c.min-to.result - 0) (start_len c.args.shape.now) other
-    (start_few c.args.shape.now c.new-layout.result c.start_len.result (c.width.result * c.args.shape.now.clba) c.min-to.result c.new-layout.ensures c.start_len.ensures.len c.min-to.ensures))
+    (start_few c.args.shape.now c.new-layout.result c.start_len.result
+    (c.width.result * c.args.shape.now.clba) c.min-to.result c.new-layout.ensures c.start_len.ensures.len c.min-to.ensures))
     c.in_err-fetch_run.ensures.fetched)
 
 pub returns-in_err-blocks-clause-fetched : goal.returns-in_err-blocks-clause-fetched
@@ -41,7 +42,8 @@ returns-in_err-blocks-clause-fetched g c =
     (few_more c.args.shape.now (map g.U.Unit.model c.args.units.now) (map g.U.Unit.model c.fetch_run.new.units)
     None (only_of c.args.line (c.min-to.result - 0)) (only_of c.args.line (start_len c.args.shape.now))
     (λ other. only_up c.args.line (c.min-to.result - 0) (start_len c.args.shape.now) other
-    (start_few c.args.shape.now c.new-layout.result c.start_len.result (c.width.result * c.args.shape.now.clba) c.min-to.result c.new-layout.ensures c.start_len.ensures.len c.min-to.ensures))
+    (start_few c.args.shape.now c.new-layout.result c.start_len.result
+    (c.width.result * c.args.shape.now.clba) c.min-to.result c.new-layout.ensures c.start_len.ensures.len c.min-to.ensures))
     c.in_ok-fetch_run.ensures.fetched))
 
 pub returns-in_err-add-clause-fetched : goal.returns-in_err-add-clause-fetched
@@ -52,7 +54,8 @@ returns-in_err-add-clause-fetched g c =
     (few_more c.args.shape.now (map g.U.Unit.model c.args.units.now) (map g.U.Unit.model c.fetch_run.new.units)
     None (only_of c.args.line (c.min-to.result - 0)) (only_of c.args.line (start_len c.args.shape.now))
     (λ other. only_up c.args.line (c.min-to.result - 0) (start_len c.args.shape.now) other
-    (start_few c.args.shape.now c.new-layout.result c.start_len.result (c.width.result * c.args.shape.now.clba) c.min-to.result c.new-layout.ensures c.start_len.ensures.len c.min-to.ensures))
+    (start_few c.args.shape.now c.new-layout.result c.start_len.result
+    (c.width.result * c.args.shape.now.clba) c.min-to.result c.new-layout.ensures c.start_len.ensures.len c.min-to.ensures))
     c.in_ok-fetch_run.ensures.fetched))
 
 pub returns-clause-fetched : goal.returns-clause-fetched
@@ -60,7 +63,8 @@ returns-clause-fetched g c =
     few_more c.args.shape.now (map g.U.Unit.model c.args.units.now) (map g.U.Unit.model c.fetch_run.new.units)
     None (only_of c.args.line (c.min-to.result - 0)) (only_of c.args.line (start_len c.args.shape.now))
     (λ other. only_up c.args.line (c.min-to.result - 0) (start_len c.args.shape.now) other
-    (start_few c.args.shape.now c.new-layout.result c.start_len.result (c.width.result * c.args.shape.now.clba) c.min-to.result c.new-layout.ensures c.start_len.ensures.len c.min-to.ensures))
+    (start_few c.args.shape.now c.new-layout.result c.start_len.result
+    (c.width.result * c.args.shape.now.clba) c.min-to.result c.new-layout.ensures c.start_len.ensures.len c.min-to.ensures))
     c.in_ok-fetch_run.ensures.fetched
 
 pub add-requires-clause-width : goal.add-requires-clause-width
@@ -77,7 +81,8 @@ returns-clause-starts g c =
     ∙ line_units_count i c.args.line in
     c.in_ok-add.ensures i (sym c.new-layout.ensures) (fit_image c.args.shape.now us c.requires.fit) (record {
       blocks_are = c.deref.ensures.value ∙ c.in_ok-blocks.ensures ∙ c.in_ok-fetch_run.ensures.blocks
-          ∙ ap (blocks_at i c.args.line 0) (front_count i c.args.line c.new-layout.result c.start_len.result (c.width.result * c.args.shape.now.clba) c.min-to.result c.new-layout.ensures
+          ∙ ap (blocks_at i c.args.line 0)
+          (front_count i c.args.line c.new-layout.result c.start_len.result (c.width.result * c.args.shape.now.clba) c.min-to.result c.new-layout.ensures
           c.start_len.ensures.len (ap (λ n. n * c.args.shape.now.clba) (c.width.ensures.width ∙ count)) c.min-to.ensures);
       width_is = c.width-2.ensures.width ∙ count;
       used_is = c.is_used-used.ensures;

@@ -89,11 +89,13 @@ returns-in_err-count_marks-clause-fetched g c =
     let start = start_there i c.args.line c.in-Some.seq (seq_line i c.args.line c.args.start (Some c.in-Some.seq) c.requires.start c.in-Some.is) in
     let part = full_is i c.args.line start.0 None start.1 (sym (c.in_ok-end.ensures.end start.0 start.2) ∙ ap (option_map end_numbers) c.in_default-2.is) in
     let new = map g.U.Unit.model c.count_marks.new.units in
-    rw (p.1, p.2) (few_joined s us mid new (Some c.in_err-count_marks.field-0.0) (only_of c.args.line (end_len s n)) (only_of c.args.line (written_in i c.args.line))
+    rw (p.1, p.2) (few_joined s us mid new (Some c.in_err-count_marks.field-0.0) (only_of c.args.line (end_len s n))
+    (only_of c.args.line (written_in i c.args.line))
     (only_of c.args.line (most_behind i c.args.line))
     (λ other. only_both c.args.line (end_len s n) (written_in i c.args.line) (most_behind i c.args.line) other (marks_within i c.args.line n wide part))
     c.in_ok-end.ensures.fetched
-    (subst (λ j. WereFewFetched s mid new (Some c.in_err-count_marks.field-0.0) (only_of c.args.line (written_in j c.args.line))) c.in_ok-end.ensures.fetched.1.image c.in_err-count_marks.ensures.fetched))
+    (subst (λ j. WereFewFetched s mid new (Some c.in_err-count_marks.field-0.0) (only_of c.args.line (written_in j c.args.line)))
+    c.in_ok-end.ensures.fetched.1.image c.in_err-count_marks.ensures.fetched))
 
 pub returns-in_err-count_marks-clause-kept : goal.returns-in_err-count_marks-clause-kept
 returns-in_err-count_marks-clause-kept g c =
@@ -125,7 +127,8 @@ returns-in_default-2-clause-fetched g c =
     (only_of c.args.line (most_behind i c.args.line))
     (λ other. only_both c.args.line (end_len s n) (written_in i c.args.line) (most_behind i c.args.line) other (marks_within i c.args.line n wide part))
     c.in_ok-end.ensures.fetched
-    (subst (λ j. WereFewFetched s mid new None (only_of c.args.line (written_in j c.args.line))) c.in_ok-end.ensures.fetched.1.image c.in_ok-count_marks.ensures.fetched)
+    (subst (λ j. WereFewFetched s mid new None (only_of c.args.line (written_in j c.args.line))) c.in_ok-end.ensures.fetched.1.image
+    c.in_ok-count_marks.ensures.fetched)
 
 pub returns-in_default-2-clause-kept : goal.returns-in_default-2-clause-kept
 returns-in_default-2-clause-kept g c =
@@ -171,7 +174,8 @@ returns-in_err-count_pairs-clause-fetched g c =
     let i = image_of s us in
     let n = length (units_in c.online_units-online.result) in
     let wide = ap length c.online_units-online.ensures.units ∙ line_units_count i c.args.line in
-    rw (p.1, p.2) (few_memory s us mid (only_of c.args.line (most_behind i c.args.line)) (few_more s us mid None (only_of c.args.line (end_len s n)) (only_of c.args.line (most_behind i c.args.line))
+    rw (p.1, p.2) (few_memory s us mid (only_of c.args.line (most_behind i c.args.line))
+    (few_more s us mid None (only_of c.args.line (end_len s n)) (only_of c.args.line (most_behind i c.args.line))
     (λ other. only_up c.args.line (end_len s n) (most_behind i c.args.line) other (end_within i c.args.line n wide)) c.in_ok-end.ensures.fetched))
 
 pub returns-clause-full : goal.returns-clause-full

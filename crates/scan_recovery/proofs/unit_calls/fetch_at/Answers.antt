@@ -1,4 +1,5 @@
 use Rattle.pblk_model.specs.ChunkStep.{Read}
+use Rattle.pblk_model.proofs.Parts.{get_set_other}
 use Rattle.unit_port.specs.Did.{command_at}
 use Rattle.unit_port.proofs.Units.{at_unit, block_quiet, did_step, kept_step, taken_within}
 use Rattle.scan_recovery.proofs.Wears.{wear_same}
@@ -21,3 +22,6 @@ pub returns-clause-wear : goal.returns-clause-wear
 returns-clause-wear g c =
     wear_same g.U.Unit.wear c.args.units.now c.args.unit c.index-units-unit.result c.fetch.new.self
     (taken_within g.U.Unit.model c.args.units.now (command_at c.args.unit c.args.chunk (Read c.args.block)) c.requires.taken) c.fetch.ensures.wear
+
+pub returns-clause-others : goal.returns-clause-others
+returns-clause-others g c = λ k other. get_set_other c.args.units.now c.args.unit k c.fetch.new.self other

@@ -21,7 +21,13 @@ returns-then-not-is_written-clause-kept g c = kept_none (map g.U.Unit.model c.ar
 pub returns-in_err-found-clause-fetched : goal.returns-in_err-found-clause-fetched
 returns-in_err-found-clause-fetched g c =
     let p = err_from_is_err_and c.from_residual.result c.from_residual.ensures.1 in
-    rw (p.1, p.2) c.in_err-found.ensures.fetched
+    let f = c.in_err-found.ensures.fetched in
+    rw (p.1, p.2) (f.0, f.1)
+
+pub returns-clause-fetched : goal.returns-clause-fetched
+returns-clause-fetched g c =
+    let f = c.in_ok-found.ensures.fetched in
+    (f.0, f.1)
 
 pub returns-clause-sum : goal.returns-clause-sum
 returns-clause-sum g c =

@@ -16,7 +16,8 @@ returns-then-place-len-clause-tally c = λ sectors lines rs h.
       tops = tops_noted lines rs c.args.self.now.tops.items (bare c.args.t.now) c.max.result h.tops c.requires.line
           (c.max.ensures ∙ ap (λ n. max n (c.args.t.now.position + 1))
           (c.index.ensures ∙ get_default c.args.self.now.tops.items c.args.t.now.line c.index.result.now 0 c.requires.line));
-      named = named_more rs (bare c.args.t.now) c.in-Some.lba c.args.self.now.named c.saturating_add-self.result c.in-Some.is h.named c.saturating_add-self.ensures;
+      named = named_more rs (bare c.args.t.now) c.in-Some.lba c.args.self.now.named c.saturating_add-self.result c.in-Some.is h.named
+          c.saturating_add-self.ensures;
     }
 
 pub returns-else-place-len-clause-tally : goal.returns-else-place-len-clause-tally
@@ -27,7 +28,8 @@ returns-else-place-len-clause-tally c = λ sectors lines rs h.
       tops = tops_noted lines rs c.args.self.now.tops.items (bare c.args.t.now) c.max.result h.tops c.requires.line
           (c.max.ensures ∙ ap (λ n. max n (c.args.t.now.position + 1))
           (c.index.ensures ∙ get_default c.args.self.now.tops.items c.args.t.now.line c.index.result.now 0 c.requires.line));
-      named = named_more rs (bare c.args.t.now) c.in-Some.lba c.args.self.now.named c.saturating_add-self.result c.in-Some.is h.named c.saturating_add-self.ensures;
+      named = named_more rs (bare c.args.t.now) c.in-Some.lba c.args.self.now.named c.saturating_add-self.result c.in-Some.is h.named
+          c.saturating_add-self.ensures;
     }
 
 pub returns-in_default-clause-tally : goal.returns-in_default-clause-tally

@@ -35,3 +35,6 @@ returns-clause-block g c =
     some_added b.size b.used b.bytes.items c.fetch_into.new.out _ b.marks.items c.note-2.new.marks.items c.in_ok-mark.mark c.args.self.now.blocks _ front
     c.self.invariant.within c.self.invariant.used long c.in_ok-note-2.ensures.ok
     (ap (λ v. v.blocks) c.self.view_is) c.in_ok-mark.ensures.block
+
+pub is_written-requires-clause-closed : goal.is_written-requires-clause-closed
+is_written-requires-clause-closed g c = c.requires.closed c.args.line c.args.unit
