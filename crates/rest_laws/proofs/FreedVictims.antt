@@ -72,10 +72,10 @@ module _ (i : Image) (w : World) (mount : IsLegalMount i w) (none_lost : NoStrip
   abbrev v : IsWorldAt i w n
   v = world_at i w n mount.legal low
 
-  long : length (log_of (world_at i w n mount.legal low).world 0) ≡ n
+  pub long : length (log_of (world_at i w n mount.legal low).world 0) ≡ n
   long = let count : length (log_of v.world 0) ≡ length (take n log) = ap length v.own in omega (arith, low, length-take n log)
 
-  emptied_then : IsEmptied i (log_of (world_at i w n mount.legal low).world) line
+  pub emptied_then : IsEmptied i (log_of (world_at i w n mount.legal low).world) line
   emptied_then = record {
     at_work = ap (victim i (log_of v.world)) long ∙ victim_there i w mount n low n (omega arith) ∙ at;
     none_live = sym (live_told i (log_of v.world) (engine_prefix n (log_of w)) v.told line) ∙ none_live;

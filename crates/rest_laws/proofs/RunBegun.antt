@@ -121,6 +121,16 @@ module _ (i : Image) (w : World) (is : IsReasonedMount i w) (at : ℕ → ℕ) (
     none_at_work None h = refl
     none_at_work (Some v) h = absurd h
 
+    -- it has a stripe's addresses less of live sectors than a line has of data
+    pub line_fits : (line : ℕ) → next_victim i (engine_prefix (suc n) (log_of w)) ≡ Some line
+        → live i (engine_prefix (suc n) (log_of w)) line + i.shape.ws_opt ≤ full_data i.shape
+    line_fits line chosen =
+        let next : IsNextVictim i here_logs line = next_victim_is i here_logs line chosen in
+        let wide : data_len i.shape (width (known_image i here_logs) line) ≡ full_data i.shape =
+        ap (data_len i.shape) (is.wide (suc n) (omega arith) within line next.in_range) in
+        let room : live i here_logs line + i.shape.ws_opt ≤ data_len i.shape (width (known_image i here_logs) line) = had_room i here_logs line chosen in
+        omega arith
+
     came : (line : ℕ) → next_victim i (engine_prefix (suc n) (log_of w)) ≡ Some line → IsRoomState i (log_of w) at (suc n) n n None s
         → (new : State) × IsRoomState i (log_of w) at (suc n) n n (Some line) new
     came line chosen was = (
@@ -133,17 +143,9 @@ module _ (i : Image) (w : World) (is : IsReasonedMount i w) (at : ℕ → ℕ) (
         users = was.users;
         reach = λ position granted. let low : position ≤ s.reach = was.reach position granted in omega arith;
         asks = was.asks;
-        reached = ByStep s (Choose (live i here_logs line)) was.reached (record { none = none_at_work s.victim was.victim; fits = fits });
+        reached = ByStep s (Choose (live i here_logs line)) was.reached (record { none = none_at_work s.victim was.victim; fits = line_fits line chosen });
       },
     )
-      where
-        fits : live i (engine_prefix (suc n) (log_of w)) line + i.shape.ws_opt ≤ full_data i.shape
-        fits =
-            let next : IsNextVictim i here_logs line = next_victim_is i here_logs line chosen in
-            let wide : data_len i.shape (width (known_image i here_logs) line) ≡ full_data i.shape =
-            ap (data_len i.shape) (is.wide (suc n) (omega arith) within line next.in_range) in
-            let room : live i here_logs line + i.shape.ws_opt ≤ data_len i.shape (width (known_image i here_logs) line) = had_room i here_logs line chosen in
-            omega arith
 
     comes : IsRoomState i (log_of w) at (suc n) n n None s
         → (new : State) × IsRoomState i (log_of w) at (suc n) n n (comes_to_work i (engine_prefix (suc n) (log_of w))) new

@@ -338,7 +338,7 @@ module _ (i : Image) (w : World) (is : IsReasonedMount i w) (at : ℕ → ℕ) (
     takes_none = ap taken_by its
 
     -- all that waits is at or past the front placed
-    waiting_from : (t : Taken) → Contains (waiting i.shape (take n (log_of w 0))) t → placed_front i.shape (take n (log_of w 0)) ≤ t.entry.position
+    pub waiting_from : (t : Taken) → Contains (waiting i.shape (take n (log_of w 0))) t → placed_front i.shape (take n (log_of w 0)) ≤ t.entry.position
     waiting_from t held = subst (λ (xs : List Logged). placed_front i.shape xs ≤ t.entry.position) v.own by
       where
         v : IsWorldAt i w n

@@ -239,6 +239,16 @@ module _ (i : Image) (w : World) (is : IsReasonedMount i w) (n : ℕ) (some : 0 
           taken_is = omega (arith, h.taken_is, fronts.0);
         }
 
+    -- a line that is opened is as wide as the drive
+    pub start_wide : (line : ℕ) (start : StartRecord) → l.event ≡ Decides (Open line start) → start.width ≡ units i.shape
+    start_wide line start its =
+        let named_may = room.may i s v mount (Open line start) refl its b.0 b.1 in
+        let now : MayOpen i (log_of v) named_may.0 line start =
+        opening_told i (prefixes l (log_of v)) (log_of v)
+        (told_back i (log_of v) (prefixes l (log_of v)) (room.told i s v mount (Open line start) refl its b.0 b.1))
+        named_may.0 line start named_may.2 in
+        now.own_width ∙ ap (λ (j : Image). width j line) (sym (image_same i (log_of v) old st.was)) ∙ wide_old line now.in_range
+
     pub opened : (line : ℕ) (start : StartRecord) → l.event ≡ Decides (Open line start)
         → (1 ≤ free_) × IsNow (left + full_data i.shape) (free_ - 1) resetting placed taken_
     opened line start its =
@@ -264,16 +274,6 @@ module _ (i : Image) (w : World) (is : IsReasonedMount i w) (n : ℕ) (some : 0 
             taken_is = omega (arith, h.taken_is, fronts.0);
           },
         )
-      where
-        -- the line is as wide as the drive
-        start_wide : (line : ℕ) (start : StartRecord) → l.event ≡ Decides (Open line start) → start.width ≡ units i.shape
-        start_wide line start its =
-            let named_may = room.may i s v mount (Open line start) refl its b.0 b.1 in
-            let now : MayOpen i (log_of v) named_may.0 line start =
-            opening_told i (prefixes l (log_of v)) (log_of v)
-            (told_back i (log_of v) (prefixes l (log_of v)) (room.told i s v mount (Open line start) refl its b.0 b.1))
-            named_may.0 line start named_may.2 in
-            now.own_width ∙ ap (λ (j : Image). width j line) (sym (image_same i (log_of v) old st.was)) ∙ wide_old line now.in_range
 
     -- a stripe with entries takes its addresses, and places as many as it has blocks, or all that
     -- wait

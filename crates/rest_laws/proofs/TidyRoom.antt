@@ -38,7 +38,7 @@ module _ (i : Image) (w : World) (is : IsTidyMount i w) where
 
   module _ (after : AreAfterResets i (log_of w)) (reasons : HasReasons i (log_of w))
       (left : taken (log_of w 0) < position_limit (log_of w 0)) where
-    reasoned : IsReasonedMount i w
+    pub reasoned : IsReasonedMount i w
     reasoned = record {
       mount = is.mount;
       none_lost = faultless_kept i w is.mount.legal is.faultless;
