@@ -1,5 +1,5 @@
 -- Copies one after another, in one hold of the engine's lock.
-use Rattle.std.proofs.Common.{◌≡◌, ◌<◌, ◌≤◌, ◌+◌, ℕ, Bool, true, false, cond, Ok, Err, List, [], ◌∷◌, ◌++◌, length, length-append, append_assoc, inl, inr, refl, sym, subst, ap, ◌∙◌, arith}
+use Rattle.std.proofs.Common.{◌≡◌, ◌≢◌, ◌<◌, ◌≤◌, ◌+◌, ℕ, Bool, true, false, cond, Ok, Err, List, [], ◌∷◌, ◌++◌, length, length-append, append_assoc, inl, inr, refl, sym, subst, ap, ◌∙◌, arith}
 use Rattle.std.specs.Prelude.{Result}
 use Rattle.pblk_model.specs.Image.{Image}
 use Rattle.pblk_model.proofs.Lists.{all_append, last_of}
@@ -63,8 +63,8 @@ copied_more i handed n a b c did x is same = record {
 -- the last piece of work was this, after so many copies
 run_then : (i : Image) (handed : List ModelUnit) (n : ℕ) (a b c : WorkerView) (did told : Did) → n < 16 → HasCopied n a b
     → HasCollected i handed b c (Ok did) → IsOfRole roles.Collector did → ((made : List Made) → TellsDid i b.known c.known made did → told ≡ dids.Copied
-    → 0 < n + length made) → HasCollectedRun handed a c (Ok told)
-run_then i handed n a b c did told low x is role some =
+    → 0 < n + length made) → (told ≢ dids.Copied → n ≤ 0) → HasCollectedRun handed a c (Ok told)
+run_then i handed n a b c did told low x is role some one =
     let both : length (x.more ++ is.pumped.more) ≡ length x.more + length is.pumped.more = length-append x.more is.pumped.more in
     let before : length x.more ≡ n = x.count in
     let few : length is.pumped.more ≤ 1 = made_few i b.known c.known is.pumped.more did role is.pumped.tells.1 in
@@ -76,20 +76,21 @@ run_then i handed n a b c did told low x is role some =
       tells = (
         all_append (λ (m : Made). is_drive_fault m.event ≡ false) x.more is.pumped.more x.none is.pumped.tells.0,
         λ same. let all : 0 < n + length is.pumped.more = some is.pumped.more is.pumped.tells.1 same in omega arith,
+        λ other. let none : n ≤ 0 = one other in omega arith,
       );
     }
 
 -- it made some copies, and then no more
 pub run_some : (i : Image) (handed : List ModelUnit) (n : ℕ) (a b c : WorkerView) (did : Did) → n < 16 → 0 < n → HasCopied n a b
     → HasCollected i handed b c (Ok did) → IsOfRole roles.Collector did → HasCollectedRun handed a c (Ok dids.Copied)
-run_some i handed n a b c did low some x is role = run_then i handed n a b c did dids.Copied low x is role (λ made tells same. omega arith)
+run_some i handed n a b c did low some x is role = run_then i handed n a b c did dids.Copied low x is role (λ made tells same. omega arith) (λ other. absurd (other refl))
 
 -- it made none before
-pub run_one : (i : Image) (handed : List ModelUnit) (n : ℕ) (a b c : WorkerView) (did : Did) → n < 16 → HasCopied n a b
+pub run_one : (i : Image) (handed : List ModelUnit) (n : ℕ) (a b c : WorkerView) (did : Did) → n < 16 → n ≤ 0 → HasCopied n a b
     → HasCollected i handed b c (Ok did) → IsOfRole roles.Collector did → HasCollectedRun handed a c (Ok did)
-run_one i handed n a b c did low x is role =
+run_one i handed n a b c did low first x is role =
     run_then i handed n a b c did did low x is role
-    (λ made tells same. let one : length made ≡ 1 = copy_one i b.known c.known made did same tells in omega arith)
+    (λ made tells same. let one : length made ≡ 1 = copy_one i b.known c.known made did same tells in omega arith) (λ other. first)
 
 -- a fetch gave no block
 pub run_lost : (i : Image) (handed : List ModelUnit) (n : ℕ) (a b c : WorkerView) (e : FetchErr) → n < 16 → HasCopied n a b → HasCollected i handed b c (Err e)

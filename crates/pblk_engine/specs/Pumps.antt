@@ -175,9 +175,11 @@ pub record HasCollected (i : Image) (handed : List ModelUnit) (old new : WorkerV
   pub caused : TellsCauses pumped.more result
 
 -- What a run of copies answers, with the fetches that its worker made in it. Each gave its block; or
--- the last didn't, and it is told why. It answers that it copied only where it made one at least.
+-- the last didn't, and it is told why. It answers that it copied only where it made one at least,
+-- and anything else only where it made one at most.
 abbrev pub TellsRun : List ModelUnit → List Made → Result Did FetchErr → Type 0
 TellsRun handed more (Ok did) = NoFaults more × (did ≡ dids.Copied → 0 < length more)
+    × (did ≢ dids.Copied → length more ≤ 1)
 TellsRun handed more (Err e) = (is : IsFaultOf handed more (fault_of e)) × TellsCause e.cause is.last.event.outcome
 
 -- Sectors were copied one after another, at most 16.

@@ -138,10 +138,10 @@ impl<M: Mount, U: Unit> Engine<M, U> {
         Ok(Did::Copied)
     }
 
-    /// Copies the sectors that are to be copied next, one after another, in one hold of the engine's
-    /// lock. It ends where no copy can be made, and after 16 copies. Before each it takes what is
-    /// filled. `Copied` comes exactly where it made a copy. Else the answer is that of a pump in the
-    /// role Collector.
+    /// Copies the sectors that are to be copied next, one after another, in one hold of the
+    /// engine's lock. It ends where no copy can be made, and after 16 copies. Before each it takes
+    /// what is filled. `Copied` comes exactly where it made a copy. Else the answer is that of a
+    /// pump in the role Collector.
     ///
     /// `Err` comes where the fetch of a sector's block failed or was stopped, and tells which. Then
     /// that sector is still to be copied. The copies before it were made.

@@ -28,5 +28,5 @@ returns-in_default g c = record {
 pub returns-in_default-2 : goal.returns-in_default-2
 returns-in_default-2 g c = record {
   collected = run_one g.M.Mount.past.image g.M.Mount.handed c.loop-copied.copied c.args.worker.now c.loop-copied.worker c.collect_next.new.worker
-      c.in_ok-did.did c.loop-copied-test.true c.loop-copied.invariant c.in_ok-did.ensures.collected c.in_ok-did.ensures.role;
+      c.in_ok-did.did c.loop-copied-test.true c.if-copied-gt0.false c.loop-copied.invariant c.in_ok-did.ensures.collected c.in_ok-did.ensures.role;
 }
