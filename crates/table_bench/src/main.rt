@@ -1,9 +1,10 @@
-//! Measures the calls of the tables that a target keeps: its pool of frames, its map, its window, its lines, its
-//! victims and its placer.
+//! Measures the calls of the tables that a target keeps: its pool of frames, its map, its window,
+//! its lines, its victims and its placer.
 //!
-//! The words are a drive, `small` or `realistic`, and how many rounds. A line for each call has its name, how
-//! often a round makes it, and the nanoseconds of the quickest round. Without the second word there is one
-//! round, and in place of the time stands what the answers sum up to, which doesn't depend on the machine.
+//! The words are a drive, `small` or `realistic`, and how many rounds. A line for each call has its
+//! name, how often a round makes it, and the nanoseconds of the quickest round. Without the second
+//! word there is one round, and in place of the time stands what the answers sum up to, which
+//! doesn't depend on the machine.
 #![tactic(auto)]
 
 mod blank;

@@ -73,8 +73,8 @@ impl Index {
         })
     }
 
-    // Holds each line anew. Loops that are compared begin so: a line that is set to what it is held with
-    // costs less.
+    // Holds each line anew. Loops that are compared begin so: a line that is set to what it is held
+    // with costs less.
     fn fill(&mut self) {
         let mut draw = Draw::new();
         for line in 0..self.count {
