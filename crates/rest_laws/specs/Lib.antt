@@ -10,3 +10,4 @@ pub mod Copies
 pub mod AtWork
 pub mod TidyMounts
 pub mod RoomRuns
+pub mod Work

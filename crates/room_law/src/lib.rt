@@ -13,8 +13,9 @@
 //! - Where less than a stripe waits, and the space limit is less than 16 past what is taken,
 //!   collection is due.
 //!
-//! A second law bounds a settling, also by counting (`specs/Settling.antt`): how many pumps one worker
-//! makes until all is on the drive and collection isn't due, while nobody else works or claims.
+//! A second law bounds a settling, also by counting (`specs/Settling.antt`): how many pumps one
+//! worker makes until all is on the drive and collection isn't due, while nobody else works or
+//! claims.
 //!
 //! - A settling ends. What is left to be done is worth a number that each pump makes less, and that
 //!   nothing else makes more.

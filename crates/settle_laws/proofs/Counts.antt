@@ -39,7 +39,7 @@ count_next test log n l there =
 abbrev pub frees : List Logged → ℕ
 frees log = length (filter (λ l. decides is_freeing l.event) log)
 
-pub frees_rise : (log : List Logged) (a b : ℕ) → a ≤ b → frees (take a log) ≤ frees (take b log)
+frees_rise : (log : List Logged) (a b : ℕ) → a ≤ b → frees (take a log) ≤ frees (take b log)
 frees_rise log a b below =
     let parts : take a log ++ rest ≡ take b log =
     ap (λ (xs : List Logged). xs ++ rest) (sym (take-take a b log below)) ∙ take_and_drop a (take b log) in

@@ -1,5 +1,5 @@
 -- Once no user's entry is taken any more, a mount makes so many pieces of work at most.
-use Rattle.std.proofs.Common.{◌≡◌, inl, ℕ, ◌+◌, ◌-◌, ◌*◌, ◌<◌, ◌≤◌, Some, None, Option, List, length, take, refl, subst, ap, ◌∙◌, arith}
+use Rattle.std.proofs.Common.{◌≡◌, ℕ, ◌+◌, ◌-◌, ◌*◌, ◌<◌, ◌≤◌, Some, None, Option, List, length, take, refl, subst, ap, ◌∙◌, arith}
 use Rattle.std.proofs.Math.Nat.{mul-le-mul_left}
 use Rattle.std.proofs.Math.Seq.{take-length}
 use Rattle.pblk_model.specs.Image.{Image}
@@ -19,12 +19,13 @@ use Rattle.rest_laws.proofs.ChunkResets.{few_chunks}
 use Rattle.rest_laws.proofs.ClaimedCopies.{was_claimed}
 use Rattle.rest_laws.proofs.RunAsks.{waiting_at}
 use Rattle.rest_laws.proofs.RunStates.{sizes}
-use Rattle.settle_laws.specs.Quiet.{AreBegunReset, IsQuietFrom, address_work, line_stripes, line_work, most_work, work_of}
-use Rattle.settle_laws.proofs.Counts.{frees}
-use Rattle.settle_laws.proofs.Run.{IsKept, below_front, kept_since, numbers_at, old, within_at, z}
+use Rattle.rest_laws.specs.Work.{work_of}
+use Rattle.settle_laws.specs.Quiet.{AreBegunReset, IsQuietFrom, address_work, line_stripes, line_work, most_work}
+use Rattle.settle_laws.proofs.Kept.{IsKept, IsQuietMount, early_end, none_freed_now, numbers_at, sizes_from, within_at}
+use Rattle.settle_laws.proofs.Run.{kept_since}
 use Rattle.settle_laws.proofs.Still.{run_at}
 use Rattle.settle_laws.proofs.Sums.{Kept}
-use Rattle.settle_laws.proofs.Takes.{begun_since}
+use Rattle.settle_laws.proofs.Takes.{begun_since, below_front}
 
 -- a victim is one or none, and none has no live sectors
 one_at_most : (v : Option Victim) → at_work v ≤ 1
@@ -60,6 +61,9 @@ module _ (i : Image) (w : World) (is : IsReasonedMount i w) (from : ℕ) (begun 
         (record { begun = b.0; claimed = was_claimed i w is.mount number entry mark took b.0 }, b.1);
   }
 
+  quiet_mount : IsQuietMount i w begun.at from
+  quiet_mount = record { is = is; turns = turns; first = first; quiet = quiet; reset = begun.reset }
+
   abbrev total : ℕ
   total = work_of (take from (log_of w 0)) + most_work i (engine_prefix from (log_of w))
 
@@ -78,22 +82,21 @@ module _ (i : Image) (w : World) (is : IsReasonedMount i w) (from : ℕ) (begun 
   waits_are = waiting_at i w is from first inside
 
   module _ (v : Option Victim) (e : run.0.victim ≡ v) where
-    kept_first : Kept (z i w is begun.at turns from first quiet begun.reset) (old i w is begun.at turns from first quiet begun.reset) total
-        (record { early = 2; victim = 1; waiting = 0; coming = 0 }) (numbers_at i w is begun.at turns from first quiet begun.reset from v)
+    kept_first : Kept (sizes_from i w from) (early_end w from) total (record { early = 2; victim = 1; waiting = 0; coming = 0 }) (numbers_at i w from v)
     kept_first = record {
       missing = open_addresses i (engine_prefix from (log_of w)) + (2 * i.shape.chunks + 2) * full_data i.shape
           + (taken (take from (log_of w 0)) - placed_front i.shape (take from (log_of w 0))) + live_of v;
       first = 1;
-      order = omega (arith, waits_are);
-      from = omega arith;
-      one = one_at_most v;
-      none = none_lives v;
-      within = within_at i w is begun.at turns from first quiet begun.reset from (omega arith);
+      fronts = record {
+        order = omega (arith, waits_are);
+        from = omega arith;
+        firsts = λ low. omega arith;
+        two_early = λ low. omega arith;
+        one_early = λ low. omega arith;
+      };
+      victim = record { one = one_at_most v; none = none_lives v; padded = λ works more. omega arith };
+      within = within_at i w from from (omega arith);
       covers = omega arith;
-      firsts = λ low. omega arith;
-      two_early = λ low. omega arith;
-      one_early = λ low. omega arith;
-      for_victim = λ works more. omega arith;
       sum = omega (arith, lines, chunks, more_chunks, worth, few_live v e, added);
     }
       where
@@ -125,7 +128,7 @@ module _ (i : Image) (w : World) (is : IsReasonedMount i w) (from : ℕ) (begun 
         added = adds (address_work i.shape) (length (waiting i.shape (take from (log_of w 0)))) (open_addresses i (engine_prefix from (log_of w)))
             i.shape.chunks (full_data i.shape) (i.shape.ws_opt - 1) _ (omega (arith, waits_are, few_live v e))
 
-  start : IsKept i w is begun.at turns from first quiet begun.reset total from (victim i (log_of w) from)
+  start : IsKept i w begun.at from total from (victim i (log_of w) from)
   start = record {
     c = record { early = 2; victim = 1; waiting = 0; coming = 0 };
     v = run.0.victim;
@@ -133,16 +136,16 @@ module _ (i : Image) (w : World) (is : IsReasonedMount i w) (from : ℕ) (begun 
     at_it = run.1.victim;
     left_low = omega arith;
     waits = λ m entry mark took past less above.
-        absurd (omega (arith, past, below_front i w is begun.at turns from first quiet begun.reset from m entry mark took less));
+        absurd (omega (arith, past, below_front i w is.mount from m entry mark took less));
     comes = λ m entry mark took past more upto.
         let since = begun_since i w is.mount from quiet begun.at turns m entry mark took first (omega (arith, past)) in
         let equal : begun.at m ≡ from = omega (arith, since.0, upto) in
-        inl (ap (λ k. frees (take k (log_of w 0))) equal);
+        none_freed_now w (begun.at m) from 0 equal;
   }
 
   pub ends : work_of (log_of w 0) ≤ work_of (take from (log_of w 0)) + most_work i (engine_prefix from (log_of w))
   ends =
       let far : from + (length (log_of w 0) - from) ≡ length (log_of w 0) = omega (arith, inside) in
-      let k = kept_since i w is begun.at turns from first quiet begun.reset total (length (log_of w 0) - from) (omega (arith, inside)) start in
+      let k = kept_since quiet_mount total (length (log_of w 0) - from) (omega (arith, inside)) start in
       let low : work_of (take (from + (length (log_of w 0) - from)) (log_of w 0)) ≤ total = omega (arith, k.kept.sum) in
       subst (λ (xs : List Logged). work_of xs ≤ total) (ap (λ n. take n (log_of w 0)) far ∙ take-length (log_of w 0)) low

@@ -1,6 +1,6 @@
 -- Where the victim at work is freed, once no user's entry is taken any more: each copy that was
 -- begun since then is placed.
-use Rattle.std.proofs.Common.{◌≡◌, ◌⊎◌, inl, inr, ℕ, ◌+◌, ◌<◌, ◌≤◌, false, Some, List, length, take, sym, subst, ap, ◌∙◌, arith, length-take}
+use Rattle.std.proofs.Common.{◌≡◌, ◌⊎◌, inl, inr, ℕ, ◌+◌, ◌<◌, ◌≤◌, Some, List, length, take, sym, subst, ap, ◌∙◌, arith}
 use Rattle.std.specs.Prelude.{slice_get}
 use Rattle.std.specs.List.{Contains}
 use Rattle.std.proofs.lemmas.Bool.{cases_lt}
@@ -9,30 +9,22 @@ use Rattle.pblk_model.specs.declared.chunk.Mark.{Mark}
 use Rattle.pblk_model.specs.Image.{Image}
 use Rattle.pblk_world.specs.EngineLog.{Taken, takes}
 use Rattle.pblk_world.specs.Events.{Decides, Entry, Free, Logged}
-use Rattle.pblk_world.specs.Freeing.{MayFree}
 use Rattle.pblk_world.specs.Fronts.{last_take, synced, taken}
 use Rattle.pblk_world.specs.AtRest.{IsCopyDue, logs_at}
 use Rattle.pblk_world.specs.Taking.{IsPlaceOfLatest}
 use Rattle.pblk_world.specs.Reasons.{WasBegun, WasRoom}
 use Rattle.pblk_world.specs.Space.{placed_front, room}
-use Rattle.pblk_world.specs.Victims.{engine_prefix, taken_up_to, victim}
-use Rattle.pblk_world.specs.World.{World, Logs, log_of, prefixes}
-use Rattle.pblk_model.proofs.Parts.{all_taken, get_taken}
-use Rattle.pblk_world.specs.LegalMounts.{IsLegalMount, NoStripeLost, decides, is_losing}
-use Rattle.world_laws.specs.SameTold.{AreSameTold}
-use Rattle.world_laws.proofs.Made.{made}
-use Rattle.world_laws.proofs.NextLives.{IsDecided, decided}
-use Rattle.world_laws.proofs.ToldSince.{told_up_to, told_when_made}
-use Rattle.world_laws.proofs.ToldTables.{live_told, takers_told, victim_told}
-use Rattle.rest_laws.specs.Copies.{IsEmptied, TookCopy}
+use Rattle.pblk_world.specs.Victims.{victim}
+use Rattle.pblk_world.specs.World.{World, Logs, log_of}
+use Rattle.pblk_model.proofs.Parts.{get_taken}
+use Rattle.pblk_world.specs.LegalMounts.{IsLegalMount, NoStripeLost}
+use Rattle.rest_laws.specs.Copies.{TookCopy}
 use Rattle.rest_laws.specs.RoomRuns.{AreBegunAt}
 use Rattle.rest_laws.proofs.BegunInTurn.{alone, at_is, may, position_is, some, turn, within}
-use Rattle.rest_laws.proofs.FreeableVictims.{may_free_now}
-use Rattle.rest_laws.proofs.FreedVictims.{low, none_live}
-use Rattle.rest_laws.proofs.KnownViews.{mount_before, own_before, view_same}
-use Rattle.rest_laws.proofs.LengthLogs.{IsWorldAt, logs_same, taken_rises, victim_then, world_at}
-use Rattle.rest_laws.proofs.OneCopy.{freeable_emptied, overtaken_exists, synced_within_placed}
-use Rattle.rest_laws.proofs.VictimStripes.{mount_at, victim_there}
+use Rattle.rest_laws.proofs.FreedVictims.{emptied_then, long, low}
+use Rattle.rest_laws.proofs.LengthLogs.{IsWorldAt, logs_same, taken_rises, world_at}
+use Rattle.rest_laws.proofs.OneCopy.{overtaken_exists, synced_within_placed}
+use Rattle.rest_laws.proofs.VictimStripes.{mount_at}
 use Rattle.settle_laws.specs.Quiet.{IsQuietFrom}
 use Rattle.settle_laws.proofs.Takes.{IsTakenWhen, begun_since, copied, position, taken_when}
 
@@ -41,56 +33,12 @@ module _ (i : Image) (w : World) (mount : IsLegalMount i w) (none_lost : NoStrip
   abbrev log : List Logged
   log = log_of w 0
 
-  below : n ≤ length (log_of w 0)
+  abbrev below : n ≤ length (log_of w 0)
   below = low i w mount none_lost n l there line here frees
 
-  -- ---- the victim is emptied at that length
-
-  abbrev before : World
-  before = (made i w 0 n l mount.legal there).before
-
-  own : log_of (made i w 0 n l mount.legal there).before 0 ≡ take n (log_of w 0)
-  own = own_before i w n l mount there
-
-  told : AreSameTold i (log_of (made i w 0 n l mount.legal there).before) (engine_prefix n (log_of w))
-  told = told_up_to i w n l (made i w 0 n l mount.legal there)
-
-  whole : length (log_of (made i w 0 n l mount.legal there).before 0) ≡ n
-  whole = let count : length (log_of before 0) ≡ length (take n log) = ap length own in omega (arith, below, length-take n log)
-
-  d : IsDecided i w mount.legal n (Free line) l
-  d = decided i w mount.legal n (Free line) l there frees
-
-  may_be : MayFree i (log_of (made i w 0 n l mount.legal there).before) line
-  may_be = may_free_now i before (mount_before i w n l mount there)
-      (subst NoStripeLost (sym own) (all_taken (λ m. decides is_losing m.event ≡ false) n (log_of w 0) none_lost))
-      (prefixes l (log_of before)) (told_when_made i w n l (made i w 0 n l mount.legal there)) line
-      (subst (λ (logs : Logs). MayFree i logs line) (view_same i w n l mount there) d.allowed.2)
-
-  emptied : IsEmptied i (log_of (made i w 0 n l mount.legal there).before) line
-  emptied = freeable_emptied i before line (mount_before i w n l mount there)
-      (ap (victim i (log_of before)) whole ∙ sym (victim_told i (log_of before) (engine_prefix n (log_of w)) told n)
-      ∙ victim_then i (log_of w) n n (omega arith) ∙ here) may_be
-
+  -- the world at that length, in which the victim is emptied
   abbrev v : IsWorldAt i w n
-  v = world_at i w n mount.legal below
-
-  long : length (log_of (world_at i w n mount.legal below).world 0) ≡ n
-  long = let count : length (log_of v.world 0) ≡ length (take n log) = ap length v.own in omega (arith, below, length-take n log)
-
-  emptied_then : IsEmptied i (log_of (world_at i w n mount.legal below).world) line
-  emptied_then = record {
-    at_work = ap (victim i (log_of v.world)) long ∙ victim_there i w mount n below n (omega arith) ∙ here;
-    none_live = sym (live_told i (log_of v.world) (engine_prefix n (log_of w)) v.told line)
-        ∙ none_live i w mount none_lost n l there line here frees;
-    takers_synced =
-        let same : taken_up_to i (log_of v.world) line ≡ taken_up_to i (log_of before) line =
-        sym (takers_told i (log_of v.world) (engine_prefix n (log_of w)) v.told line)
-        ∙ takers_told i (log_of before) (engine_prefix n (log_of w)) told line in
-        let front : synced i.shape (log_of v.world 0) ≡ synced i.shape (log_of before 0) = ap (synced i.shape) (v.own ∙ sym own) in
-        let upto : taken_up_to i (log_of before) line ≤ synced i.shape (log_of before 0) = emptied.takers_synced in
-        omega arith;
-  }
+  v = world_at i w n mount.legal (low i w mount none_lost n l there line here frees)
 
   -- ---- a copy that was begun by then
 
@@ -145,7 +93,8 @@ module _ (i : Image) (w : World) (mount : IsLegalMount i w) (none_lost : NoStrip
       overtaken : (t : Taken) × Contains (takes (take n (log_of w 0))) t × (taken (take (at m) (log_of w 0)) ≤ t.entry.position)
           × (t.entry.position < placed_front i.shape (take n (log_of w 0)))
       overtaken =
-          let found = overtaken_exists i v.world line k entry.lba took.source (mount_at i w mount n below) emptied_then (omega (arith, long, within))
+          let found = overtaken_exists i v.world line k entry.lba took.source (mount_at i w mount n below)
+          (emptied_then i w mount none_lost n l there line here frees) (omega (arith, long i w mount none_lost n l there line here frees, within))
           (may i w mount at turns m entry mark took).lba begun_there in
           let part : take b.at (log_of v.world 0) ≡ take (at m) log =
           ap (take b.at) v.own ∙ take-take b.at n log (omega (arith, b_at, begun)) ∙ ap (λ j. take j log) b_at in

@@ -37,13 +37,16 @@ div_rises a b k some low =
     let part : a / k * k ≤ a = div-mul-le_self a k in
     le-div (a / k) b k some (omega arith)
 
--- the data addresses of a line are among its blocks
-data_within : (s : Shape) (g : ℕ) → data_len s g ≤ g * s.clba
-data_within s g = go (nat_lt (g * s.clba - start_len s - end_len s g) s.ws_opt)
+-- the data addresses of a line are among the blocks of one on all units
+few_data : (s : Shape) (g : ℕ) → g ≤ units s → data_len s g ≤ units s * s.clba
+few_data s g low = go (nat_lt (g * s.clba - start_len s - end_len s g) s.ws_opt)
   where
-    go : (b : Bool) → (if b then 0 else g * s.clba - start_len s - end_len s g) ≤ g * s.clba
+    blocks : g * s.clba ≤ units s * s.clba
+    blocks = mul-le-mul_right s.clba low
+
+    go : (b : Bool) → (if b then 0 else g * s.clba - start_len s - end_len s g) ≤ units s * s.clba
     go true = omega arith
-    go false = omega arith
+    go false = omega (arith, blocks)
 
 module _ (i : Image) (w : World) (mount : IsLegalMount i w) (n : ℕ) where
   abbrev log : List Logged
@@ -72,10 +75,7 @@ module _ (i : Image) (w : World) (mount : IsLegalMount i w) (n : ℕ) where
           → (if b then 0 else end_address i.shape o - max (start_len i.shape) (next_address i.shape (take n (log_of w 0)) o))
           ≤ units i.shape * i.shape.clba
       by o low true = omega arith
-      by o low false =
-          let few : data_len i.shape o.start.width ≤ o.start.width * i.shape.clba = data_within i.shape o.start.width in
-          let blocks : o.start.width * i.shape.clba ≤ units i.shape * i.shape.clba = mul-le-mul_right i.shape.clba low in
-          omega arith
+      by o low false = omega (arith, few_data i.shape o.start.width low)
 
       go : (life : LineLife) → life_of (take n (log_of w 0)) line ≡ life
           → unplaced_in i.shape (take n (log_of w 0)) life ≤ units i.shape * i.shape.clba

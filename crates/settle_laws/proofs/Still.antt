@@ -1,148 +1,41 @@
 -- While no line is freed since a copy was begun: its victim stays at work, no reset is left to be
 -- made, and collection is due. So pads are asked for only once no sector of the victim is live.
-use Rattle.std.proofs.Common.{◌≡◌, ◌⊎◌, inl, inr, ℕ, ◌+◌, ◌-◌, ◌<◌, ◌≤◌, zero, suc, Bool, true, false, Some, None, Option, List, length, length-take, take, refl, sym, subst, ap, ◌∙◌, arith}
+use Rattle.std.proofs.Common.{Bool, None, Some, ap, arith, false, inl, inr, length, refl, subst, suc, sym, take, true, zero, ℕ, ◌+◌, ◌-◌, ◌<◌, ◌∙◌, ◌≡◌, ◌≤◌, ◌⊎◌}
 use Rattle.std.specs.Prelude.{slice_get}
 use Rattle.std.proofs.lemmas.Bool.{cases_lt}
 use Rattle.std.proofs.lemmas.Option.{same_Some, slice_get_within}
-use Rattle.pblk_model.specs.declared.chunk.Mark.{Mark}
 use Rattle.pblk_model.specs.Image.{Image}
-use Rattle.pblk_model.proofs.Parts.{all_at, got_within}
-use Rattle.pblk_model.proofs.Tests.{not_both}
+use Rattle.pblk_model.specs.declared.chunk.Mark.{Mark}
+use Rattle.pblk_model.proofs.Parts.{got_within}
 use Rattle.pblk_world.specs.AtRest.{logs_at}
-use Rattle.pblk_world.specs.EngineLog.{Taken, taken_by}
-use Rattle.pblk_world.specs.Events.{Again, Begin, Decides, Does, Entry, Event, Free, Landed, Logged, Lost, Open, Place, ResetDone, Take}
+use Rattle.pblk_world.specs.EngineLog.{taken_by}
+use Rattle.pblk_world.specs.Events.{Decides, Entry, Event, Free, Logged, Take}
 use Rattle.pblk_world.specs.Fronts.{taken, waiting}
-use Rattle.pblk_world.specs.Legal.{IsAllowed}
-use Rattle.pblk_world.specs.LegalMounts.{decides, is_losing}
-use Rattle.pblk_world.specs.Opening.{MayBegin}
 use Rattle.pblk_world.specs.Orders.{AreReset}
 use Rattle.pblk_world.specs.Reasons.{WasAsked}
-use Rattle.pblk_world.specs.Space.{addresses, is_due, open_addresses, placed_front}
+use Rattle.pblk_world.specs.Space.{addresses, is_due, placed_front}
 use Rattle.pblk_world.specs.Victims.{engine_prefix, live, victim}
-use Rattle.pblk_world.specs.World.{World, Logs, log_of, prefixes}
-use Rattle.room_law.specs.Counting.{State, Victim, waiting_count}
+use Rattle.pblk_world.specs.World.{Logs, World, log_of}
 use Rattle.room_law.specs.Counting as counting
+use Rattle.room_law.specs.Counting.{State, Victim, waiting_count}
 use Rattle.room_law.proofs.Room.{reached_has_room}
-use Rattle.world_laws.proofs.Made.{IsMade, made}
-use Rattle.world_laws.proofs.NextLives.{IsDecided, decided}
 use Rattle.world_laws.proofs.ToldTables.{due_told}
 use Rattle.rest_laws.specs.Copies.{TookCopy}
 use Rattle.rest_laws.specs.RoomRuns.{AreBegunAt, IsReasonedMount, IsRoomRun, IsVictimOf, sizes_of}
-use Rattle.rest_laws.specs.RoomSteps.{free_lines, has_entry, unreset_lines}
+use Rattle.rest_laws.specs.RoomSteps.{free_lines, unreset_lines}
 use Rattle.rest_laws.proofs.BegunInTurn.{at_is, of_victim, position_is, some as begun_some, turn, within as begun_within}
 use Rattle.rest_laws.proofs.EntryTakes.{drops}
 use Rattle.rest_laws.proofs.LengthLogs.{taken_rises}
 use Rattle.rest_laws.proofs.NeverStuck.{runs}
 use Rattle.rest_laws.proofs.RunAsks.{asks_none, asks_taken, waiting_at}
 use Rattle.rest_laws.proofs.RunLogs.{few_free, more_free, none_unreset, told_of_length, unreset_told}
-use Rattle.rest_laws.proofs.RunNumbers as numbers
-use Rattle.rest_laws.proofs.RunNumbers.{AreNumbers}
 use Rattle.rest_laws.proofs.RunStates.{addresses_are, sizes}
 use Rattle.rest_laws.proofs.UnderWay.{victim_still}
 use Rattle.rest_laws.proofs.VictimSteps.{stays}
 use Rattle.settle_laws.specs.Quiet.{IsQuietFrom}
 use Rattle.settle_laws.proofs.Counts.{frees, none_freed}
-use Rattle.settle_laws.proofs.Takes.{begun_since, copied, taking}
-
-module _ (i : Image) (w : World) (is : IsReasonedMount i w) where
-  abbrev log : List Logged
-  log = log_of w 0
-
-  -- ---- an event that isn't
-
-  module _ (n : ℕ) (some : 0 < n) (l : Logged) (there : slice_get (log_of w 0) n ≡ Some l) where
-    inside : n < length (log_of w 0)
-    inside = slice_get_within log n l there
-
-    pub no_unit : (x : _) (maker : _) → l.event ≡ Does x maker → ⊥
-    no_unit x maker its =
-        let h : IsMade i w 0 n l = made i w 0 n l is.mount.legal there in
-        subst (λ (e : Event). IsAllowed i 0 e (prefixes l (log_of h.before))) its h.step.allowed
-
-    pub no_begin : (x : _) → l.event ≡ Decides (Begin x) → ⊥
-    no_begin x its =
-        let d : IsDecided i w is.mount.legal n (Begin x) l = decided i w is.mount.legal n (Begin x) l there its in
-        let first : MayBegin i (prefixes l (log_of w)) x = d.allowed in
-        let none : length (take n log) ≡ 0 = ap length (sym d.own ∙ first.is_first) in
-        absurd (omega (arith, length-take n log, inside, some))
-
-    pub no_loss : (unit event : ℕ) → l.event ≡ Decides (Lost unit event) → ⊥
-    no_loss unit event its =
-        let kept : decides is_losing l.event ≡ false = all_at (λ m. decides is_losing m.event ≡ false) log n l there is.none_lost in
-        not_both (decides is_losing l.event) (ap (decides is_losing) its) kept
-
-    -- the numbers before it
-    abbrev pub old : Logs
-    old = engine_prefix n (log_of w)
-
-    pub as_they_are : AreNumbers i (engine_prefix n (log_of w)) (open_addresses i (engine_prefix n (log_of w))) (free_lines i (engine_prefix n (log_of w)))
-        (unreset_lines i (engine_prefix n (log_of w))) (placed_front i.shape (take n (log_of w 0))) (taken (take n (log_of w 0)))
-    as_they_are = record { left_is = refl; free_is = refl; resetting_is = refl; placed_is = refl; taken_is = refl }
-
-    -- ---- where no line is freed
-
-    module _ (not_freed : (line : ℕ) → l.event ≡ Decides (Free line) → ⊥) (reset : unreset_lines i (engine_prefix n (log_of w)) ≡ 0) where
-      abbrev Stays : Type 0
-      Stays = (unreset_lines i (engine_prefix (suc n) (log_of w)) ≡ 0)
-          × (free_lines i (engine_prefix (suc n) (log_of w)) ≤ free_lines i (engine_prefix n (log_of w)))
-
-      abbrev a : ℕ
-      a = open_addresses i (engine_prefix n (log_of w))
-
-      abbrev f : ℕ
-      f = free_lines i (engine_prefix n (log_of w))
-
-      abbrev r : ℕ
-      r = unreset_lines i (engine_prefix n (log_of w))
-
-      abbrev p : ℕ
-      p = placed_front i.shape (take n (log_of w 0))
-
-      abbrev t : ℕ
-      t = taken (take n (log_of w 0))
-
-      by_numbers : (left free resetting placed taken_ : ℕ) → AreNumbers i (engine_prefix (suc n) (log_of w)) left free resetting placed taken_
-          → resetting ≡ 0 → free ≤ free_lines i (engine_prefix n (log_of w)) → Stays
-      by_numbers left free resetting placed taken_ now none few = (omega (arith, now.resetting_is, none), omega (arith, now.free_is, few))
-
-      pub resets_stay : Stays
-      resets_stay = go l.event refl
-        where
-          placed_by : (stripe : _) → l.event ≡ Decides (Place stripe) → (b : Bool) → has_entry i.shape stripe ≡ b → Stays
-          placed_by stripe its true e =
-              let now = numbers.data_placed i w is n some l there a f r p t as_they_are stripe its e in
-              (omega (arith, now.1.resetting_is, reset), omega (arith, now.1.free_is))
-          placed_by stripe its false e =
-              let now = numbers.other_placed i w is n some l there a f r p t as_they_are stripe its e in
-              (omega (arith, now.resetting_is, reset), omega (arith, now.free_is))
-
-          reset_by : (unit event : ℕ)
-              → AreNumbers i (engine_prefix (suc n) (log_of w)) a f r p t
-              ⊎ ((1 ≤ r) × AreNumbers i (engine_prefix (suc n) (log_of w)) a (f + 1) (r - 1) p t) → Stays
-          reset_by unit event (inl now) = (omega (arith, now.resetting_is, reset), omega (arith, now.free_is))
-          reset_by unit event (inr now) = absurd (omega (arith, now.0, reset))
-
-          quiet_by : AreNumbers i (engine_prefix (suc n) (log_of w)) a f r p t → Stays
-          quiet_by now = (omega (arith, now.resetting_is, reset), omega (arith, now.free_is))
-
-          go : (e : Event) → l.event ≡ e → Stays
-          go (Does x maker) its = absurd (no_unit x maker its)
-          go (Decides (Begin x)) its = absurd (no_begin x its)
-          go (Decides (Lost unit event)) its = absurd (no_loss unit event its)
-          go (Decides (Free line)) its = absurd (not_freed line its)
-          go (Decides (Take entry mark)) its =
-              let now = numbers.entry_takes i w is n some l there a f r p t as_they_are entry mark its in
-              (omega (arith, now.resetting_is, reset), omega (arith, now.free_is))
-          go (Decides (Open line start)) its =
-              let now = numbers.opened i w is n some l there a f r p t as_they_are line start its in
-              (omega (arith, now.1.resetting_is, reset), omega (arith, now.1.free_is))
-          go (Decides (Place stripe)) its = placed_by stripe its (has_entry i.shape stripe) refl
-          go (Decides (ResetDone unit event)) its =
-              reset_by unit event (numbers.reset i w is n some l there a f r p t as_they_are unit event its)
-          go (Decides (Landed unit event)) its =
-              quiet_by (numbers.quiet i w is n some l there a f r p t as_they_are (Landed unit event) its refl refl refl refl)
-          go (Decides (Again unit event)) its =
-              quiet_by (numbers.quiet i w is n some l there a f r p t as_they_are (Again unit event) its refl refl refl refl)
+use Rattle.settle_laws.proofs.Takes.{begun_since, copied}
+use Rattle.settle_laws.proofs.Unfreed.{resets_stay}
 
 -- ---- copies of a mount
 
@@ -175,30 +68,35 @@ module _ (i : Image) (w : World) (is : IsReasonedMount i w) (at : ℕ → ℕ) (
       some : 0 < n
       some = omega (arith, first, late)
 
-      pub still_here : victim i (log_of w) (suc n) ≡ Some line
+      still_here : victim i (log_of w) (suc n) ≡ Some line
       still_here = stays i w is.mount n l there line here kept
 
       abbrev v : Victim
       v = record { live = live i (engine_prefix n (log_of w)) line; begun = 0 }
 
-      pub live_falls : live i (engine_prefix (suc n) (log_of w)) line ≤ live i (engine_prefix n (log_of w)) line
-      live_falls = go (taken_by l.event) refl
+      same_line : (other : ℕ) → l.event ≡ Decides (Free other) → victim i (log_of w) n ≡ Some other → ⊥
+      same_line other frees at_work =
+          let same : line ≡ other = same_Some line other (sym here ∙ at_work) in
+          kept (frees ∙ ap (λ m. Decides (Free m)) (sym same))
+
+      live_falls : live i (engine_prefix (suc n) (log_of w)) line ≤ live i (engine_prefix n (log_of w)) line
+      live_falls = go l.event refl
         where
-          go : (o : Option Taken) → taken_by l.event ≡ o → live i (engine_prefix (suc n) (log_of w)) line ≤ live i (engine_prefix n (log_of w)) line
-          go None e =
+          beside : taken_by l.event ≡ None → live i (engine_prefix (suc n) (log_of w)) line ≤ live i (engine_prefix n (log_of w)) line
+          beside e =
               let same : IsVictimOf i (engine_prefix (suc n) (log_of w)) (Some line) (Some v) =
-              victim_still i w is at turns n some l there e (λ other frees at_work. kept (frees ∙ ap (λ m. Decides (Free m))
-              (sym (same_number line other (sym here ∙ at_work))))) (Some line) here (Some v) refl in
+              victim_still i w is at turns n some l there e same_line (Some line) here (Some v) refl in
               omega (arith, same)
-            where
-              same_number : (a b : ℕ) → Some a ≡ Some b → a ≡ b
-              same_number a b e = same_Some a b e
-          go (Some t) e =
+
+          go : (e : Event) → l.event ≡ e → live i (engine_prefix (suc n) (log_of w)) line ≤ live i (engine_prefix n (log_of w)) line
+          go (Decides (Take entry mark)) its =
               let run = run_at n some (omega (arith, slice_get_within (log_of w 0) n l there)) in
-              let took : TookCopy (log_of w 0) n t.entry t.mark = copied i w is.mount from quiet n l there t (taking l.event t e) late in
+              let took : TookCopy (log_of w 0) n entry mark = copied i w is.mount from quiet n l there (record { entry = entry; mark = mark }) its late in
               let fewer : IsVictimOf i (engine_prefix (suc n) (log_of w)) (Some line) (counting.fewer_live (counting.fresh run.0.copy) (Some v)) =
-              drops i w is at turns n some l there t e took.source took.is_copy (Some line) here (Some v) refl run.0.copy run.1.copy in
+              drops i w is at turns n some l there (record { entry = entry; mark = mark }) (ap taken_by its) took.source took.is_copy (Some line) here
+              (Some v) refl run.0.copy run.1.copy in
               omega (arith, fewer)
+          go e its = beside (ap taken_by its)
 
     -- ---- a copy that waits
 

@@ -1,33 +1,38 @@
 -- Entries that were taken, by the numbers of their events.
-use Rattle.std.proofs.Common.{◌≡◌, ◌⊎◌, inl, inr, ℕ, ◌+◌, ◌<◌, ◌≤◌, zero, suc, Some, None, Option, List, [], ◌∷◌, ◌++◌, length, length-append, take, refl, sym, ap, ◌∙◌, arith}
+use Rattle.std.proofs.Common.{◌≡◌, ◌⊎◌, inl, inr, ℕ, ◌+◌, ◌<◌, ◌≤◌, zero, suc, Some, None, Option, List, [], ◌∷◌, ◌++◌, length, length-append, take, refl, sym, ap, ◌∙◌, arith, not, ◌&&◌}
 use Rattle.std.specs.Prelude.{slice_get}
-use Rattle.std.specs.List.{Contains}
+use Rattle.std.specs.List.{Contains, filter}
 use Rattle.std.specs.Option.{option_to_list}
 use Rattle.std.proofs.lemmas.Bool.{cases_lt}
-use Rattle.std.proofs.lemmas.Option.{none-some, same_Some, slice_get_within}
+use Rattle.std.proofs.lemmas.List.Elements.{Contains-append_cases}
+use Rattle.std.proofs.lemmas.Option.{none-some, slice_get_within}
 use Rattle.pblk_model.specs.declared.chunk.Mark.{Mark}
+use Rattle.pblk_model.specs.declared.shape.Shape.{Shape}
 use Rattle.pblk_model.specs.Image.{Image}
 use Rattle.pblk_model.proofs.Lists.{IsAmong, among_contained}
+use Rattle.pblk_model.proofs.Maps.{filtered_from}
 use Rattle.pblk_model.proofs.Parts.{get_whole_within, got_within, take_next}
 use Rattle.pblk_world.specs.EngineLog.{Taken, begun, taken_by, takes}
 use Rattle.pblk_world.specs.Events.{Decides, Entry, Event, Logged, Source, Take}
-use Rattle.pblk_world.specs.Fronts.{first_position, taken}
+use Rattle.pblk_world.specs.Fronts.{first_position, taken, waiting, waits, was_placed}
 use Rattle.pblk_world.specs.LegalMounts.{IsLegalMount}
 use Rattle.pblk_world.specs.World.{World, log_of}
 use Rattle.pblk_world.proofs.EngineLogLemmas.{takes_more}
 use Rattle.world_laws.proofs.NextLives.{IsDecided, decided}
 use Rattle.world_laws.proofs.TakenEvents.{IsTakenAt, taken_at}
+use Rattle.core_laws.specs.PlacerOf.{fresh_entries}
 use Rattle.rest_laws.specs.Copies.{TookCopy}
 use Rattle.rest_laws.specs.RoomRuns.{AreBegunAt}
 use Rattle.rest_laws.proofs.BegunInTurn.{alone, position_is}
 use Rattle.rest_laws.proofs.LengthLogs.{first_at, taken_rises}
 use Rattle.settle_laws.specs.Quiet.{IsQuietFrom}
 
--- the event that takes an entry
-pub taking : (e : Event) (t : Taken) → taken_by e ≡ Some t → e ≡ Decides (Take t.entry t.mark)
-taking (Decides (Take entry mark)) t is =
-    ap (λ (x : Taken). Decides (Take x.entry x.mark)) (same_Some (record { entry = entry; mark = mark }) t is)
-taking e t is = absurd (none-some t is)
+-- what waits was taken
+pub waits_taken : (s : Shape) (log : List Logged) (t : Taken) → Contains (waiting s log) t → Contains (takes log) t
+waits_taken s log t held = elim (Contains-append_cases (filter (λ u. waits s log u && was_placed s log u) (takes log)) (fresh_entries s log) t held) [
+  | inl lost ↦ (filtered_from (λ u. waits s log u && was_placed s log u) (takes log) t lost).0
+  | inr fresh ↦ (filtered_from (λ u. not (was_placed s log u)) (takes log) t fresh).0
+]
 
 module _ (i : Image) (w : World) (mount : IsLegalMount i w) where
   abbrev log : List Logged
@@ -52,7 +57,7 @@ module _ (i : Image) (w : World) (mount : IsLegalMount i w) where
             absurd (none-some d.allowed.0 (sym (ap (λ k. begun (take k log)) e) ∙ b))
         go (suc m) e = omega arith
 
-    pub one_more : taken (take (suc n) (log_of w 0)) ≡ taken (take n (log_of w 0)) + 1
+    one_more : taken (take (suc n) (log_of w 0)) ≡ taken (take n (log_of w 0)) + 1
     one_more =
         let now : takes (take (suc n) log) ≡ takes (take n log) ++ option_to_list (taken_by l.event) =
         ap takes (take_next log n l there) ∙ takes_more (take n log) l in
@@ -62,6 +67,16 @@ module _ (i : Image) (w : World) (mount : IsLegalMount i w) where
         let first : first_position (take n log) ≡ first_position log = first_at log n has_begun in
         let first_then : first_position (take (suc n) log) ≡ first_position log = first_at log (suc n) (omega arith) in
         omega arith
+
+  -- a copy that was taken lies below the front taken
+  pub below_front : (n m : ℕ) (entry : Entry) (mark : Mark) → TookCopy (log_of w 0) m entry mark → m < n → entry.position < taken (take n (log_of w 0))
+  below_front n m entry mark took less =
+      let own : entry.position ≡ taken (take m log) =
+      position m (record { event = Decides (Take entry mark); knows = took.knows }) took.there (record { entry = entry; mark = mark }) refl in
+      let next : taken (take (suc m) log) ≡ taken (take m log) + 1 =
+      one_more m (record { event = Decides (Take entry mark); knows = took.knows }) took.there (record { entry = entry; mark = mark }) refl in
+      let rise : taken (take (suc m) log) ≤ taken (take n log) = taken_rises log (suc m) n (omega arith) less in
+      omega arith
 
   -- ---- the event that took an entry at or past the front of a length
 
@@ -109,7 +124,7 @@ module _ (i : Image) (w : World) (mount : IsLegalMount i w) where
 
     module _ (at : ℕ → ℕ) (turns : AreBegunAt i (log_of w) at) where
       -- where a copy was begun before, none was taken since, and it has the position at the front
-      pub first_position_then : (n : ℕ) (entry : Entry) (mark : Mark) (took : TookCopy (log_of w 0) n entry mark) → 0 < from → from ≤ n → at n < from
+      first_position_then : (n : ℕ) (entry : Entry) (mark : Mark) (took : TookCopy (log_of w 0) n entry mark) → 0 < from → from ≤ n → at n < from
           → entry.position ≡ taken (take from (log_of w 0))
       first_position_then n entry mark took some late before =
           position_is i w mount at turns n entry mark took ∙ unmoved n late (omega arith)
@@ -125,12 +140,9 @@ module _ (i : Image) (w : World) (mount : IsLegalMount i w) where
               l : (x : Logged) × (slice_get (log_of w 0) k ≡ Some x)
               l = got_within log k inside
 
-              none : (from ≤ k → k ≤ n → taken (take k (log_of w 0)) ≡ taken (take from (log_of w 0))) → (o : Option Taken)
-                  → taken_by l.0.event ≡ o → from ≤ k → taken (take (suc k) (log_of w 0)) ≡ taken (take from (log_of w 0))
-              none before_k (Some t) e first =
-                  absurd (alone i w mount at turns n entry mark took k t.entry t.mark (copied k l.0 l.1 t (taking l.0.event t e) first)
-                  (omega (arith, before)) (omega arith))
-              none before_k None e first =
+              none : (from ≤ k → k ≤ n → taken (take k (log_of w 0)) ≡ taken (take from (log_of w 0))) → taken_by l.0.event ≡ None → from ≤ k
+                  → taken (take (suc k) (log_of w 0)) ≡ taken (take from (log_of w 0))
+              none before_k e first =
                   let now : takes (take (suc k) log) ≡ takes (take k log) ++ [] =
                   ap takes (take_next log k l.0 l.1) ∙ takes_more (take k log) l.0 ∙ ap (λ (o : Option Taken). takes (take k log) ++ option_to_list o) e in
                   let count : length (takes (take (suc k) log)) ≡ length (takes (take k log)) =
@@ -139,10 +151,17 @@ module _ (i : Image) (w : World) (mount : IsLegalMount i w) where
                   let first_then : first_position (take (suc k) log) ≡ first_position log = first_at log (suc k) (omega arith) in
                   omega (arith, before_k first (omega arith))
 
+              by : (from ≤ k → k ≤ n → taken (take k (log_of w 0)) ≡ taken (take from (log_of w 0))) → (e : Event) → l.0.event ≡ e → from ≤ k
+                  → taken (take (suc k) (log_of w 0)) ≡ taken (take from (log_of w 0))
+              by before_k (Decides (Take other other_mark)) its first =
+                  absurd (alone i w mount at turns n entry mark took k other other_mark
+                  (copied k l.0 l.1 (record { entry = other; mark = other_mark }) its first) (omega (arith, before)) (omega arith))
+              by before_k e its first = none before_k (ap taken_by its) first
+
               go : (from ≤ k → k ≤ n → taken (take k (log_of w 0)) ≡ taken (take from (log_of w 0))) → (k < from) ⊎ (from ≤ k)
                   → taken (take (suc k) (log_of w 0)) ≡ taken (take from (log_of w 0))
               go before_k (inl less) = let same : suc k ≡ from = omega arith in ap (λ m. taken (take m log)) same
-              go before_k (inr more) = none before_k (taken_by l.0.event) refl more
+              go before_k (inr more) = by before_k l.0.event refl more
 
       -- a copy past that position was begun since
       pub begun_since : (n : ℕ) (entry : Entry) (mark : Mark) → TookCopy (log_of w 0) n entry mark → 0 < from

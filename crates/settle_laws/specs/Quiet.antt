@@ -1,14 +1,12 @@
--- What a mount does once no user's entry is taken any more: how many pieces of work it makes from a
--- length of its engine's log on.
-use Rattle.std.specs.Prelude.{ℕ, ◌+◌, ◌-◌, ◌*◌, ◌/◌, ◌≤◌, ◌≡◌, ◌≢◌, Bool, true, false, List, length, slice_get, Some, None}
-use Rattle.std.specs.List.{filter}
+-- What a mount does once no user's entry is taken any more: how many pieces of work (specs/Work of
+-- rest_laws) it makes from a length of its engine's log on.
+use Rattle.std.specs.Prelude.{ℕ, ◌+◌, ◌-◌, ◌*◌, ◌/◌, ◌≤◌, ◌≡◌, ◌≢◌, List, length, slice_get, Some, None}
 use Rattle.pblk_model.specs.declared.chunk.Mark.{Mark}
 use Rattle.pblk_model.specs.declared.shape.Shape.{Shape}
 use Rattle.pblk_model.specs.Image.{Image}
 use Rattle.pblk_model.specs.Shape.{units}
 use Rattle.pblk_world.specs.AtRest.{logs_at}
-use Rattle.pblk_world.specs.Events.{EngineEvent, Begin, Take, Open, Place, Landed, Lost, Again, ResetDone, Free, Decides, Entry, Logged}
-use Rattle.pblk_world.specs.LegalMounts.{decides}
+use Rattle.pblk_world.specs.Events.{Take, Decides, Entry}
 use Rattle.pblk_world.specs.Orders.{AreReset}
 use Rattle.pblk_world.specs.Reasons.{WasBegun}
 use Rattle.pblk_world.specs.Fronts.{waiting}
@@ -16,23 +14,6 @@ use Rattle.pblk_world.specs.Space.{full_data, open_addresses}
 use Rattle.pblk_world.specs.World.{Logs}
 use Rattle.rest_laws.specs.Copies.{TookCopy}
 use Rattle.rest_laws.specs.RoomSteps.{stripes_left}
-
--- A piece of work: an entry is taken, a line is opened, a stripe is placed, or a reset is done.
--- That a line is freed is none, nor is an answer of a program.
-abbrev pub is_work : EngineEvent → Bool
-is_work (Begin b) = false
-is_work (Take entry mark) = true
-is_work (Open line start) = true
-is_work (Place stripe) = true
-is_work (Landed unit event) = false
-is_work (Lost unit event) = false
-is_work (Again unit event) = false
-is_work (ResetDone unit event) = true
-is_work (Free line) = false
-
--- how many of them a log has
-abbrev pub work_of : List Logged → ℕ
-work_of log = length (filter (λ l. decides is_work l.event) log)
 
 -- No user's entry was taken from this length of the engine's log on.
 pub record IsQuietFrom (logs : Logs) (from : ℕ) : Type 0 where

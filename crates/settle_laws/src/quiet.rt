@@ -13,7 +13,8 @@ ghost use Rattle.pblk_world.specs.World.{World, log_of};
 ghost use Rattle.rest_laws.specs.RoomRuns.{IsReasonedMount};
 ghost use Rattle.rest_laws.specs.TidyMounts.{IsTidyMount};
 ghost use Rattle.settle_laws.specs.Quiet.{AreBegunReset, IsQuietFrom, most_work};
-ghost use Rattle.settle_laws.specs.Quiet.{most_work_by, work_of};
+ghost use Rattle.rest_laws.specs.Work.{work_of};
+ghost use Rattle.settle_laws.specs.Quiet.{most_work_by};
 
 /// Let no user's entry be taken from a length of the engine's log on, and let copies be begun from
 /// there on where no reset is left to be made, as a worker of all roles begins them. Then the mount
