@@ -1,19 +1,18 @@
 -- Copies one after another, in one hold of the engine's lock.
-use Rattle.std.proofs.Common.{◌≡◌, ◌≢◌, ◌<◌, ◌≤◌, ◌+◌, ℕ, Bool, true, false, cond, Ok, Err, List, [], ◌∷◌, ◌++◌, length, length-append, append_assoc, inl, inr, refl, sym, subst, ap, ◌∙◌, arith}
-use Rattle.std.specs.Prelude.{Result}
+use Rattle.std.proofs.Common.{◌≡◌, ◌≢◌, ◌<◌, ◌≤◌, ◌+◌, ℕ, false, Ok, Err, List, [], ◌∷◌, ◌++◌, length, length-append, append_assoc, inl, inr, refl, sym, subst, ap, ◌∙◌, arith}
 use Rattle.pblk_model.specs.Image.{Image}
 use Rattle.pblk_model.proofs.Lists.{all_append, last_of}
 use Rattle.scan_recovery.specs.DriveFaults.{is_drive_fault}
 use Rattle.unit_port.specs.Unit.{ModelUnit}
 use Rattle.chronicle.specs.Prefixes.{Prefixes}
 use Rattle.pblk_engine.specs.Fetches.{TellsCause}
-use Rattle.pblk_engine.specs.Pumps.{AreOfRole, GoesOn, HasCollected, HasCollectedRun, IsOfRole, NoFaults, TellsCauses, TellsDid, fault_of}
+use Rattle.pblk_engine.specs.Pumps.{AreOfRole, GoesOn, HasCollected, HasCollectedRun, IsOfRole, NoFaults, TellsCauses, TellsDid}
 use Rattle.pblk_engine.specs.Workers.{Made, WorkerView}
 use Rattle.pblk_engine.specs.declared.errors.FetchErr.{FetchErr}
 use Rattle.pblk_engine.specs.declared.outcomes.Did.{Did}
 use Rattle.pblk_engine.specs.declared.outcomes.Did.TheVariants as dids
 use Rattle.pblk_engine.specs.declared.outcomes.Role.TheVariants as roles
-use Rattle.pblk_engine.proofs.GoingOn.{goes_still, goes_then}
+use Rattle.pblk_engine.proofs.GoingOn.{goes_then}
 use Rattle.pblk_engine.proofs.RoleCommands.{both_of_role, none_of_role}
 
 -- so many copies were made
@@ -24,11 +23,12 @@ pub record HasCopied (n : ℕ) (old now : WorkerView) : Type 0 where
   pub none : NoFaults more
   pub count : length more ≡ n
 
-pub copied_none : (w : WorkerView) → HasCopied 0 w w
-copied_none w = record { more = []; on = goes_still w; fetched = none_of_role roles.Collector; none = tt; count = refl }
+pub copied_none : (old now : WorkerView) → GoesOn old now [] → HasCopied 0 old now
+copied_none old now on = record { more = []; on = on; fetched = none_of_role roles.Collector; none = tt; count = refl }
 
 -- how many commands a piece of a collector's work makes
-made_few : (i : Image) (old new : Prefixes) (more : List Made) (did : Did) → IsOfRole roles.Collector did → TellsDid i old new more did → length more ≤ 1
+made_few : (i : Image) (old new : Prefixes) (more : List Made) (did : Did) → IsOfRole roles.Collector did → TellsDid i roles.Collector old new more did
+    → length more ≤ 1
 made_few i old new more dids.Copied role is = subst (λ (ms : List Made). length ms ≤ 1) (sym is.0.only) (omega arith)
 made_few i old new more dids.NotCopied role is = elim is.0 [
   | inl none ↦ subst (λ (ms : List Made). length ms ≤ 1) (sym none) (omega arith)
@@ -42,11 +42,12 @@ made_few i old new more dids.Reset role is = absurd role
 made_few i old new more dids.Opened role is = absurd role
 
 -- a copy makes one
-copy_one : (i : Image) (old new : Prefixes) (more : List Made) (did : Did) → did ≡ dids.Copied → TellsDid i old new more did → length more ≡ 1
+copy_one : (i : Image) (old new : Prefixes) (more : List Made) (did : Did) → did ≡ dids.Copied → TellsDid i roles.Collector old new more did → length more ≡ 1
 copy_one i old new more did same is =
-    ap length (subst (TellsDid i old new more) same is).0.only
+    ap length (subst (TellsDid i roles.Collector old new more) same is).0.only
 
-pub copied_more : (i : Image) (handed : List ModelUnit) (n : ℕ) (a b c : WorkerView) (did : Did) → HasCopied n a b → HasCollected i handed b c (Ok did)
+pub copied_more : (i : Image) (handed : List ModelUnit) (n : ℕ) (a b c : WorkerView) (did : Did) → HasCopied n a b
+    → HasCollected i handed roles.Collector b c (Ok did)
     → did ≡ dids.Copied → HasCopied (n + 1) a c
 copied_more i handed n a b c did x is same = record {
   more = x.more ++ is.pumped.more;
@@ -62,7 +63,8 @@ copied_more i handed n a b c did x is same = record {
 
 -- the last piece of work was this, after so many copies
 run_then : (i : Image) (handed : List ModelUnit) (n : ℕ) (a b c : WorkerView) (did told : Did) → n < 16 → HasCopied n a b
-    → HasCollected i handed b c (Ok did) → IsOfRole roles.Collector did → ((made : List Made) → TellsDid i b.known c.known made did → told ≡ dids.Copied
+    → HasCollected i handed roles.Collector b c (Ok did) → IsOfRole roles.Collector did
+    → ((made : List Made) → TellsDid i roles.Collector b.known c.known made did → told ≡ dids.Copied
     → 0 < n + length made) → (told ≢ dids.Copied → n ≤ 0) → HasCollectedRun handed a c (Ok told)
 run_then i handed n a b c did told low x is role some one =
     let both : length (x.more ++ is.pumped.more) ≡ length x.more + length is.pumped.more = length-append x.more is.pumped.more in
@@ -82,18 +84,20 @@ run_then i handed n a b c did told low x is role some one =
 
 -- it made some copies, and then no more
 pub run_some : (i : Image) (handed : List ModelUnit) (n : ℕ) (a b c : WorkerView) (did : Did) → n < 16 → 0 < n → HasCopied n a b
-    → HasCollected i handed b c (Ok did) → IsOfRole roles.Collector did → HasCollectedRun handed a c (Ok dids.Copied)
-run_some i handed n a b c did low some x is role = run_then i handed n a b c did dids.Copied low x is role (λ made tells same. omega arith) (λ other. absurd (other refl))
+    → HasCollected i handed roles.Collector b c (Ok did) → IsOfRole roles.Collector did → HasCollectedRun handed a c (Ok dids.Copied)
+run_some i handed n a b c did low some x is role =
+    run_then i handed n a b c did dids.Copied low x is role (λ made tells same. omega arith) (λ other. absurd (other refl))
 
 -- it made none before
 pub run_one : (i : Image) (handed : List ModelUnit) (n : ℕ) (a b c : WorkerView) (did : Did) → n < 16 → n ≤ 0 → HasCopied n a b
-    → HasCollected i handed b c (Ok did) → IsOfRole roles.Collector did → HasCollectedRun handed a c (Ok did)
+    → HasCollected i handed roles.Collector b c (Ok did) → IsOfRole roles.Collector did → HasCollectedRun handed a c (Ok did)
 run_one i handed n a b c did low first x is role =
     run_then i handed n a b c did did low x is role
     (λ made tells same. let one : length made ≡ 1 = copy_one i b.known c.known made did same tells in omega arith) (λ other. first)
 
 -- a fetch gave no block
-pub run_lost : (i : Image) (handed : List ModelUnit) (n : ℕ) (a b c : WorkerView) (e : FetchErr) → n < 16 → HasCopied n a b → HasCollected i handed b c (Err e)
+pub run_lost : (i : Image) (handed : List ModelUnit) (n : ℕ) (a b c : WorkerView) (e : FetchErr) → n < 16 → HasCopied n a b
+    → HasCollected i handed roles.Collector b c (Err e)
     → HasCollectedRun handed a c (Err e)
 run_lost i handed n a b c e low x is =
     let fault = is.pumped.tells.0 in

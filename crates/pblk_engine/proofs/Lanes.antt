@@ -10,7 +10,7 @@ use Rattle.unit_port.specs.declared.unit.UnitErr.TheVariants as causes
 use Rattle.pblk_engine.specs.Closings.{closing_of, set_of}
 use Rattle.pblk_engine.specs.Fetches.{TellsCause}
 use Rattle.pblk_engine.specs.Lanes.{HasRunAs, NoStops}
-use Rattle.pblk_engine.specs.Pumps.{AreOfRole, GoesOn, HasCollectedRun, HasPumped, IsFaultOf, NoFaults, TellsCauses, fault_of}
+use Rattle.pblk_engine.specs.Pumps.{AreOfRole, GoesOn, HasCollectedRun, HasPumped, IsFaultOf, NoFaults, fault_of}
 use Rattle.pblk_engine.specs.Workers.{Made, WorkerView}
 use Rattle.pblk_engine.specs.declared.closing.Closing.{Closing}
 use Rattle.pblk_engine.specs.declared.closing.IsSet.{IsSet}
@@ -70,7 +70,7 @@ gone_more role a b c more x on made none = record {
   none = all_append (λ (m : Made). is_stop m.event.outcome ≡ false) x.more more x.none none;
 }
 
-pub gone_then : (role : Role) (i : Image) (handed : List ModelUnit) (a b c : WorkerView) (did : Did) → HasGone role a b → HasPumped i handed b c (Ok did)
+pub gone_then : (role : Role) (i : Image) (handed : List ModelUnit) (a b c : WorkerView) (did : Did) → HasGone role a b → HasPumped i handed role b c (Ok did)
     → ((more : List Made) → c.made ≡ b.made ++ more → AreOfRole role more) → HasGone role a c
 gone_then role i handed a b c did x is made = gone_more role a b c is.more x is.on (made is.more is.on.made) (no_stops is.more is.tells.0)
 
@@ -114,7 +114,7 @@ stopped_then role closing handed a b c more e x on made is stop = record {
 }
 
 pub lane_stopped : (closing : Closing) (i : Image) (handed : List ModelUnit) (a b c : WorkerView) (e : DriveErr) → HasGone roles.Lane a b
-    → HasPumped i handed b c (Err e) → ((more : List Made) → c.made ≡ b.made ++ more → AreOfRole roles.Lane more)
+    → HasPumped i handed roles.Lane b c (Err e) → ((more : List Made) → c.made ≡ b.made ++ more → AreOfRole roles.Lane more)
     → HasRunAs roles.Lane closing a c (ends.Stopped e.unit)
 lane_stopped closing i handed a b c e x is made =
     let fault = is.tells.0 in

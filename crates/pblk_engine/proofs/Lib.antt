@@ -62,7 +62,7 @@ pub mod Tells
 pub mod GoingOn
 pub mod RoleCommands
 pub mod MadePrograms
-pub mod OpenedLines
+pub mod WorkSince
 pub mod PumpSteps
 pub mod CopyRuns
 pub mod Lanes
@@ -77,4 +77,5 @@ pub mod ReadLooks
 pub mod ReadAnswers
 mod WorkedOff
 mod Ticks
+mod PumpCounts
 mod LaterRests

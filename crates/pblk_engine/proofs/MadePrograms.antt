@@ -14,6 +14,7 @@ use Rattle.pblk_engine.specs.Placements.{IsPlacedAs}
 use Rattle.pblk_engine.specs.Programs.{HasMade, HasTried}
 use Rattle.pblk_engine.specs.Pumps.{AreOfRole, HasPumped, TellsPump}
 use Rattle.pblk_engine.specs.Stops.{stop_count}
+use Rattle.pblk_engine.specs.WorkSince.{HasPlacedOn}
 use Rattle.pblk_engine.specs.Workers.{Made, WorkerView}
 use Rattle.pblk_engine.specs.declared.arm.Programmed.{Programmed}
 use Rattle.pblk_engine.specs.declared.arm.Programmed.TheVariants as programmed
@@ -22,6 +23,7 @@ use Rattle.pblk_engine.specs.declared.commands.Ended.TheVariants as ended
 use Rattle.pblk_engine.specs.declared.errors.DriveErr.{DriveErr}
 use Rattle.pblk_engine.specs.declared.outcomes.Did.{Did}
 use Rattle.pblk_engine.specs.declared.outcomes.Did.TheVariants as dids
+use Rattle.pblk_engine.specs.declared.outcomes.Role.{Role}
 use Rattle.pblk_engine.specs.declared.outcomes.Role.TheVariants as roles
 use Rattle.pblk_engine.proofs.GoingOn.{fault_one, goes_learned, goes_one, goes_placed, stop_lost, write_kept}
 use Rattle.pblk_engine.proofs.RoleCommands.{grown_of_role, write_of_lane}
@@ -82,8 +84,9 @@ module _ (i : Image) (handed : List ModelUnit) (old placed made new : WorkerView
       (goes_one old placed made new is.made (goes_placed old placed place) is.on (goes_learned made new learns keeps))
       (write_of_lane is.made.event is.command, tt)
 
-  pub pumped_made : (how : Ended) → HasMade handed placed made how event → HasPumped i handed old new (answer_of how unit event)
-  pumped_made how is = record {
+  pub pumped_made : (role : Role) (how : Ended) → HasMade handed placed made how event → HasPlacedOn unit old.known new.known
+      → HasPumped i handed role old new (answer_of how unit event)
+  pumped_made role how is worked = record {
     more = is.made ∷ [];
     on = goes_one old placed made new is.made (goes_placed old placed place) is.on (goes_learned made new learns keeps);
     tells = tells how is;
@@ -93,14 +96,17 @@ module _ (i : Image) (handed : List ModelUnit) (old placed made new : WorkerView
       its_unit how is = is.unit ∙ ap (λ (f : Filling). f.stripe.unit) (sym is.stripe) ∙ sym on
 
       tells : (how : Ended) (is : HasMade handed placed made how event)
-          → TellsPump i handed old.known new.known (is.made ∷ []) (answer_of how unit event)
+          → TellsPump i handed role old.known new.known (is.made ∷ []) (answer_of how unit event)
       tells ended.Done is = (
         (write_kept is.made.event is.command (ap is_stop is.tells), tt),
-        record { made = is.made; only = refl; asked = is.command; told = is.tells },
+        (
+          record { made = is.made; only = refl; asked = is.command; told = is.tells },
+          subst (λ n. HasPlacedOn n old.known new.known) (sym (its_unit ended.Done is)) worked,
+        ),
       )
       tells (ended.Failed kept) is = (
         (write_kept is.made.event is.command (ap is_stop is.tells.1), tt),
-        (record { made = is.made; only = refl; asked = is.command; told = (is.tells.0, is.tells.1) }, its_unit (ended.Failed kept) is),
+        (record { made = is.made; only = refl; asked = is.command; told = (is.tells.0, is.tells.1) }, its_unit (ended.Failed kept) is, worked),
       )
       tells ended.Stopped is = (
         fault_one handed is.made (record { unit = unit; event = event }) (stop_lost is.made.event (ap is_stop is.tells.1)) (sym (its_unit ended.Stopped is))

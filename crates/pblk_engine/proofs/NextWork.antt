@@ -61,6 +61,13 @@ module _ (i : Image) (w : World) (c : Core) (v : View) (mount : IsLegalMount i w
           resets_told i (log_of w) (log_of is.left.left) (told_left i w c v mount is) ∙ sym is.stands.resets
           ∙ none_first (resets_left c.resets) (no_reset_named (slice_get (resets_left c.resets) 0) (named_beside c) work apart names).0
 
+  -- nor by all that is known
+  pub reset_now : (work : Work) → ((line unit : ℕ) → works.Reset line unit ≢ work) → named c ≡ work → AreReset i (log_of w)
+  reset_now work apart names = λ line inside given.
+      reset_empty i w line mount
+      (sym is.stands.resets
+      ∙ none_first (resets_left c.resets) (no_reset_named (slice_get (resets_left c.resets) 0) (named_beside c) work apart names).0) inside given
+
   -- an entry lacks an address
   pub lacks_then : named c ≡ works.Open → LacksAddress i (logs_at (length (log_of w 0)) (log_of w))
   lacks_then names = by_left i w c v mount is (LacksAddress i) (record {

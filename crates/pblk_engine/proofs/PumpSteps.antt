@@ -1,10 +1,14 @@
 -- What a pump answers, by what its worker made and learned.
-use Rattle.std.proofs.Common.{◌≡◌, ◌≢◌, inl, inr, ℕ, suc, ◌≤◌, true, false, Result, Ok, Err, List, [], ◌∷◌, ◌++◌, ◌+◌, ◌<◌, length, length-append, refl, sym, subst, ap, ◌∙◌, arith}
+use Rattle.std.proofs.Common.{◌≡◌, ◌≢◌, inl, inr, ℕ, suc, ◌≤◌, true, false, Result, Ok, Err, List, [], ◌∷◌, ◌++◌, length, refl, sym, subst, ap, ◌∙◌}
 use Rattle.std.specs.Prelude.{IfOk}
 use Rattle.pblk_model.specs.ChunkStep.{Gave, Read}
 use Rattle.pblk_model.specs.Image.{Image}
 use Rattle.pblk_model.specs.UnitLog.{UnitEvent, UnitOutcome, Answered, Failed, Stopped}
+use Rattle.pblk_model.specs.StartRecord.{StartRecord}
 use Rattle.pblk_world.specs.AtRest.{IsAtRest, IsCopyDue}
+use Rattle.pblk_world.specs.Events.{EngineEvent, Open}
+use Rattle.pblk_world.specs.Orders.{AreReset}
+use Rattle.rest_laws.specs.Work.{is_work}
 use Rattle.scan_recovery.specs.DriveFaults.{is_drive_fault, is_fetch}
 use Rattle.unit_port.specs.Armed.{is_fail, is_stop}
 use Rattle.unit_port.specs.Did.{failed_or_stopped}
@@ -20,18 +24,19 @@ use Rattle.pblk_engine.specs.Arms.{ArmView, number_told}
 use Rattle.pblk_engine.specs.ChunkResets.{HasReset}
 use Rattle.pblk_engine.specs.Deeds.{HasDone}
 use Rattle.pblk_engine.specs.Fetches.{TellsCause, TellsFetch}
-use Rattle.pblk_engine.specs.Opens.{HasOpened}
-use Rattle.pblk_engine.specs.Pumps.{AreOfRole, GoesOn, HasCollected, HasComeOn, HasFetched, HasPumped, IsBusy, IsFetch, IsNothing, IsOnly, IsWork, NoFaults, WasCopyDue}
-use Rattle.pblk_engine.specs.Pumps.{TellsPump, fault_of, pumped_of}
+use Rattle.pblk_engine.specs.WorkSince.{HasOpened, HasPlacedOn, HasWorkSince}
+use Rattle.pblk_engine.specs.Pumps.{AreOfRole, GoesOn, HasCollected, HasComeOn, HasFetched, HasPumped, IsBusy, IsFetch, IsNothing, IsOnly, IsWork, IsWrite, NoFaults, WasCopyDue}
+use Rattle.pblk_engine.specs.Pumps.{TellsPump, fault_of}
 use Rattle.pblk_engine.specs.Workers.{Made, WorkerView}
 use Rattle.pblk_engine.specs.declared.errors.DriveErr.{DriveErr}
 use Rattle.pblk_engine.specs.declared.errors.FetchErr.{FetchErr}
 use Rattle.pblk_engine.specs.declared.outcomes.Did.{Did}
 use Rattle.pblk_engine.specs.declared.outcomes.Did.TheVariants as dids
+use Rattle.pblk_engine.specs.declared.outcomes.Role.{Role}
 use Rattle.pblk_engine.specs.declared.outcomes.Role.TheVariants as roles
 use Rattle.chronicle.proofs.Rests.{still_begun}
-use Rattle.pblk_engine.proofs.GoingOn.{all_known, answer_kept, fault_one, fetch_lost, goes_still, goes_then, reset_kept, stop_lost}
-use Rattle.pblk_engine.proofs.OpenedLines.{opened_since}
+use Rattle.pblk_engine.proofs.GoingOn.{all_known, answer_kept, fault_one, fetch_lost, goes_learned, goes_still, goes_then, reset_kept, stop_lost}
+use Rattle.pblk_engine.proofs.WorkSince.{decided_later, opened_work, placed_later}
 
 -- ---- fetches
 
@@ -65,13 +70,13 @@ has_fetched handed old new was now before line block unit result on done = recor
   tells = subst (λ n. TellsFetch n (number_told handed n (length (logs_of before (suc old.number)))) result done.outcome) on done.told;
 }
 
-module _ (i : Image) (handed : List ModelUnit) (old new : WorkerView) (unit : ℕ) where
+module _ (i : Image) (handed : List ModelUnit) (role : Role) (old new : WorkerView) (unit : ℕ) where
   -- its command is a fetch
   fetch_only : (result : Result (Unit {0}) FetchErr) (is : HasFetched handed unit old new result) → AreOfRole roles.Collector (is.made ∷ [])
   fetch_only result is = (ap is_fetch is.asked.1, tt)
 
   -- a fetch that was lost
-  pub collected_lost : (e : FetchErr) → HasFetched handed unit old new (Err e) → HasCollected i handed old new (Err e)
+  pub collected_lost : (e : FetchErr) → HasFetched handed unit old new (Err e) → HasCollected i handed role old new (Err e)
   collected_lost e is = record {
     pumped = record {
       more = is.made ∷ [];
@@ -93,38 +98,45 @@ module _ (i : Image) (handed : List ModelUnit) (old new : WorkerView) (unit : �
     record { made = is.made; only = refl; asked = is.asked; told = is.tells },
   )
 
-  -- a copy was due at the look
-  due_then : (is : HasFetched handed unit old new (Ok tt)) → IsCopyDue i (logs_of old.known) → WasCopyDue i old.known new.known
-  due_then is due = record { looked = old.known; since = all_known old.known; within = is.on.keeps; due = due }
+  module _ (due : IsCopyDue i (logs_of old.known)) (reset : role ≡ roles.All → AreReset i (logs_of old.known)) (now : WorkerView)
+      (learned : now ≡ record new { known = now.known }) (keeps : ArePrefixes new.known now.known) (is : HasFetched handed unit old new (Ok tt)) where
+    -- a copy was due at the look, and the worker learned more since the fetch
+    on_then : GoesOn old now (is.made ∷ [])
+    on_then = goes_then old new now (is.made ∷ []) [] is.on (goes_learned new now learned keeps)
 
-  pub collected_copied : IsCopyDue i (logs_of old.known) → HasFetched handed unit old new (Ok tt) → HasCollected i handed old new (Ok dids.Copied)
-  collected_copied due is = let it = only_fetch is in record {
-    pumped = record { more = is.made ∷ []; on = is.on; tells = (it.0, (it.1, due_then is due)) };
-    fetched = fetch_only (Ok tt) is;
-    caused = tt;
-  }
+    due_then : WasCopyDue i role old.known now.known
+    due_then = record { looked = old.known; since = all_known old.known; within = on_then.keeps; due = due; reset = reset }
 
-  pub collected_refused : IsCopyDue i (logs_of old.known) → HasFetched handed unit old new (Ok tt) → HasCollected i handed old new (Ok dids.NotCopied)
-  collected_refused due is = let it = only_fetch is in record {
-    pumped = record { more = is.made ∷ []; on = is.on; tells = (it.0, (inr it.1, due_then is due)) };
-    fetched = fetch_only (Ok tt) is;
-    caused = tt;
-  }
+    -- the copy was taken
+    pub collected_copied : HasWorkSince old.known now.known → HasCollected i handed role old now (Ok dids.Copied)
+    collected_copied worked = let it = only_fetch is in record {
+      pumped = record { more = is.made ∷ []; on = on_then; tells = (it.0, (it.1, due_then, worked)) };
+      fetched = fetch_only (Ok tt) is;
+      caused = tt;
+    }
+
+    -- its claim was refused, or it isn't taken yet
+    pub collected_refused : HasCollected i handed role old now (Ok dids.NotCopied)
+    collected_refused = let it = only_fetch is in record {
+      pumped = record { more = is.made ∷ []; on = on_then; tells = (it.0, (inr it.1, due_then)) };
+      fetched = fetch_only (Ok tt) is;
+      caused = tt;
+    }
 
   -- ---- resets
 
-  pub pumped_reset : (line : ℕ) → HasReset handed unit line old new (Ok tt) → HasPumped i handed old new (Ok dids.Reset)
-  pumped_reset line is = record {
+  pub pumped_reset : (line : ℕ) → HasReset handed unit line old new (Ok tt) → HasWorkSince old.known new.known → HasPumped i handed role old new (Ok dids.Reset)
+  pumped_reset line is worked = record {
     more = is.made ∷ [];
     on = is.on;
     tells = (
       (reset_kept is.made.event is.asked is.tells, tt),
-      record { made = is.made; only = refl; asked = is.asked; told = is.tells },
+      (record { made = is.made; only = refl; asked = is.asked; told = is.tells }, worked),
     );
   }
 
   pub pumped_stopped : (line event : ℕ) → HasReset handed unit line old new (Err event)
-      → HasPumped i handed old new (Err (record { unit = unit; event = event }))
+      → HasPumped i handed role old new (Err (record { unit = unit; event = event }))
   pumped_stopped line event is = record {
     more = is.made ∷ [];
     on = is.on;
@@ -137,87 +149,95 @@ module _ (i : Image) (handed : List ModelUnit) (old new : WorkerView) (unit : �
 
 -- ---- no command
 
-module _ (i : Image) (handed : List ModelUnit) (w : WorkerView) where
-  pub pumped_other : HasPumped i handed w w (Ok dids.Other)
+module _ (i : Image) (handed : List ModelUnit) (role : Role) (w : WorkerView) where
+  pub pumped_other : HasPumped i handed role w w (Ok dids.Other)
   pumped_other = record { more = []; on = goes_still w; tells = (tt, refl) }
 
-  pub collected_full : IsCopyDue i (logs_of w.known) → HasCollected i handed w w (Ok dids.NotCopied)
-  collected_full due = record {
+  pub collected_full : IsCopyDue i (logs_of w.known) → (role ≡ roles.All → AreReset i (logs_of w.known)) → HasCollected i handed role w w (Ok dids.NotCopied)
+  collected_full due reset = record {
     pumped = record {
       more = [];
       on = goes_still w;
-      tells = (tt, (inl refl, record { looked = w.known; since = all_known w.known; within = all_known w.known; due = due }));
+      tells = (
+        tt,
+        (inl refl, record { looked = w.known; since = all_known w.known; within = all_known w.known; due = due; reset = reset }),
+      );
     };
     fetched = tt;
     caused = tt;
   }
 
-  pub collected_other : HasCollected i handed w w (Ok dids.Other)
+  pub collected_other : HasCollected i handed role w w (Ok dids.Other)
   collected_other = record { pumped = record { more = []; on = goes_still w; tells = (tt, refl) }; fetched = tt; caused = tt }
 
-  pub pumped_nothing : (why : Why) → IsNothing i w.known why → HasPumped i handed w w (Ok (dids.Nothing why))
+  pub pumped_nothing : (why : Why) → IsNothing i w.known why → HasPumped i handed role w w (Ok (dids.Nothing why))
   pumped_nothing why is = record { more = []; on = goes_still w; tells = (tt, (refl, is)) }
 
-pub pumped_opened : (i : Image) (handed : List ModelUnit) (old new : WorkerView) → GoesOn old new [] → HasOpened old.known new.known
-    → HasPumped i handed old new (Ok dids.Opened)
-pumped_opened i handed old new on is = record { more = []; on = on; tells = (tt, (refl, is)) }
+pub pumped_opened : (i : Image) (handed : List ModelUnit) (role : Role) (old new : WorkerView) → GoesOn old new [] → HasOpened old.known new.known
+    → HasPumped i handed role old new (Ok dids.Opened)
+pumped_opened i handed role old new on is = record { more = []; on = on; tells = (tt, (refl, is)) }
 
 -- ---- a worker that learned before
 
-due_since : (i : Image) (early old new : Prefixes) → ArePrefixes early old → WasCopyDue i old new → WasCopyDue i early new
-due_since i early old new keeps is =
-    record { looked = is.looked; since = still_begun early old is.looked keeps is.since; within = is.within; due = is.due }
+due_since : (i : Image) (role : Role) (early old new : Prefixes) → ArePrefixes early old → WasCopyDue i role old new → WasCopyDue i role early new
+due_since i role early old new keeps is =
+    record { looked = is.looked; since = still_begun early old is.looked keeps is.since; within = is.within; due = is.due; reset = is.reset }
 
-pub tells_since : (i : Image) (handed : List ModelUnit) (early old new : Prefixes) (more : List Made) (result : Result Did DriveErr) → ArePrefixes early old
-    → TellsPump i handed old new more result → TellsPump i handed early new more result
-tells_since i handed early old new more (Err e) keeps is = is
-tells_since i handed early old new more (Ok dids.Opened) keeps is = (is.0, (is.1.0, opened_since early old new keeps is.1.1))
-tells_since i handed early old new more (Ok dids.Programmed) keeps is = is
-tells_since i handed early old new more (Ok (dids.Lost unit)) keeps is = is
-tells_since i handed early old new more (Ok dids.Reset) keeps is = is
-tells_since i handed early old new more (Ok dids.Copied) keeps is = (is.0, (is.1.0, due_since i early old new keeps is.1.1))
-tells_since i handed early old new more (Ok dids.NotCopied) keeps is = (is.0, (is.1.0, due_since i early old new keeps is.1.1))
-tells_since i handed early old new more (Ok dids.Other) keeps is = is
-tells_since i handed early old new more (Ok (dids.Nothing why)) keeps is = is
+work_since : (early old new : Prefixes) → ArePrefixes early old → HasWorkSince old new → HasWorkSince early new
+work_since early old new keeps is = decided_later (λ (e : EngineEvent). is_work e ≡ true) early old new keeps is
 
-pub pumped_since : (i : Image) (handed : List ModelUnit) (early old new : WorkerView) (result : Result Did DriveErr) → GoesOn early old []
-    → HasPumped i handed old new result → HasPumped i handed early new result
-pumped_since i handed early old new result first is = record {
+pub tells_since : (i : Image) (handed : List ModelUnit) (role : Role) (early old new : Prefixes) (more : List Made) (result : Result Did DriveErr)
+    → ArePrefixes early old → TellsPump i handed role old new more result → TellsPump i handed role early new more result
+tells_since i handed role early old new more (Err e) keeps is = is
+tells_since i handed role early old new more (Ok dids.Opened) keeps is =
+    (is.0, (is.1.0, decided_later (λ (e : EngineEvent). (line : ℕ) × (start : StartRecord) × (e ≡ Open line start)) early old new keeps is.1.1))
+tells_since i handed role early old new more (Ok dids.Programmed) keeps is =
+    (is.0, (is.1.0, placed_later is.1.0.made.unit early old new keeps is.1.1))
+tells_since i handed role early old new more (Ok (dids.Lost unit)) keeps is =
+    (is.0, (is.1.0, is.1.1, placed_later unit early old new keeps is.1.2))
+tells_since i handed role early old new more (Ok dids.Reset) keeps is = (is.0, (is.1.0, work_since early old new keeps is.1.1))
+tells_since i handed role early old new more (Ok dids.Copied) keeps is =
+    (is.0, (is.1.0, due_since i role early old new keeps is.1.1, work_since early old new keeps is.1.2))
+tells_since i handed role early old new more (Ok dids.NotCopied) keeps is = (is.0, (is.1.0, due_since i role early old new keeps is.1.1))
+tells_since i handed role early old new more (Ok dids.Other) keeps is = is
+tells_since i handed role early old new more (Ok (dids.Nothing why)) keeps is = is
+
+pub pumped_since : (i : Image) (handed : List ModelUnit) (role : Role) (early old new : WorkerView) (result : Result Did DriveErr) → GoesOn early old []
+    → HasPumped i handed role old new result → HasPumped i handed role early new result
+pumped_since i handed role early old new result first is = record {
   more = is.more;
   on = goes_then early old new [] is.more first is.on;
-  tells = tells_since i handed early.known old.known new.known is.more result first.keeps is.tells;
+  tells = tells_since i handed role early.known old.known new.known is.more result first.keeps is.tells;
 }
-
-pub collected_since : (i : Image) (handed : List ModelUnit) (early old new : WorkerView) (result : Result Did FetchErr) → GoesOn early old []
-    → HasCollected i handed old new result → HasCollected i handed early new result
-unfolding pumped_since
-collected_since i handed early old new result first is =
-    record { pumped = pumped_since i handed early old new (pumped_of result) first is.pumped; fetched = is.fetched; caused = is.caused }
 
 -- ---- a pump that did something
 
--- with one command more
-one_more : (old new : WorkerView) (more : List Made) → GoesOn old new more → (m : Made) → more ≡ m ∷ [] → length old.made < length new.made
-one_more old new more on m only =
-    let all : new.made ≡ old.made ++ m ∷ [] = on.made ∙ ap (λ (ms : List Made). old.made ++ ms) only in
-    let many : length new.made ≡ length old.made + 1 = ap (λ (ms : List Made). length ms) all ∙ length-append old.made (m ∷ []) in
-    omega (arith, many)
+-- the stripe that it programmed was placed, or had been stopped
+placed_on : (old new : WorkerView) (more : List Made) (m : Made) → GoesOn old new more → more ≡ m ∷ [] → IsWrite m.event.command
+    → HasPlacedOn m.unit old.known new.known → HasComeOn old new
+placed_on old new more m on only write (inl work) = inl work
+placed_on old new more m on only write (inr again) =
+    inr (record { made = m; all = on.made ∙ ap (λ (ms : List Made). old.made ++ ms) only; command = write; again = again })
 
-pub came_on : (i : Image) (handed : List ModelUnit) (old new : WorkerView) (did : Did) → IsWork did → HasPumped i handed old new (Ok did) → HasComeOn old new
-came_on i handed old new dids.Programmed work is = inl (one_more old new is.more is.on is.tells.1.made is.tells.1.only)
-came_on i handed old new (dids.Lost unit) work is = inl (one_more old new is.more is.on is.tells.1.0.made is.tells.1.0.only)
-came_on i handed old new dids.Reset work is = inl (one_more old new is.more is.on is.tells.1.made is.tells.1.only)
-came_on i handed old new dids.Copied work is = inl (one_more old new is.more is.on is.tells.1.0.made is.tells.1.0.only)
-came_on i handed old new dids.NotCopied work is = absurd (work.0 refl)
-came_on i handed old new dids.Opened work is = inr is.tells.1.1
-came_on i handed old new dids.Other work is = absurd (work.1 refl)
-came_on i handed old new (dids.Nothing why) work is = absurd (work.2 why refl)
+pub came_on : (i : Image) (handed : List ModelUnit) (role : Role) (old new : WorkerView) (did : Did) → IsWork did → HasPumped i handed role old new (Ok did)
+    → HasComeOn old new
+came_on i handed role old new dids.Programmed work is =
+    placed_on old new is.more is.tells.1.0.made is.on is.tells.1.0.only is.tells.1.0.asked is.tells.1.1
+came_on i handed role old new (dids.Lost unit) work is =
+    placed_on old new is.more is.tells.1.0.made is.on is.tells.1.0.only is.tells.1.0.asked
+    (subst (λ n. HasPlacedOn n old.known new.known) (sym is.tells.1.1) is.tells.1.2)
+came_on i handed role old new dids.Reset work is = inl is.tells.1.1
+came_on i handed role old new dids.Copied work is = inl is.tells.1.2
+came_on i handed role old new dids.NotCopied work is = absurd (work.0 refl)
+came_on i handed role old new dids.Opened work is = inl (opened_work old.known new.known is.tells.1.1)
+came_on i handed role old new dids.Other work is = absurd (work.1 refl)
+came_on i handed role old new (dids.Nothing why) work is = absurd (work.2 why refl)
 
 -- of one that wasn't lost
-pub came_on_then : (i : Image) (handed : List ModelUnit) (old new : WorkerView) (result : Result Did DriveErr) → HasPumped i handed old new result
-    → IfOk result (λ did. IsWork did → HasComeOn old new)
-came_on_then i handed old new (Ok did) is = λ work. came_on i handed old new did work is
-came_on_then i handed old new (Err e) is = tt
+pub came_on_then : (i : Image) (handed : List ModelUnit) (role : Role) (old new : WorkerView) (result : Result Did DriveErr)
+    → HasPumped i handed role old new result → IfOk result (λ did. IsWork did → HasComeOn old new)
+came_on_then i handed role old new (Ok did) is = λ work. came_on i handed role old new did work is
+came_on_then i handed role old new (Err e) is = tt
 
 -- ---- where there is nothing to do
 

@@ -40,6 +40,6 @@ pub reset_of_lane : (handed : List ModelUnit) (unit line : _) (old new : WorkerV
     → (more : List Made) → new.made ≡ old.made ++ more → AreOfRole roles.Lane more
 reset_of_lane handed unit line old new result is = grown_of_role roles.Lane old new (is.made ∷ []) is.on (ap is_fetch is.asked, tt)
 
-pub fetch_of_collector : (i : Image) (handed : List ModelUnit) (old new : WorkerView) (result : _) → HasCollected i handed old new result
+pub fetch_of_collector : (i : Image) (handed : List ModelUnit) (role : Role) (old new : WorkerView) (result : _) → HasCollected i handed role old new result
     → (more : List Made) → new.made ≡ old.made ++ more → AreOfRole roles.Collector more
-fetch_of_collector i handed old new result is = grown_of_role roles.Collector old new is.pumped.more is.pumped.on is.fetched
+fetch_of_collector i handed role old new result is = grown_of_role roles.Collector old new is.pumped.more is.pumped.on is.fetched

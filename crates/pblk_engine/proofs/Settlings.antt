@@ -31,6 +31,7 @@ use Rattle.pblk_engine.specs.declared.errors.DriveErr.{DriveErr}
 use Rattle.pblk_engine.specs.declared.errors.SettleErr.{SettleErr}
 use Rattle.pblk_engine.specs.declared.errors.SettleErr.TheVariants as errors
 use Rattle.pblk_engine.specs.declared.outcomes.Did.{Did}
+use Rattle.pblk_engine.specs.declared.outcomes.Role.TheVariants as roles
 
 -- ---- the front taken
 
@@ -237,7 +238,7 @@ module _ (i : Image) (key : Key) (handed : List ModelUnit) (pass : Part) where
     tells = (tt, all_taken (logs_of new.known) claimed copies is.all_taken claims, is.all_taken, is.worn);
   }
 
-  pub looked_pumped : (old look new : WorkerView) (did : Did) → HasWorked old look [] → HasPumped i handed look new (Ok did)
+  pub looked_pumped : (old look new : WorkerView) (did : Did) → HasWorked old look [] → HasPumped i handed roles.All look new (Ok did)
       → HasLooked i key handed pass old new (Ok (Some did))
   looked_pumped old look new did on is = record {
     more = is.more;
@@ -245,7 +246,7 @@ module _ (i : Image) (key : Key) (handed : List ModelUnit) (pass : Part) where
     tells = is.tells.0;
   }
 
-  pub looked_lost : (old look new : WorkerView) (e : DriveErr) → HasWorked old look [] → HasPumped i handed look new (Err e)
+  pub looked_lost : (old look new : WorkerView) (e : DriveErr) → HasWorked old look [] → HasPumped i handed roles.All look new (Err e)
       → HasLooked i key handed pass old new (Err (errors.Drive e.unit e.event))
   looked_lost old look new e on is = record {
     more = is.more;

@@ -8,6 +8,7 @@ use Rattle.pblk_engine.specs.Ticks.{ArePumps, HasTicked, Pump, TicksAt}
 use Rattle.pblk_engine.specs.Workers.{WorkerView}
 use Rattle.pblk_engine.specs.declared.errors.DriveErr.{DriveErr}
 use Rattle.pblk_engine.specs.declared.outcomes.Did.{Did}
+use Rattle.pblk_engine.specs.declared.outcomes.Role.TheVariants as roles
 use Rattle.pblk_engine.proofs.Settlings.{worked_none, worked_then}
 
 module _ (i : Image) (handed : List ModelUnit) where
@@ -18,7 +19,7 @@ module _ (i : Image) (handed : List ModelUnit) where
 
   -- one pump more
   pumped_after : (a b look c : WorkerView) (pumps : List Pump) (answer : Result Did DriveErr) → ArePumps i handed a pumps b → HasWorked b look []
-      → HasPumped i handed look c answer → HasWorked c c []
+      → HasPumped i handed roles.All look c answer → HasWorked c c []
       → ArePumps i handed a (pumps ++ record { before = look; after = c; answer = answer } ∷ []) c
   pumped_after a b look c [] answer is looks pump still = (worked_then a b look [] [] is looks, pump, still)
   pumped_after a b look c (p ∷ pumps) answer is looks pump still = (is.0, is.1, pumped_after p.after b look c pumps answer is.2 looks pump still)

@@ -20,6 +20,7 @@ use Rattle.pblk_engine.specs.declared.errors.DriveErr.{DriveErr}
 use Rattle.pblk_engine.specs.declared.errors.SettleErr.{SettleErr}
 use Rattle.pblk_engine.specs.declared.errors.SettleErr.TheVariants as errors
 use Rattle.pblk_engine.specs.declared.outcomes.Did.{Did}
+use Rattle.pblk_engine.specs.declared.outcomes.Role.TheVariants as roles
 use Rattle.pblk_engine.specs.declared.outcomes.Flushed.{Flushed}
 use Rattle.pblk_engine.specs.declared.outcomes.Flushed.TheVariants as flushed
 use Rattle.pblk_engine.specs.declared.outcomes.Roomed.{Roomed}
@@ -74,15 +75,15 @@ module _ (i : Image) (handed : List ModelUnit) (position : ℕ) (old mid : Worke
     was_behind : ArePrefixes mid.known new.known → WasBehind i position new.known
     was_behind keeps = record { looked = k; legal = legal; within = subst (λ (p : Prefixes). ArePrefixes p new.known) known keeps; behind = behind }
 
-    pub flush_pumped : (did : Did) → HasPumped i handed mid new (Ok did) → HasFlushed i handed position old new (Ok (flushed.Pumped did))
+    pub flush_pumped : (did : Did) → HasPumped i handed roles.All mid new (Ok did) → HasFlushed i handed position old new (Ok (flushed.Pumped did))
     flush_pumped did is = record {
       more = is.more;
       on = went_then old mid new is.more on is.on;
-      tells = (was_behind is.on.keeps, tells_since i handed old.known mid.known new.known is.more (Ok did) on.keeps is.tells);
+      tells = (was_behind is.on.keeps, tells_since i handed roles.All old.known mid.known new.known is.more (Ok did) on.keeps is.tells);
     }
 
     pub flush_lost : (e : DriveErr) (result : Result Flushed SettleErr) → IsErrAnd result (λ w. w ≡ errors.Drive e.unit e.event)
-        → HasPumped i handed mid new (Err e) → HasFlushed i handed position old new result
+        → HasPumped i handed roles.All mid new (Err e) → HasFlushed i handed position old new result
     flush_lost e (Ok x) made is = absurd made
     flush_lost e (Err w) made is = subst (λ (x : SettleErr). HasFlushed i handed position old new (Err x)) (sym made) (record {
       more = is.more;
@@ -132,15 +133,15 @@ module _ (i : Image) (handed : List ModelUnit) (wanted count : ℕ) (old mid : W
     was_full : ArePrefixes mid.known new.known → WasFull i wanted new.known
     was_full keeps = record { looked = k; legal = legal; within = subst (λ (p : Prefixes). ArePrefixes p new.known) known keeps; full = full }
 
-    pub room_pumped : (did : Did) → HasPumped i handed mid new (Ok did) → HasRoomed i handed wanted count old new (Ok (roomed.Pumped did))
+    pub room_pumped : (did : Did) → HasPumped i handed roles.All mid new (Ok did) → HasRoomed i handed wanted count old new (Ok (roomed.Pumped did))
     room_pumped did is = record {
       more = is.more;
       on = goes_then old mid new [] is.more on is.on;
-      tells = (was_full is.on.keeps, tells_since i handed old.known mid.known new.known is.more (Ok did) on.keeps is.tells);
+      tells = (was_full is.on.keeps, tells_since i handed roles.All old.known mid.known new.known is.more (Ok did) on.keeps is.tells);
     }
 
     pub room_lost : (e : DriveErr) (result : Result Roomed SettleErr) → IsErrAnd result (λ w. w ≡ errors.Drive e.unit e.event)
-        → HasPumped i handed mid new (Err e) → HasRoomed i handed wanted count old new result
+        → HasPumped i handed roles.All mid new (Err e) → HasRoomed i handed wanted count old new result
     room_lost e (Ok x) made is = absurd made
     room_lost e (Err w) made is = subst (λ (x : SettleErr). HasRoomed i handed wanted count old new (Err x)) (sym made) (record {
       more = is.more;

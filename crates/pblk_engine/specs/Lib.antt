@@ -19,7 +19,7 @@ pub mod Endings
 pub mod Closings
 pub mod Stops
 pub mod Answers
-pub mod Opens
+pub mod WorkSince
 pub mod Pumps
 pub mod Lanes
 pub mod Reads

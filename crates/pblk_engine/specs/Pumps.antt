@@ -6,6 +6,7 @@ use Rattle.pblk_model.specs.ChunkStep.{ChunkCommand, Done, Gave, Read, Reset, Wr
 use Rattle.pblk_model.specs.Image.{Image}
 use Rattle.pblk_model.specs.UnitLog.{UnitOutcome, Answered, Failed}
 use Rattle.pblk_world.specs.AtRest.{IsAtRest, IsCopyDue, pad_target}
+use Rattle.pblk_world.specs.Orders.{AreReset}
 use Rattle.pblk_world.specs.World.{Logs}
 use Rattle.scan_recovery.specs.DriveFaults.{is_drive_fault, is_fetch}
 use Rattle.unit_port.specs.Armed.{is_stop}
@@ -17,7 +18,7 @@ use Rattle.pblk_core.specs.declared.work.Work.TheVariants as works
 use Rattle.chronicle.specs.Prefixes.{Prefixes, logs_of, ArePrefixes}
 use Rattle.pblk_engine.specs.Arms.{number_told}
 use Rattle.pblk_engine.specs.Fetches.{TellsCause, TellsFetch}
-use Rattle.pblk_engine.specs.Opens.{HasOpened}
+use Rattle.pblk_engine.specs.WorkSince.{HasOpened, HasPlacedOn, HasWorkSince, WasToProgramAgain}
 use Rattle.pblk_engine.specs.Workers.{Made, WorkerView}
 use Rattle.pblk_engine.specs.declared.errors.DriveErr.{DriveErr}
 use Rattle.pblk_engine.specs.declared.errors.FetchErr.{FetchErr}
@@ -94,40 +95,52 @@ pub record HasFetched (handed : List ModelUnit) (unit : ℕ) (old new : WorkerVi
   pub tells : TellsFetch unit (number_told handed unit made.number) result made.event.outcome
 
 -- At a look, which knew what was known before and of which all is known after, a sector of the
--- victim at work was to be copied.
-pub record WasCopyDue (i : Image) (old new : Prefixes) : Type 0 where
+-- victim at work was to be copied. In the role All no reset was left to be made then.
+pub record WasCopyDue (i : Image) (role : Role) (old new : Prefixes) : Type 0 where
   pub looked : Prefixes
   pub since : ArePrefixes old looked
   pub within : ArePrefixes looked new
   pub due : IsCopyDue i (logs_of looked)
+  pub reset : role ≡ roles.All → AreReset i (logs_of looked)
 
--- What a pump did, by the commands that its worker made in it, and by what the worker knows of the
--- logs before it and after it.
-abbrev pub TellsDid : Image → Prefixes → Prefixes → List Made → Did → Type 0
-TellsDid i old new more dids.Programmed = IsOnly more IsWrite (λ outcome. outcome ≡ Answered Done)
-TellsDid i old new more (dids.Lost unit) =
-    (is : IsOnly more IsWrite HasFailed) × (is.made.unit ≡ unit)
-TellsDid i old new more dids.Reset = IsOnly more (λ command. command ≡ Reset) (λ outcome. is_stop outcome ≡ false)
-TellsDid i old new more dids.Copied = IsOnly more IsFetch HasGiven × WasCopyDue i old new
-TellsDid i old new more dids.NotCopied = ((more ≡ []) ⊎ IsOnly more IsFetch HasGiven) × WasCopyDue i old new
-TellsDid i old new more dids.Opened = (more ≡ []) × HasOpened old new
-TellsDid i old new more dids.Other = more ≡ []
-TellsDid i old new more (dids.Nothing why) = (more ≡ []) × IsNothing i new why
+-- What a pump did in its role, by the commands that its worker made in it, and by what the worker
+-- knows of the logs before it and after it. Where it did something, the engine's log got a piece of
+-- work, unless it had a stripe programmed that had been stopped.
+abbrev pub TellsDid : Image → Role → Prefixes → Prefixes → List Made → Did → Type 0
+TellsDid i role old new more dids.Programmed =
+    (is : IsOnly more IsWrite (λ outcome. outcome ≡ Answered Done)) × HasPlacedOn is.made.unit old new
+TellsDid i role old new more (dids.Lost unit) =
+    (is : IsOnly more IsWrite HasFailed) × (is.made.unit ≡ unit) × HasPlacedOn unit old new
+TellsDid i role old new more dids.Reset =
+    IsOnly more (λ command. command ≡ Reset) (λ outcome. is_stop outcome ≡ false) × HasWorkSince old new
+TellsDid i role old new more dids.Copied = IsOnly more IsFetch HasGiven × WasCopyDue i role old new × HasWorkSince old new
+TellsDid i role old new more dids.NotCopied = ((more ≡ []) ⊎ IsOnly more IsFetch HasGiven) × WasCopyDue i role old new
+TellsDid i role old new more dids.Opened = (more ≡ []) × HasOpened old new
+TellsDid i role old new more dids.Other = more ≡ []
+TellsDid i role old new more (dids.Nothing why) = (more ≡ []) × IsNothing i new why
 
 -- What a pump answers, with the commands that its worker made in it. Where it is an error, just one
 -- was made.
-abbrev pub TellsPump : Image → List ModelUnit → Prefixes → Prefixes → List Made → Result Did DriveErr → Type 0
-TellsPump i handed old new more (Ok did) = NoFaults more × TellsDid i old new more did
-TellsPump i handed old new more (Err e) = IsFaultOf handed more e × (length more ≡ 1)
+abbrev pub TellsPump : Image → List ModelUnit → Role → Prefixes → Prefixes → List Made → Result Did DriveErr → Type 0
+TellsPump i handed role old new more (Ok did) = NoFaults more × TellsDid i role old new more did
+TellsPump i handed role old new more (Err e) = IsFaultOf handed more e × (length more ≡ 1)
 
 -- A pump that answers so did a piece of work. A copy whose claim was refused is none, as where the
 -- ring has no room for it.
 abbrev pub IsWork : Did → Type 0
 IsWork did = (did ≢ dids.NotCopied) × (did ≢ dids.Other) × ((why : Why) → did ≢ dids.Nothing why)
 
--- The worker made a command, or the engine's log has a line more that was opened.
+-- The worker had a stripe programmed, and made no other command. The program of the stripe had been
+-- stopped before.
+pub record HasProgrammedAgain (old new : WorkerView) : Type 0 where
+  pub made : Made
+  pub all : new.made ≡ old.made ++ made ∷ []
+  pub command : IsWrite made.event.command
+  pub again : WasToProgramAgain made.unit old.known new.known
+
+-- The engine's log got a piece of work, or a stripe that had been stopped was programmed again.
 abbrev pub HasComeOn : WorkerView → WorkerView → Type 0
-HasComeOn old new = (length old.made < length new.made) ⊎ HasOpened old.known new.known
+HasComeOn old new = HasWorkSince old.known new.known ⊎ HasProgrammedAgain old new
 
 -- what a role does
 abbrev pub IsOfRole : Role → Did → Type 0
@@ -149,11 +162,11 @@ AreOfRole roles.Collector more = AllByRecursion (λ m. is_fetch m.event.command 
 abbrev pub IsOfWorker : Did → Type 0
 IsOfWorker did = (did ≢ dids.Other) × (did ≢ dids.Copied) × (did ≢ dids.NotCopied)
 
--- A pump, with its answer.
-pub record HasPumped (i : Image) (handed : List ModelUnit) (old new : WorkerView) (result : Result Did DriveErr) : Type 0 where
+-- A pump in a role, with its answer.
+pub record HasPumped (i : Image) (handed : List ModelUnit) (role : Role) (old new : WorkerView) (result : Result Did DriveErr) : Type 0 where
   pub more : List Made
   pub on : GoesOn old new more
-  pub tells : TellsPump i handed old.known new.known more result
+  pub tells : TellsPump i handed role old.known new.known more result
 
 -- a fetch that gave no block, as a pump tells it
 abbrev pub fault_of : FetchErr → DriveErr
@@ -168,9 +181,10 @@ abbrev pub TellsCauses : List Made → Result Did FetchErr → Type 0
 TellsCauses more (Ok did) = ⊤
 TellsCauses more (Err e) = AllByRecursion (λ m. TellsCause e.cause m.event.outcome) more
 
--- A pump in the role Collector, with its answer and the cause of a fetch that gave no block.
-pub record HasCollected (i : Image) (handed : List ModelUnit) (old new : WorkerView) (result : Result Did FetchErr) : Type 0 where
-  pub pumped : HasPumped i handed old new (pumped_of result)
+-- A pump that only copies, in a role that does, with its answer and the cause of a fetch that gave no
+-- block.
+pub record HasCollected (i : Image) (handed : List ModelUnit) (role : Role) (old new : WorkerView) (result : Result Did FetchErr) : Type 0 where
+  pub pumped : HasPumped i handed role old new (pumped_of result)
   pub fetched : AreOfRole roles.Collector pumped.more
   pub caused : TellsCauses pumped.more result
 

@@ -14,6 +14,7 @@ use Rattle.pblk_engine.specs.declared.errors.SettleErr.{SettleErr}
 use Rattle.pblk_engine.specs.declared.errors.SettleErr.TheVariants as errors
 use Rattle.pblk_engine.specs.declared.outcomes.Flushed.{Flushed}
 use Rattle.pblk_engine.specs.declared.outcomes.Flushed.TheVariants as flushed
+use Rattle.pblk_engine.specs.declared.outcomes.Role.TheVariants as roles
 use Rattle.pblk_engine.specs.declared.outcomes.Roomed.{Roomed}
 use Rattle.pblk_engine.specs.declared.outcomes.Roomed.TheVariants as roomed
 
@@ -39,9 +40,9 @@ abbrev pub TellsFlush : Image → List ModelUnit → ℕ → WorkerView → Work
 TellsFlush i handed position old new more (Ok (flushed.Synced front)) =
     (more ≡ []) × (front ≡ front_synced i.shape (logs_of new.known 0)) × (position ≤ front.position)
 TellsFlush i handed position old new more (Ok (flushed.Pumped did)) =
-    WasBehind i position new.known × TellsPump i handed old.known new.known more (Ok did)
+    WasBehind i position new.known × TellsPump i handed roles.All old.known new.known more (Ok did)
 TellsFlush i handed position old new more (Err (errors.Drive unit event)) =
-    WasBehind i position new.known × TellsPump i handed old.known new.known more (Err (record { unit = unit; event = event }))
+    WasBehind i position new.known × TellsPump i handed roles.All old.known new.known more (Err (record { unit = unit; event = event }))
 TellsFlush i handed position old new more (Err (errors.Worn wanted have)) =
     (more ≡ []) × (wanted ≡ position) × IsWornFlush i (logs_of new.known) (length (logs_of new.known 0)) wanted have
 
@@ -62,9 +63,9 @@ abbrev pub TellsRoom : Image → List ModelUnit → ℕ → ℕ → WorkerView �
 TellsRoom i handed wanted count old new more (Ok roomed.There) =
     (more ≡ []) × WasRoom i (logs_of new.known) (length (logs_of new.known 0)) wanted
 TellsRoom i handed wanted count old new more (Ok (roomed.Pumped did)) =
-    WasFull i wanted new.known × TellsPump i handed old.known new.known more (Ok did)
+    WasFull i wanted new.known × TellsPump i handed roles.All old.known new.known more (Ok did)
 TellsRoom i handed wanted count old new more (Err (errors.Drive unit event)) =
-    WasFull i wanted new.known × TellsPump i handed old.known new.known more (Err (record { unit = unit; event = event }))
+    WasFull i wanted new.known × TellsPump i handed roles.All old.known new.known more (Err (record { unit = unit; event = event }))
 TellsRoom i handed wanted count old new more (Err (errors.Worn want have)) =
     (more ≡ []) × (want ≡ wanted) × IsWornWrite i (logs_of new.known) (length (logs_of new.known 0)) count wanted have
     × WasRoom i (logs_of new.known) (length (logs_of new.known 0)) have

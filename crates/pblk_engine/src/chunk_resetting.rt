@@ -7,6 +7,7 @@ ghost use Rattle.pblk_core.specs.declared.work.Work.TheVariants as works;
 ghost use Rattle.pblk_engine.specs.Pumps.{AreOfRole, HasPumped};
 ghost use Rattle.pblk_engine.specs.Workers.{Made};
 ghost use Rattle.pblk_engine.specs.declared.outcomes.Did.TheVariants as dids;
+ghost use Rattle.pblk_engine.specs.declared.outcomes.Role.{Role as RoleOf};
 ghost use Rattle.pblk_engine.specs.declared.outcomes.Role.TheVariants as roles;
 
 use crate::engine::Engine;
@@ -31,8 +32,10 @@ impl<M: Mount, U: Unit> Engine<M, U> {
         unit: u32,
     ) -> Result<Did, DriveErr>
         requires named { (mutex_guard_value heart).work ≡ works.Reset line unit }
+        requires known { worker.old.known ≡ (mutex_guard_value heart).author.known }
         requires unit { unit < units M.past.image.shape }
-        ensures pumped { HasPumped M.past.image M.handed worker.old worker.new result }
+        ensures pumped { (role : RoleOf)
+            → HasPumped M.past.image M.handed role worker.old worker.new result }
         ensures made { (more : List Made) → worker.new.made ≡ worker.old.made ++ more
             → AreOfRole roles.Lane more }
         ensures reset { IfOk result (λ did. did ≡ dids.Reset) }

@@ -5,11 +5,13 @@ ghost use Rattle.pblk_model.specs.Shape.{units};
 ghost use Rattle.pblk_world.specs.AtRest.{IsCopyDue};
 ghost use Rattle.pblk_core.specs.declared.work.Why.{Why as WhyOf};
 ghost use Rattle.pblk_core.specs.declared.work.Work.TheVariants as works;
-ghost use Rattle.chronicle.specs.Prefixes.{logs_of};
+ghost use Rattle.pblk_world.specs.Orders.{AreReset};
+ghost use Rattle.chronicle.specs.Prefixes.{ArePrefixes, logs_of};
 ghost use Rattle.pblk_engine.specs.Copying.{IsFetched};
 ghost use Rattle.pblk_engine.specs.Pumps.{AreOfRole, HasCollected, HasCollectedRun, HasFetched, IsOfRole};
 ghost use Rattle.pblk_engine.specs.Workers.{Made};
 ghost use Rattle.pblk_engine.specs.declared.outcomes.Did.TheVariants as dids;
+ghost use Rattle.pblk_engine.specs.declared.outcomes.Role.{Role as RoleOf};
 ghost use Rattle.pblk_engine.specs.declared.outcomes.Role.TheVariants as roles;
 
 use crate::copying::{CopyPlace, NextCopy};
@@ -43,6 +45,7 @@ impl<M: Mount, U: Unit> Engine<M, U> {
           author = record old.author { known = heart.new.author.known };
           sector = heart.new.sector;
         } }
+        ensures keeps { ArePrefixes heart.old.author.known heart.new.author.known }
         ensures fetched { IsOk result → IsFetched M.past.image (logs_of heart.new.author.known)
             of.now heart.new.sector }
         ensures made { HasFetched M.handed of.now.unit worker.old worker.new result }
@@ -53,8 +56,9 @@ impl<M: Mount, U: Unit> Engine<M, U> {
         fetched
     }
 
-    // Has the block of a sector fetched, and claims a position for its copy. Tells whether that
-    // claim succeeded.
+    // Has the block of a sector fetched, puts its copy into the ring, and takes all that is filled
+    // there. `Copied` comes exactly where the copy was taken: else its claim was refused, or an
+    // entry before it isn't filled yet.
     fn copy_sector<R: Wait>(
         &self,
         rt: &R,
@@ -67,11 +71,19 @@ impl<M: Mount, U: Unit> Engine<M, U> {
         requires known { worker.old.known ≡ heart.old.author.known }
         requires reached { heart.old.intake.intake.taken ≤ heart.old.intake.found.claimed }
         requires due { IsCopyDue M.past.image (logs_of worker.old.known) }
-        ensures collected { HasCollected M.past.image M.handed worker.old worker.new result }
+        ensures collected { (role : RoleOf)
+            → (role ≡ roles.All → AreReset M.past.image (logs_of worker.old.known))
+            → HasCollected M.past.image M.handed role worker.old worker.new result }
         ensures copied { IfOk result (λ did. (did ≡ dids.Copied) ⊎ (did ≡ dids.NotCopied)) }
+        ensures knows { result ≡ Ok dids.Copied → worker.new.known ≡ heart.new.author.known }
     {
         self.fetch_copy(rt, heart, worker, of)?;
-        if heart.put_copy(&self.ring, of) {
+        let Some(at) = heart.put_copy(&self.ring, of) else {
+            return Ok(Did::NotCopied);
+        };
+        heart.take_filled(&self.chronicle, &self.ring);
+        self.tell(heart, worker);
+        if at < heart.front().position {
             Ok(Did::Copied)
         } else {
             Ok(Did::NotCopied)
@@ -89,12 +101,15 @@ impl<M: Mount, U: Unit> Engine<M, U> {
     ) -> Result<Did, FetchErr>
         requires named { work ≡ heart.old.work }
         requires known { worker.old.known ≡ heart.old.author.known }
-        ensures collected { HasCollected M.past.image M.handed worker.old worker.new result }
+        ensures collected { (role : RoleOf)
+            → (role ≡ roles.All → AreReset M.past.image (logs_of worker.old.known))
+            → HasCollected M.past.image M.handed role worker.old worker.new result }
         ensures made { (more : List Made) → worker.new.made ≡ worker.old.made ++ more
             → AreOfRole roles.Collector more }
         ensures copied { IfOk result (IsOfRole roles.Collector) }
         ensures named { work ≡ works.Copy → IfOk result (λ did. did ≢ dids.Other) }
         ensures some { (why : WhyOf) → result ≢ Ok (dids.Nothing why) }
+        ensures knows { result ≡ Ok dids.Copied → worker.new.known ≡ heart.new.author.known }
     {
         match heart.next_copy(&self.ring) {
             NextCopy::At(of) => self.copy_sector(rt, heart, worker, &of),
@@ -103,23 +118,25 @@ impl<M: Mount, U: Unit> Engine<M, U> {
         }
     }
 
-    // Takes what is filled, and copies the sector that is to be copied next.
+    // Copies the sector that is to be copied next.
     fn collect_next<R: Wait>(
         &self,
         rt: &R,
         heart: &mut Heart<M>,
         worker: &mut Worker<M>,
     ) -> Result<Did, FetchErr>
-        ensures collected { HasCollected M.past.image M.handed worker.old worker.new result }
+        requires known { worker.old.known ≡ heart.old.author.known }
+        ensures collected { HasCollected M.past.image M.handed roles.Collector worker.old
+            worker.new result }
         ensures role { IfOk result (IsOfRole roles.Collector) }
+        ensures knows { result ≡ Ok dids.Copied → worker.new.known ≡ heart.new.author.known }
     {
-        heart.take_filled(&self.chronicle, &self.ring);
-        self.tell(heart, worker);
         let work = heart.next_work();
         self.copy(rt, heart, work, worker)
     }
 
-    // Copies the sectors that are to be copied next, one after another.
+    // Takes what is filled, and copies the sectors that are to be copied next, one after another.
+    // Each copy takes what is filled then.
     fn collect_run<R: Wait>(
         &self,
         rt: &R,
@@ -128,6 +145,8 @@ impl<M: Mount, U: Unit> Engine<M, U> {
     ) -> Result<Did, FetchErr>
         ensures collected { HasCollectedRun M.handed worker.old worker.new result }
     {
+        heart.take_filled(&self.chronicle, &self.ring);
+        self.tell(heart, worker);
         for copied in 0..RUN {
             match self.collect_next(rt, heart, worker)? {
                 Did::Copied => {}
@@ -140,8 +159,8 @@ impl<M: Mount, U: Unit> Engine<M, U> {
 
     /// Copies the sectors that are to be copied next, one after another, in one hold of the
     /// engine's lock. It ends where no copy can be made, and after 16 copies. Before each it takes
-    /// what is filled. `Copied` comes exactly where it made a copy. Else the answer is that of a
-    /// pump in the role Collector.
+    /// what is filled, and at the end, too. `Copied` comes exactly where it made a copy that it
+    /// took. Else the answer is that of a pump in the role Collector.
     ///
     /// `Err` comes where the fetch of a sector's block failed or was stopped, and tells which. Then
     /// that sector is still to be copied. The copies before it were made.

@@ -1,6 +1,6 @@
 //! Copies of the sectors of the victim at work: which is the next, its block, and its claim.
 
-ghost use Rattle.std.specs.Prelude.{◌≡◌, ◌≢◌, ◌⊎◌, ◌↔◌, ◌+◌, ◌-◌, ◌<◌, ◌≤◌, ◌^◌, suc, true, false, length, min, Some, IsOk, IsTrue};
+ghost use Rattle.std.specs.Prelude.{◌≡◌, ◌≢◌, ◌⊎◌, ◌↔◌, ◌+◌, ◌-◌, ◌<◌, ◌≤◌, ◌^◌, ℕ, suc, true, false, length, min, None, Some, IsOk, IsSome, IsTrue};
 ghost use Rattle.pblk_model.specs.ChunkStep.{Read};
 ghost use Rattle.pblk_model.specs.Shape.{units};
 ghost use Rattle.pblk_world.specs.AtRest.{IsCopyDue};
@@ -131,9 +131,9 @@ impl<M: Mount> Heart<M> {
 
     /// Claims a position for the copy whose block is in the heart's buffer, and puts it there. It
     /// needs the engine's lock alone, which was held since `next_copy` named the copy. It answers
-    /// whether the claim succeeded. If so, the copy is under way until its entry is taken. Else it
-    /// was refused: another claim came between, or there was no room. Then nothing changes.
-    pub(crate) fn put_copy(&mut self, ring: &Ring, of: &CopyPlace) -> bool
+    /// that position. Then the copy is under way until its entry is taken. None comes where the
+    /// claim was refused: another claim came between, or there was no room. Then nothing changes.
+    pub(crate) fn put_copy(&mut self, ring: &Ring, of: &CopyPlace) -> Option<u64>
         requires ring { IsRingOf M.ring M.key ring.now }
         requires copy { self.old.copy ≡ Some of.now }
         requires reached { self.old.intake.intake.taken ≤ self.old.intake.found.claimed }
@@ -148,13 +148,14 @@ impl<M: Mount> Heart<M> {
           copying = self.new.copying;
           copy = self.new.copy;
         } }
-        ensures claimed { IsTrue result → HasClaimed of.now.job self.old.sector self.old.intake
-            self.new.intake }
-        ensures copying { IsTrue result → self.new.copying ≡ true }
-        ensures refused { result ≡ false → self.new ≡ record self.old {
+        ensures claimed { (at : ℕ) → result ≡ Some at
+            → (is : HasClaimed of.now.job self.old.sector self.old.intake self.new.intake)
+            × (is.first ≡ at) }
+        ensures copying { IsSome result → self.new.copying ≡ true }
+        ensures refused { result ≡ None → self.new ≡ record self.old {
           intake = record self.old.intake { found = self.new.intake.found };
         } }
-        ensures why { result ≡ false → WasRefused M.key self.old.intake self.new.intake }
+        ensures why { result ≡ None → WasRefused M.key self.old.intake self.new.intake }
     {
         let source = Source {
             line: of.job.line,
@@ -164,13 +165,13 @@ impl<M: Mount> Heart<M> {
         self.batch
             .fill(of.job.lba, Some(source), self.sector.as_slice());
         match ring.try_copy(&mut self.intake, &mut self.batch) {
-            Ok(_) => {
+            Ok(place) => {
                 self.core.copy_claimed(&of.job);
-                true
+                Some(place.first)
             }
             Err(_) => {
                 self.batch.clear();
-                false
+                None
             }
         }
     }

@@ -1,17 +1,18 @@
 //! What decides for a target, under the engine's lock.
 
-ghost use Rattle.std.specs.Prelude.{ℕ, ◌≡◌, ◌<◌, ◌≤◌, ◌↔◌, false, max, IsTrue};
+ghost use Rattle.std.specs.Prelude.{ℕ, ◌≡◌, ◌<◌, ◌≤◌, ◌⊎◌, ◌↔◌, false, true, max, IsTrue};
 ghost use mathlib.Core.List.{IsPrefix};
 ghost use Rattle.pblk_model.specs.Shape.{units};
 ghost use Rattle.pblk_world.specs.AtRest.{AreResetsNoted, IsCopyDue};
 ghost use Rattle.chronicle.specs.Prefixes.{AreLegalLogs, ArePrefixes, logs_of, longer_of};
+ghost use Rattle.core_laws.specs.PlacerOf.{was_stopped_on};
 ghost use Rattle.pblk_core.specs.Resets.{IsToReset};
 ghost use Rattle.pblk_core.specs.declared.work.Work.TheVariants as works;
 ghost use Rattle.pblk_engine.specs.Asks.{IsRaisedByVictims};
-ghost use Rattle.pblk_engine.specs.Opens.{HasOpened};
 ghost use Rattle.pblk_engine.specs.Placements.{IsPlacedAs};
 ghost use Rattle.pblk_engine.specs.Hearts.{HasDecided, IsRingOf};
 ghost use Rattle.pblk_engine.specs.Stops.{stop_count};
+ghost use Rattle.pblk_engine.specs.WorkSince.{HasOpened, HasWorkSince};
 
 use crate::engine_author::EngineAuthor;
 use crate::mount::Mount;
@@ -135,6 +136,8 @@ impl<M: Mount> Heart<M> {
         requires named { self.old.work ≡ works.Program }
         requires shape { into.old.shape ≡ M.past.image.shape }
         ensures placed { IsPlacedAs (logs_of self.new.author.known 0) into.new }
+        ensures worked { HasWorkSince self.old.author.known self.new.author.known
+            ⊎ (was_stopped_on (logs_of self.old.author.known 0) into.new.stripe.unit ≡ true) }
         ensures stops { result
             ≡ stop_count (logs_of self.new.author.known 0) into.new.stripe.unit }
         ensures inside { into.new.stripe.unit < units M.past.image.shape }

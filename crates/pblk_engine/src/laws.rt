@@ -1,14 +1,17 @@
-//! Laws on how a mount begins: each is the contract of a function that does nothing.
+//! Laws on how a mount begins, on the commands of its workers, and on their pumps: each is the
+//! contract of a function that does nothing.
 
-ghost use Rattle.std.specs.Prelude.{◌≡◌, ℕ, suc, List, length, slice_get, Some};
+ghost use Rattle.std.specs.Prelude.{◌≡◌, ◌+◌, ◌≤◌, ℕ, suc, List, length, slice_get, Some};
 ghost use Rattle.pblk_model.specs.declared.found.Found.{Found};
 ghost use Rattle.pblk_model.specs.declared.shape.Shape.{Shape};
 ghost use Rattle.pblk_model.specs.Accepted.{IsAccepted};
 ghost use Rattle.pblk_model.specs.Found.{IsFitFound};
+ghost use Rattle.pblk_model.specs.Image.{Image};
 ghost use Rattle.pblk_model.specs.UnitLog.{UnitEvent};
 ghost use Rattle.pblk_world.specs.Events.{Does, Logged};
 ghost use Rattle.pblk_world.specs.Makers.{HasMakers};
 ghost use Rattle.pblk_world.specs.World.{World, log_of};
+ghost use Rattle.rest_laws.specs.Work.{work_of};
 ghost use Rattle.scan_recovery.specs.Readying.{IsFoundAfter};
 ghost use Rattle.scan_recovery.specs.Units.{AreFit, image_of};
 ghost use Rattle.step_laws.specs.Opened.{AreArmed};
@@ -22,6 +25,7 @@ ghost use Rattle.pblk_engine.specs.Beginnings.{IsFirstPast, opened_past};
 ghost use Rattle.pblk_engine.specs.Endings.{HasMadeAll};
 ghost use Rattle.pblk_engine.specs.Hearts.{IsRingFor};
 ghost use Rattle.pblk_engine.specs.Mounts.{IsMounted};
+ghost use Rattle.pblk_engine.specs.Ticks.{ArePumps, NoneStopped, Pump, worked_of};
 ghost use Rattle.pblk_engine.specs.Workers.{WorkerView};
 
 /// A mount begins with what was found on its drive once that was padded and scanned. Its past is
@@ -65,4 +69,14 @@ pub fn each_command_stands_in_its_list()
         → slice_get (log_of w (suc unit)) number ≡ Some l
         → l.event ≡ Does e (record { worker = v.number; made = made })
         → slice_get v.made made ≡ Some (record { unit = unit; number = number; event = e }) }
+{}
+
+/// Of pumps that a worker made one after another, at most as many did something as the engine's log
+/// got pieces of work meanwhile: entries that were taken, lines that were opened, stripes that were
+/// placed, and resets. So it is where no program was stopped by all that the worker knows at the
+/// end.
+pub fn each_pump_that_did_something_is_a_piece_of_work()
+    ensures { (i : Image) (handed : List ModelUnit) (old new : WorkerView) (pumps : List Pump)
+        → ArePumps i handed old pumps new → NoneStopped (logs_of new.known 0)
+        → worked_of pumps + work_of (logs_of old.known 0) ≤ work_of (logs_of new.known 0) }
 {}

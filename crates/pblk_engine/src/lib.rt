@@ -52,7 +52,8 @@ pub use engine::Engine;
 pub use errors::{DriveErr, FetchErr, SettleErr};
 pub use idle::Idle;
 pub use laws::{
-    an_opening_is_a_past, each_command_stands_in_its_list, what_has_just_begun_is_mounted,
+    an_opening_is_a_past, each_command_stands_in_its_list,
+    each_pump_that_did_something_is_a_piece_of_work, what_has_just_begun_is_mounted,
 };
 pub use made::Made;
 pub use mount::Mount;

@@ -24,7 +24,8 @@ impl<M: Mount, U: Unit> Engine<M, U> {
     ) -> Did
         requires named { (mutex_guard_value heart).work ≡ works.Open }
         requires known { worker.old.known ≡ (mutex_guard_value heart).author.known }
-        ensures pumped { HasPumped M.past.image M.handed worker.old worker.new (Ok result) }
+        ensures pumped { (role : RoleOf)
+            → HasPumped M.past.image M.handed role worker.old worker.new (Ok result) }
         ensures opened { result ≡ dids.Opened }
         ensures made { (role : RoleOf) (more : List Made)
             → worker.new.made ≡ worker.old.made ++ more → AreOfRole role more }

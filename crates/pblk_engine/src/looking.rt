@@ -3,6 +3,7 @@
 ghost use Rattle.std.specs.Prelude.{◌≡◌, ◌≢◌, ◌≤◌, ◌<◌, ◌^◌, ℕ, length, slice_get, Some, IfSome, IsSome};
 ghost use Rattle.pblk_model.specs.Bytes.{zeros};
 ghost use Rattle.pblk_world.specs.AtRest.{IsAtRest, IsCopyDue, logs_at};
+ghost use Rattle.pblk_world.specs.Orders.{AreReset};
 ghost use Rattle.pblk_world.specs.Reasons.{WasRoom};
 ghost use Rattle.pblk_world.specs.Space.{is_due, room};
 ghost use Rattle.chronicle.specs.Prefixes.{logs_of};
@@ -27,11 +28,14 @@ use write_ring::Ring;
 impl<M: Mount> Heart<M> {
     /// What comes next. Where that is nothing, and nothing is in flight, the target is at rest for
     /// each pad target up to that which it has, and no copy is due by all that the heart knows.
-    /// Where something is in flight, nothing else can be done by the logs meanwhile.
+    /// Where something is in flight, nothing else can be done by the logs meanwhile. A copy comes
+    /// only where no reset is left to be made.
     pub(crate) fn next_work(&self) -> Work
         ensures named { result ≡ self.now.work }
         ensures reset { (line unit : ℕ) → result ≡ works.Reset line unit
             → IsToReset M.past.image (logs_of self.now.author.known) line unit }
+        ensures reset_first { result ≡ works.Copy
+            → AreReset M.past.image (logs_of self.now.author.known) }
         ensures rest { (why : WhyOf) → result ≡ works.Nothing why → why ≢ whys.Busy
             → (asked : ℕ) → asked ≤ self.now.pad
             → IsAtRest M.past.image (logs_of self.now.author.known) asked

@@ -24,10 +24,11 @@ pub enum Did {
     Lost(u32),
     /// It had a chunk reset. The reset was done, or failed.
     Reset,
-    /// It copied a sector: the copy was put into the write ring.
+    /// It copied a sector: the copy was put into the write ring, and taken from there.
     Copied,
-    /// A sector is to be copied. The write ring had no room for its copy, or another claim came
-    /// first.
+    /// A sector is to be copied, and no copy of it was taken. The write ring had no room for it, or
+    /// another claim came first. Or the copy is in the ring, and an entry before it isn't filled
+    /// yet.
     NotCopied,
     /// It opened a line.
     Opened,

@@ -1,15 +1,16 @@
 //! How a line is opened and a stripe is placed, by the core and the engine's author.
 
-ghost use Rattle.std.specs.Prelude.{◌≡◌};
+ghost use Rattle.std.specs.Prelude.{◌≡◌, ◌⊎◌, true};
 ghost use Rattle.pblk_world.specs.Orders.{NoneToFree};
 ghost use Rattle.chronicle.specs.Prefixes.{logs_of};
+ghost use Rattle.core_laws.specs.PlacerOf.{was_stopped_on};
 ghost use Rattle.pblk_core.specs.Keeping.{KeepsOtherStripes, KeepsStripes};
 ghost use Rattle.pblk_core.specs.Landing.{IsUnderWayOn};
 ghost use Rattle.pblk_core.specs.Named.{named, pad_of};
 ghost use Rattle.pblk_core.specs.declared.work.Work.TheVariants as works;
 ghost use Rattle.pblk_engine.specs.Asks.{IsRaisedByVictims};
-ghost use Rattle.pblk_engine.specs.Opens.{HasOpened};
 ghost use Rattle.pblk_engine.specs.Placements.{IsPlacedAs};
+ghost use Rattle.pblk_engine.specs.WorkSince.{HasOpened, HasWorkSince};
 ghost use Rattle.pblk_engine.specs.Hearts.{HasDecided, IsBeating, parts};
 
 use crate::engine_author::EngineAuthor;
@@ -58,6 +59,8 @@ pub(crate) fn place(
     ensures beating { IsBeating (parts core.new author.new intake.now.seat.me.0) }
     ensures decided { HasDecided author.old author.new }
     ensures placed { IsPlacedAs (logs_of author.new.known 0) into.new }
+    ensures worked { HasWorkSince author.old.known author.new.known
+        ⊎ (was_stopped_on (logs_of author.old.known 0) into.new.stripe.unit ≡ true) }
     ensures under_way { IsUnderWayOn core.new into.new.stripe.unit }
     ensures shape { into.new.shape ≡ into.old.shape }
     ensures kept { KeepsOtherStripes into.new.stripe.unit core.old core.new }

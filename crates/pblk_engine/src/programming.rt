@@ -12,8 +12,10 @@ ghost use Rattle.pblk_engine.specs.Placements.{IsPlacedAs};
 ghost use Rattle.pblk_engine.specs.Programs.{HasMade, HasTried};
 ghost use Rattle.pblk_engine.specs.Pumps.{AreOfRole, HasPumped, IsOfWorker};
 ghost use Rattle.pblk_engine.specs.Stops.{stop_count};
+ghost use Rattle.pblk_engine.specs.WorkSince.{HasPlacedOn};
 ghost use Rattle.pblk_engine.specs.Workers.{Made};
 ghost use Rattle.pblk_engine.specs.declared.outcomes.Did.TheVariants as dids;
+ghost use Rattle.pblk_engine.specs.declared.outcomes.Role.{Role as RoleOf};
 ghost use Rattle.pblk_engine.specs.declared.outcomes.Role.TheVariants as roles;
 
 use crate::arm::Programmed;
@@ -37,6 +39,8 @@ impl<M: Mount, U: Unit> Engine<M, U> {
         requires known { worker.old.known ≡ heart.old.author.known }
         ensures note { IsNoteOf M.chronicle M.past result.0 }
         ensures told { ArePrefixes worker.new.known result.0.known }
+        ensures worked { HasPlacedOn worker.new.stripe.stripe.unit worker.old.known
+            result.0.known }
         ensures placed { IsPlacedAs (logs_of result.0.known 0) worker.new.stripe }
         ensures inside { worker.new.stripe.stripe.unit < units M.past.image.shape }
         ensures stops { result.1
@@ -86,6 +90,7 @@ impl<M: Mount, U: Unit> Engine<M, U> {
         requires placed { IsPlacedAs (logs_of note.known 0) worker.old.stripe }
         requires stops { stops ≤ stop_count (logs_of note.known 0) worker.old.stripe.stripe.unit }
         ensures note { IsNoteOf M.chronicle M.past result.0 }
+        ensures learns { ArePrefixes note.known result.0.known }
         ensures last { IsLastProgram result.0.known worker.old.stripe result.1 stops }
         ensures made { HasMade M.handed worker.old worker.new result.1 result.2 }
     {
@@ -120,6 +125,7 @@ impl<M: Mount, U: Unit> Engine<M, U> {
         ensures worker { let old = worker.old in worker.new
             ≡ record old { known = worker.new.known } }
         ensures keeps { ArePrefixes worker.old.known worker.new.known }
+        ensures learns { ArePrefixes note.known worker.new.known }
     {
         let mut heart = self.hold(rt);
         heart.answer(
@@ -144,7 +150,8 @@ impl<M: Mount, U: Unit> Engine<M, U> {
     ) -> Result<Did, DriveErr>
         requires named { (mutex_guard_value heart).work ≡ works.Program }
         requires known { worker.old.known ≡ (mutex_guard_value heart).author.known }
-        ensures pumped { HasPumped M.past.image M.handed worker.old worker.new result }
+        ensures pumped { (role : RoleOf)
+            → HasPumped M.past.image M.handed role worker.old worker.new result }
         ensures made { (more : List Made) → worker.new.made ≡ worker.old.made ++ more
             → AreOfRole roles.Lane more }
         ensures worked { IfOk result IsOfWorker }

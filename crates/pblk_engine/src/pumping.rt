@@ -2,6 +2,8 @@
 ghost use Rattle.std.specs.Prelude.{◌≡◌, ◌<◌, ◌++◌, ℕ, List, IfOk, Ok};
 ghost use Rattle.std.specs.Sync.Mutex.{mutex_guard_value};
 ghost use Rattle.pblk_model.specs.Shape.{units};
+ghost use Rattle.pblk_world.specs.Orders.{AreReset};
+ghost use Rattle.chronicle.specs.Prefixes.{logs_of};
 ghost use Rattle.pblk_core.specs.declared.work.Why.{Why as WhyOf};
 ghost use Rattle.pblk_core.specs.declared.work.Work.TheVariants as works;
 ghost use Rattle.pblk_engine.specs.Pumps.{AreOfRole, HasComeOn, HasPumped, IsNothing, IsOfRole, IsWork};
@@ -27,16 +29,22 @@ impl<M: Mount, U: Unit> Engine<M, U> {
     /// done meanwhile by the logs that the worker knows. Where nothing was in flight, the engine's
     /// log is at rest at the length that the worker knows.
     ///
-    /// Where it answers that it did something, it came on: the worker made a command, or the
-    /// engine's log has a line more that was opened. `NotCopied` is no such answer. It comes where
-    /// a sector was to be copied, and its claim was refused: another claim came first, or the ring
-    /// had no room for its copy.
+    /// Where it answers that it did something, it came on. Then the engine's log, as the worker
+    /// knows it, got a piece of work in this call: an entry that was taken, an opened line, a
+    /// placed stripe, or a reset. Only a stripe that had been stopped isn't placed anew when it is
+    /// programmed again.
+    ///
+    /// `NotCopied` is no such answer. It comes where a sector was to be copied, and no copy of it
+    /// was taken. The ring had no room for it, or another claim came first. Or the copy was put
+    /// into the ring, and is taken later, since an entry before it isn't filled yet.
+    ///
+    /// In the role All a copy is begun only where no reset is left to be made.
     ///
     /// `Err` comes where the command that it gave a unit was stopped, or where it fetched a block
     /// to copy it and the fetch failed. It names that event. Whatever the answer, the worker made
     /// commands of this role alone.
     pub fn pump<R: Wait>(&self, rt: &R, worker: &mut Worker<M>, role: Role) -> Result<Did, DriveErr>
-        ensures pumped { HasPumped M.past.image M.handed worker.old worker.new result }
+        ensures pumped { HasPumped M.past.image M.handed role worker.old worker.new result }
         ensures role { IfOk result (IsOfRole role) }
         ensures made { (more : List Made) → worker.new.made ≡ worker.old.made ++ more
             → AreOfRole role more }
@@ -64,9 +72,11 @@ impl<M: Mount, U: Unit> Engine<M, U> {
         requires known { worker.old.known ≡ (mutex_guard_value heart).author.known }
         requires reset { (line unit : ℕ) → work ≡ works.Reset line unit
             → unit < units M.past.image.shape }
+        requires reset_first { work ≡ works.Copy
+            → AreReset M.past.image (logs_of worker.old.known) }
         requires rest { (why : WhyOf) → work ≡ works.Nothing why
             → IsNothing M.past.image worker.old.known why }
-        ensures pumped { HasPumped M.past.image M.handed worker.old worker.new result }
+        ensures pumped { HasPumped M.past.image M.handed role worker.old worker.new result }
         ensures role { IfOk result (IsOfRole role) }
         ensures made { (more : List Made) → worker.new.made ≡ worker.old.made ++ more
             → AreOfRole role more }

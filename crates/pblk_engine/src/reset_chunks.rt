@@ -1,5 +1,5 @@
 //! Resets of chunks under both locks, and how the engine learns of them.
-ghost use Rattle.std.specs.Prelude.{◌≡◌, ◌<◌, ◌↔◌, ℕ, Err, IsTrue};
+ghost use Rattle.std.specs.Prelude.{◌≡◌, ◌≢◌, ◌<◌, ◌↔◌, ℕ, Err, IsOk, IsTrue};
 ghost use Rattle.chronicle.specs.Prefixes.{AreLegalLogs, ArePrefixes, logs_of};
 ghost use Rattle.pblk_core.specs.Resets.{IsToReset};
 ghost use Rattle.pblk_core.specs.declared.work.Work.TheVariants as works;
@@ -9,6 +9,7 @@ ghost use Rattle.pblk_engine.specs.ChunkResets.{HasReset, TellsReset};
 ghost use Rattle.pblk_engine.specs.Hearts.{IsRingOf};
 ghost use Rattle.pblk_engine.specs.Notes.{IsNoteOf};
 ghost use Rattle.pblk_engine.specs.Resets.{IsJustReset};
+ghost use Rattle.pblk_engine.specs.WorkSince.{HasWorkSince};
 
 use crate::arm::Arm;
 use crate::heart::Heart;
@@ -82,6 +83,8 @@ fn take_reset<M: Mount, U: Unit>(
     requires note_stopped { answer ≡ Err UnitErr.Stopped
         → IsNoteOf M.chronicle M.past note }
     ensures learns { ArePrefixes unit.now.known heart.new.author.known }
+    ensures worked { answer ≢ Err UnitErr.Stopped
+        → HasWorkSince heart.old.author.known heart.new.author.known }
 {
     if was_stopped(answer) {
         // the engine still has the chunk as one that is to be reset
@@ -95,8 +98,9 @@ fn take_reset<M: Mount, U: Unit>(
 
 // What is told of a reset: `Err` has its number, where it was stopped.
 fn told_of(answer: Result<(), UnitErr>, event: u64) -> Result<(), u64>
-    ensures { (outcome : UnitOutcome) → TellsDone answer outcome
+    ensures told { (outcome : UnitOutcome) → TellsDone answer outcome
         → TellsReset event result outcome }
+    ensures kept { IsOk result → answer ≢ Err UnitErr.Stopped }
 {
     match answer {
         Err(UnitErr::Stopped) => Err(event),
@@ -126,6 +130,8 @@ pub(crate) fn reset_chunk<M: Mount, U: Unit>(
     ensures worker { HasReset M.handed unit line worker.old worker.new result.1 }
     ensures worker_stripe { worker.new.stripe ≡ worker.old.stripe }
     ensures learns { ArePrefixes heart.old.author.known worker.new.known }
+    ensures worked { IsOk result.1
+        → HasWorkSince heart.old.author.known worker.new.known }
 {
     let mut arm = arm;
     let note = meet_both(chronicle, heart, &mut arm, worker);

@@ -11,6 +11,7 @@ ghost use Rattle.pblk_core.specs.declared.work.Work.TheVariants as works;
 ghost use Rattle.pblk_engine.specs.Asks.{IsRaisedByVictims};
 ghost use Rattle.pblk_engine.specs.Hearts.{HasDecided, IsBeating, IsRingOf, parts};
 ghost use Rattle.pblk_engine.specs.ResetNotes.{IsResetSince};
+ghost use Rattle.pblk_engine.specs.WorkSince.{HasWorkSince};
 
 use crate::engine_author::EngineAuthor;
 use crate::heart::Heart;
@@ -46,6 +47,7 @@ fn note_reset(
         (record author.old { known = longer_of author.old.known note.known }) author.new }
     ensures noted { Contains (named_events (logs_of author.new.known 0) unit)
         (length (logs_of author.old.known (suc unit))) }
+    ensures worked { HasWorkSince author.old.known author.new.known }
     ensures keeps { ArePrefixes author.old.known author.new.known }
     ensures learns { ArePrefixes note.known author.new.known }
     ensures kept { KeepsStripes core.old core.new }
@@ -83,6 +85,7 @@ impl<M: Mount> Heart<M> {
             (record old { known = longer_of old.known note.known }) self.new.author }
         ensures noted { Contains (named_events (logs_of self.new.author.known 0) unit)
             (length (logs_of self.old.author.known (suc unit))) }
+        ensures worked { HasWorkSince self.old.author.known self.new.author.known }
         ensures keeps { ArePrefixes self.old.author.known self.new.author.known }
         ensures learns { ArePrefixes note.known self.new.author.known }
         ensures same_copying { self.new.copying ≡ self.old.copying }

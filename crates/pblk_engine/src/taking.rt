@@ -12,6 +12,7 @@ ghost use Rattle.pblk_core.specs.Taken.{entry_of, mark_of};
 ghost use Rattle.pblk_engine.specs.Asks.{IsRaisedByVictims};
 ghost use Rattle.pblk_engine.specs.Hearts.{HasDecided, IsBeating, IsRingOf, IsSettled, parts, ring_row};
 ghost use Rattle.pblk_engine.specs.Takes.{TakesOn};
+ghost use Rattle.pblk_engine.specs.WorkSince.{HasWorkSince};
 ghost use Rattle.pblk_engine.specs.declared.taking.Filled.TheVariants as filled;
 
 use crate::engine_author::EngineAuthor;
@@ -178,6 +179,8 @@ impl<M: Mount> Heart<M> {
         ensures taken { self.new.intake.intake.taken ≡ taken (logs_of self.new.author.known 0) }
         ensures rises { self.old.intake.intake.taken ≤ self.new.intake.intake.taken }
         ensures claimed { self.old.intake.found.claimed ≤ self.new.intake.found.claimed }
+        ensures worked { self.old.intake.intake.taken < self.new.intake.intake.taken
+            → HasWorkSince self.old.author.known self.new.author.known }
         ensures none { self.new.intake.intake.taken ≡ self.old.intake.intake.taken → self.new
             ≡ record self.old {
               intake = record self.old.intake { found = self.new.intake.found };

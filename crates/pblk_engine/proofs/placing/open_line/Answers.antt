@@ -13,7 +13,7 @@ use Rattle.chronicle.specs.Prefixes.{logs_of}
 use Rattle.pblk_engine.specs.Hearts.{parts}
 use Rattle.pblk_engine.proofs.Asks.{raised_appended}
 use Rattle.pblk_engine.proofs.Decisions.{collecting}
-use Rattle.pblk_engine.proofs.OpenedLines.{has_opened}
+use Rattle.pblk_engine.proofs.WorkSince.{decided_now}
 use Rattle.pblk_engine.proofs.Openings.{after_open, may_open}
 use Rattle.pblk_engine.proofs.Settles.{beating_appended, decided_one}
 use Rattle.pblk_engine.proofs.placing.open_line.Goals as goal
@@ -53,7 +53,8 @@ returns c =
       beating = beating_appended h b (Open start.line start) c.decide.new.author c.decide.ensures c.open_line.new.self c.args.intake.now.seat.me.0
           (may_open h b c.requires.none it) refl after;
       decided = decided_one h b (Open start.line start) c.decide.new.author c.decide.ensures;
-      opened = has_opened c.args.author.now.past.image c.args.author.now c.decide.new.author start.line start b.engine.number b.legal c.decide.ensures;
+      opened = decided_now _ c.args.author.now.past.image c.args.author.now c.decide.new.author (Open start.line start) (start.line, start, refl)
+          b.engine.number b.legal c.decide.ensures;
       kept = c.open_line.ensures.kept;
       pads = raised_appended h b (Open start.line start) c.decide.new.author c.decide.ensures c.open_line.new.self c.args.intake.now.seat.me.0
           (may_open h b c.requires.none it) after;

@@ -1,7 +1,8 @@
-use Rattle.std.proofs.Common.{◌≡◌, ◌∷◌, inl, true, false, List, refl, sym, subst, ap, ◌∙◌}
+use Rattle.std.proofs.Common.{◌≡◌, ◌∷◌, inl, inr, true, false, List, refl, sym, subst, ap, ◌∙◌}
 use Rattle.pblk_world.specs.Events.{Decides, Place, Logged}
 use Rattle.pblk_world.specs.Legal.{IsAllowed}
 use Rattle.pblk_world.specs.World.{Logs, log_of}
+use Rattle.core_laws.specs.PlacerOf.{was_stopped_on}
 use Rattle.step_laws.specs.Whole.{engine_step}
 use Rattle.chronicle.specs.Handles.{AuthorView}
 use Rattle.chronicle.specs.Prefixes.{logs_of}
@@ -13,6 +14,7 @@ use Rattle.pblk_engine.proofs.Knowledge.{known_next}
 use Rattle.pblk_engine.proofs.Openings.{after_place, beating_again, may_place}
 use Rattle.pblk_engine.proofs.PlacedAs.{count_same, newest, newest_waits, placed_as}
 use Rattle.pblk_engine.proofs.Settles.{beating_appended, decided_none, decided_one, is_zero}
+use Rattle.pblk_engine.proofs.WorkSince.{decided_now}
 use Rattle.pblk_engine.proofs.placing.place.Goals as goal
 
 pub place-requires : goal.place-requires
@@ -63,6 +65,7 @@ returns-then-not-is_again c =
           (placed_as (log_of (engine_step i.shape (Place stripe) w ∷ w) 0) c.place.new.into (newest i w stripe b.legal.legal may)
           (newest_waits i w stripe b.legal.legal may) refl
           (p.turn i w (its_mount h b) (its_heart h b).stands ∙ sym (count_same i w stripe b.legal.legal may)));
+      worked = inl (decided_now _ i c.args.author.now c.append.new.self (Place stripe) refl b.engine.number b.legal c.append.ensures.appended);
       under_way = p.under_way;
       shape = p.shape;
       kept = p.kept;
@@ -85,6 +88,7 @@ returns-else-not-is_again c =
       decided = decided_none c.args.author.now;
       placed = subst (λ (logs : Logs). IsPlacedAs (logs 0) c.place.new.into) b.legal.logs
           (placed_as (log_of w 0) c.place.new.into was.placed was.unanswered was.same (p.turn i w (its_mount h b) (its_heart h b).stands));
+      worked = inr (subst (λ (logs : Logs). was_stopped_on (logs 0) stripe.unit ≡ true) b.legal.logs was.stopped);
       under_way = p.under_way;
       shape = p.shape;
       kept = p.kept;

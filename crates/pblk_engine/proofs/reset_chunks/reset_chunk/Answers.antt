@@ -14,6 +14,7 @@ use Rattle.pblk_engine.specs.Workers.{WorkerView, last_made, worker_view}
 use Rattle.pblk_engine.proofs.Lent.{maker_of}
 use Rattle.pblk_engine.proofs.Meetings.{worker_done}
 use Rattle.pblk_engine.proofs.ResetDeeds.{last_of_steps, last_there}
+use Rattle.pblk_engine.proofs.WorkSince.{decided_later, decided_still}
 use Rattle.pblk_engine.proofs.reset_chunks.reset_chunk.Given.{Over}
 use Rattle.pblk_engine.proofs.reset_chunks.reset_chunk.Goals.{After-meet_both-note, After-end-arm}
 use Rattle.pblk_engine.proofs.reset_chunks.reset_chunk.Goals as goal
@@ -118,7 +119,7 @@ returns-clause-worker g c =
           (sym is)
           (subst (λ n. TellsReset n c.told_of.result was.outcome)
           (told ∙ ap (λ n. number_told g.M.Mount.handed n (length (logs_of r.known (suc r.number)) - 1)) number)
-          (c.told_of.ensures was.outcome was.told));
+          (c.told_of.ensures.told was.outcome was.told));
     }
 
 pub returns-clause-learns : goal.returns-clause-learns
@@ -128,3 +129,14 @@ returns-clause-learns g c =
     (still_begun c.args.heart.now.author.known m.result.known c.reset-resetting.result.0.known
     (subst (ArePrefixes c.args.heart.now.author.known) (sym m.ensures.known) m.ensures.heart_keeps) c.reset-resetting.ensures.keeps)
     (still_begun c.reset-resetting.result.0.known c.end-arm.result.known c.end-arm.new.token.known c.end-arm.ensures.keeps c.end-arm.ensures.token_learns)
+
+pub returns-clause-worked : goal.returns-clause-worked
+returns-clause-worked g c = λ ok.
+    let m = c.meet_both-note in
+    let e = c.end-arm.ensures in
+    let last = c.end-arm.new.token.known in
+    decided_still _ c.args.heart.now.author.known c.take_reset.new.heart.author.known last
+    (decided_later _ c.args.heart.now.author.known m.new.heart.author.known c.take_reset.new.heart.author.known m.ensures.heart_keeps
+    (c.take_reset.ensures.worked (c.told_of.ensures.kept ok)))
+    (subst (λ (k : Prefixes). ArePrefixes k last) c.note-noted.ensures.note_known
+    (still_begun c.note-noted.result.known c.end-arm.result.known last e.learns e.token_learns))

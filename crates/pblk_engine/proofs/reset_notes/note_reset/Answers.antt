@@ -1,6 +1,11 @@
+use Rattle.std.proofs.Common.{◌-◌, suc, length, refl, ap, ◌∙◌}
+use Rattle.pblk_world.specs.Events.{ResetDone}
+use Rattle.chronicle.specs.Handles.{AuthorView}
+use Rattle.chronicle.specs.Prefixes.{logs_of}
 use Rattle.pblk_engine.specs.Hearts.{parts}
 use Rattle.pblk_engine.proofs.Decisions.{collecting}
 use Rattle.pblk_engine.proofs.ResetSince as resets
+use Rattle.pblk_engine.proofs.WorkSince.{decided_later, decided_now}
 use Rattle.pblk_engine.proofs.reset_notes.note_reset.Goals as goal
 
 pub decide-requires-clause-allowed : goal.decide-requires-clause-allowed
@@ -34,6 +39,9 @@ returns c =
           done.window done.kept last c.decide.ensures;
       decided = resets.decided_noted h b line unit state note is names a m.met m.legal last c.decide.ensures;
       noted = resets.names_it h b line unit state note is names a m.met m.legal last c.decide.ensures;
+      worked = decided_later _ c.args.author.now.known a.known last.known m.keeps
+          (decided_now _ a.past.image a last (ResetDone unit (length (logs_of a.known (suc unit)) - 1)) refl
+          (ap (λ (x : AuthorView). x.number) m.met ∙ b.engine.number) m.legal c.decide.ensures);
       keeps = resets.keeps_noted h b line unit state note is names a m.met m.legal last c.decide.ensures m.keeps;
       learns = resets.learns_noted h b line unit state note is names a m.met m.legal last c.decide.ensures m.learns;
       kept = done.kept;

@@ -1,7 +1,6 @@
-use Rattle.std.proofs.Common.{◌≡◌, ◌≢◌, refl, sym, subst, ap, ◌∙◌}
+use Rattle.std.proofs.Common.{◌≡◌, ◌≢◌, refl, sym, subst}
 use Rattle.pblk_world.specs.AtRest.{IsCopyDue}
 use Rattle.chronicle.specs.Prefixes.{Prefixes, logs_of}
-use Rattle.pblk_engine.specs.Hearts.{HeartView}
 use Rattle.pblk_engine.specs.declared.copying.NextCopy.{NextCopy}
 use Rattle.pblk_engine.specs.declared.copying.NextCopy.TheVariants as answer
 use Rattle.pblk_engine.specs.declared.outcomes.Role.TheVariants as roles
@@ -33,18 +32,19 @@ copy_sector-requires-clause-due g c =
 
 pub returns-in-At-clause-made : goal.returns-in-At-clause-made
 returns-in-At-clause-made g c =
-    fetch_of_collector g.M.Mount.past.image g.M.Mount.handed c.args.worker.now c.copy_sector.new.worker c.copy_sector.result c.copy_sector.ensures.collected
+    fetch_of_collector g.M.Mount.past.image g.M.Mount.handed roles.Collector c.args.worker.now c.copy_sector.new.worker c.copy_sector.result
+    (c.copy_sector.ensures.collected roles.Collector (λ same. absurd cc))
 
 pub returns-in-Full-clause-collected : goal.returns-in-Full-clause-collected
-returns-in-Full-clause-collected g c =
-    collected_full g.M.Mount.past.image g.M.Mount.handed c.args.worker.now
-    (due_then g (goal.at.returns-in-Full-clause-collected g c).After-next_copy (full_is_some c.next_copy.result c.in-Full.is))
+returns-in-Full-clause-collected g c = λ role reset.
+    collected_full g.M.Mount.past.image g.M.Mount.handed role c.args.worker.now
+    (due_then g (goal.at.returns-in-Full-clause-collected g c).After-next_copy (full_is_some c.next_copy.result c.in-Full.is)) reset
 
 pub returns-in-Full-clause-made : goal.returns-in-Full-clause-made
 returns-in-Full-clause-made g c = still_of_role roles.Collector c.args.worker.now c.args.worker.now refl
 
 pub returns-in-Nothing-clause-collected : goal.returns-in-Nothing-clause-collected
-returns-in-Nothing-clause-collected g c = collected_other g.M.Mount.past.image g.M.Mount.handed c.args.worker.now
+returns-in-Nothing-clause-collected g c = λ role reset. collected_other g.M.Mount.past.image g.M.Mount.handed role c.args.worker.now
 
 pub returns-in-Nothing-clause-made : goal.returns-in-Nothing-clause-made
 returns-in-Nothing-clause-made g c = still_of_role roles.Collector c.args.worker.now c.args.worker.now refl

@@ -4,6 +4,7 @@ use Rattle.pblk_model.specs.Image.{Image}
 use Rattle.pblk_model.specs.declared.run.Front.{Front}
 use Rattle.pblk_world.specs.AtRest.{IsCopyDue}
 use Rattle.pblk_world.specs.Fronts.{synced, taken}
+use Rattle.pblk_world.specs.Orders.{AreReset}
 use Rattle.chronicle.specs.Prefixes.{Prefixes, AreLegalLogs, logs_of}
 use Rattle.pblk_engine.specs.Hearts.{HeartView}
 use Rattle.pblk_engine.specs.Pumps.{IsNothing}
@@ -80,6 +81,11 @@ returns-then-is_stuck-clause-worn_asked g c = λ wanted have is.
 
 pub pump_held-requires-clause-reset : goal.pump_held-requires-clause-reset
 pump_held-requires-clause-reset g c = λ line unit is. (c.next_work-work.ensures.reset line unit is).unit_in_range
+
+pub pump_held-requires-clause-reset_first : goal.pump_held-requires-clause-reset_first
+pump_held-requires-clause-reset_first g c = λ is.
+    let d = (goal.at.pump_held-requires-clause-reset_first g c).After-synced-synced in
+    subst (λ (p : Prefixes). AreReset g.M.Mount.past.image (logs_of p)) (sym (known g d)) (c.next_work-work.ensures.reset_first is)
 
 pub pump_held-requires-clause-rest : goal.pump_held-requires-clause-rest
 pump_held-requires-clause-rest g c = λ why is.

@@ -1,10 +1,10 @@
 use Rattle.std.proofs.Common.{sym, subst, ap, ◌∙◌}
 use Rattle.chronicle.specs.Prefixes.{Prefixes}
 use Rattle.pblk_engine.specs.Hearts.{HeartView}
-use Rattle.pblk_engine.specs.Opens.{HasOpened}
+use Rattle.pblk_engine.specs.WorkSince.{HasOpened}
 use Rattle.pblk_engine.specs.Workers.{WorkerView}
 use Rattle.pblk_engine.proofs.GoingOn.{goes_told}
-use Rattle.pblk_engine.proofs.OpenedLines.{opened_still}
+use Rattle.pblk_engine.proofs.WorkSince.{decided_still}
 use Rattle.pblk_engine.proofs.PumpSteps.{pumped_opened}
 use Rattle.pblk_engine.proofs.RoleCommands.{still_of_role}
 use Rattle.pblk_engine.proofs.engine.Engine.open_line.Goals as goal
@@ -16,8 +16,9 @@ returns-clause-pumped g c =
     let told : Prefixes = c.tell.new.heart.author.known in
     let opened : HasOpened old.known told =
     subst (λ (k : Prefixes). HasOpened k told) (ap (λ (h : HeartView). h.author.known) c.deref_mut-beating.ensures.value ∙ sym c.requires.known)
-    (opened_still c.deref_mut-beating.result.now.author.known c.open_line.new.self.author.known told c.open_line.ensures.opened c.tell.ensures.heart_keeps) in
-    pumped_opened g.M.Mount.past.image g.M.Mount.handed old new (goes_told old new told c.tell.ensures.worker c.tell.ensures.keeps)
+    (decided_still _ c.deref_mut-beating.result.now.author.known c.open_line.new.self.author.known told c.open_line.ensures.opened
+    c.tell.ensures.heart_keeps) in
+    λ role. pumped_opened g.M.Mount.past.image g.M.Mount.handed role old new (goes_told old new told c.tell.ensures.worker c.tell.ensures.keeps)
     (subst (HasOpened old.known) (sym (ap (λ (w : WorkerView). w.known) c.tell.ensures.worker)) opened)
 
 pub returns-clause-made : goal.returns-clause-made

@@ -1,14 +1,27 @@
-use Rattle.std.proofs.Common.{subst}
+use Rattle.std.proofs.Common.{refl, sym, subst, ap, ◌∙◌}
+use Rattle.std.specs.Prelude.{IsOk}
+use Rattle.chronicle.specs.Prefixes.{Prefixes}
 use Rattle.pblk_engine.specs.ChunkResets.{HasReset}
-use Rattle.pblk_engine.proofs.PumpSteps.{pumped_stopped}
+use Rattle.pblk_engine.specs.Hearts.{HeartView}
+use Rattle.pblk_engine.specs.WorkSince.{HasWorkSince}
+use Rattle.pblk_engine.proofs.PumpSteps.{pumped_reset, pumped_stopped}
 use Rattle.pblk_engine.proofs.RoleCommands.{reset_of_lane}
 use Rattle.pblk_engine.proofs.engine.Engine.reset.Goals as goal
 
-pub returns-clause-pumped : goal.returns-clause-pumped
-returns-clause-pumped g c =
+pub returns-in-Ok-clause-pumped : goal.returns-in-Ok-clause-pumped
+returns-in-Ok-clause-pumped g c = λ role.
     let old = c.args.worker.now in
     let new = c.reset_chunk-arm.new.worker in
-    pumped_stopped g.M.Mount.past.image g.M.Mount.handed old new c.args.unit c.args.line c.in-Err.event
+    let known = ap (λ (h : HeartView). h.author.known) c.deref_mut.ensures.value ∙ sym c.requires.known in
+    pumped_reset g.M.Mount.past.image g.M.Mount.handed role old new c.args.unit c.args.line
+    (subst (HasReset g.M.Mount.handed c.args.unit c.args.line old new) c.in-Ok.is c.reset_chunk-arm.ensures.worker)
+    (subst (λ (k : Prefixes). HasWorkSince k new.known) known (c.reset_chunk-arm.ensures.worked (subst (λ r. IsOk r) (sym c.in-Ok.is) refl)))
+
+pub returns-clause-pumped : goal.returns-clause-pumped
+returns-clause-pumped g c = λ role.
+    let old = c.args.worker.now in
+    let new = c.reset_chunk-arm.new.worker in
+    pumped_stopped g.M.Mount.past.image g.M.Mount.handed role old new c.args.unit c.args.line c.in-Err.event
     (subst (HasReset g.M.Mount.handed c.args.unit c.args.line old new) c.in-Err.is c.reset_chunk-arm.ensures.worker)
 
 pub returns-in-Ok-clause-made : goal.returns-in-Ok-clause-made

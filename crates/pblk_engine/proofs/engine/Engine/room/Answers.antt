@@ -2,6 +2,7 @@ use Rattle.std.proofs.Common.{◌≡◌, ◌-◌, ◌<◌, ◌≤◌, [], length
 use Rattle.pblk_model.specs.Image.{Image}
 use Rattle.pblk_world.specs.AtRest.{IsAtRest}
 use Rattle.pblk_world.specs.Fronts.{taken}
+use Rattle.pblk_world.specs.Orders.{AreReset}
 use Rattle.pblk_world.specs.Space.{room}
 use Rattle.chronicle.specs.Prefixes.{Prefixes, logs_of}
 use Rattle.pblk_engine.specs.Hearts.{HeartView}
@@ -69,6 +70,11 @@ returns-then-is_stuck g c =
 
 pub pump_held-requires-clause-reset : goal.pump_held-requires-clause-reset
 pump_held-requires-clause-reset g c = λ line unit is. (c.next_work-work.ensures.reset line unit is).unit_in_range
+
+pub pump_held-requires-clause-reset_first : goal.pump_held-requires-clause-reset_first
+pump_held-requires-clause-reset_first g c = λ is.
+    let d = (goal.at.pump_held-requires-clause-reset_first g c).After-granted-granted in
+    subst (λ (p : Prefixes). AreReset g.M.Mount.past.image (logs_of p)) (same g d ∙ sym (known g d)) (c.next_work-work.ensures.reset_first is)
 
 pub pump_held-requires-clause-rest : goal.pump_held-requires-clause-rest
 pump_held-requires-clause-rest g c = λ why is.

@@ -1,6 +1,7 @@
 use Rattle.std.proofs.Common.{◌≡◌, ◌≤◌, [], Option, Result, refl, sym, subst, ap, ◌∙◌, arith}
 use Rattle.std.specs.Prelude.{IsTrue}
 use Rattle.pblk_world.specs.Fronts.{taken}
+use Rattle.pblk_world.specs.Orders.{AreReset}
 use Rattle.write_ring.specs.declared.view.Part.{Part}
 use Rattle.write_ring.specs.Handles.{AreAllClaims, pass_view}
 use Rattle.pblk_core.specs.declared.work.Why.TheVariants as whys
@@ -54,6 +55,10 @@ module _ (g : Over) (c : After-deref-2 g) where
   busy = subst (λ (h : HeartView). c.next_work-work.result ≡ works.Nothing whys.Busy → IsBusy g.M.Mount.past.image (logs_of h.author.known)) c.deref.ensures
       c.next_work-work.ensures.busy
 
+  reset_first : c.next_work-work.result ≡ works.Copy → AreReset g.M.Mount.past.image (logs_of c.ask_pad.new.self.author.known)
+  reset_first = subst (λ (h : HeartView). c.next_work-work.result ≡ works.Copy → AreReset g.M.Mount.past.image (logs_of h.author.known)) c.deref.ensures
+      c.next_work-work.ensures.reset_first
+
   claims : AreAllClaims g.M.Mount.key.first c.all_claimed-claimed.result (pass_view c.args.pass.now).pass c.all_claimed-claimed.new.self.intake.pass
   claims = subst (λ (p : Part). AreAllClaims g.M.Mount.key.first c.all_claimed-claimed.result p c.all_claimed-claimed.new.self.intake.pass)
       c.all_claimed-claimed.ensures.same_pass (c.all_claimed-claimed.ensures.all c.requires.shares)
@@ -65,6 +70,11 @@ settlement-requires g c = record {
 
 pub pump_held-requires-clause-reset : goal.pump_held-requires-clause-reset
 pump_held-requires-clause-reset g c = λ line unit is. (c.next_work-work.ensures.reset line unit is).unit_in_range
+
+pub pump_held-requires-clause-reset_first : goal.pump_held-requires-clause-reset_first
+pump_held-requires-clause-reset_first g c = λ is.
+    let at = (goal.at.pump_held-requires-clause-reset_first g c).After-deref-2 in
+    subst (λ (k : Prefixes). AreReset g.M.Mount.past.image (logs_of k)) (sym (knows g at)) (reset_first g at is)
 
 pub pump_held-requires-clause-rest : goal.pump_held-requires-clause-rest
 pump_held-requires-clause-rest g c = λ why is.

@@ -1,15 +1,17 @@
 use Rattle.std.proofs.Common.{◌≤◌, length, sym, subst, ◌∙◌}
 use Rattle.pblk_world.specs.AtRest.{IsAtRest, IsCopyDue}
-use Rattle.pblk_world.specs.Orders.{NoneToFree}
+use Rattle.pblk_world.specs.Orders.{AreReset, NoneToFree}
 use Rattle.pblk_world.specs.World.{Logs, log_of}
 use Rattle.pblk_core.specs.Copies.{is_copying}
 use Rattle.pblk_core.specs.Named.{pad_of}
 use Rattle.pblk_core.specs.Resets.{IsToReset}
+use Rattle.pblk_core.specs.declared.work.Work.TheVariants as works
 use Rattle.chronicle.specs.Prefixes.{logs_of}
 use Rattle.pblk_engine.specs.Hearts.{HeartView, parts}
 use Rattle.pblk_engine.specs.Pumps.{IsBusy}
 use Rattle.pblk_engine.proofs.Decisions.{collecting}
 use Rattle.pblk_engine.proofs.Held.{beating_of, held_heart, held_mount}
+use Rattle.pblk_engine.proofs.NextWork.{reset_now}
 use Rattle.pblk_engine.proofs.RestingHearts.{collects_then, none_to_copy, rests, stands_then}
 use Rattle.pblk_engine.proofs.heart.Heart.next_work.Goals as goal
 
@@ -28,6 +30,19 @@ returns-clause-reset g c = λ line unit is.
     let heart = held_heart g.M.Mount.chronicle g.M.Mount.ring g.M.Mount.past g.M.Mount.key c.self.inside.intake.seat.table_id h k in
     subst (λ (v : HeartView). IsToReset i (logs_of v.author.known) line unit) c.self.view_is
     (subst (λ (logs : Logs). IsToReset i logs line unit) k.legal.logs (c.next_work.ensures.reset i w line unit heart.stands is))
+
+pub returns-clause-reset_first : goal.returns-clause-reset_first
+returns-clause-reset_first g c = λ is.
+    let k = c.self.invariant.0 in
+    let i = g.M.Mount.past.image in
+    let w = k.legal.world in
+    let h = parts c.self.inside.core c.self.inside.author c.self.inside.intake.seat.me.0 in
+    let mount = held_mount g.M.Mount.chronicle g.M.Mount.ring g.M.Mount.past g.M.Mount.key c.self.inside.intake.seat.table_id h k in
+    let heart = held_heart g.M.Mount.chronicle g.M.Mount.ring g.M.Mount.past g.M.Mount.key c.self.inside.intake.seat.table_id h k in
+    subst (λ (v : HeartView). AreReset i (logs_of v.author.known)) c.self.view_is
+    (subst (AreReset i) k.legal.logs
+    (reset_now i w c.self.inside.core c.self.inside.intake.seat.me.0 mount heart works.Copy (λ line unit e. absurd cc)
+    (sym c.next_work.ensures.named ∙ is)))
 
 pub returns-clause-rest : goal.returns-clause-rest
 returns-clause-rest g c = λ why is other asked within.

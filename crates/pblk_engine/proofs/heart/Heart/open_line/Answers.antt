@@ -4,10 +4,10 @@ use Rattle.chronicle.specs.Handles.{AuthorView}
 use Rattle.chronicle.specs.Prefixes.{logs_of}
 use Rattle.pblk_engine.specs.Asks.{IsRaisedByVictims}
 use Rattle.pblk_engine.specs.Hearts.{HasDecided, HeartView, parts}
-use Rattle.pblk_engine.specs.Opens.{HasOpened}
+use Rattle.pblk_engine.specs.WorkSince.{HasOpened}
 use Rattle.pblk_engine.proofs.Asks.{raised_next, raised_since, raised_then}
 use Rattle.pblk_engine.proofs.Held.{beating_of, held_then, none_of}
-use Rattle.pblk_engine.proofs.OpenedLines.{opened_still}
+use Rattle.pblk_engine.proofs.WorkSince.{decided_still}
 use Rattle.pblk_engine.proofs.Settles.{decided_then}
 use Rattle.pblk_engine.proofs.heart.Heart.open_line.Given.{Over}
 use Rattle.pblk_engine.proofs.heart.Heart.open_line.Goals.{After-settle}
@@ -63,7 +63,7 @@ returns g c =
     record {
       decided = subst (λ (v : HeartView). HasDecided v.author c.settle.new.author) old decided;
       opened = subst (λ (v : HeartView). HasOpened v.author.known c.settle.new.author.known) old
-          (opened_still c.self.inside.author.known c.open_line.new.author.known c.settle.new.author.known c.open_line.ensures.opened
+          (decided_still _ c.self.inside.author.known c.open_line.new.author.known c.settle.new.author.known c.open_line.ensures.opened
           c.settle.ensures.decided.keeps);
       same_copying = c.settle.ensures.kept.copying ∙ c.open_line.ensures.kept.copying ∙ ap (λ (v : HeartView). v.copying) old;
       same_pass = c.settle.ensures.pass ∙ ap (λ (v : HeartView). v.intake.pass) old;

@@ -1,7 +1,8 @@
-use Rattle.std.proofs.Common.{◌≡◌, ◌<◌, ◌≤◌, List, sym, subst, ap, ◌∙◌, le_trans}
+use Rattle.std.proofs.Common.{◌≡◌, ◌<◌, ◌≤◌, ◌⊎◌, inl, inr, true, List, sym, subst, ap, ◌∙◌, le_trans}
 use Rattle.pblk_model.specs.Image.{Image}
 use Rattle.pblk_model.specs.Shape.{units}
 use Rattle.pblk_world.specs.Events.{Logged}
+use Rattle.core_laws.specs.PlacerOf.{was_stopped_on}
 use Rattle.pblk_core.specs.Named.{pad_of}
 use Rattle.chronicle.specs.Handles.{AuthorView}
 use Rattle.chronicle.specs.Views.{Past}
@@ -9,11 +10,13 @@ use Rattle.chronicle.specs.Prefixes.{AreLegalLogs, logs_of}
 use Rattle.pblk_engine.specs.Placements.{IsPlacedAs}
 use Rattle.pblk_engine.specs.Stops.{stop_count}
 use Rattle.pblk_engine.specs.Asks.{IsRaisedByVictims}
+use Rattle.pblk_engine.specs.WorkSince.{HasWorkSince}
 use Rattle.pblk_engine.specs.Hearts.{HasDecided, HeartView, parts}
 use Rattle.pblk_engine.proofs.Asks.{raised_next, raised_since, raised_then}
 use Rattle.pblk_engine.proofs.Held.{beating_of, held_then, none_of}
 use Rattle.pblk_engine.proofs.PlacedAs.{placed_inside, placed_still}
 use Rattle.pblk_engine.proofs.Settles.{decided_then}
+use Rattle.pblk_engine.proofs.WorkSince.{decided_still}
 use Rattle.pblk_engine.proofs.heart.Heart.place.Given.{Over}
 use Rattle.pblk_engine.proofs.heart.Heart.place.Goals.{After-settle}
 use Rattle.pblk_engine.proofs.heart.Heart.place.Goals as goal
@@ -94,6 +97,13 @@ returns g c =
     record {
       placed = placed_there g (goal.at.returns g c).After-settle;
       stops = c.stops.ensures ∙ ap (stop_count (logs_of c.settle.new.author.known 0)) c.unit.ensures;
+      worked = subst (λ (v : HeartView). HasWorkSince v.author.known c.settle.new.author.known
+          ⊎ (was_stopped_on (logs_of v.author.known 0) c.place.new.into.stripe.unit ≡ true)) old
+          (elim c.place.ensures.worked [
+            | inl work ↦ inl (decided_still _ c.self.inside.author.known c.place.new.author.known c.settle.new.author.known work
+                c.settle.ensures.decided.keeps)
+            | inr again ↦ inr again
+          ]);
       inside = inside_drive g (goal.at.returns g c).After-settle;
       shape = c.place.ensures.shape;
       decided = subst (λ (v : HeartView). HasDecided v.author c.settle.new.author) old decided;

@@ -1,6 +1,7 @@
 use Rattle.std.proofs.Common.{◌≡◌, inl, inr, ℕ, ◌+◌, ◌^◌, ◌<◌, ◌≤◌, min, Some, List, [], ◌∷◌, length, refl, sym, subst, ap, ◌∙◌, arith}
 use Rattle.std.specs.Prelude.{Err}
 use Rattle.std.specs.List.{AllByRecursion}
+use Rattle.std.proofs.lemmas.Option.{same_Some}
 use Rattle.pblk_model.specs.Image.{Image}
 use Rattle.pblk_world.specs.LegalMounts.{IsLegalMount}
 use Rattle.pblk_world.specs.World.{World, Logs, log_of}
@@ -116,7 +117,7 @@ invariant_of-self g c =
     let sector : List ℕ = c.self.inside.sector.items in
     let v : View = c.self.inside.intake.seat.me.0 in
     let v' : View = c.try_copy.new.intake.seat.me.0 in
-    let claim : HasClaimed job sector v v' = claim_of job sector c.in-Ok.field-0 c.fill.new.self.drafts (draft g f).frame v v' (drafts g f) (bytes g f)
+    let claim : HasClaimed job sector v v' = claim_of job sector c.in-Ok.place c.fill.new.self.drafts (draft g f).frame v v' (drafts g f) (bytes g f)
     c.in-Ok.ensures.place c.in-Ok.ensures.place_past in
     let none = none_under_way (i g s) (log_of (w g s)) c.self.inside.core.collection.under_way v.pass v.intake.taken (is_ready g s).idle (was g s).copies in
     let claimed = claimed_copy (i g s) (w g s) c.self.inside.core v v' (legal g s) (was g s) job (is_ready g s) sector claim (low_of c.self.inside.intake) none
@@ -168,11 +169,14 @@ invariant_of-self-in-Err g c =
     )
 
 pub returns-in-Ok-clause-claimed : goal.returns-in-Ok-clause-claimed
-returns-in-Ok-clause-claimed g c = λ yes.
+returns-in-Ok-clause-claimed g c = λ at is.
     let f = (goal.at.returns-in-Ok-clause-claimed g c).After-fill in
-    subst (λ (v : HeartView). HasClaimed c.args.of.now.job v.sector v.intake c.try_copy.new.intake.seat.me.0) c.self.view_is
-    (claim_of c.args.of.now.job c.self.inside.sector.items c.in-Ok.field-0 c.fill.new.self.drafts (draft g f).frame c.self.inside.intake.seat.me.0
-    c.try_copy.new.intake.seat.me.0 (drafts g f) (bytes g f) c.in-Ok.ensures.place c.in-Ok.ensures.place_past)
+    let same : c.in-Ok.place.first ≡ at = same_Some c.in-Ok.place.first at is in
+    subst (λ (v : HeartView). (claim : HasClaimed c.args.of.now.job v.sector v.intake c.try_copy.new.intake.seat.me.0) × (claim.first ≡ at)) c.self.view_is (
+      claim_of c.args.of.now.job c.self.inside.sector.items c.in-Ok.place c.fill.new.self.drafts (draft g f).frame c.self.inside.intake.seat.me.0
+          c.try_copy.new.intake.seat.me.0 (drafts g f) (bytes g f) c.in-Ok.ensures.place c.in-Ok.ensures.place_past,
+      same,
+    )
 
 -- ---- it was refused
 

@@ -10,10 +10,12 @@ use Rattle.chronicle.proofs.Rests.{still_begun}
 use Rattle.pblk_engine.specs.Asks.{IsRaisedByVictims}
 use Rattle.pblk_engine.specs.Hearts.{HasDecided, HeartView, IsBeating, Parts, parts}
 use Rattle.pblk_engine.specs.ResetNotes.{IsResetSince}
+use Rattle.pblk_engine.specs.WorkSince.{HasWorkSince}
 use Rattle.pblk_engine.proofs.Asks.{raised_named, raised_next, raised_since, raised_then}
 use Rattle.pblk_engine.proofs.Held.{beating_of, held_after, none_of}
 use Rattle.pblk_engine.proofs.ResetSince.{met_named, still_named}
 use Rattle.pblk_engine.proofs.Settles.{decided_then}
+use Rattle.pblk_engine.proofs.WorkSince.{decided_still}
 use Rattle.pblk_engine.proofs.heart.Heart.reset_done.Given.{Over}
 use Rattle.pblk_engine.proofs.heart.Heart.reset_done.Goals.{After-self, After-settle}
 use Rattle.pblk_engine.proofs.heart.Heart.reset_done.Goals as goal
@@ -111,6 +113,9 @@ returns g c =
           (length (logs_of v.author.known (suc c.args.unit)))) old
           (still_named (logs_of c.note_reset.new.author.known 0) (logs_of c.settle.new.author.known 0) c.args.unit
           (length (logs_of c.self.inside.author.known (suc c.args.unit))) (c.settle.ensures.decided.keeps.each 0) c.note_reset.ensures.noted);
+      worked = subst (λ (v : HeartView). HasWorkSince v.author.known c.settle.new.author.known) old
+          (decided_still _ c.self.inside.author.known c.note_reset.new.author.known c.settle.new.author.known c.note_reset.ensures.worked
+          c.settle.ensures.decided.keeps);
       keeps = subst (λ (v : HeartView). ArePrefixes v.author.known c.settle.new.author.known) old (keeps g d);
       learns = still_begun note c.note_reset.new.author.known c.settle.new.author.known c.note_reset.ensures.learns c.settle.ensures.decided.keeps;
       same_copying = c.settle.ensures.kept.copying ∙ c.note_reset.ensures.kept.copying ∙ ap (λ (v : HeartView). v.copying) old;

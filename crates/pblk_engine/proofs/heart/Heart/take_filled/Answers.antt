@@ -1,13 +1,18 @@
-use Rattle.std.proofs.Common.{◌≡◌, true, sym, subst, ap, ◌∙◌}
+use Rattle.std.proofs.Common.{◌≡◌, ◌<◌, true, sym, subst, subst₂, ap, ◌∙◌}
+use Rattle.pblk_model.specs.Image.{Image}
 use Rattle.pblk_world.specs.Fronts.{taken}
 use Rattle.pblk_world.specs.World.{Logs}
 use Rattle.write_ring.specs.declared.view.View.{View}
 use Rattle.pblk_core.specs.Named.{pad_of}
 use Rattle.pblk_core.specs.Stands.{Stands}
+use Rattle.pblk_core.specs.declared.target_core.Core.{Core}
+use Rattle.chronicle.specs.Prefixes.{Prefixes, AreLegalLogs, logs_of}
 use Rattle.pblk_core.proofs.StandsFacts.{window_taken_is}
-use Rattle.pblk_engine.specs.Hearts.{HeartView, heart_view, parts}
+use Rattle.pblk_engine.specs.Hearts.{HeartView, IsHeart, heart_view, parts}
+use Rattle.pblk_engine.specs.WorkSince.{HasWorkSince}
 use Rattle.pblk_engine.proofs.Asks.{raised_since, raised_then}
 use Rattle.pblk_engine.proofs.Held.{held_then}
+use Rattle.pblk_engine.proofs.WorkSince.{taken_work}
 use Rattle.pblk_engine.proofs.heart.Heart.take_filled.Goals as goal
 
 pub invariant_of-self : goal.invariant_of-self
@@ -25,14 +30,31 @@ invariant_of-self g c =
           k.since s.takes.decided s.takes.pads),
     )
 
+-- what a heart's intake has taken are the takes of the engine's log
+its_taken : (i : Image) (known : Prefixes) (legal : AreLegalLogs i known) (c : Core) (v : View) → IsHeart i (logs_of known) c v
+    → v.intake.taken ≡ taken (logs_of known 0)
+its_taken i known legal c v heart =
+    heart.taken ∙ window_taken_is i legal.world c (subst (λ (logs : Logs). Stands i logs c) (sym legal.logs) heart.stands)
+    ∙ ap (λ (logs : Logs). taken (logs 0)) legal.logs
+
 pub returns-clause-taken : goal.returns-clause-taken
 returns-clause-taken g c =
     let s = c.take_and_settle.ensures in
-    let i = c.take_and_settle.new.author.past.image in
-    let core = c.take_and_settle.new.core in
-    s.settled.heart.taken
-    ∙ window_taken_is i s.legal.world core (subst (λ (logs : Logs). Stands i logs core) (sym s.legal.logs) s.settled.heart.stands)
-    ∙ ap (λ (logs : Logs). taken (logs 0)) s.legal.logs
+    let a = c.take_and_settle.new.author in
+    its_taken a.past.image a.known s.legal c.take_and_settle.new.core c.take_and_settle.new.intake.seat.me.0 s.settled.heart
+
+pub returns-clause-worked : goal.returns-clause-worked
+returns-clause-worked g c = λ rises.
+    let s = c.take_and_settle.ensures in
+    let k = c.self.invariant.0 in
+    let old = c.self.inside.author.known in
+    let a = c.take_and_settle.new.author in
+    let heart = k.settled.heart in
+    let was = its_taken g.M.Mount.past.image old k.legal c.self.inside.core c.self.inside.intake.seat.me.0 heart in
+    let now = its_taken a.past.image a.known s.legal c.take_and_settle.new.core c.take_and_settle.new.intake.seat.me.0 s.settled.heart in
+    subst (λ (v : HeartView). HasWorkSince v.author.known a.known) c.self.view_is
+    (taken_work old a.known heart.stands.beginning heart.stands.has_begun s.takes.decided.keeps
+    (subst₂ (λ m n. m < n) (ap (λ (v : HeartView). v.intake.intake.taken) (sym c.self.view_is) ∙ was) now rises))
 
 pub returns-clause-none : goal.returns-clause-none
 returns-clause-none g c = λ same.
