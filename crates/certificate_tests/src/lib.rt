@@ -4,6 +4,4 @@
 #[cfg(test)]
 mod harness;
 #[cfg(test)]
-mod image;
-#[cfg(test)]
 mod rows;

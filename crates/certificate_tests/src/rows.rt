@@ -1,7 +1,7 @@
 //! Certificates that are right, and ones that aren't.
 
-use crate::harness::{Case, certified, compare, joined, refusals, swapped};
-use crate::image::Step;
+use crate::harness::{Case, certified, compare, refusals, swapped};
+use image_crew::{Step, joined};
 use std::test::Fail;
 
 // One sector was written.
@@ -203,8 +203,8 @@ fn cut_texts_are_refused_by_their_last_line(rt: HostRuntime) -> Result<(), Fail>
     Ok(())
 }
 
-// Two lines are full, and a third was begun by a later mount, which knows how far the second's records
-// count.
+// Two lines are full, and a third was begun by a later mount, which knows how far the second's
+// records count.
 const LATER: &[Step] = &[
     Step::First(0, 1),
     Step::Tagged(0, 4, 40, 1, 0, 0),

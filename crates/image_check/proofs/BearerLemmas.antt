@@ -71,7 +71,8 @@ module _ (h : StartRecord) (bears : List Bearer) (r : Record) where
           (ap (λ y. is_named h y r) one ∙ joined (nat_le h.first_seq r.seq) (r.position == b.position) (r.line == b.line) (r.at == b.at) fails)
       by_place (no other) = other_misses h r k x (λ e. other (omega (arith, e, is)))
 
-    pub is_hit : h.first_seq ≤ r.seq → (r.position == b.position) && (r.line == b.line) && (r.at == b.at) ≡ true → b.position ≡ r.position → IsHit h bears r place
+    pub is_hit : h.first_seq ≤ r.seq → (r.position == b.position) && (r.line == b.line) && (r.at == b.at) ≡ true → b.position ≡ r.position
+        → IsHit h bears r place
     is_hit mount holds same = record {
       bearer = b;
       there = there;

@@ -2,7 +2,7 @@
 use Rattle.std.proofs.Common.{◌≡◌, ℕ, ◌+◌, ◌-◌, ◌<◌, ◌≤◌, ◌==◌, ◌&&◌, ◌||◌, not, nat_le, nat_lt, zero, suc, Bool, true, false, cond, List, [], ◌∷◌, map, Option, Some, None, refl, sym, ap, ◌∙◌, subst, arith}
 use Rattle.std.specs.List.{AllByRecursion, list_any, range_with_len, slice_get}
 use Rattle.std.specs.List.Sorted.{IsStrictlyIncreasing}
-use Rattle.std.specs.Option.{is_some, option_map_or}
+use Rattle.std.specs.Option.{is_some, option_map, option_map_or}
 use Rattle.std.proofs.lemmas.Option.{none-some, same_Some}
 use Rattle.std.proofs.lemmas.Bool.{eq-eqb, le-leb, le-ltb, lt-leb, ne_eqb, true≢false}
 use Rattle.pblk_model.specs.Image.{Image}
@@ -11,6 +11,8 @@ use Rattle.pblk_model.specs.Records.{Record, records}
 use Rattle.pblk_model.specs.Contents.{end, head, is_borne}
 use Rattle.pblk_model.proofs.Parts.{get_below}
 use Rattle.pblk_model.proofs.Tests.{and_both, and_false, le_of_lt_false}
+use Rattle.pblk_meta.specs.Records.{start_numbers}
+use Rattle.pblk_meta.specs.declared.start_record.StartRecord.{StartRecord as Start}
 use Rattle.pblk_laws.proofs.Ends.{end_is_end}
 use Rattle.image_check.specs.declared.certificate.Bearer.{Bearer}
 use Rattle.image_check.specs.declared.certificate.Certificate.{Certificate}
@@ -68,7 +70,8 @@ module _ (i : Image) (c : Certificate) (h : StartRecord) (is : head i ≡ Some h
   module _ (seen : Seen) (known : IsSeen h c.bears c.end (records i) seen) where
     flags : AreFlags h (records i) c.end h.front c.bears seen.bearers.items
     flags = flags_of h (records i) c.end h.front c.bears seen.bearers.items known.bearers.count
-        (λ k b there. known.bearers.each k (get_below c.bears k b there) ∙ ap (λ o. Some (option_map_or (λ b. (b.position == h.front + k) && list_any (is_named h b) (records i)) o false)) there)
+        (λ k b there. known.bearers.each k (get_below c.bears k b there)
+        ∙ ap (λ o. Some (option_map_or (λ b. (b.position == h.front + k) && list_any (is_named h b) (records i)) o false)) there)
 
     pub wrong_told : IsStrictlyIncreasing (map position_of c.bears) → tells (first_wrong h.front c.end c.bears seen.bearers.items)
     wrong_told rising = subst (λ o. Tells h (records i) c.end (λ p. is_borne_right o (records i) c.end p (said_of position_of c.bears p))
@@ -85,7 +88,8 @@ module _ (i : Image) (c : Certificate) (h : StartRecord) (is : head i ≡ Some h
           positions = all.0 ∙ ap (λ p. range_with_len h.front (p - h.front)) end-is;
           named = λ g same. subst (λ x. AllByRecursion (λ b. list_any (is_named x b) (records i) ≡ true) c.bears) (same_Some h g same) all.1;
         }) where
-          rows : (from : ℕ) (bears : List Bearer) (flagged : List Bool) → AreFlags h (records i) c.end from bears flagged → first_wrong from c.end bears flagged ≡ None
+          rows : (from : ℕ) (bears : List Bearer) (flagged : List Bool) → AreFlags h (records i) c.end from bears flagged
+              → first_wrong from c.end bears flagged ≡ None
               → (map position_of bears ≡ range_with_len from (c.end - from)) × AllByRecursion (λ b. list_any (is_named h b) (records i) ≡ true) bears
           rows from [] flagged f none = (by_end (nat_lt from c.end) refl none, tt) where
             by_end : (t : Bool) → nat_lt from c.end ≡ t → cond t (Some from) None ≡ None → [] ≡ range_with_len from (c.end - from)
@@ -98,10 +102,12 @@ module _ (i : Image) (c : Certificate) (h : StartRecord) (is : head i ≡ Some h
           rows from (b ∷ bears) (s ∷ flagged) f none = by_place (rows (from + 1) bears flagged f.1) (nat_lt b.position from || nat_le c.end from) refl
               (nat_lt from b.position || not s) refl none where
                 by_place : (first_wrong (from + 1) c.end bears flagged ≡ None
-                    → (map position_of bears ≡ range_with_len (from + 1) (c.end - (from + 1))) × AllByRecursion (λ b. list_any (is_named h b) (records i) ≡ true) bears)
+                    → (map position_of bears ≡ range_with_len (from + 1) (c.end - (from + 1)))
+                    × AllByRecursion (λ b. list_any (is_named h b) (records i) ≡ true) bears)
                     → (t : Bool) → nat_lt b.position from || nat_le c.end from ≡ t → (u : Bool) → nat_lt from b.position || not s ≡ u
                     → cond t (Some b.position) (cond u (Some from) (first_wrong (from + 1) c.end bears flagged)) ≡ None
-                    → (map position_of (b ∷ bears) ≡ range_with_len from (c.end - from)) × AllByRecursion (λ b. list_any (is_named h b) (records i) ≡ true) (b ∷ bears)
+                    → (map position_of (b ∷ bears) ≡ range_with_len from (c.end - from))
+                    × AllByRecursion (λ b. list_any (is_named h b) (records i) ≡ true) (b ∷ bears)
                 by_place rest true e u g none = absurd (none-some b.position (sym none))
                 by_place rest false e true g none = absurd (none-some from (sym none))
                 by_place rest false e false g none =
@@ -113,37 +119,55 @@ module _ (i : Image) (c : Certificate) (h : StartRecord) (is : head i ≡ Some h
                       (here.1, tails.1),
                     )
 
-  -- What a call of these answers.
-  module _ (seen : Seen) (known : IsSeen h c.bears c.end (records i) seen) (rising : IsStrictlyIncreasing (map position_of c.bears)) (found : Option ℕ)
-      (found-is : found ≡ first_wrong h.front c.end c.bears seen.bearers.items) where
-    told : tells found
-    told = subst tells (sym found-is) (wrong_told seen known rising)
+-- What a call answers that found a head, looked for its bearers, and then for a wrong one by what was seen.
+module _ (i : Image) (c : Certificate) (newest : Option Start) (start : Start) (newest-is : option_map start_numbers newest ≡ head i)
+    (some : newest ≡ Some start) (bears : List Bearer) (bears-are : bears ≡ c.bears) (seen : Seen)
+    (looked : IsSeen (start_numbers start) bears c.end (records i) seen) (flags : List Bool) (flags-are : flags ≡ seen.bearers.items)
+    (rising : IsStrictlyIncreasing (map position_of c.bears)) (found : Option ℕ)
+    (answer : found ≡ first_wrong (start_numbers start).front c.end bears flags) where
+  abbrev h : StartRecord
+  h = start_numbers start
 
-    pub wrong_refused : (p : ℕ) → found ≡ Some p → IsLeastWrong (bearer_right i c) p
-    wrong_refused p is-some = subst tells is-some told
+  is : head i ≡ Some h
+  is = sym newest-is ∙ ap (option_map start_numbers) some
 
-    module _ (none : found ≡ None) where
-      all_right : (p : ℕ) → bearer_right i c p ≡ true
-      all_right = subst tells none told
+  known : IsSeen h c.bears c.end (records i) seen
+  known = subst (λ bs. IsSeen h bs c.end (records i) seen) bears-are looked
 
-      pub low_refused : c.end < h.front → ((p : ℕ) → bearer_right i c p ≡ true) × (may_end (head i) (records i) c.end ≡ false)
-      low_refused low = (all_right, end_told seen known ∙ ap (λ b. b && not seen.end) (lt-leb h.front c.end low))
+  found-is : found ≡ first_wrong h.front c.end c.bears seen.bearers.items
+  found-is = answer ∙ ap (λ bs. first_wrong h.front c.end bs flags) bears-are ∙ ap (first_wrong h.front c.end c.bears) flags-are
 
-      pub borne_refused : seen.end ≡ true → ((p : ℕ) → bearer_right i c p ≡ true) × (may_end (head i) (records i) c.end ≡ false)
-      borne_refused borne = (all_right, end_told seen known ∙ and_false (nat_le h.front c.end) (not seen.end) (ap not borne))
+  told : tells i c h is found
+  told = subst (tells i c h is) (sym found-is) (wrong_told i c h is seen known rising)
 
-      pub bearers_right : h.front ≤ c.end → seen.end ≡ false → AreBearersRight i c
-      bearers_right high unborne =
-          (all_right, end_told seen known ∙ and_both (nat_le h.front c.end) (not seen.end) (le-leb h.front c.end high) (ap not unborne))
+  ends : may_end (head i) (records i) c.end ≡ nat_le h.front c.end && not seen.end
+  ends = end_told i c h is seen known
 
-      pub bearers_are : h.front ≤ c.end → seen.end ≡ false → AreBearers (head i) (records i) (end i) c.bears
-      bearers_are high unborne = bears_told seen known (sym found-is ∙ none) (end_right i c (bearers_right high unborne))
+  pub wrong_refused : (p : ℕ) → found ≡ Some p → IsLeastWrong (bearer_right i c) p
+  wrong_refused p is-some = subst (tells i c h is) is-some told
+
+  module _ (none : found ≡ None) where
+    all_right : (p : ℕ) → bearer_right i c p ≡ true
+    all_right = subst (tells i c h is) none told
+
+    pub low_refused : c.end < h.front → ((p : ℕ) → bearer_right i c p ≡ true) × (may_end (head i) (records i) c.end ≡ false)
+    low_refused low = (all_right, ends ∙ ap (λ b. b && not seen.end) (lt-leb h.front c.end low))
+
+    pub borne_refused : seen.end ≡ true → ((p : ℕ) → bearer_right i c p ≡ true) × (may_end (head i) (records i) c.end ≡ false)
+    borne_refused borne = (all_right, ends ∙ and_false (nat_le h.front c.end) (not seen.end) (ap not borne))
+
+    pub bearers_right : h.front ≤ c.end → seen.end ≡ false → AreBearersRight i c
+    bearers_right high unborne = (all_right, ends ∙ and_both (nat_le h.front c.end) (not seen.end) (le-leb h.front c.end high) (ap not unborne))
+
+    pub bearers_are : h.front ≤ c.end → seen.end ≡ false → AreBearers (head i) (records i) (end i) c.bears
+    bearers_are high unborne = bears_told i c h is seen known (sym found-is ∙ none) (end_right i c (bearers_right high unborne))
 
 -- Where a certificate is right it isn't refused.
 
 -- rising positions, each with a record that it names, are right
 module _ (h : StartRecord) (rs : List Record) where
-  all_flags : (last from n : ℕ) (bears : List Bearer) → map position_of bears ≡ range_with_len from n → AllByRecursion (λ b. list_any (is_named h b) rs ≡ true) bears
+  all_flags : (last from n : ℕ) (bears : List Bearer) → map position_of bears ≡ range_with_len from n
+      → AllByRecursion (λ b. list_any (is_named h b) rs ≡ true) bears
       → AreFlags h rs last from bears (map (λ b. true) bears)
   all_flags last from n [] e named = tt
   all_flags last from zero (b ∷ bears) e named = absurd (cc)
@@ -163,7 +187,8 @@ module _ (h : StartRecord) (rs : List Record) where
       let low : nat_lt b.position from ≡ false = le-ltb b.position from (omega (arith, here)) in
       let high : nat_le last from ≡ false = lt-leb last from (omega (arith, all)) in
       let near : nat_lt from b.position ≡ false = le-ltb from b.position (omega (arith, here)) in
-      ap (λ t. cond (t || nat_le last from) (Some b.position) (cond (nat_lt from b.position || false) (Some from) (first_wrong (from + 1) last bears (map (λ b. true) bears)))) low
+      ap (λ t. cond (t || nat_le last from) (Some b.position)
+      (cond (nat_lt from b.position || false) (Some from) (first_wrong (from + 1) last bears (map (λ b. true) bears)))) low
       ∙ ap (λ t. cond t (Some b.position) (cond (nat_lt from b.position || false) (Some from) (first_wrong (from + 1) last bears (map (λ b. true) bears)))) high
       ∙ ap (λ t. cond (t || false) (Some from) (first_wrong (from + 1) last bears (map (λ b. true) bears))) near
       ∙ none_wrong last (from + 1) n bears tails (omega (arith, all))

@@ -20,7 +20,8 @@ names_bearing : (h : StartRecord) (b : Bearer) (r : Record) → is_named h b r �
 names_bearing h b r named =
     let mount : Bool = nat_le h.first_seq r.seq in
     let place : Bool = r.position == b.position in
-    let front : (mount && place) ≡ true = first_of (mount && place) (r.line == b.line) (first_of ((mount && place) && (r.line == b.line)) (r.at == b.at) named) in
+    let front : (mount && place) ≡ true =
+    first_of (mount && place) (r.line == b.line) (first_of ((mount && place) && (r.line == b.line)) (r.at == b.at) named) in
     record { mount = leb-true h.first_seq r.seq (first_of mount place front); position = eqb-true r.position b.position (second_of mount place front) }
 
 any_bearing : (h : StartRecord) (b : Bearer) (rs : List Record) → list_any (is_named h b) rs ≡ true → (r : Record) × Contains rs r × Bears h b.position r

@@ -57,7 +57,8 @@ module _ (l : Inside) (v : LineView) (sound : IsLine l) (view : line_view l ≡ 
   module _ (bits a n : ℕ) (place : ℕ × ℕ) (is : bits ≡ l.online) (n-is : n ≡ width v.image v.number * v.image.shape.clba) (below : a < n)
       (placed : slice_get (line_order l.layout (units_in bits)) a ≡ Some place) where
     at_place : slice_get (line_order (shape_of l.drive.now) (units_in l.online)) a ≡ Some place
-    at_place = sym (ap (λ n. slice_get (line_order l.layout (units_in n)) a) is ∙ ap (λ (s : Shape). slice_get (line_order s (units_in l.online)) a) sound.layout)
+    at_place = sym (ap (λ n. slice_get (line_order l.layout (units_in n)) a) is
+        ∙ ap (λ (s : Shape). slice_get (line_order s (units_in l.online)) a) sound.layout)
         ∙ placed
 
     in_line : a < width (image l.drive.now) l.number * (shape_of l.drive.now).clba

@@ -24,14 +24,16 @@ use Rattle.pblk_model.proofs.TableLemmas.{get_table, table_same, table_set}
 found_first : (p : Record → Bool) (rs : List Record) (r x : Record) → find p rs ≡ Some x → find p (rs ++ r ∷ []) ≡ Some x
 found_first p [] r x e = absurd (none-some x e)
 found_first p (y ∷ rs) r x e = by_first (found_first p rs r x) (p y) e where
-  by_first : (find p rs ≡ Some x → find p (rs ++ r ∷ []) ≡ Some x) → (b : Bool) → cond b (Some y) (find p rs) ≡ Some x → cond b (Some y) (find p (rs ++ r ∷ [])) ≡ Some x
+  by_first : (find p rs ≡ Some x → find p (rs ++ r ∷ []) ≡ Some x) → (b : Bool) → cond b (Some y) (find p rs) ≡ Some x
+      → cond b (Some y) (find p (rs ++ r ∷ [])) ≡ Some x
   by_first later true e = e
   by_first later false e = later e
 
 found_last : (p : Record → Bool) (rs : List Record) (r : Record) → find p rs ≡ None → find p (rs ++ r ∷ []) ≡ cond (p r) (Some r) None
 found_last p [] r e = refl
 found_last p (y ∷ rs) r e = by_first (found_last p rs r) (p y) e where
-  by_first : (find p rs ≡ None → find p (rs ++ r ∷ []) ≡ cond (p r) (Some r) None) → (b : Bool) → cond b (Some y) (find p rs) ≡ None → cond b (Some y) (find p (rs ++ r ∷ [])) ≡ cond (p r) (Some r) None
+  by_first : (find p rs ≡ None → find p (rs ++ r ∷ []) ≡ cond (p r) (Some r) None) → (b : Bool) → cond b (Some y) (find p rs) ≡ None
+      → cond b (Some y) (find p (rs ++ r ∷ [])) ≡ cond (p r) (Some r) None
   by_first later true e = absurd (none-some y (sym e))
   by_first later false e = later e
 
@@ -50,7 +52,8 @@ module _ (h : StartRecord) (rs : List Record) (r : Record) where
 
   gets_it : (p : ℕ) → first_bearer h rs p ≡ None → bears_it h p r ≡ true
       → first_bearer h (rs ++ r ∷ []) p ≡ Some (record { position = r.position; line = r.line; at = r.at })
-  gets_it p none holds = ap bearer_by (found_last (bears_it h p) rs r (none_of_map (λ (r : Record). record { position = r.position; line = r.line; at = r.at }) (find (bears_it h p) rs) none)
+  gets_it p none holds = ap bearer_by
+      (found_last (bears_it h p) rs r (none_of_map (λ (r : Record). record { position = r.position; line = r.line; at = r.at }) (find (bears_it h p) rs) none)
       ∙ ap (λ b. cond b (Some r) None) holds)
 
   elsewhere : (p : ℕ) → r.position ≢ p → bears_it h p r ≡ false
@@ -69,16 +72,20 @@ module _ (h : StartRecord) (rs : List Record) (r : Record) where
     past_noted place is past = table_same n (bearer_behind h rs) (bearer_behind h (rs ++ r ∷ [])) first table
         (λ k below. not_it (h.front + k) (elsewhere (h.front + k) (λ e. omega arith)))
 
-    pub had_noted : (place : ℕ) (b : Bearer) → h.front + place ≡ r.position → slice_get first place ≡ Some (Some b) → IsTable n (bearer_behind h (rs ++ r ∷ [])) first
-    had_noted place b is there = table_same n (bearer_behind h rs) (bearer_behind h (rs ++ r ∷ [])) first table (λ k below. at_place k (ℕ_discrete k place)) where
-      at_place : (k : ℕ) → Dec (k ≡ place) → bearer_behind h (rs ++ r ∷ []) k ≡ bearer_behind h rs k
-      at_place k (yes same) = had_one (h.front + k) (ap is_some (ap (bearer_behind h rs) same ∙ get_table n (bearer_behind h rs) first place (Some b) table there))
-      at_place k (no other) = not_it (h.front + k) (elsewhere (h.front + k) (λ e. other (omega (arith, e, is))))
+    pub had_noted : (place : ℕ) (b : Bearer) → h.front + place ≡ r.position → slice_get first place ≡ Some (Some b)
+        → IsTable n (bearer_behind h (rs ++ r ∷ [])) first
+    had_noted place b is there = table_same n (bearer_behind h rs) (bearer_behind h (rs ++ r ∷ [])) first table
+        (λ k below. at_place k (ℕ_discrete k place)) where
+          at_place : (k : ℕ) → Dec (k ≡ place) → bearer_behind h (rs ++ r ∷ []) k ≡ bearer_behind h rs k
+          at_place k (yes same) = had_one (h.front + k)
+              (ap is_some (ap (bearer_behind h rs) same ∙ get_table n (bearer_behind h rs) first place (Some b) table there))
+          at_place k (no other) = not_it (h.front + k) (elsewhere (h.front + k) (λ e. other (omega (arith, e, is))))
 
     pub new_noted : (place : ℕ) → h.front + place ≡ r.position → place < n → h.first_seq ≤ r.seq → slice_get first place ≡ Some None
         → IsTable n (bearer_behind h (rs ++ r ∷ [])) (slice_set first place (Some (record { position = r.position; line = r.line; at = r.at })))
     new_noted place is inside mount there =
-        table_set n (bearer_behind h rs) (bearer_behind h (rs ++ r ∷ [])) first place (Some (record { position = r.position; line = r.line; at = r.at })) table inside
+        table_set n (bearer_behind h rs) (bearer_behind h (rs ++ r ∷ [])) first place
+        (Some (record { position = r.position; line = r.line; at = r.at })) table inside
         (gets_it (h.front + place) (get_table n (bearer_behind h rs) first place None table there)
         (and_both (nat_le h.first_seq r.seq) (r.position == (h.front + place)) (le-leb h.first_seq r.seq mount) (eq-eqb r.position (h.front + place) (sym is))))
         (λ j other. not_it (h.front + j) (elsewhere (h.front + j) (λ e. other (omega (arith, e, is)))))
@@ -90,7 +97,8 @@ module _ (h : StartRecord) (rs : List Record) where
   from a n = leading (map (bearer_behind h rs) (range_with_len a n))
 
   borne_found : (p : ℕ) → is_borne rs h p ≡ is_some (first_bearer h rs p)
-  borne_found p = any_found (bears_it h p) rs ∙ sym (some_mapped (λ (r : Record). record { position = r.position; line = r.line; at = r.at }) (find (bears_it h p) rs))
+  borne_found p = any_found (bears_it h p) rs
+      ∙ sym (some_mapped (λ (r : Record). record { position = r.position; line = r.line; at = r.at }) (find (bears_it h p) rs))
 
   record IsFound (b : Bearer) (p : ℕ) : Type 0 where
     r : Record
@@ -113,7 +121,8 @@ module _ (h : StartRecord) (rs : List Record) where
   unfolding least_missing
   turns zero a = omega arith
   turns (suc n) a = by_first (turns n (a + 1)) (bearer_behind h rs a) refl where
-    by_first : least_missing (is_borne rs h) n (h.front + (a + 1)) ≡ h.front + (a + 1 + length (from (a + 1) n)) → (o : Option Bearer) → bearer_behind h rs a ≡ o
+    by_first : least_missing (is_borne rs h) n (h.front + (a + 1)) ≡ h.front + (a + 1 + length (from (a + 1) n)) → (o : Option Bearer)
+        → bearer_behind h rs a ≡ o
         → cond (is_borne rs h (h.front + a)) (least_missing (is_borne rs h) n (h.front + a + 1)) (h.front + a)
         ≡ h.front + (a + length (leading (o ∷ map (bearer_behind h rs) (range_with_len (a + 1) n))))
     by_first later None e =
@@ -133,7 +142,8 @@ module _ (h : StartRecord) (rs : List Record) where
   positions : (n a : ℕ) → map (λ b. b.position) (from a n) ≡ range_with_len (h.front + a) (length (from a n))
   positions zero a = refl
   positions (suc n) a = by_first (positions n (a + 1)) (bearer_behind h rs a) refl where
-    by_first : map (λ b. b.position) (from (a + 1) n) ≡ range_with_len (h.front + (a + 1)) (length (from (a + 1) n)) → (o : Option Bearer) → bearer_behind h rs a ≡ o
+    by_first : map (λ b. b.position) (from (a + 1) n) ≡ range_with_len (h.front + (a + 1)) (length (from (a + 1) n)) → (o : Option Bearer)
+        → bearer_behind h rs a ≡ o
         → map (λ b. b.position) (leading (o ∷ map (bearer_behind h rs) (range_with_len (a + 1) n)))
         ≡ range_with_len (h.front + a) (length (leading (o ∷ map (bearer_behind h rs) (range_with_len (a + 1) n))))
     by_first later None e = refl
@@ -184,7 +194,8 @@ no_bearers i none = subst (λ o. AreBearers o (records i) (end i) []) (sym none)
 -- A table is the list of what it says.
 pub table_is : {X : Type 0} (f : ℕ → X) (n : ℕ) (xs : List X) → IsTable n f xs → xs ≡ map f (range_with_len 0 n)
 table_is f n xs h = from_place f 0 n xs h.count (λ k below. h.each k below ∙ ap (λ j. Some (f j)) (sym (zero-add k))) where
-  from_place : {X : Type 0} (f : ℕ → X) (a n : ℕ) (xs : List X) → length xs ≡ n → ((k : ℕ) → k < n → slice_get xs k ≡ Some (f (a + k))) → xs ≡ map f (range_with_len a n)
+  from_place : {X : Type 0} (f : ℕ → X) (a n : ℕ) (xs : List X) → length xs ≡ n → ((k : ℕ) → k < n → slice_get xs k ≡ Some (f (a + k)))
+      → xs ≡ map f (range_with_len a n)
   from_place f a zero [] long each = refl
   from_place f a (suc n) [] long each = absurd (omega (arith, long))
   from_place f a zero (x ∷ xs) long each = absurd (omega (arith, long))

@@ -16,7 +16,8 @@ module _ {Y : Type 0} (f : ℕ → Option Y) (number : Y → ℕ) (same : (k : �
   above_range : (a n b : ℕ) → b < a → IsStrictlyIncreasing (b ∷ map number (filter_map f (range_with_len a n)))
   above_range a zero b low = rise_one b
   above_range a (suc n) b low = by_first (λ c less. above_range (a + 1) n c less) (f a) refl where
-    by_first : ((c : ℕ) → c < a + 1 → IsStrictlyIncreasing (c ∷ map number (filter_map f (range_with_len (a + 1) n)))) → (o : Option Y) → f a ≡ o → IsStrictlyIncreasing (b ∷ map number (cons_option o (filter_map f (range_with_len (a + 1) n))))
+    by_first : ((c : ℕ) → c < a + 1 → IsStrictlyIncreasing (c ∷ map number (filter_map f (range_with_len (a + 1) n)))) → (o : Option Y) → f a ≡ o
+        → IsStrictlyIncreasing (b ∷ map number (cons_option o (filter_map f (range_with_len (a + 1) n))))
     by_first later None is = later b (omega arith)
     by_first later (Some y) is =
         let here : number y ≡ a = same a y is in

@@ -89,7 +89,8 @@ module _ (i : Image) where
 
   -- the winner of a sector holds what is written at its place
   won : (lba : ℕ) (o : Option Record) → winner (counted i) lba ≡ o
-      → option_map_or (λ (w : Winner). payload_at i w.line w.at) (win_by lba o) (zeros i.shape.sector) ≡ option_map_or (λ (r : Record). r.sector) o (zeros i.shape.sector)
+      → option_map_or (λ (w : Winner). payload_at i w.line w.at) (win_by lba o) (zeros i.shape.sector)
+      ≡ option_map_or (λ (r : Record). r.sector) o (zeros i.shape.sector)
   won lba None is = refl
   won lba (Some r) is = all_contains (IsHeld i) (counted i) r (counted_held i (records i) (head i) (records_held i)) (winner_is_winner i lba r is).there
 

@@ -1,5 +1,5 @@
 -- What is read of a certificate, line by line.
-use Rattle.std.proofs.Common.{◌≡◌, ◌==◌, ℕ, ◌+◌, ◌-◌, ◌^◌, min, true, false, List, [], ◌∷◌, ◌++◌, length, map, Option, Some, None, refl, sym, ap, ◌∙◌, subst, arith, append_assoc, append-nil}
+use Rattle.std.proofs.Common.{◌≡◌, ◌≢◌, ◌==◌, ℕ, ◌+◌, ◌-◌, ◌^◌, min, true, false, List, [], ◌∷◌, ◌++◌, length, map, Option, Some, None, refl, sym, ap, ◌∙◌, subst, arith, append_assoc, append-nil}
 use Rattle.std.specs.List.{filter_map, last_or}
 use Rattle.std.specs.List.Sorted.{IsStrictlyIncreasing}
 use Rattle.std.specs.Option.{option_to_list}
@@ -22,7 +22,8 @@ pub last_more : (last : Option Said) (saids : List Said) (s : Said) → Some s �
 last_more last [] s = refl
 last_more last (x ∷ saids) s = last_more (Some x) saids s
 
-pub chain_more : (last : Option Said) (saids : List Said) (s : Said) → IsChain last saids → follows (last_or last saids) s ≡ true → IsChain last (saids ++ s ∷ [])
+pub chain_more : (last : Option Said) (saids : List Said) (s : Said) → IsChain last saids → follows (last_or last saids) s ≡ true
+    → IsChain last (saids ++ s ∷ [])
 chain_more last [] s h next = (next, tt)
 chain_more last (x ∷ saids) s h next = (h.0, chain_more (Some x) saids s h.1 next)
 
@@ -92,83 +93,56 @@ second_end [] p chain next = absurd (cc)
 second_end (x ∷ []) p chain next = refl
 second_end (x ∷ (y ∷ saids)) p chain next = let k = before_end (last_or (Some y) saids) p next in absurd (no_head_last x y saids k.0 chain.1 k.1)
 
-none_more : {Y : Type 0} (f : Said → Option Y) (saids : List Said) (s : Said) (ys : List Y) → ys ≡ filter_map f saids → f s ≡ None → ys ≡ filter_map f (saids ++ s ∷ [])
-none_more f saids s ys is none = is ∙ sym (more f saids s ∙ ap (λ o. filter_map f saids ++ option_to_list o) none ∙ append-nil (filter_map f saids))
+-- what lines say of a kind, with what one line more says of it
+kind_more : {Y : Type 0} (f : Said → Option Y) (saids : List Said) (s : Said) (ys : List Y) → ys ≡ filter_map f saids
+    → ys ++ option_to_list (f s) ≡ filter_map f (saids ++ s ∷ [])
+kind_more f saids s ys is = ap (λ zs. zs ++ option_to_list (f s)) is ∙ sym (more f saids s)
 
-some_more : {Y : Type 0} (f : Said → Option Y) (saids : List Said) (s : Said) (y : Y) (ys : List Y) → ys ≡ filter_map f saids → f s ≡ Some y
-    → ys ++ y ∷ [] ≡ filter_map f (saids ++ s ∷ [])
-some_more f saids s y ys is some = ap (λ zs. zs ++ y ∷ []) is ∙ sym (more f saids s ∙ ap (λ o. filter_map f saids ++ option_to_list o) some)
+kept : {Y : Type 0} (ys : List Y) → ys ≡ ys ++ []
+kept ys = sym (append-nil ys)
+
+-- what a certificate has of each kind, with a line more
+kinds_with : (c : Certificate) (s : Said) → ((with_said s c).lines ≡ c.lines ++ option_to_list (line_said s))
+    × ((with_said s c).bears ≡ c.bears ++ option_to_list (bear_said s))
+    × ((with_said s c).wins ≡ c.wins ++ option_to_list (win_said s)) × ((with_said s c).lives ≡ c.lives ++ option_to_list (live_said s))
+kinds_with c (Head g) = (kept c.lines, kept c.bears, kept c.wins, kept c.lives)
+kinds_with c (End p) = (kept c.lines, kept c.bears, kept c.wins, kept c.lives)
+kinds_with c (Line e) = (refl, kept c.bears, kept c.wins, kept c.lives)
+kinds_with c (Bear b) = (kept c.lines, refl, kept c.wins, kept c.lives)
+kinds_with c (Win w) = (kept c.lines, kept c.bears, refl, kept c.lives)
+kinds_with c (Live l) = (kept c.lines, kept c.bears, kept c.wins, refl)
 
 module _ (c : Certificate) (last : Option Said) (saids : List Said) (h : HasRead c last saids) where
   next_is : (s : Said) → follows last s ≡ true → follows (last_or None saids) s ≡ true
   next_is s next = ap (λ o. follows o s) (sym h.last_is) ∙ next
 
+  head_with : (s : Said) → follows (last_or None saids) s ≡ true → (with_said s c).head ≡ head_said (saids ++ s ∷ [])
+  head_with (Head g) next = ap (λ xs. head_said (xs ++ Head g ∷ [])) (sym (first_head saids g next))
+  head_with (End p) next = h.head ∙ sym (same_head saids (End p) refl next)
+  head_with (Line e) next = h.head ∙ sym (same_head saids (Line e) refl next)
+  head_with (Bear b) next = h.head ∙ sym (same_head saids (Bear b) refl next)
+  head_with (Win w) next = h.head ∙ sym (same_head saids (Win w) refl next)
+  head_with (Live l) next = h.head ∙ sym (same_head saids (Live l) refl next)
+
+  end_with : (s : Said) → follows (last_or None saids) s ≡ true → (with_said s c).end ≡ end_said (saids ++ s ∷ [])
+  end_with (Head g) next = h.end ∙ sym (same_end saids (Head g) (λ x. refl))
+  end_with (End p) next = sym (second_end saids p h.chain next)
+  end_with (Line e) next = h.end ∙ sym (same_end saids (Line e) (λ x. refl))
+  end_with (Bear b) next = h.end ∙ sym (same_end saids (Bear b) (λ x. refl))
+  end_with (Win w) next = h.end ∙ sym (same_end saids (Win w) (λ x. refl))
+  end_with (Live l) next = h.end ∙ sym (same_end saids (Live l) (λ x. refl))
+
   pub read_more : (s : Said) → FitsSaid s → follows last s ≡ true → HasRead (with_said s c) (Some s) (saids ++ s ∷ [])
-  read_more (Head g) fits next = record {
-    last_is = last_more None saids (Head g);
-    chain = chain_more None saids (Head g) h.chain (next_is (Head g) next);
-    fit = with_last FitsSaid saids (Head g) h.fit fits;
-    head = ap (λ xs. head_said (xs ++ Head g ∷ [])) (sym (first_head saids g (next_is (Head g) next)));
-    end = h.end ∙ sym (same_end saids (Head g) (λ x. refl));
-    lines = none_more line_said saids (Head g) c.lines h.lines refl;
-    bears = none_more bear_said saids (Head g) c.bears h.bears refl;
-    wins = none_more win_said saids (Head g) c.wins h.wins refl;
-    lives = none_more live_said saids (Head g) c.lives h.lives refl;
-  }
-  read_more (End p) fits next = record {
-    last_is = last_more None saids (End p);
-    chain = chain_more None saids (End p) h.chain (next_is (End p) next);
-    fit = with_last FitsSaid saids (End p) h.fit fits;
-    head = h.head ∙ sym (same_head saids (End p) refl (next_is (End p) next));
-    end = sym (second_end saids p h.chain (next_is (End p) next));
-    lines = none_more line_said saids (End p) c.lines h.lines refl;
-    bears = none_more bear_said saids (End p) c.bears h.bears refl;
-    wins = none_more win_said saids (End p) c.wins h.wins refl;
-    lives = none_more live_said saids (End p) c.lives h.lives refl;
-  }
-  read_more (Line e) fits next = record {
-    last_is = last_more None saids (Line e);
-    chain = chain_more None saids (Line e) h.chain (next_is (Line e) next);
-    fit = with_last FitsSaid saids (Line e) h.fit fits;
-    head = h.head ∙ sym (same_head saids (Line e) refl (next_is (Line e) next));
-    end = h.end ∙ sym (same_end saids (Line e) (λ x. refl));
-    lines = some_more line_said saids (Line e) e c.lines h.lines refl;
-    bears = none_more bear_said saids (Line e) c.bears h.bears refl;
-    wins = none_more win_said saids (Line e) c.wins h.wins refl;
-    lives = none_more live_said saids (Line e) c.lives h.lives refl;
-  }
-  read_more (Bear b) fits next = record {
-    last_is = last_more None saids (Bear b);
-    chain = chain_more None saids (Bear b) h.chain (next_is (Bear b) next);
-    fit = with_last FitsSaid saids (Bear b) h.fit fits;
-    head = h.head ∙ sym (same_head saids (Bear b) refl (next_is (Bear b) next));
-    end = h.end ∙ sym (same_end saids (Bear b) (λ x. refl));
-    lines = none_more line_said saids (Bear b) c.lines h.lines refl;
-    bears = some_more bear_said saids (Bear b) b c.bears h.bears refl;
-    wins = none_more win_said saids (Bear b) c.wins h.wins refl;
-    lives = none_more live_said saids (Bear b) c.lives h.lives refl;
-  }
-  read_more (Win w) fits next = record {
-    last_is = last_more None saids (Win w);
-    chain = chain_more None saids (Win w) h.chain (next_is (Win w) next);
-    fit = with_last FitsSaid saids (Win w) h.fit fits;
-    head = h.head ∙ sym (same_head saids (Win w) refl (next_is (Win w) next));
-    end = h.end ∙ sym (same_end saids (Win w) (λ x. refl));
-    lines = none_more line_said saids (Win w) c.lines h.lines refl;
-    bears = none_more bear_said saids (Win w) c.bears h.bears refl;
-    wins = some_more win_said saids (Win w) w c.wins h.wins refl;
-    lives = none_more live_said saids (Win w) c.lives h.lives refl;
-  }
-  read_more (Live l) fits next = record {
-    last_is = last_more None saids (Live l);
-    chain = chain_more None saids (Live l) h.chain (next_is (Live l) next);
-    fit = with_last FitsSaid saids (Live l) h.fit fits;
-    head = h.head ∙ sym (same_head saids (Live l) refl (next_is (Live l) next));
-    end = h.end ∙ sym (same_end saids (Live l) (λ x. refl));
-    lines = none_more line_said saids (Live l) c.lines h.lines refl;
-    bears = none_more bear_said saids (Live l) c.bears h.bears refl;
-    wins = none_more win_said saids (Live l) c.wins h.wins refl;
-    lives = some_more live_said saids (Live l) l c.lives h.lives refl;
+  read_more s fits next = let kinds = kinds_with c s in record {
+    last_is = last_more None saids s;
+    chain = chain_more None saids s h.chain (next_is s next);
+    fit = with_last FitsSaid saids s h.fit fits;
+    head = head_with s (next_is s next);
+    end = end_with s (next_is s next);
+    lines = kinds.0 ∙ kind_more line_said saids s c.lines h.lines;
+    bears = kinds.1 ∙ kind_more bear_said saids s c.bears h.bears;
+    wins = kinds.2 ∙ kind_more win_said saids s c.wins h.wins;
+    lives = kinds.3 ∙ kind_more live_said saids s c.lives h.lives;
   }
 
 -- The whole text.
@@ -225,42 +199,36 @@ not_empty (x ∷ a) b rest c e none = absurd (cc)
 
 module _ (c : Certificate) (last : Option Said) (saids : List Said) (bytes rest : List ℕ) (n : ℕ) (h : HasRead c last saids)
     (parts : bytes ≡ spelled saids ++ rest) (number : n ≡ min (length saids + 1) (2 ^ 32 - 1)) where
-  module _ (line more : List ℕ) (cut : rest ≡ line ++ 10 ∷ more) (lacks : Lacks 10 line) where
-    pub no_line : Says line None → IsFirstWrong bytes n
-    no_line none = record {
-      front = saids;
-      rest = rest;
-      parts = parts;
-      chain = h.chain;
-      fit = h.fit;
-      number = number;
-      wrong = λ s t fits next e. none s fits (line_cut line more (said_line s) t lacks (line_lacks s fits) (sym cut ∙ e)).0;
-      missing = λ empty. absurd (not_empty line more rest 10 cut empty);
-    }
-
-    pub no_place : (said : Said) → Says line (Some said) → follows last said ≡ false → IsFirstWrong bytes n
-    no_place said says fails = record {
-      front = saids;
-      rest = rest;
-      parts = parts;
-      chain = h.chain;
-      fit = h.fit;
-      number = number;
-      wrong = λ s t fits next e.
-          (let same : said ≡ s = same_said said s says.1 fits (sym says.0 ∙ (line_cut line more (said_line s) t lacks (line_lacks s fits) (sym cut ∙ e)).0) in
-          let holds : follows last said ≡ true = ap (follows last) same ∙ ap (λ o. follows o s) h.last_is ∙ next in
-          let both : true ≡ false = sym holds ∙ fails in absurd (cc));
-      missing = λ empty. absurd (not_empty line more rest 10 cut empty);
-    }
-
-  pub no_end : Lacks 10 rest → (rest ≡ [] → may_stop last ≡ false) → IsFirstWrong bytes n
-  no_end lacks stop = record {
+  -- the rest begins with no line that may stand there
+  wrong_from : ((s : Said) (t : List ℕ) → FitsSaid s → follows (last_or None saids) s ≡ true → rest ≢ said_line s ++ 10 ∷ [] ++ t)
+      → (rest ≡ [] → may_stop (last_or None saids) ≡ false) → IsFirstWrong bytes n
+  wrong_from wrong missing = record {
     front = saids;
     rest = rest;
     parts = parts;
     chain = h.chain;
     fit = h.fit;
     number = number;
-    wrong = λ s t fits next e. has_byte 10 (said_line s) t (subst (Lacks 10) (e ∙ append_assoc (said_line s) (10 ∷ []) t) lacks);
-    missing = λ empty. ap may_stop (sym h.last_is) ∙ stop empty;
+    wrong = wrong;
+    missing = missing;
   }
+
+  module _ (line more : List ℕ) (cut : rest ≡ line ++ 10 ∷ more) (lacks : Lacks 10 line) where
+    is_line : (s : Said) (t : List ℕ) → FitsSaid s → rest ≡ said_line s ++ 10 ∷ [] ++ t → line ≡ said_line s
+    is_line s t fits e = (line_cut line more (said_line s) t lacks (line_lacks s fits) (sym cut ∙ e)).0
+
+    pub no_line : Says line None → IsFirstWrong bytes n
+    no_line none = wrong_from (λ s t fits next e. none s fits (is_line s t fits e)) (λ empty. absurd (not_empty line more rest 10 cut empty))
+
+    pub no_place : (said : Said) → Says line (Some said) → follows last said ≡ false → IsFirstWrong bytes n
+    no_place said says fails = wrong_from another (λ empty. absurd (not_empty line more rest 10 cut empty)) where
+      another : (s : Said) (t : List ℕ) → FitsSaid s → follows (last_or None saids) s ≡ true → rest ≢ said_line s ++ 10 ∷ [] ++ t
+      another s t fits next e =
+          let same : said ≡ s = same_said said s says.1 fits (sym says.0 ∙ is_line s t fits e) in
+          let holds : follows last said ≡ true = ap (follows last) same ∙ ap (λ o. follows o s) h.last_is ∙ next in
+          let both : true ≡ false = sym holds ∙ fails in absurd (cc)
+
+  pub no_end : Lacks 10 rest → (rest ≡ [] → may_stop last ≡ false) → IsFirstWrong bytes n
+  no_end lacks stop = wrong_from
+      (λ s t fits next e. has_byte 10 (said_line s) t (subst (Lacks 10) (e ∙ append_assoc (said_line s) (10 ∷ []) t) lacks))
+      (λ empty. ap may_stop (sym h.last_is) ∙ stop empty)

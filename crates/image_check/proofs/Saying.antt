@@ -1,9 +1,10 @@
 -- What the words of a line say.
-use Rattle.std.proofs.Common.{◌≡◌, ◌≢◌, ℕ, ◌^◌, ◌<◌, ◌≤◌, Bool, true, false, List, [], ◌∷◌, ◌++◌, ◌==◌, get_or, codes, Option, Some, None, refl, sym, ap, ◌∙◌, subst, arith, append-nil}
-use Rattle.std.proofs.lemmas.Bool.{eq-eqb, true≢false}
+use Rattle.std.proofs.Common.{◌≡◌, ◌≢◌, ℕ, ◌^◌, ◌<◌, ◌≤◌, Bool, true, false, List, [], ◌∷◌, ◌++◌, if◌then◌else◌, codes, Option, Some, None, refl, sym, ap, ◌∙◌, subst, arith, append-nil}
+use Rattle.std.proofs.lemmas.Bool.{true≢false}
 use Rattle.std.specs.Fmt.{decimal}
 use Rattle.std.specs.Str.{bytes_eq}
 use Rattle.pblk_model.proofs.Bytes.{true_same}
+use Rattle.pblk_model.proofs.Lists.{all_append}
 use Rattle.std.specs.Str.Parse.{AllDigits}
 use Rattle.std.proofs.lemmas.Fmt.{decimal_is_IsNumeral}
 use Rattle.std.proofs.lemmas.Str.Parse.{digit_from_value}
@@ -17,66 +18,54 @@ use Rattle.image_check.specs.declared.said.Said.TheVariants.{Head, End, Line, Be
 use Rattle.image_check.specs.Text.{AreNumbers, FitsSaid, Lacks, Says, bit, said_line}
 use Rattle.image_check.proofs.Spelling.{AreSmall, after_tail, after_word, cut_line, line_parts, same_numbers, same_rest, spaced_lacks, tail_of, word_lacks, word_of}
 
--- two texts that differ at a place are apart
-pub apart : (a b : List ℕ) (k : ℕ) → (get_or a k 0 == get_or b k 0) ≡ false → a ≢ b
-apart a b k fails e = true≢false (sym (eq-eqb (get_or a k 0) (get_or b k 0) (ap (λ xs. get_or xs k 0) e)) ∙ fails)
-
 -- a word that a test finds to be another one
 pub not_word : (w a b : List ℕ) → a ≡ b → false ≡ bytes_eq w a → w ≢ b
 not_word w a b is apart-by same = true≢false (sym (true_same w a (same ∙ sym is)) ∙ sym apart-by)
 
+-- What lines say, by their numbers.
+
+abbrev entry : ℕ → ℕ → Bool → LineEntry
+entry line seq full = record { line = line; seq = seq; full = full }
+
+abbrev bearer : ℕ → ℕ → ℕ → Bearer
+bearer position line at = record { position = position; line = line; at = at }
+
+abbrev winner : ℕ → ℕ → ℕ → ℕ → Winner
+winner lba position line at = record { lba = lba; position = position; line = line; at = at }
+
+abbrev live : ℕ → ℕ → LiveCount
+live line count = record { line = line; count = count }
+
 -- A word says of which kind a line is.
 
-only_head : (s : Said) → codes "head" ≡ word_of s → (h : Option ℕ) × (s ≡ Head h)
-only_head (Head h) is = (h, refl)
-only_head (End p) is = absurd (apart (codes "head") (codes "end") 0 refl is)
-only_head (Line e) is = absurd (apart (codes "head") (codes "line") 0 refl is)
-only_head (Bear b) is = absurd (apart (codes "head") (codes "bear") 0 refl is)
-only_head (Win w) is = absurd (apart (codes "head") (codes "win") 0 refl is)
-only_head (Live l) is = absurd (apart (codes "head") (codes "live") 0 refl is)
+-- a line of the kind of those that begin with this word
+abbrev line_by : List ℕ → Said
+line_by w = if bytes_eq w (codes "head") then Head None else (if bytes_eq w (codes "end") then End 0
+    else (if bytes_eq w (codes "line") then Line (entry 0 0 false) else (if bytes_eq w (codes "bear") then Bear (bearer 0 0 0)
+    else (if bytes_eq w (codes "win") then Win (winner 0 0 0 0) else Live (live 0 0)))))
 
-only_end : (s : Said) → codes "end" ≡ word_of s → (p : ℕ) × (s ≡ End p)
-only_end (Head h) is = absurd (apart (codes "end") (codes "head") 0 refl is)
-only_end (End p) is = (p, refl)
-only_end (Line e) is = absurd (apart (codes "end") (codes "line") 0 refl is)
-only_end (Bear b) is = absurd (apart (codes "end") (codes "bear") 0 refl is)
-only_end (Win w) is = absurd (apart (codes "end") (codes "win") 0 refl is)
-only_end (Live l) is = absurd (apart (codes "end") (codes "live") 0 refl is)
+-- the second is of the kind of the first
+abbrev IsOfKind : Said → Said → Type 0
+IsOfKind (Head g) s = (h : Option ℕ) × (s ≡ Head h)
+IsOfKind (End q) s = (p : ℕ) × (s ≡ End p)
+IsOfKind (Line d) s = (e : LineEntry) × (s ≡ Line e)
+IsOfKind (Bear a) s = (b : Bearer) × (s ≡ Bear b)
+IsOfKind (Win v) s = (w : Winner) × (s ≡ Win w)
+IsOfKind (Live k) s = (l : LiveCount) × (s ≡ Live l)
 
-only_line : (s : Said) → codes "line" ≡ word_of s → (e : LineEntry) × (s ≡ Line e)
-only_line (Head h) is = absurd (apart (codes "line") (codes "head") 0 refl is)
-only_line (End p) is = absurd (apart (codes "line") (codes "end") 0 refl is)
-only_line (Line e) is = (e, refl)
-only_line (Bear b) is = absurd (apart (codes "line") (codes "bear") 0 refl is)
-only_line (Win w) is = absurd (apart (codes "line") (codes "win") 0 refl is)
-only_line (Live l) is = absurd (apart (codes "line") (codes "live") 2 refl is)
-
-only_bear : (s : Said) → codes "bear" ≡ word_of s → (b : Bearer) × (s ≡ Bear b)
-only_bear (Head h) is = absurd (apart (codes "bear") (codes "head") 0 refl is)
-only_bear (End p) is = absurd (apart (codes "bear") (codes "end") 0 refl is)
-only_bear (Line e) is = absurd (apart (codes "bear") (codes "line") 0 refl is)
-only_bear (Bear b) is = (b, refl)
-only_bear (Win w) is = absurd (apart (codes "bear") (codes "win") 0 refl is)
-only_bear (Live l) is = absurd (apart (codes "bear") (codes "live") 0 refl is)
-
-only_win : (s : Said) → codes "win" ≡ word_of s → (w : Winner) × (s ≡ Win w)
-only_win (Head h) is = absurd (apart (codes "win") (codes "head") 0 refl is)
-only_win (End p) is = absurd (apart (codes "win") (codes "end") 0 refl is)
-only_win (Line e) is = absurd (apart (codes "win") (codes "line") 0 refl is)
-only_win (Bear b) is = absurd (apart (codes "win") (codes "bear") 0 refl is)
-only_win (Win w) is = (w, refl)
-only_win (Live l) is = absurd (apart (codes "win") (codes "live") 0 refl is)
-
-only_live : (s : Said) → codes "live" ≡ word_of s → (l : LiveCount) × (s ≡ Live l)
-only_live (Head h) is = absurd (apart (codes "live") (codes "head") 0 refl is)
-only_live (End p) is = absurd (apart (codes "live") (codes "end") 0 refl is)
-only_live (Line e) is = absurd (apart (codes "live") (codes "line") 2 refl is)
-only_live (Bear b) is = absurd (apart (codes "live") (codes "bear") 0 refl is)
-only_live (Win w) is = absurd (apart (codes "live") (codes "win") 0 refl is)
-only_live (Live l) is = (l, refl)
+kind_by_word : (w : List ℕ) (s : Said) → w ≡ word_of s → IsOfKind (line_by w) s
+kind_by_word w s is = subst (λ v. IsOfKind (line_by v) s) (sym is) (own s) where
+  own : (s : Said) → IsOfKind (line_by (word_of s)) s
+  own (Head h) = (h, refl)
+  own (End p) = (p, refl)
+  own (Line e) = (e, refl)
+  own (Bear b) = (b, refl)
+  own (Win w) = (w, refl)
+  own (Live l) = (l, refl)
 
 -- a word that is none of these begins no line
-pub unknown_word : (word rest : List ℕ) → Lacks 32 word → word ≢ codes "head" → word ≢ codes "end" → word ≢ codes "line" → word ≢ codes "bear" → word ≢ codes "win" → word ≢ codes "live" → Says (word ++ 32 ∷ rest) None
+pub unknown_word : (word rest : List ℕ) → Lacks 32 word → word ≢ codes "head" → word ≢ codes "end" → word ≢ codes "line" → word ≢ codes "bear"
+    → word ≢ codes "win" → word ≢ codes "live" → Says (word ++ 32 ∷ rest) None
 unknown_word word rest lacks no_head no_end no_line no_bear no_win no_live s f e = by_kind s (cut_line word rest s lacks e).0 where
   by_kind : (s : Said) → word ≡ word_of s → ⊥
   by_kind (Head h) is = no_head is
@@ -88,41 +77,30 @@ unknown_word word rest lacks no_head no_end no_line no_bear no_win no_live s f e
 
 -- Where the text behind a word spells none of its kind, the line says nothing.
 
-pub head_none : (text : List ℕ) → ((h : Option ℕ) → FitsSaid (Head h) → 32 ∷ text ≢ after_word (Head h)) → Says (codes "head" ++ 32 ∷ text) None
-head_none text none s f e =
-    let h = cut_line (codes "head") text s (λ x. omega arith, (λ x. omega arith, (λ x. omega arith, (λ x. omega arith, tt)))) e in
-    let k = only_head s h.0 in
+kind_none : {A : Type 0} (kind : A → Said) (word text : List ℕ) → Lacks 32 word → ((s : Said) → word ≡ word_of s → (a : A) × (s ≡ kind a))
+    → ((a : A) → FitsSaid (kind a) → 32 ∷ text ≢ after_word (kind a)) → Says (word ++ 32 ∷ text) None
+kind_none kind word text lacks only none s f e =
+    let h = cut_line word text s lacks e in
+    let k = only s h.0 in
     none k.0 (subst FitsSaid k.1 f) (h.1 ∙ ap after_word k.1)
+
+pub head_none : (text : List ℕ) → ((h : Option ℕ) → FitsSaid (Head h) → 32 ∷ text ≢ after_word (Head h)) → Says (codes "head" ++ 32 ∷ text) None
+head_none text = kind_none Head (codes "head") text (word_lacks 32 (omega arith) (Head None)) (kind_by_word (codes "head"))
 
 pub end_none : (text : List ℕ) → ((p : ℕ) → FitsSaid (End p) → 32 ∷ text ≢ after_word (End p)) → Says (codes "end" ++ 32 ∷ text) None
-end_none text none s f e =
-    let h = cut_line (codes "end") text s (λ x. omega arith, (λ x. omega arith, (λ x. omega arith, tt))) e in
-    let k = only_end s h.0 in
-    none k.0 (subst FitsSaid k.1 f) (h.1 ∙ ap after_word k.1)
+end_none text = kind_none End (codes "end") text (word_lacks 32 (omega arith) (End 0)) (kind_by_word (codes "end"))
 
 pub line_none : (text : List ℕ) → ((e : LineEntry) → FitsSaid (Line e) → 32 ∷ text ≢ after_word (Line e)) → Says (codes "line" ++ 32 ∷ text) None
-line_none text none s f e =
-    let h = cut_line (codes "line") text s (λ x. omega arith, (λ x. omega arith, (λ x. omega arith, (λ x. omega arith, tt)))) e in
-    let k = only_line s h.0 in
-    none k.0 (subst FitsSaid k.1 f) (h.1 ∙ ap after_word k.1)
+line_none text = kind_none Line (codes "line") text (word_lacks 32 (omega arith) (Line (entry 0 0 false))) (kind_by_word (codes "line"))
 
 pub bear_none : (text : List ℕ) → ((b : Bearer) → FitsSaid (Bear b) → 32 ∷ text ≢ after_word (Bear b)) → Says (codes "bear" ++ 32 ∷ text) None
-bear_none text none s f e =
-    let h = cut_line (codes "bear") text s (λ x. omega arith, (λ x. omega arith, (λ x. omega arith, (λ x. omega arith, tt)))) e in
-    let k = only_bear s h.0 in
-    none k.0 (subst FitsSaid k.1 f) (h.1 ∙ ap after_word k.1)
+bear_none text = kind_none Bear (codes "bear") text (word_lacks 32 (omega arith) (Bear (bearer 0 0 0))) (kind_by_word (codes "bear"))
 
 pub win_none : (text : List ℕ) → ((w : Winner) → FitsSaid (Win w) → 32 ∷ text ≢ after_word (Win w)) → Says (codes "win" ++ 32 ∷ text) None
-win_none text none s f e =
-    let h = cut_line (codes "win") text s (λ x. omega arith, (λ x. omega arith, (λ x. omega arith, tt))) e in
-    let k = only_win s h.0 in
-    none k.0 (subst FitsSaid k.1 f) (h.1 ∙ ap after_word k.1)
+win_none text = kind_none Win (codes "win") text (word_lacks 32 (omega arith) (Win (winner 0 0 0 0))) (kind_by_word (codes "win"))
 
 pub live_none : (text : List ℕ) → ((l : LiveCount) → FitsSaid (Live l) → 32 ∷ text ≢ after_word (Live l)) → Says (codes "live" ++ 32 ∷ text) None
-live_none text none s f e =
-    let h = cut_line (codes "live") text s (λ x. omega arith, (λ x. omega arith, (λ x. omega arith, (λ x. omega arith, tt)))) e in
-    let k = only_live s h.0 in
-    none k.0 (subst FitsSaid k.1 f) (h.1 ∙ ap after_word k.1)
+live_none text = kind_none Live (codes "live") text (word_lacks 32 (omega arith) (Live (live 0 0))) (kind_by_word (codes "live"))
 
 -- The numbers of a line.
 
@@ -163,28 +141,32 @@ end_unread text h = end_none text (λ p f e. h (numbers_of (End p)) refl (number
 pub line_unread : (text : List ℕ) → AreNumbers 3 text None → Says (codes "line" ++ 32 ∷ text) None
 line_unread text h = line_none text (λ x f e. h (numbers_of (Line x)) refl (numbers_small (Line x) f) e)
 
-pub line_apart : (text ns : List ℕ) → AreNumbers 3 text (Some ns) → ((e : LineEntry) → FitsSaid (Line e) → numbers_of (Line e) ≢ ns) → Says (codes "line" ++ 32 ∷ text) None
+pub line_apart : (text ns : List ℕ) → AreNumbers 3 text (Some ns) → ((e : LineEntry) → FitsSaid (Line e) → numbers_of (Line e) ≢ ns)
+    → Says (codes "line" ++ 32 ∷ text) None
 line_apart text ns h apart = line_none text
     (λ x f e. apart x f (same_numbers (numbers_of (Line x)) ns (numbers_small (Line x) f) h.1 (sym e ∙ h.0)))
 
 pub bear_unread : (text : List ℕ) → AreNumbers 3 text None → Says (codes "bear" ++ 32 ∷ text) None
 bear_unread text h = bear_none text (λ b f e. h (numbers_of (Bear b)) refl (numbers_small (Bear b) f) e)
 
-pub bear_apart : (text ns : List ℕ) → AreNumbers 3 text (Some ns) → ((b : Bearer) → FitsSaid (Bear b) → numbers_of (Bear b) ≢ ns) → Says (codes "bear" ++ 32 ∷ text) None
+pub bear_apart : (text ns : List ℕ) → AreNumbers 3 text (Some ns) → ((b : Bearer) → FitsSaid (Bear b) → numbers_of (Bear b) ≢ ns)
+    → Says (codes "bear" ++ 32 ∷ text) None
 bear_apart text ns h apart = bear_none text
     (λ b f e. apart b f (same_numbers (numbers_of (Bear b)) ns (numbers_small (Bear b) f) h.1 (sym e ∙ h.0)))
 
 pub win_unread : (text : List ℕ) → AreNumbers 4 text None → Says (codes "win" ++ 32 ∷ text) None
 win_unread text h = win_none text (λ w f e. h (numbers_of (Win w)) refl (numbers_small (Win w) f) e)
 
-pub win_apart : (text ns : List ℕ) → AreNumbers 4 text (Some ns) → ((w : Winner) → FitsSaid (Win w) → numbers_of (Win w) ≢ ns) → Says (codes "win" ++ 32 ∷ text) None
+pub win_apart : (text ns : List ℕ) → AreNumbers 4 text (Some ns) → ((w : Winner) → FitsSaid (Win w) → numbers_of (Win w) ≢ ns)
+    → Says (codes "win" ++ 32 ∷ text) None
 win_apart text ns h apart = win_none text
     (λ w f e. apart w f (same_numbers (numbers_of (Win w)) ns (numbers_small (Win w) f) h.1 (sym e ∙ h.0)))
 
 pub live_unread : (text : List ℕ) → AreNumbers 2 text None → Says (codes "live" ++ 32 ∷ text) None
 live_unread text h = live_none text (λ l f e. h (numbers_of (Live l)) refl (numbers_small (Live l) f) e)
 
-pub live_apart : (text ns : List ℕ) → AreNumbers 2 text (Some ns) → ((l : LiveCount) → FitsSaid (Live l) → numbers_of (Live l) ≢ ns) → Says (codes "live" ++ 32 ∷ text) None
+pub live_apart : (text ns : List ℕ) → AreNumbers 2 text (Some ns) → ((l : LiveCount) → FitsSaid (Live l) → numbers_of (Live l) ≢ ns)
+    → Says (codes "live" ++ 32 ∷ text) None
 live_apart text ns h apart = live_none text
     (λ l f e. apart l f (same_numbers (numbers_of (Live l)) ns (numbers_small (Live l) f) h.1 (sym e ∙ h.0)))
 
@@ -236,18 +218,6 @@ same_bit true false e = absurd (cc)
 same_bit false true e = absurd (cc)
 same_bit false false e = refl
 
-abbrev entry : ℕ → ℕ → Bool → LineEntry
-entry line seq full = record { line = line; seq = seq; full = full }
-
-abbrev bearer : ℕ → ℕ → ℕ → Bearer
-bearer position line at = record { position = position; line = line; at = at }
-
-abbrev winner : ℕ → ℕ → ℕ → ℕ → Winner
-winner lba position line at = record { lba = lba; position = position; line = line; at = at }
-
-abbrev live : ℕ → ℕ → LiveCount
-live line count = record { line = line; count = count }
-
 same_line : (a b : LineEntry) → numbers_of (Line a) ≡ numbers_of (Line b) → a ≡ b
 same_line a b e =
     let full : a.full ≡ b.full = same_bit a.full b.full (cc) in
@@ -280,57 +250,47 @@ same_head (Some line) (Some other) f k e =
 
 same_of : (s t : Said) → FitsSaid s → FitsSaid t → word_of s ≡ word_of t → after_word s ≡ after_word t → s ≡ t
 same_of (Head g) t f k w e =
-    let o = only_head t w in
+    let o = kind_by_word (codes "head") t w in
     same_head g o.0 f (subst FitsSaid o.1 k) (e ∙ ap after_word o.1) ∙ sym o.1
 same_of (End p) t f k w e =
-    let o = only_end t w in
-    let is : p ∷ [] ≡ o.0 ∷ [] = same_numbers (p ∷ []) (o.0 ∷ []) (numbers_small (End p) f) (numbers_small (End o.0) (subst FitsSaid o.1 k)) (e ∙ ap after_word o.1) in
+    let o = kind_by_word (codes "end") t w in
+    let is : p ∷ [] ≡ o.0 ∷ [] = same_numbers (p ∷ []) (o.0 ∷ []) (numbers_small (End p) f) (numbers_small (End o.0) (subst FitsSaid o.1 k))
+    (e ∙ ap after_word o.1) in
     let same : p ≡ o.0 = cc in ap End same ∙ sym o.1
 same_of (Line a) t f k w e =
-    let o = only_line t w in
+    let o = kind_by_word (codes "line") t w in
     ap Line (same_line a o.0 (same_numbers (numbers_of (Line a)) (numbers_of (Line o.0)) (numbers_small (Line a) f)
     (numbers_small (Line o.0) (subst FitsSaid o.1 k)) (e ∙ ap after_word o.1))) ∙ sym o.1
 same_of (Bear a) t f k w e =
-    let o = only_bear t w in
+    let o = kind_by_word (codes "bear") t w in
     ap Bear (same_bear a o.0 (same_numbers (numbers_of (Bear a)) (numbers_of (Bear o.0)) (numbers_small (Bear a) f)
     (numbers_small (Bear o.0) (subst FitsSaid o.1 k)) (e ∙ ap after_word o.1))) ∙ sym o.1
 same_of (Win a) t f k w e =
-    let o = only_win t w in
+    let o = kind_by_word (codes "win") t w in
     ap Win (same_win a o.0 (same_numbers (numbers_of (Win a)) (numbers_of (Win o.0)) (numbers_small (Win a) f)
     (numbers_small (Win o.0) (subst FitsSaid o.1 k)) (e ∙ ap after_word o.1))) ∙ sym o.1
 same_of (Live a) t f k w e =
-    let o = only_live t w in
+    let o = kind_by_word (codes "live") t w in
     ap Live (same_live a o.0 (same_numbers (numbers_of (Live a)) (numbers_of (Live o.0)) (numbers_small (Live a) f)
     (numbers_small (Live o.0) (subst FitsSaid o.1 k)) (e ∙ ap after_word o.1))) ∙ sym o.1
 
 pub same_said : (s t : Said) → FitsSaid s → FitsSaid t → said_line s ≡ said_line t → s ≡ t
 same_said s t f k e =
-    let h = cut_line (word_of s) (tail_of (after_word s)) t (word_lacks s) (sym (line_parts s) ∙ e) in
+    let h = cut_line (word_of s) (tail_of (after_word s)) t (word_lacks 32 (omega arith) s) (sym (line_parts s) ∙ e) in
     same_of s t f k h.0 (sym (after_tail s) ∙ h.1)
 
 -- A line lacks newlines.
 pub line_lacks : (s : Said) → FitsSaid s → Lacks 10 (said_line s)
-line_lacks s f = subst (Lacks 10) (sym (line_is s)) (both (word_of s) (after_word s) (word_no_newline s) (after_no_newline s f)) where
-  line_is : (s : Said) → said_line s ≡ word_of s ++ after_word s
-  line_is s = line_parts s ∙ ap (λ t. word_of s ++ t) (after_tail s)
+line_lacks s f = subst (Lacks 10) (sym (line_is s))
+    (all_append (λ b. b ≢ 10) (word_of s) (after_word s) (word_lacks 10 (omega arith) s) (after_no_newline s f)) where
+      line_is : (s : Said) → said_line s ≡ word_of s ++ after_word s
+      line_is s = line_parts s ∙ ap (λ t. word_of s ++ t) (after_tail s)
 
-  both : (a b : List ℕ) → Lacks 10 a → Lacks 10 b → Lacks 10 (a ++ b)
-  both [] b la lb = lb
-  both (x ∷ a) b la lb = (la.0, both a b la.1 lb)
-
-  word_no_newline : (s : Said) → Lacks 10 (word_of s)
-  word_no_newline (Head h) = (λ e. omega arith, (λ e. omega arith, (λ e. omega arith, (λ e. omega arith, tt))))
-  word_no_newline (End p) = (λ e. omega arith, (λ e. omega arith, (λ e. omega arith, tt)))
-  word_no_newline (Line e) = (λ e. omega arith, (λ e. omega arith, (λ e. omega arith, (λ e. omega arith, tt))))
-  word_no_newline (Bear b) = (λ e. omega arith, (λ e. omega arith, (λ e. omega arith, (λ e. omega arith, tt))))
-  word_no_newline (Win w) = (λ e. omega arith, (λ e. omega arith, (λ e. omega arith, tt)))
-  word_no_newline (Live l) = (λ e. omega arith, (λ e. omega arith, (λ e. omega arith, (λ e. omega arith, tt))))
-
-  after_no_newline : (s : Said) → FitsSaid s → Lacks 10 (after_word s)
-  after_no_newline (Head None) f = (λ e. omega arith, (λ e. omega arith, (λ e. omega arith, (λ e. omega arith, (λ e. omega arith, tt)))))
-  after_no_newline (Head (Some line)) f = spaced_lacks (line ∷ []) (numbers_small (Head (Some line)) f)
-  after_no_newline (End p) f = spaced_lacks (p ∷ []) (numbers_small (End p) f)
-  after_no_newline (Line e) f = spaced_lacks (numbers_of (Line e)) (numbers_small (Line e) f)
-  after_no_newline (Bear b) f = spaced_lacks (numbers_of (Bear b)) (numbers_small (Bear b) f)
-  after_no_newline (Win w) f = spaced_lacks (numbers_of (Win w)) (numbers_small (Win w) f)
-  after_no_newline (Live l) f = spaced_lacks (numbers_of (Live l)) (numbers_small (Live l) f)
+      after_no_newline : (s : Said) → FitsSaid s → Lacks 10 (after_word s)
+      after_no_newline (Head None) f = (λ e. omega arith, (λ e. omega arith, (λ e. omega arith, (λ e. omega arith, (λ e. omega arith, tt)))))
+      after_no_newline (Head (Some line)) f = spaced_lacks (line ∷ []) (numbers_small (Head (Some line)) f)
+      after_no_newline (End p) f = spaced_lacks (p ∷ []) (numbers_small (End p) f)
+      after_no_newline (Line e) f = spaced_lacks (numbers_of (Line e)) (numbers_small (Line e) f)
+      after_no_newline (Bear b) f = spaced_lacks (numbers_of (Bear b)) (numbers_small (Bear b) f)
+      after_no_newline (Win w) f = spaced_lacks (numbers_of (Win w)) (numbers_small (Win w) f)
+      after_no_newline (Live l) f = spaced_lacks (numbers_of (Live l)) (numbers_small (Live l) f)

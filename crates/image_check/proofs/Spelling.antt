@@ -1,8 +1,9 @@
 -- The lines of a certificate, as they are spelled.
-use Rattle.std.proofs.Common.{◌≡◌, ℕ, ◌+◌, ◌^◌, ◌<◌, ◌≤◌, List, [], ◌∷◌, ◌++◌, length, codes, Option, Some, None, refl, sym, ap, ◌∙◌, subst, arith, append-nil}
+use Rattle.std.proofs.Common.{◌≡◌, ◌≢◌, ℕ, ◌+◌, ◌^◌, ◌<◌, ◌≤◌, List, [], ◌∷◌, ◌++◌, length, codes, Option, Some, None, refl, sym, ap, ◌∙◌, subst, arith, append-nil}
 use Rattle.std.specs.List.{AllByRecursion}
 use Rattle.std.specs.Option.{option_map}
 use Rattle.std.specs.Fmt.{decimal}
+use Rattle.pblk_model.proofs.Lists.{all_append}
 use Rattle.pblk_model.specs.ScriptText.{number_of}
 use Rattle.pblk_model.specs.Text.{spaced}
 use Rattle.pblk_laws.proofs.ScriptSpelling.{number_is, number_spelled}
@@ -65,7 +66,8 @@ uncut_none count text more lacks ns long small spells =
     has_byte 32 (decimal k.0) (decimal k.1 ++ spaced k.2) (subst (Lacks 32) (same_rest text (decimal k.0 ++ 32 ∷ (decimal k.1 ++ spaced k.2)) is) lacks)
 
 module _ (text w r : List ℕ) (cut : text ≡ w ++ 32 ∷ r) where
-  pub more_some : (n count more : ℕ) (ns : List ℕ) → number_of w ≡ Some n → AreNumbers count r (Some ns) → more ≡ count + 1 → AreNumbers more text (Some (n ∷ ns))
+  pub more_some : (n count more : ℕ) (ns : List ℕ) → number_of w ≡ Some n → AreNumbers count r (Some ns) → more ≡ count + 1
+      → AreNumbers more text (Some (n ∷ ns))
   more_some n count more ns first rest is =
       let h = number_is w n first in (
         ap (λ t. 32 ∷ t) (cut ∙ ap (λ x. x ++ 32 ∷ r) h.0 ∙ ap (λ t. decimal n ++ t) rest.0),
@@ -126,10 +128,8 @@ same_numbers (n ∷ (k ∷ ns)) (m ∷ (j ∷ ms)) f g e =
 -- numbers lack newlines
 pub spaced_lacks : (ns : List ℕ) → AreSmall ns → Lacks 10 (spaced ns)
 spaced_lacks [] h = tt
-spaced_lacks (n ∷ ns) h = (λ e. omega arith, both (decimal n) (spaced ns) (lacks_decimal 10 n (omega arith) (wide n h.0)) (spaced_lacks ns h.1)) where
-  both : (a b : List ℕ) → Lacks 10 a → Lacks 10 b → Lacks 10 (a ++ b)
-  both [] b la lb = lb
-  both (x ∷ a) b la lb = (la.0, both a b la.1 lb)
+spaced_lacks (n ∷ ns) h =
+    (λ e. omega arith, all_append (λ b. b ≢ 10) (decimal n) (spaced ns) (lacks_decimal 10 n (omega arith) (wide n h.0)) (spaced_lacks ns h.1))
 
 -- Lines.
 
@@ -174,18 +174,19 @@ after_tail (Bear b) = refl
 after_tail (Win w) = refl
 after_tail (Live l) = refl
 
-pub word_lacks : (s : Said) → Lacks 32 (word_of s)
-word_lacks (Head h) = (λ e. omega arith, (λ e. omega arith, (λ e. omega arith, (λ e. omega arith, tt))))
-word_lacks (End p) = (λ e. omega arith, (λ e. omega arith, (λ e. omega arith, tt)))
-word_lacks (Line e) = (λ e. omega arith, (λ e. omega arith, (λ e. omega arith, (λ e. omega arith, tt))))
-word_lacks (Bear b) = (λ e. omega arith, (λ e. omega arith, (λ e. omega arith, (λ e. omega arith, tt))))
-word_lacks (Win w) = (λ e. omega arith, (λ e. omega arith, (λ e. omega arith, tt)))
-word_lacks (Live l) = (λ e. omega arith, (λ e. omega arith, (λ e. omega arith, (λ e. omega arith, tt))))
+-- no letter of a word is below 97
+pub word_lacks : (c : ℕ) → c < 97 → (s : Said) → Lacks c (word_of s)
+word_lacks c low (Head h) = (λ is. omega arith, (λ is. omega arith, (λ is. omega arith, (λ is. omega arith, tt))))
+word_lacks c low (End p) = (λ is. omega arith, (λ is. omega arith, (λ is. omega arith, tt)))
+word_lacks c low (Line e) = (λ is. omega arith, (λ is. omega arith, (λ is. omega arith, (λ is. omega arith, tt))))
+word_lacks c low (Bear b) = (λ is. omega arith, (λ is. omega arith, (λ is. omega arith, (λ is. omega arith, tt))))
+word_lacks c low (Win w) = (λ is. omega arith, (λ is. omega arith, (λ is. omega arith, tt)))
+word_lacks c low (Live l) = (λ is. omega arith, (λ is. omega arith, (λ is. omega arith, (λ is. omega arith, tt))))
 
 -- a line is cut in one way
 pub cut_line : (w r : List ℕ) (s : Said) → Lacks 32 w → w ++ 32 ∷ r ≡ said_line s → (w ≡ word_of s) × (32 ∷ r ≡ after_word s)
 cut_line w r s lacks e =
-    let h = cut_first 32 w (word_of s) r (tail_of (after_word s)) lacks (word_lacks s) (e ∙ line_parts s) in
+    let h = cut_first 32 w (word_of s) r (tail_of (after_word s)) lacks (word_lacks 32 (omega arith) s) (e ∙ line_parts s) in
     (h.0, ap (λ t. 32 ∷ t) h.1 ∙ after_tail s)
 
 pub no_space_no_line : (bytes : List ℕ) → Lacks 32 bytes → Says bytes None

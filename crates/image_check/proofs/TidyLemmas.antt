@@ -38,7 +38,8 @@ in_line i line unit c there online =
     (given_at (λ (chunks : List Chunk). slice_get chunks line) i.units found.0 c unit found.1 found.2) online
 
 -- a unit's chunk is one of the drive's
-pub chunk_fits : (i : Image) (line unit : ℕ) (c : Chunk) → IsFit i → chunk_in i line unit ≡ Some c → IsChunk i.shape c × (unit < units i.shape) × (line < i.shape.chunks)
+pub chunk_fits : (i : Image) (line unit : ℕ) (c : Chunk) → IsFit i → chunk_in i line unit ≡ Some c
+    → IsChunk i.shape c × (unit < units i.shape) × (line < i.shape.chunks)
 chunk_fits i line unit c fit there =
     let found = split_then (λ chunks. slice_get chunks line) (slice_get i.units unit) c there in
     let long : length found.0 ≡ i.shape.chunks = all_get (λ (chunks : List Chunk). length chunks ≡ i.shape.chunks) i.units unit found.0 fit.chunks found.1 in
@@ -99,7 +100,8 @@ sealed_line i line fit inside h = record {
 -- an end record agrees with its line
 pub agrees_of : (i : Image) (line : ℕ) (e : EndRecord) → IsClosedLine i line → HasMarks i line e.pairs → AgreesWithLine i line e
 agrees_of i line e closed marks = record {
-  closed = all_by_get (λ (c : Chunk). c.state ≢ states.Open) (line_chunks i line) (λ k c there. (let found = from_line i line k c there in closed found.0 c found.1));
+  closed = all_by_get (λ (c : Chunk). c.state ≢ states.Open) (line_chunks i line)
+      (λ k c there. (let found = from_line i line k c there in closed found.0 c found.1));
   marks = marks;
 }
 
@@ -142,11 +144,16 @@ tidy_line i line fit inside h = (whole_line i line h.whole, sealed_line i line f
 
 pub tidy_of : (i : Image) → IsFit i → ((line : ℕ) → line < i.shape.chunks → IsTidyLine i line)
     → 4 ≤ length (filter (has_free_chunks i) (range_with_len 0 i.shape.chunks)) → IsTidy i
-tidy_of i fit h free = record { sealed = sealed_of i (λ line inside. (h line inside).1); whole = whole_of i fit (λ line inside. (h line inside).0); some_free = free }
+tidy_of i fit h free = record {
+  sealed = sealed_of i (λ line inside. (h line inside).1);
+  whole = whole_of i fit (λ line inside. (h line inside).0);
+  some_free = free;
+}
 
 -- Lines with Free chunks alone.
 
-all_free : (line : ℕ) (us : List (List Chunk)) → ((unit : ℕ) (c : Chunk) → option_and_then (λ (cs : List Chunk). slice_get cs line) (slice_get us unit) ≡ Some c → is_free_state c.state ≡ true)
+all_free : (line : ℕ) (us : List (List Chunk))
+    → ((unit : ℕ) (c : Chunk) → option_and_then (λ (cs : List Chunk). slice_get cs line) (slice_get us unit) ≡ Some c → is_free_state c.state ≡ true)
     → list_all (λ (c : Chunk). is_free_state c.state) (filter_map (λ (cs : List Chunk). slice_get cs line) us) ≡ true
 all_free line [] h = refl
 all_free line (u ∷ us) h = by_first (slice_get u line) (h 0) (all_free line us (λ unit c there. h (suc unit) c there)) where
@@ -154,12 +161,14 @@ all_free line (u ∷ us) h = by_first (slice_get u line) (h 0) (all_free line us
       → list_all (λ (c : Chunk). is_free_state c.state) (filter_map (λ (cs : List Chunk). slice_get cs line) us) ≡ true
       → list_all (λ (c : Chunk). is_free_state c.state) (cons_option o (filter_map (λ (cs : List Chunk). slice_get cs line) us)) ≡ true
   by_first None here rest = rest
-  by_first (Some c) here rest = ap (λ b. b && list_all (λ (c : Chunk). is_free_state c.state) (filter_map (λ (cs : List Chunk). slice_get cs line) us)) (here c refl) ∙ rest
+  by_first (Some c) here rest = ap (λ b. b && list_all (λ (c : Chunk). is_free_state c.state) (filter_map (λ (cs : List Chunk). slice_get cs line) us))
+      (here c refl) ∙ rest
 
 pub free_of : (i : Image) (line : ℕ) → ((unit : ℕ) (c : Chunk) → chunk_in i line unit ≡ Some c → is_free_state c.state ≡ true) → has_free_chunks i line ≡ true
 free_of i line h = all_free line i.units h
 
-one_not_free : (line : ℕ) (us : List (List Chunk)) (unit : ℕ) (c : Chunk) → option_and_then (λ (cs : List Chunk). slice_get cs line) (slice_get us unit) ≡ Some c
+one_not_free : (line : ℕ) (us : List (List Chunk)) (unit : ℕ) (c : Chunk)
+    → option_and_then (λ (cs : List Chunk). slice_get cs line) (slice_get us unit) ≡ Some c
     → is_free_state c.state ≡ false → list_all (λ (c : Chunk). is_free_state c.state) (filter_map (λ (cs : List Chunk). slice_get cs line) us) ≡ false
 one_not_free line [] unit c there fails = absurd (none-some c there)
 one_not_free line (u ∷ us) zero c there fails =
@@ -185,7 +194,9 @@ pub free_yes : (f : ℕ → Bool) (n m : ℕ) → f n ≡ true → m ≡ length 
 free_yes f n m holds is = ap (λ k. k + 1) is ∙ sym (free_more f n ∙ ap (λ b. length (filter f (range_with_len 0 n)) + cond b 1 0) holds)
 
 pub free_no : (f : ℕ → Bool) (n m : ℕ) → f n ≡ false → m ≡ length (filter f (range_with_len 0 n)) → m ≡ length (filter f (range_with_len 0 (n + 1)))
-free_no f n m fails is = is ∙ sym (free_more f n ∙ ap (λ b. length (filter f (range_with_len 0 n)) + cond b 1 0) fails ∙ add-zero (length (filter f (range_with_len 0 n))))
+free_no f n m fails is =
+    let count = length (filter f (range_with_len 0 n)) in
+    is ∙ sym (free_more f n ∙ ap (λ b. count + cond b 1 0) fails ∙ add-zero count)
 
 -- Unit by unit.
 

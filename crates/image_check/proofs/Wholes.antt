@@ -20,7 +20,10 @@ use Rattle.image_check.proofs.Saying.{line_lacks, same_said}
 
 lives_from : (a : LiveCount) (xs : List LiveCount) → IsStrictlyIncreasing (map (λ l. l.line) (a ∷ xs)) → IsChain (Some (Live a)) (map Live xs)
 lives_from a [] h = tt
-lives_from a (x ∷ xs) h = (lt-ltb a.line x.line (rise_first a.line x.line (map (λ l. l.line) xs) h), lives_from x xs (rise_tail a.line (map (λ l. l.line) (x ∷ xs)) h))
+lives_from a (x ∷ xs) h = (
+  lt-ltb a.line x.line (rise_first a.line x.line (map (λ l. l.line) xs) h),
+  lives_from x xs (rise_tail a.line (map (λ l. l.line) (x ∷ xs)) h),
+)
 
 chain_lives : (s : Said) (xs : List LiveCount) → ((l : LiveCount) → follows (Some s) (Live l) ≡ true) → IsStrictlyIncreasing (map (λ l. l.line) xs)
     → IsChain (Some s) (map Live xs)
@@ -84,7 +87,8 @@ not_nothing s u e = some (said_line s) e where
   some (x ∷ a) e = absurd (cc)
 
 -- the text of lines that may stand so, and end so, isn't wrong anywhere
-never_wrong : (last : Option Said) (saids front : List Said) (rest : List ℕ) → IsChain last saids → AllByRecursion FitsSaid saids → AllByRecursion FitsSaid front
+never_wrong : (last : Option Said) (saids front : List Said) (rest : List ℕ) → IsChain last saids → AllByRecursion FitsSaid saids
+    → AllByRecursion FitsSaid front
     → spelled saids ≡ spelled front ++ rest → may_stop (last_or last saids) ≡ true
     → ((s : Said) (more : List ℕ) → FitsSaid s → follows (last_or last front) s ≡ true → rest ≢ (said_line s ++ 10 ∷ []) ++ more)
     → (rest ≡ [] → may_stop (last_or last front) ≡ false) → ⊥

@@ -1,8 +1,8 @@
 -- The least position whose bearer is wrong.
-use Rattle.std.proofs.Common.{◌≡◌, ◌≢◌, ◌⊎◌, ℕ, ◌+◌, ◌<◌, ◌≤◌, ◌==◌, ◌&&◌, ◌||◌, not, nat_le, nat_lt, if◌then◌else◌, suc, inl, inr, Bool, true, false, cond, List, [], ◌∷◌, length, Option, Some, None, refl, sym, ap, ◌∙◌, subst, arith, add-zero, drop}
+use Rattle.std.proofs.Common.{◌≡◌, ◌≢◌, ◌⊎◌, ℕ, ◌+◌, ◌<◌, ◌≤◌, ◌==◌, ◌&&◌, ◌||◌, not, nat_le, nat_lt, if◌then◌else◌, suc, inl, inr, Bool, true, false, cond, List, [], ◌∷◌, length, get_or, Option, Some, None, refl, sym, ap, ◌∙◌, subst, arith, add-zero, drop}
 use Rattle.std.specs.List.{list_any, slice_get}
 use Rattle.std.specs.Option.{is_some, option_map_or}
-use Rattle.std.proofs.lemmas.Option.{same_Some}
+use Rattle.std.proofs.lemmas.Option.{same_Some, slice_get-get_or}
 use Rattle.std.proofs.lemmas.Bool.{le-leb, leb-true, lt-leb, lt-ltb, le-ltb, eq-eqb, ne_eqb, cases_lt}
 use Rattle.pblk_model.proofs.Parts.{drop_at, drop_past}
 use Rattle.pblk_model.proofs.Tests.{and_false, either_false, le_of_lt_false, not_true, or_right, second_of}
@@ -123,7 +123,8 @@ module _ (h : StartRecord) (rs : List Record) (last : ℕ) where
       by_order : (p < from) ⊎ (from ≤ p) → right_from from (b ∷ bears) p ≡ right_from (from + 1) bears p
       by_order (inl less) = below_range from p (bears_of (b ∷ bears) p) less ∙ ap (λ o. not (is_some o)) apart
           ∙ sym (below_range (from + 1) p (bears_of bears p) (omega arith))
-      by_order (inr most) = ap (right_said from p) apart ∙ ap (λ x. cond (x && nat_lt p last) (option_map_or (λ b. list_any (is_named h b) rs) (bears_of bears p) false)
+      by_order (inr most) = ap (right_said from p) apart
+          ∙ ap (λ x. cond (x && nat_lt p last) (option_map_or (λ b. list_any (is_named h b) rs) (bears_of bears p) false)
           (not (is_some (bears_of bears p)))) (le-leb from p most ∙ sym (le-leb (from + 1) p (above_next most)))
 
   -- The least one, if there is one.
@@ -196,13 +197,17 @@ module _ (h : StartRecord) (rs : List Record) (last : ℕ) where
         moved None same all = λ p. same p ∙ all p
         moved (Some n) same least = record { wrong = same n ∙ least.wrong; least = λ m less. same m ∙ least.least m less }
 
-        by_bearer : from ≤ b.position → from < last → Tells (right_from (from + 1) bears) (first_wrong (from + 1) last bears seen) → (t : Bool) → nat_lt from b.position || not s ≡ t
+        by_bearer : from ≤ b.position → from < last → Tells (right_from (from + 1) bears) (first_wrong (from + 1) last bears seen) → (t : Bool)
+            → nat_lt from b.position || not s ≡ t
             → Tells (right_from from (b ∷ bears)) (cond t (Some from) (first_wrong (from + 1) last bears seen))
         by_bearer low high after true holds = wrong_bearer from b bears s rising low high flags.0 holds
-        by_bearer low high after false fails = let k = right_bearer from b s low flags.0 fails in moved (first_wrong (from + 1) last bears seen) (same_right from b bears rising high k.0 k.1) after
+        by_bearer low high after false fails =
+            let k = right_bearer from b s low flags.0 fails in
+            moved (first_wrong (from + 1) last bears seen) (same_right from b bears rising high k.0 k.1) after
 
         by_place : Tells (right_from (from + 1) bears) (first_wrong (from + 1) last bears seen) → (t : Bool) → nat_lt b.position from || nat_le last from ≡ t
-            → Tells (right_from from (b ∷ bears)) (cond t (Some b.position) (cond (nat_lt from b.position || not s) (Some from) (first_wrong (from + 1) last bears seen)))
+            → Tells (right_from from (b ∷ bears))
+            (cond t (Some b.position) (cond (nat_lt from b.position || not s) (Some from) (first_wrong (from + 1) last bears seen)))
         by_place after true holds = wrong_place from b bears rising holds
         by_place after false fails = let k = right_place from b fails in by_bearer k.0 k.1 after (nat_lt from b.position || not s) refl
 
@@ -234,22 +239,33 @@ pub wrong_end : (from last : ℕ) (bears : List Bearer) (seen : List Bool) (k : 
     → first_wrong (from + k) last (drop k bears) (drop k seen) ≡ cond (nat_lt (from + k) last) (Some (from + k)) None
 wrong_end from last bears seen k past = ap (λ xs. first_wrong (from + k) last xs (drop k seen)) (drop_past bears k past)
 
-module _ (from last k : ℕ) (bears : List Bearer) (seen : List Bool) (b : Bearer) (s : Bool) (o : Option ℕ) (there : slice_get bears k ≡ Some b)
-    (flag : slice_get seen k ≡ Some s) (now : first_wrong (from + k) last (drop k bears) (drop k seen) ≡ o) where
+abbrev no_bearer : Bearer
+no_bearer = record { position = 0; line = 0; at = 0 }
+
+module _ (from last k : ℕ) (bears : List Bearer) (seen : List Bool) (o : Option ℕ) (place : k < length bears) (flagged : k < length seen)
+    (now : first_wrong (from + k) last (drop k bears) (drop k seen) ≡ o) where
+  abbrev b : Bearer
+  b = get_or bears k no_bearer
+
+  abbrev s : Bool
+  s = get_or seen k false
+
   step : cond (nat_lt b.position (from + k) || nat_le last (from + k)) (Some b.position)
       (cond (nat_lt (from + k) b.position || not s) (Some (from + k)) (first_wrong (from + k + 1) last (drop (k + 1) bears) (drop (k + 1) seen))) ≡ o
-  step = sym (wrong_step from last k bears seen b s there flag) ∙ now
+  step = sym (wrong_step from last k bears seen b s (slice_get-get_or bears k no_bearer place) (slice_get-get_or seen k false flagged)) ∙ now
 
   abbrev after : Option ℕ
   after = cond (nat_lt (from + k) b.position || not s) (Some (from + k)) (first_wrong (from + k + 1) last (drop (k + 1) bears) (drop (k + 1) seen))
 
   pub step_out : (b.position < from + k) ⊎ (last ≤ from + k) → Some b.position ≡ o
   step_out (inl less) = sym (ap (λ t. cond (t || nat_le last (from + k)) (Some b.position) after) (lt-ltb b.position (from + k) less)) ∙ step
-  step_out (inr most) = sym (ap (λ t. cond t (Some b.position) after) (or_right (nat_lt b.position (from + k)) (nat_le last (from + k)) (le-leb last (from + k) most))) ∙ step
+  step_out (inr most) = sym (ap (λ t. cond t (Some b.position) after)
+      (or_right (nat_lt b.position (from + k)) (nat_le last (from + k)) (le-leb last (from + k) most))) ∙ step
 
   module _ (low : from + k ≤ b.position) (high : from + k < last) where
     inside : after ≡ o
-    inside = sym (ap (λ t. cond t (Some b.position) after) (ap (λ t. t || nat_le last (from + k)) (le-ltb b.position (from + k) low) ∙ lt-leb last (from + k) high)) ∙ step
+    inside = sym (ap (λ t. cond t (Some b.position) after)
+        (ap (λ t. t || nat_le last (from + k)) (le-ltb b.position (from + k) low) ∙ lt-leb last (from + k) high)) ∙ step
 
     abbrev rest : Option ℕ
     rest = first_wrong (from + k + 1) last (drop (k + 1) bears) (drop (k + 1) seen)

@@ -107,7 +107,8 @@ pub record IsLeastOther {X : Type 0} (number : X → ℕ) (xs ys : List X) (n : 
 -- a record that bears the position in a line of the head's mount. Of all else nothing is said.
 abbrev pub is_borne_right : Option StartRecord → List Record → ℕ → ℕ → Option Bearer → Bool
 is_borne_right None rs end p said = not (is_some said)
-is_borne_right (Some h) rs end p said = if nat_le h.front p && nat_lt p end then option_map_or (λ b. list_any (is_named h b) rs) said false else not (is_some said)
+is_borne_right (Some h) rs end p said =
+    if nat_le h.front p && nat_lt p end then option_map_or (λ b. list_any (is_named h b) rs) said false else not (is_some said)
 
 abbrev pub bearer_right : Image → Certificate → ℕ → Bool
 bearer_right i c p = is_borne_right (head i) (records i) c.end p (said_of (λ b. b.position) c.bears p)

@@ -96,8 +96,8 @@ impl Seen {
     }
 }
 
-// The place of the bearer that is this record: it stands as far behind the first one as its position
-// is above the head's front, and the record's line is of the head's mount.
+// The place of the bearer that is this record: it stands as far behind the first one as its
+// position is above the head's front, and the record's line is of the head's mount.
 fn place_of(newest: &StartRecord, bears: &[Bearer], record: &Record<'_>) -> Option<usize>
     ensures some { IfSome result (IsHit (start_numbers newest.now) bears.now record.now) }
     ensures none { IfNone result (IsMissed (start_numbers newest.now) bears.now record.now) }

@@ -31,11 +31,11 @@ use std::alloc::Global;
 /// Refused, in this order, each with the least number: `Line` where the row of a line isn't the
 /// image's; `Head` where the head isn't; `Bearer` where a position from the head's front up to the
 /// certificate's end has no record, or one that doesn't bear it in a line of the head's mount, or
-/// where another position has one; `End` where the end is below the head's front, or a record of the
-/// head's mount bears it, or it isn't 0 and there is no head; `Winner` where the place of a sector
-/// isn't that of its newest counted record; `Live` where a line with a sequence number has another
-/// number of winners, or one without has any; `Memory` where there isn't enough, of which it takes
-/// some for each sector, each line and each bearer.
+/// where another position has one; `End` where the end is below the head's front, or a record of
+/// the head's mount bears it, or it isn't 0 and there is no head; `Winner` where the place of a
+/// sector isn't that of its newest counted record; `Live` where a line with a sequence number has
+/// another number of winners, or one without has any; `Memory` where there isn't enough, of which
+/// it takes some for each sector, each line and each bearer.
 pub fn check(alloc: Global, drive: &Drive, certificate: &Certificate) -> Result<bool, CheckErr>
     requires { IsInOrder certificate.now }
     ensures right { IfOk result (λ tidy. IsRight (image_of (stored drive.now)) certificate.now) }

@@ -46,11 +46,12 @@ impl Certificate {
     ///
     /// It is lines, each ended by a newline: `head LINE` or `head none`; `end POSITION`; `line LINE
     /// SEQ FULL` with FULL 0 or 1; `bear POSITION LINE ADDRESS`; `win LBA POSITION LINE ADDRESS`;
-    /// `live LINE COUNT`. They stand in this order, and each kind rises by its first number. A number
-    /// is spelled without a leading 0 and is below 2^64, and a line and an address below 2^32.
+    /// `live LINE COUNT`. They stand in this order, and each kind rises by its first number. A
+    /// number is spelled without a leading 0 and is below 2^64, and a line and an address below
+    /// 2^32.
     ///
-    /// Refused: `Form` with the first line that isn't so, or one past the last line where one of the
-    /// first two is missing; `Memory` where there isn't enough.
+    /// Refused: `Form` with the first line that isn't so, or one past the last line where one of
+    /// the first two is missing; `Memory` where there isn't enough.
     pub fn read(alloc: Global, bytes: &[u8]) -> Result<Certificate, CertErr>
         // The bytes, to their end, are the text of the certificate.
         ensures spelled { IfOk result (λ c. bytes.now ≡ text_of c) }

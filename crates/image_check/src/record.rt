@@ -23,7 +23,14 @@ impl<'a> Model for Record<'a> {
 
     ghost Value = { Borne };
 
-    ghost view = { λ r. record { line = r.line; seq = r.seq; at = r.at; position = r.position; lba = r.lba; sector = r.sector.now } };
+    ghost view = { λ r. record {
+      line = r.line;
+      seq = r.seq;
+      at = r.at;
+      position = r.position;
+      lba = r.lba;
+      sector = r.sector.now;
+    } };
 }
 
 impl<'a> Record<'a> {

@@ -1,7 +1,7 @@
 //! What a scan finds on a drive.
 
 use crate::harness::{Case, compare};
-use crate::image::Step;
+use image_crew::Step;
 use ocssd_drive::{ChunkState, CommandKind};
 use pblk_model::Mark;
 use std::test::Fail;
@@ -129,7 +129,8 @@ static IMAGES: [Case; 10] = [
             "events 4 4",
         ],
     },
-    // So does one behind a full line: of the newer line's stripes those at 24, 32 and 40 are missing.
+    // So does one behind a full line: of the newer line's stripes those at 24, 32 and 40 are
+    // missing.
     Case {
         steps: &[
             Step::Start(0, 1, 1, 0, None),
@@ -201,7 +202,8 @@ static IMAGES: [Case; 10] = [
             "events 8 0",
         ],
     },
-    // A line that lost a chunk has no whole start record any more. One with Pads alone has none either.
+    // A line that lost a chunk has no whole start record any more. One with Pads alone has none
+    // either.
     Case {
         steps: &[
             Step::Start(0, 1, 1, 0, None),
@@ -225,8 +227,8 @@ static IMAGES: [Case; 10] = [
     },
 ];
 
-// The newest record of a sector: by position, then by sequence number, then by line address, and of two that
-// are alike in these that of the lesser line.
+// The newest record of a sector: by position, then by sequence number, then by line address, and of
+// two that are alike in these that of the lesser line.
 static NEWEST: [Case; 7] = [
     // A later position in an older line.
     Case {

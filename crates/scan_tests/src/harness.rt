@@ -1,28 +1,29 @@
 //! Padding and scanning of a drive in memory, and what is told of both.
-ghost use Rattle.std.specs.Prelude.{IsTrue, length, map};
+
+ghost use Rattle.std.specs.Prelude.{map};
 ghost use Rattle.pblk_model.specs.Accepted.{IsAccepted};
-ghost use Rattle.pblk_model.specs.Chunk.{PointerFits};
 ghost use Rattle.world_laws.specs.Finding.{NoneOpen};
 ghost use Rattle.scan_recovery.specs.Units.{AreFit, image_of};
 
-use crate::image::{Step, Units, made};
+use image_crew::{Step, joined, restored};
 use ocssd_drive::{
     Chunk, ChunkState, CommandKind, Drive, FaultPlan, Fuse, Geometry, MemoryUnit, Unit,
 };
 use pblk_model::{Found, LineRow, Mark, Shape, Winner};
-use pblk_reference::Chunk as Written;
 use scan_recovery::{ScanErr, pad, scan};
 use std::alloc::{AllocError, Global};
 use std::process::Abort;
 
-/// A drive, as it was written and as it is armed, and the lines that are told of its padding and its scan.
+/// A drive, as it was written and as it is armed, and the lines that are told of its padding and
+/// its scan.
 #[derive(Clone, Copy)]
 pub(crate) struct Case {
     pub(crate) steps: &'static [Step],
-    /// The unit whose nth command of this kind fails. A program that fails lands so many multiples of two
-    /// blocks.
+    /// The unit whose nth command of this kind fails. A program that fails lands so many multiples
+    /// of two blocks.
     pub(crate) fails: Option<(u32, CommandKind, u32, u32)>,
-    /// The unit at whose nth program the drive stops, and how many multiples of two blocks that program lands.
+    /// The unit at whose nth program the drive stops, and how many multiples of two blocks that
+    /// program lands.
     pub(crate) stops: Option<(u32, u32, u32)>,
     pub(crate) told: &'static [&'static str],
 }
@@ -37,15 +38,6 @@ pub(crate) fn compare(rt: &impl Abort, alloc: Global, cases: &[Case]) -> Result<
     Ok(())
 }
 
-fn joined(alloc: Global, lines: &[&str]) -> Result<String, AllocError> {
-    let mut text = String::new(alloc);
-    for line in lines {
-        text.push_str(line)?;
-        text.push('\n')?;
-    }
-    Ok(text)
-}
-
 fn told(alloc: Global, case: &Case) -> Result<String, AllocError> {
     let (mut units, shape) = parts(armed(alloc, case)?);
     let mut text = String::new(alloc);
@@ -53,8 +45,8 @@ fn told(alloc: Global, case: &Case) -> Result<String, AllocError> {
     Ok(text)
 }
 
-// What is told: a line for the padding and one for each unit after it; and where that ended well, the lines
-// of what is found, and how many events each unit then had.
+// What is told: a line for the padding and one for each unit after it; and where that ended well,
+// the lines of what is found, and how many events each unit then had.
 fn put_all(
     alloc: Global,
     text: &mut String,
@@ -98,16 +90,6 @@ fn put_scan(
     }
 }
 
-/// The small drive after these steps from a blank image.
-pub(crate) fn restored(alloc: Global, steps: &[Step]) -> Result<Drive, AllocError> {
-    let image = made(alloc, steps)?;
-    let mut drive = Drive::new(alloc, Geometry::small(), 512, 64, 64)?;
-    for unit in 0..2u32 {
-        restore_unit(alloc, &mut drive, unit, &image)?;
-    }
-    Ok(drive)
-}
-
 // The drive of a case, armed.
 fn armed(alloc: Global, case: &Case) -> Result<Drive, AllocError> {
     let mut drive = restored(alloc, case.steps)?;
@@ -128,69 +110,6 @@ fn armed(alloc: Global, case: &Case) -> Result<Drive, AllocError> {
         None => drive.arm(alloc, &[], fuse)?,
     }
     Ok(drive)
-}
-
-fn restore_unit(
-    alloc: Global,
-    drive: &mut Drive,
-    unit: u32,
-    image: &Units,
-) -> Result<(), AllocError> {
-    if let Some(chunks) = image.get(unit as usize) {
-        for line in 0..8u32 {
-            if let Some(chunk) = chunks.get(line as usize) {
-                let (bytes, marks) = blocks_of(alloc, chunk)?;
-                restore(drive, unit, line, chunk.state, &bytes, &marks);
-            }
-        }
-    }
-    Ok(())
-}
-
-// The bytes of a chunk's blocks, one after another, and their marks.
-fn blocks_of(alloc: Global, chunk: &Written) -> Result<(Vec<u8>, Vec<Mark>), AllocError> {
-    let mut bytes = Vec::new(alloc);
-    let mut marks = Vec::new(alloc);
-    for block in &chunk.blocks {
-        bytes.extend_from_slice(&block.sector)?;
-        marks.push(block.mark)?;
-    }
-    Ok((bytes, marks))
-}
-
-// Writes a chunk of the small drive, if there is such a chunk.
-fn restore(
-    drive: &mut Drive,
-    unit: u32,
-    chunk: u32,
-    state: ChunkState,
-    bytes: &[u8],
-    marks: &[Mark],
-) {
-    let shape = drive.shape();
-    let count = marks.len();
-    if unit < shape.units()
-        && chunk < shape.chunks
-        && shape.sector == 512
-        && shape.ws_min == 2
-        && count <= 24
-        && count % 2 == 0
-        && bytes.len() == count * 512
-        && fits(state, shape.clba, count)
-    {
-        drive.restore(unit, chunk, 0, state, bytes, marks);
-    }
-}
-
-// Whether a chunk in this state may have so many blocks.
-fn fits(state: ChunkState, clba: u32, count: usize) -> bool
-    ensures { IsTrue result → PointerFits state clba count }
-{
-    match state {
-        ChunkState::Free | ChunkState::Offline => count == 0,
-        ChunkState::Open => 0 < count && count < clba as usize,
-        ChunkState::Closed => count <= clba as usize,
-    }
 }
 
 // The units of a drive, and its shape.
@@ -259,7 +178,8 @@ fn put_found(text: &mut String, found: &Found) -> Result<(), AllocError> {
     put_states(text, found.chunks.as_slice())
 }
 
-// A line for each run of winners that follow each other, with its last sector where there are several.
+// A line for each run of winners that follow each other, with its last sector where there are
+// several.
 fn put_winners(text: &mut String, winners: &[Winner]) -> Result<(), AllocError> {
     for (index, winner) in winners.iter().enumerate() {
         let goes_on = match winners.get(index.wrapping_sub(1)) {

@@ -1,7 +1,7 @@
 //! How the Open chunks of a drive are padded.
 
 use crate::harness::{Case, compare};
-use crate::image::Step;
+use image_crew::Step;
 use ocssd_drive::CommandKind;
 use std::test::Fail;
 

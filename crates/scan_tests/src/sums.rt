@@ -1,7 +1,6 @@
 //! What images hold, but for their sectors.
 
-use crate::harness::restored;
-use crate::image::Step;
+use image_crew::{Step, restored};
 use pblk_model::Mark;
 use scan_recovery::{Head, Summary, contents, summary};
 use std::test::Fail;
@@ -56,7 +55,8 @@ static ROWS: [(&[Step], Summary); 5] = [
             head: Some(Head { line: 1, seq: 2 }),
         },
     ),
-    // A position that was given up bears no sector, and a sector that there isn't bears no position.
+    // A position that was given up bears no sector, and a sector that there isn't bears no
+    // position.
     (
         &[
             Step::First(0, 1),

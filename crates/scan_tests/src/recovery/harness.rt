@@ -3,7 +3,7 @@
 ghost use Rattle.std.specs.Prelude.{◌≡◌, vec_len};
 ghost use Rattle.pblk_reference.specs.Ready.{IsOfAcceptedShape};
 
-use crate::image::{Units, small};
+use image_crew::{Units, small};
 use pblk_reference::{Image, contents, end};
 use std::alloc::{AllocError, Global};
 

@@ -1,7 +1,7 @@
 //! What images hold that were written by hand.
 
-use crate::image::{Step, Units, made, sector};
 use crate::recovery::harness::{Held, tag_of, told};
+use image_crew::{Step, Units, made, sector};
 use pblk_model::{ChunkState, Mark};
 use std::alloc::{AllocError, Global};
 use std::test::Fail;

@@ -1,7 +1,7 @@
 //! Lengths, addresses and the words of a start record.
 
-use crate::image::{Step, Units, made, small};
 use crate::recovery::harness::image_of;
+use image_crew::{Step, Units, made, small};
 use pblk_model::ChunkState;
 use pblk_reference::{
     Row, StartRecord, block_at, data_len, end_len, start_bytes, start_len, width,
@@ -72,7 +72,8 @@ fn spelled(alloc: Global) -> Result<Vec<u8>, AllocError> {
 fn a_start_record_has_these_bytes(rt: HostRuntime) -> Result<(), Fail> {
     let bytes = spelled(rt.alloc())?;
     let front = [
-        107u8, 108, 98, 112, 1, 0, 1, 0, 1, 0, 0, 0, 2, 0, 0, 0, // magic, version, kind, line, width
+        107u8, 108, 98, 112, 1, 0, 1, 0, // magic, version, kind
+        1, 0, 0, 0, 2, 0, 0, 0, // line, width
         2, 1, 0, 0, 0, 0, 0, 0, 3, 0, 0, 0, 0, 0, 0, 0, // seq, first_seq
         4, 0, 0, 0, 0, 0, 0, 0, 64, 0, 0, 0, 0, 0, 0, 0, // front, capacity
         1, 0, 0, 0, 0, 0, 0, 0, 0, 0, 0, 0, 0, 0, 0, 0, // the number of rows

@@ -2,9 +2,9 @@
 
 ghost use Rattle.pblk_reference.specs.Ready.{IsOfAcceptedShape};
 
-use crate::image::Units;
 use crate::recovery::harness::image_of;
 use crate::recovery::images::two_full;
+use image_crew::Units;
 use pblk_reference::{Image, counted, end_of, head, records, start_of};
 use std::alloc::{AllocError, Global};
 use std::test::Fail;
@@ -12,7 +12,8 @@ use std::test::Fail;
 // The head's line, sequence number and front, and how many pairs its line's end record has.
 type HeadParts = (Option<(u32, u64, u64)>, Option<usize>);
 
-// How many records there are, how many of them count, the head, and whether line 2 has a start record.
+// How many records there are, how many of them count, the head, and whether line 2 has a start
+// record.
 type Parts = (usize, usize, HeadParts, bool);
 
 fn head_of(alloc: Global, image: &Image) -> Result<HeadParts, AllocError>

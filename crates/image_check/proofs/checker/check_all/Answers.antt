@@ -14,14 +14,16 @@ use Rattle.image_check.proofs.checker.check_all.Goals as goal
 
 pub first_other-requires-clause-right : goal.first_other-requires-clause-right
 first_other-requires-clause-right c =
-    subst (λ xs. IsStrictlyIncreasing (map (λ (e : LineEntry). e.line) xs)) (sym (c.deref.ensures.value ∙ c.in_ok-survey.ensures.lines)) (entries_rise (image c.args.drive.now))
+    subst (λ xs. IsStrictlyIncreasing (map (λ (e : LineEntry). e.line) xs)) (sym (c.deref.ensures.value ∙ c.in_ok-survey.ensures.lines))
+    (entries_rise (image c.args.drive.now))
 
 pub wins_of-requires-clause-end : goal.wins_of-requires-clause-end
 wins_of-requires-clause-end c = end_right (image c.args.drive.now) c.args.certificate.now c.in_ok-check_bearers.ensures.right
 
 pub first_other-requires-2-clause-right : goal.first_other-requires-2-clause-right
 first_other-requires-2-clause-right c =
-    subst (λ xs. IsStrictlyIncreasing (map (λ (w : Winner). w.lba) xs)) (sym (c.deref-2.ensures.value ∙ c.in_ok-wins.ensures)) (wins_rise (image c.args.drive.now))
+    subst (λ xs. IsStrictlyIncreasing (map (λ (w : Winner). w.lba) xs)) (sym (c.deref-2.ensures.value ∙ c.in_ok-wins.ensures))
+    (wins_rise (image c.args.drive.now))
 
 pub first_other-requires-3-clause-right : goal.first_other-requires-3-clause-right
 first_other-requires-3-clause-right c =

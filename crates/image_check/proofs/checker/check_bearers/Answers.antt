@@ -1,10 +1,7 @@
-use Rattle.std.proofs.Common.{◌≡◌, Some, sym, ap, ◌∙◌, subst}
+use Rattle.std.proofs.Common.{sym, ap, ◌∙◌}
 use Rattle.std.specs.List.{slice_get}
 use Rattle.std.specs.Option.{option_map}
-use Rattle.pblk_model.specs.Contents.{head}
-use Rattle.pblk_model.specs.Records.{records}
 use Rattle.pblk_meta.specs.Records.{start_numbers}
-use Rattle.image_check.specs.Bearers.{IsSeen, first_wrong}
 use Rattle.image_check.proofs.DriveImage.{image}
 use Rattle.image_check.proofs.CheckLemmas.{bearers_are, bearers_right, borne_refused, low_refused, no_head_wrong, wrong_refused}
 use Rattle.image_check.proofs.HeadLemmas.{head_front}
@@ -13,7 +10,8 @@ use Rattle.image_check.proofs.checker.check_bearers.Goals.{then-end-head-via-the
 
 pub returns-in-Some-first-clause-refused : goal.returns-in-Some-first-clause-refused
 returns-in-Some-first-clause-refused c =
-    no_head_wrong (image c.args.drive.now) c.args.certificate.now c.in-Some-first.bearer.now (sym c.requires.head ∙ ap (option_map start_numbers) c.in_default.is)
+    no_head_wrong (image c.args.drive.now) c.args.certificate.now c.in-Some-first.bearer.now
+    (sym c.requires.head ∙ ap (option_map start_numbers) c.in_default.is)
     (c.in-Some-first.ensures.value ∙ ap (λ bs. slice_get bs 0) c.as_slice-bears.ensures)
     c.requires.order.bears
 
@@ -23,53 +21,30 @@ first_wrong-requires-clause-front c =
 
 pub returns-in-Some-first_wrong-clause-refused : goal.returns-in-Some-first_wrong-clause-refused
 returns-in-Some-first_wrong-clause-refused c =
-    let i = image c.args.drive.now in
-    let h = start_numbers c.in-Some.head in
-    let seen = c.in_ok-seen.seen in
-    let cert = c.args.certificate.now in
-    let is : head i ≡ Some h = sym c.requires.head ∙ ap (option_map start_numbers) c.in-Some.is in
-    let known = subst (λ bs. IsSeen h bs cert.end (records i) seen) c.as_slice-bears.ensures c.in_ok-seen.ensures in
-    let found : c.first_wrong.result ≡ first_wrong h.front cert.end cert.bears seen.bearers.items = c.first_wrong.ensures
-    ∙ ap (λ bs. first_wrong h.front cert.end bs c.deref.result.now) c.as_slice-bears.ensures ∙ ap (first_wrong h.front cert.end cert.bears) c.deref.ensures.value in
-    wrong_refused i cert h is seen known c.requires.order.bears c.first_wrong.result found c.in-Some-first_wrong.position c.in-Some-first_wrong.is
+    wrong_refused (image c.args.drive.now) c.args.certificate.now c.args.newest.now c.in-Some.head c.requires.head c.in-Some.is
+    c.as_slice-bears.result.now c.as_slice-bears.ensures c.in_ok-seen.seen c.in_ok-seen.ensures c.deref.result.now c.deref.ensures.value
+    c.requires.order.bears c.first_wrong.result c.first_wrong.ensures c.in-Some-first_wrong.position c.in-Some-first_wrong.is
 
 pub returns-then-end-head-clause-refused : goal.returns-then-end-head-clause-refused
-returns-then-end-head-clause-refused c =
-    let i = image c.args.drive.now in
-    let h = start_numbers c.in-Some.head in
-    let seen = c.in_ok-seen.seen in
-    let cert = c.args.certificate.now in
-    let is : head i ≡ Some h = sym c.requires.head ∙ ap (option_map start_numbers) c.in-Some.is in
-    let known = subst (λ bs. IsSeen h bs cert.end (records i) seen) c.as_slice-bears.ensures c.in_ok-seen.ensures in
-    let found : c.first_wrong.result ≡ first_wrong h.front cert.end cert.bears seen.bearers.items = c.first_wrong.ensures
-    ∙ ap (λ bs. first_wrong h.front cert.end bs c.deref.result.now) c.as_slice-bears.ensures ∙ ap (first_wrong h.front cert.end cert.bears) c.deref.ensures.value in
-    elim c.then-end-head.branch [
-      | then-end-head-via-then-end-head w ↦
-          low_refused i cert h is seen known c.requires.order.bears c.first_wrong.result found c.in_default-first_wrong.is w.if-end-head.true
-      | then-end-head-via-else-end-head+then-seen w ↦
-          borne_refused i cert h is seen known c.requires.order.bears c.first_wrong.result found c.in_default-first_wrong.is w.if-seen.true
-    ]
+returns-then-end-head-clause-refused c = elim c.then-end-head.branch [
+  | then-end-head-via-then-end-head w ↦
+      low_refused (image c.args.drive.now) c.args.certificate.now c.args.newest.now c.in-Some.head c.requires.head c.in-Some.is
+      c.as_slice-bears.result.now c.as_slice-bears.ensures c.in_ok-seen.seen c.in_ok-seen.ensures c.deref.result.now c.deref.ensures.value
+      c.requires.order.bears c.first_wrong.result c.first_wrong.ensures c.in_default-first_wrong.is w.if-end-head.true
+  | then-end-head-via-else-end-head+then-seen w ↦
+      borne_refused (image c.args.drive.now) c.args.certificate.now c.args.newest.now c.in-Some.head c.requires.head c.in-Some.is
+      c.as_slice-bears.result.now c.as_slice-bears.ensures c.in_ok-seen.seen c.in_ok-seen.ensures c.deref.result.now c.deref.ensures.value
+      c.requires.order.bears c.first_wrong.result c.first_wrong.ensures c.in_default-first_wrong.is w.if-seen.true
+]
 
 pub returns-clause-right : goal.returns-clause-right
 returns-clause-right c =
-    let i = image c.args.drive.now in
-    let h = start_numbers c.in-Some.head in
-    let seen = c.in_ok-seen.seen in
-    let cert = c.args.certificate.now in
-    let is : head i ≡ Some h = sym c.requires.head ∙ ap (option_map start_numbers) c.in-Some.is in
-    let known = subst (λ bs. IsSeen h bs cert.end (records i) seen) c.as_slice-bears.ensures c.in_ok-seen.ensures in
-    let found : c.first_wrong.result ≡ first_wrong h.front cert.end cert.bears seen.bearers.items = c.first_wrong.ensures
-    ∙ ap (λ bs. first_wrong h.front cert.end bs c.deref.result.now) c.as_slice-bears.ensures ∙ ap (first_wrong h.front cert.end cert.bears) c.deref.ensures.value in
-    bearers_right i cert h is seen known c.requires.order.bears c.first_wrong.result found c.in_default-first_wrong.is c.if-end-head.false c.if-seen.false
+    bearers_right (image c.args.drive.now) c.args.certificate.now c.args.newest.now c.in-Some.head c.requires.head c.in-Some.is
+    c.as_slice-bears.result.now c.as_slice-bears.ensures c.in_ok-seen.seen c.in_ok-seen.ensures c.deref.result.now c.deref.ensures.value
+    c.requires.order.bears c.first_wrong.result c.first_wrong.ensures c.in_default-first_wrong.is c.if-end-head.false c.if-seen.false
 
 pub returns-clause-bears : goal.returns-clause-bears
 returns-clause-bears c =
-    let i = image c.args.drive.now in
-    let h = start_numbers c.in-Some.head in
-    let seen = c.in_ok-seen.seen in
-    let cert = c.args.certificate.now in
-    let is : head i ≡ Some h = sym c.requires.head ∙ ap (option_map start_numbers) c.in-Some.is in
-    let known = subst (λ bs. IsSeen h bs cert.end (records i) seen) c.as_slice-bears.ensures c.in_ok-seen.ensures in
-    let found : c.first_wrong.result ≡ first_wrong h.front cert.end cert.bears seen.bearers.items = c.first_wrong.ensures
-    ∙ ap (λ bs. first_wrong h.front cert.end bs c.deref.result.now) c.as_slice-bears.ensures ∙ ap (first_wrong h.front cert.end cert.bears) c.deref.ensures.value in
-    bearers_are i cert h is seen known c.requires.order.bears c.first_wrong.result found c.in_default-first_wrong.is c.if-end-head.false c.if-seen.false
+    bearers_are (image c.args.drive.now) c.args.certificate.now c.args.newest.now c.in-Some.head c.requires.head c.in-Some.is
+    c.as_slice-bears.result.now c.as_slice-bears.ensures c.in_ok-seen.seen c.in_ok-seen.ensures c.deref.result.now c.deref.ensures.value
+    c.requires.order.bears c.first_wrong.result c.first_wrong.ensures c.in_default-first_wrong.is c.if-end-head.false c.if-seen.false

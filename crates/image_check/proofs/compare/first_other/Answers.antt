@@ -26,7 +26,8 @@ returns-then-not-is-clause-other g c =
     let a = c.index-right-place-then-not-is.result in
     let at_first : slice_get c.args.right.now k ≡ Some first = slice_get-get_or c.args.right.now k first c.loop-place-test.true
     ∙ ap Some (sym c.index-right-place-in-loop-place.is) in
-    let here : slice_get c.args.right.now k ≡ Some a = slice_get-get_or c.args.right.now k a c.loop-place-test.true ∙ ap Some (sym c.index-right-place-then-not-is.is) in
+    let here : slice_get c.args.right.now k ≡ Some a = slice_get-get_or c.args.right.now k a c.loop-place-test.true
+    ∙ ap Some (sym c.index-right-place-then-not-is.is) in
     let there : slice_get c.args.said.now k ≡ Some c.in-Some.theirs.now = slice_get-get_or c.args.said.now k c.in-Some.theirs.now c.in-Some.ensures.lookup.3.0
     ∙ ap Some (sym c.in-Some.ensures.lookup.1) in
     let same : first ≡ a = same_Some first a (sym at_first ∙ here) in
@@ -38,7 +39,8 @@ pub loop-place-preserved : goal.loop-place-preserved
 loop-place-preserved g c =
     let k = c.loop-place.place in
     let a = c.index-right-place-in-loop-place.result in
-    let here : slice_get c.args.right.now k ≡ Some a = slice_get-get_or c.args.right.now k a c.loop-place-test.true ∙ ap Some (sym c.index-right-place-in-loop-place.is) in
+    let here : slice_get c.args.right.now k ≡ Some a = slice_get-get_or c.args.right.now k a c.loop-place-test.true
+    ∙ ap Some (sym c.index-right-place-in-loop-place.is) in
     let there : slice_get c.args.said.now k ≡ Some c.in-Some.theirs.now = slice_get-get_or c.args.said.now k c.in-Some.theirs.now c.in-Some.ensures.lookup.3.0
     ∙ ap Some (sym c.in-Some.ensures.lookup.1) in
     left_next g.N.Numbered.of c.args.right.now c.args.said.now k c.loop-place.invariant a here c.in-Some.theirs.now there

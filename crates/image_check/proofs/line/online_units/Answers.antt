@@ -27,7 +27,8 @@ loop-unit-preserved c =
     ∙ sym c.is_online.ensures in
     elim c.if-is_online.branch [
       | then-is_online w ↦ rw w.online-is
-          (with_unit (is_online_at i c.args.line) c.loop-unit.unit c.loop-unit.online w.add.new.self (here ∙ w.if-is_online.true) w.add.ensures c.loop-unit.invariant)
+          (with_unit (is_online_at i c.args.line) c.loop-unit.unit c.loop-unit.online w.add.new.self
+          (here ∙ w.if-is_online.true) w.add.ensures c.loop-unit.invariant)
       | else-is_online w ↦ rw w.online-is
           (without_unit (is_online_at i c.args.line) c.loop-unit.unit c.loop-unit.online (here ∙ w.if-is_online.false) c.loop-unit.invariant)
     ]

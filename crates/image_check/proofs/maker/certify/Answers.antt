@@ -20,8 +20,10 @@ returns-clause-order c =
     ∙ ap (λ ws. map (live_in ws) c.deref.result.now) (c.deref-2.ensures.value ∙ c.in_ok-wins.ensures)
     ∙ ap (map (live_in (wins_of i))) (c.deref.ensures.value ∙ c.in_ok-survey.ensures.lines) in
     record {
-      lines = subst (λ xs. IsStrictlyIncreasing (map (λ (e : LineEntry). e.line) xs)) (sym (c.from_vec.ensures ∙ c.in_ok-survey.ensures.lines)) (entries_rise i);
-      bears = subst IsStrictlyIncreasing (sym (ap (map (λ (b : Bearer). b.position)) c.from_vec-2.ensures ∙ c.in_ok-bears.ensures.bears.positions)) (row_rises _ _);
+      lines = subst (λ xs. IsStrictlyIncreasing (map (λ (e : LineEntry). e.line) xs)) (sym (c.from_vec.ensures ∙ c.in_ok-survey.ensures.lines))
+          (entries_rise i);
+      bears = subst IsStrictlyIncreasing (sym (ap (map (λ (b : Bearer). b.position)) c.from_vec-2.ensures ∙ c.in_ok-bears.ensures.bears.positions))
+          (row_rises _ _);
       wins = subst (λ xs. IsStrictlyIncreasing (map (λ (w : Winner). w.lba) xs)) (sym (c.from_vec-3.ensures ∙ c.in_ok-wins.ensures)) (wins_rise i);
       lives = subst (λ xs. IsStrictlyIncreasing (map (λ (l : LiveCount). l.line) xs)) (sym (c.from_vec-4.ensures ∙ lives)) (lives_rise i);
     }

@@ -11,7 +11,8 @@ use Rattle.image_check.proofs.WinnerLemmas.{lines_moved}
 use Rattle.image_check.proofs.maker.first_of.Goals as goal
 
 pub loop-number-init : goal.loop-number-init
-loop-number-init c = subst (λ n. IsTable n (bearer_behind (start_numbers c.args.newest.now) []) c.in_ok-first.first.items) c.in_ok-count.ensures c.in_ok-first.ensures
+loop-number-init c = subst (λ n. IsTable n (bearer_behind (start_numbers c.args.newest.now) []) c.in_ok-first.first.items) c.in_ok-count.ensures
+    c.in_ok-first.ensures
 
 pub loop-number-preserved : goal.loop-number-preserved
 loop-number-preserved c =
@@ -35,5 +36,6 @@ pub returns : goal.returns
 returns c =
     let i = image c.args.drive.now in
     let end : c.loop-number.number ≡ c.shape-number-end.result.chunks = omega arith in
-    subst (λ m. IsTable (length (records i)) (bearer_behind (start_numbers c.args.newest.now) (flat_map (line_records i) (range_with_len 0 m))) c.loop-number.first.items)
+    subst (λ m. IsTable (length (records i))
+    (bearer_behind (start_numbers c.args.newest.now) (flat_map (line_records i) (range_with_len 0 m))) c.loop-number.first.items)
     (end ∙ ap (λ (s : Shape). s.chunks) c.shape-number-end.ensures.shape) c.loop-number.invariant

@@ -12,9 +12,11 @@ use Rattle.image_check.proofs.maker.note.Goals.{then-record-newest-via-then-reco
 
 pub returns-then-record-newest : goal.returns-then-record-newest
 returns-then-record-newest c = elim c.then-record-newest.branch [
-  | then-record-newest-via-then-record-newest w ↦ λ rs h. older_noted (start_numbers c.args.newest.now) rs c.args.record.now (length c.args.first.now) c.args.first.now h
+  | then-record-newest-via-then-record-newest w ↦ λ rs h. older_noted (start_numbers c.args.newest.now) rs c.args.record.now
+      (length c.args.first.now) c.args.first.now h
       (subst (λ (r : Record). r.seq < c.args.newest.now.first_seq) c.record.view_is w.if-record-newest.true)
-  | then-record-newest-via-else-record-newest+then-record-newest-2 w ↦ λ rs h. below_noted (start_numbers c.args.newest.now) rs c.args.record.now (length c.args.first.now)
+  | then-record-newest-via-else-record-newest+then-record-newest-2 w ↦ λ rs h. below_noted (start_numbers c.args.newest.now) rs c.args.record.now
+      (length c.args.first.now)
       c.args.first.now h (subst (λ (r : Record). r.position < c.args.newest.now.front) c.record.view_is w.if-record-newest-2.true)
 ]
 
@@ -25,7 +27,8 @@ returns-then-is_none c = λ rs h.
     let r = c.record.inside in
     let place = r.position - c.args.newest.now.front in
     let none : get_or first place None ≡ None = none_there (get_or first place None) (c.is_none.ensures ∙ ap not c.if-is_none.true) in
-    subst (λ (x : Record). IsTable (length first) (bearer_behind hd (rs ++ x ∷ [])) (slice_set first place (Some (record { position = r.position; line = r.line; at = r.at })))) c.record.view_is
+    subst (λ (x : Record). IsTable (length first) (bearer_behind hd (rs ++ x ∷ []))
+    (slice_set first place (Some (record { position = r.position; line = r.line; at = r.at })))) c.record.view_is
     (new_noted hd rs _ (length first) first h place (omega (arith, c.if-record-newest-2.false)) c.if-place-first.true c.if-record-newest.false
     (slice_get-get_or first place None c.if-place-first.true ∙ ap Some none))
 

@@ -17,7 +17,8 @@ loop-record-preserved c = λ rs h.
     let before = rs ++ take k c.args.more.now in
     let table = c.loop-record.invariant rs h in
     let more : rs ++ take (k + 1) c.args.more.now ≡ before ++ c.record-item.result ∷ [] =
-    ap (λ xs. rs ++ xs) (take_one c.args.more.now k c.record-item.result c.loop-record-test.true ∙ ap (λ r. take k c.args.more.now ++ r ∷ []) (sym c.record-item.is))
+    ap (λ xs. rs ++ xs) (take_one c.args.more.now k c.record-item.result c.loop-record-test.true
+    ∙ ap (λ r. take k c.args.more.now ++ r ∷ []) (sym c.record-item.is))
     ∙ sym (append_assoc rs (take k c.args.more.now) (c.record-item.result ∷ [])) in
     let own = subst (λ m. IsTable m (bearer_behind hd before) c.loop-record.first) (sym table.count) table in
     let noted = c.note.ensures before own in

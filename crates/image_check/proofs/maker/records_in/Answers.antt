@@ -14,7 +14,8 @@ loop-number-preserved c =
     let here : c.in_ok-records.records.items ≡ line_records i n = c.in_ok-records.ensures
     ∙ ap (λ (j : Image). line_records j c.new.result.number) c.new.ensures.image ∙ ap (line_records i) c.new.ensures.number in
     let size : length c.as_slice.result.now ≡ length (line_records i n) = ap length (c.as_slice.ensures.value ∙ here) in
-    let all : length (flat_map (line_records i) (range_with_len 0 (n + 1))) ≡ length (flat_map (line_records i) (range_with_len 0 n)) + length (line_records i n) =
+    let all : length (flat_map (line_records i) (range_with_len 0 (n + 1)))
+    ≡ length (flat_map (line_records i) (range_with_len 0 n)) + length (line_records i n) =
     ap length (lines_more i n) ∙ length-append (flat_map (line_records i) (range_with_len 0 n)) (line_records i n) in
     record {
       count = omega (arith, size, all, c.loop-number.invariant.count);
@@ -25,4 +26,5 @@ pub returns : goal.returns
 returns c =
     let i = image c.args.drive.now in
     let end : c.loop-number.number ≡ c.shape-number-end.result.chunks = omega arith in
-    c.loop-number.invariant.count ∙ ap (λ n. length (flat_map (line_records i) (range_with_len 0 n))) (end ∙ ap (λ (s : Shape). s.chunks) c.shape-number-end.ensures.shape)
+    c.loop-number.invariant.count ∙ ap (λ n. length (flat_map (line_records i) (range_with_len 0 n)))
+    (end ∙ ap (λ (s : Shape). s.chunks) c.shape-number-end.ensures.shape)

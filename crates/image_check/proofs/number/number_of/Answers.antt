@@ -31,11 +31,15 @@ returns-in_err-number c =
 pub returns-then-eq : goal.returns-then-eq
 returns-then-eq c =
     let n = c.loop-byte.number in
-    let same : bytes_eq c.args.word.now (decimal n) ≡ true = sym (ap (bytes_eq c.args.word.now) (c.as_bytes.ensures.value ∙ c.format.ensures.text)) ∙ sym c.eq.ensures ∙ c.if-eq.true in
-    sym (ap (λ t. cond t (Some n) None) same) ∙ spelled_again c.args.word.now n c.loop-byte.byte-index c.loop-byte.invariant.known c.loop-byte-test.false c.loop-byte.invariant.small
+    let same : bytes_eq c.args.word.now (decimal n) ≡ true = sym (ap (bytes_eq c.args.word.now) (c.as_bytes.ensures.value ∙ c.format.ensures.text))
+    ∙ sym c.eq.ensures ∙ c.if-eq.true in
+    sym (ap (λ t. cond t (Some n) None) same)
+    ∙ spelled_again c.args.word.now n c.loop-byte.byte-index c.loop-byte.invariant.known c.loop-byte-test.false c.loop-byte.invariant.small
 
 pub returns-else-eq : goal.returns-else-eq
 returns-else-eq c =
     let n = c.loop-byte.number in
-    let other : bytes_eq c.args.word.now (decimal n) ≡ false = sym (ap (bytes_eq c.args.word.now) (c.as_bytes.ensures.value ∙ c.format.ensures.text)) ∙ sym c.eq.ensures ∙ c.if-eq.false in
-    sym (ap (λ t. cond t (Some n) None) other) ∙ spelled_again c.args.word.now n c.loop-byte.byte-index c.loop-byte.invariant.known c.loop-byte-test.false c.loop-byte.invariant.small
+    let other : bytes_eq c.args.word.now (decimal n) ≡ false = sym (ap (bytes_eq c.args.word.now) (c.as_bytes.ensures.value ∙ c.format.ensures.text))
+    ∙ sym c.eq.ensures ∙ c.if-eq.false in
+    sym (ap (λ t. cond t (Some n) None) other)
+    ∙ spelled_again c.args.word.now n c.loop-byte.byte-index c.loop-byte.invariant.known c.loop-byte-test.false c.loop-byte.invariant.small

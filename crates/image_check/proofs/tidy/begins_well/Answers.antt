@@ -8,11 +8,13 @@ use Rattle.image_check.proofs.TidyLemmas.{all_below, none_below, one_below}
 use Rattle.image_check.proofs.tidy.begins_well.Goals as goal
 
 pub loop-unit-init : goal.loop-unit-init
-loop-unit-init c = none_below c.args.line.now.image c.args.line.now.number (λ (x : Chunk). BeginsWithin (width c.args.line.now.image c.args.line.now.number) x → ⊥)
+loop-unit-init c = none_below c.args.line.now.image c.args.line.now.number
+    (λ (x : Chunk). BeginsWithin (width c.args.line.now.image c.args.line.now.number) x → ⊥)
 
 pub loop-unit-preserved : goal.loop-unit-preserved
 loop-unit-preserved c =
-    one_below c.args.line.now.image c.args.line.now.number (λ (x : Chunk). BeginsWithin (width c.args.line.now.image c.args.line.now.number) x → ⊥) c.loop-unit.unit c.chunk.result.now.chunk
+    one_below c.args.line.now.image c.args.line.now.number
+    (λ (x : Chunk). BeginsWithin (width c.args.line.now.image c.args.line.now.number) x → ⊥) c.loop-unit.unit c.chunk.result.now.chunk
     c.chunk.ensures.chunk (λ within.
     (let both : true ≡ false = sym (c.begins_within.ensures.1 (subst (λ n. BeginsWithin n c.chunk.result.now.chunk) (sym c.width.ensures.width) within))
     ∙ c.if-begins_within.false in absurd (cc))) c.loop-unit.invariant
@@ -27,7 +29,8 @@ returns-then-begins_within c = (
 pub returns : goal.returns
 returns c =
     let end : c.loop-unit.unit ≡ c.units-unit-end.result = omega arith in (
-      λ e. all_below c.args.line.now.image c.args.line.now.number (λ (x : Chunk). BeginsWithin (width c.args.line.now.image c.args.line.now.number) x → ⊥) c.loop-unit.unit c.units-unit-end.ensures.fit
+      λ e. all_below c.args.line.now.image c.args.line.now.number
+          (λ (x : Chunk). BeginsWithin (width c.args.line.now.image c.args.line.now.number) x → ⊥) c.loop-unit.unit c.units-unit-end.ensures.fit
           (end ∙ c.units-unit-end.ensures.count) c.loop-unit.invariant,
       λ h. refl,
     )

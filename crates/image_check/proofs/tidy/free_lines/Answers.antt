@@ -29,4 +29,5 @@ pub returns : goal.returns
 returns c =
     let end : c.loop-number.number ≡ c.shape-number-end.result.chunks = omega arith in
     c.loop-number.invariant.is
-    ∙ ap (λ n. length (filter (has_free_chunks (image c.args.drive.now)) (range_with_len 0 n))) (end ∙ ap (λ (s : Shape). s.chunks) c.shape-number-end.ensures.shape)
+    ∙ ap (λ n. length (filter (has_free_chunks (image c.args.drive.now)) (range_with_len 0 n)))
+    (end ∙ ap (λ (s : Shape). s.chunks) c.shape-number-end.ensures.shape)

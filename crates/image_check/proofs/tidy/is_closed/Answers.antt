@@ -16,7 +16,8 @@ loop-unit-preserved c =
 pub returns-then-is_open_state : goal.returns-then-is_open_state
 returns-then-is_open_state c = (
   λ e. absurd (cc),
-  λ h. absurd (h c.loop-unit.unit c.chunk.result.now.chunk c.chunk.ensures.chunk (sym c.state-state.ensures.state ∙ c.is_open_state.ensures.0 c.if-is_open_state.true)),
+  λ h. absurd (h c.loop-unit.unit c.chunk.result.now.chunk c.chunk.ensures.chunk
+      (sym c.state-state.ensures.state ∙ c.is_open_state.ensures.0 c.if-is_open_state.true)),
 )
 
 pub returns : goal.returns

@@ -10,7 +10,8 @@ loop-unit-init c = none_below c.args.line.now.image c.args.line.now.number (IsWh
 pub loop-unit-preserved : goal.loop-unit-preserved
 loop-unit-preserved c =
     let whole = c.is_whole_chunk.ensures.0 c.if-not-is_whole_chunk.false in
-    one_below c.args.line.now.image c.args.line.now.number (IsWholeChunk c.args.line.now.image.shape) c.loop-unit.unit c.chunk.result.now.chunk c.chunk.ensures.chunk
+    one_below c.args.line.now.image c.args.line.now.number
+    (IsWholeChunk c.args.line.now.image.shape) c.loop-unit.unit c.chunk.result.now.chunk c.chunk.ensures.chunk
     (subst (λ (s : Shape). IsWholeChunk s c.chunk.result.now.chunk) c.chunk.ensures.shape whole) c.loop-unit.invariant
 
 pub returns-then-not-is_whole_chunk : goal.returns-then-not-is_whole_chunk
@@ -24,5 +25,8 @@ returns-then-not-is_whole_chunk c = (
 
 pub returns : goal.returns
 returns c =
-    let end : c.loop-unit.unit ≡ c.units-unit-end.result = omega arith in
-    (λ e. all_below c.args.line.now.image c.args.line.now.number (IsWholeChunk c.args.line.now.image.shape) c.loop-unit.unit c.units-unit-end.ensures.fit (end ∙ c.units-unit-end.ensures.count) c.loop-unit.invariant, λ h. refl)
+    let end : c.loop-unit.unit ≡ c.units-unit-end.result = omega arith in (
+      λ e. all_below c.args.line.now.image c.args.line.now.number (IsWholeChunk c.args.line.now.image.shape) c.loop-unit.unit c.units-unit-end.ensures.fit
+          (end ∙ c.units-unit-end.ensures.count) c.loop-unit.invariant,
+      λ h. refl,
+    )

@@ -16,7 +16,8 @@ loop-record-preserved c =
     elim c.if-counts.branch [
       | then-counts w ↦ rw w.best-is (λ n rs first. rw (counted_yes p rs c.args.more.now c.loop-record.record-index c.record-item.result c.loop-record-test.true
           (sym here ∙ sym c.counts.ensures ∙ w.if-counts.true))
-          (rw (sym c.record-item.is) (w.note.ensures n (filter p (rs ++ take c.loop-record.record-index c.args.more.now)) (c.loop-record.invariant n rs first))))
+          (rw (sym c.record-item.is) (w.note.ensures n (filter p (rs ++ take c.loop-record.record-index c.args.more.now))
+          (c.loop-record.invariant n rs first))))
       | else-counts w ↦ rw w.best-is (λ n rs first. rw (counted_no p rs c.args.more.now c.loop-record.record-index c.record-item.result c.loop-record-test.true
           (sym here ∙ sym c.counts.ensures ∙ w.if-counts.false)) (c.loop-record.invariant n rs first))
     ]

@@ -16,6 +16,7 @@ pub returns-in_ok-best-in-Some : goal.returns-in_ok-best-in-Some
 returns-in_ok-best-in-Some c =
     let i = image c.args.drive.now in
     let table = subst (IsTable i.shape.capacity (winner (counted i))) (sym c.deref.ensures.value) c.in_ok-best-in-Some.ensures in
-    let own : IsTable (length c.deref.result.now) (winner (counted i)) c.deref.result.now = record { count = refl; each = λ k below. table.each k (subst (λ n. k < n) table.count below) } in
+    let own : IsTable (length c.deref.result.now) (winner (counted i)) c.deref.result.now =
+    record { count = refl; each = λ k below. table.each k (subst (λ n. k < n) table.count below) } in
     subst (λ n. IfOk c.places_of.result (λ v. v.items ≡ filter_map (λ lba. win_by lba (winner (counted i) lba)) (range_with_len 0 n))) table.count
     (c.places_of.ensures (winner (counted i)) own)

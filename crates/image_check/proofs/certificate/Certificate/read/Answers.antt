@@ -25,7 +25,8 @@ loop-line-preserved c =
     let more : length (inv.0 ++ c.in-Some-said_in.said ∷ []) ≡ length inv.0 + 1 = length-append inv.0 (c.in-Some-said_in.said ∷ []) in (
       inv.0 ++ c.in-Some-said_in.said ∷ [],
       c.in_ok-add.ensures inv.0 inv.1,
-      inv.2 ∙ spelled_more inv.0 c.in-Some-said_in.said c.in-Some.line.now c.loop-line.rest.now c.in-Some.more.now c.in-Some.ensures.found c.in-Some-said_in.ensures.0,
+      inv.2 ∙ spelled_more inv.0 c.in-Some-said_in.said c.in-Some.line.now c.loop-line.rest.now c.in-Some.more.now c.in-Some.ensures.found
+          c.in-Some-said_in.ensures.0,
       omega (arith, more, inv.3, c.saturating_add-number.ensures),
     )
 

@@ -4,7 +4,8 @@ use Rattle.image_check.specs.Text.{spelled, text_of}
 use Rattle.image_check.proofs.certificate.Certificate.write.Given as goal
 
 abbrev pub invariant-loop-row : goal.invariant-loop-row
-invariant-loop-row l = l.out.items ++ spelled (map Line (drop l.row-index l.self.lines) ++ (map Bear l.self.bears ++ (map Win l.self.wins ++ map Live l.self.lives)))
+invariant-loop-row l = l.out.items
+    ++ spelled (map Line (drop l.row-index l.self.lines) ++ (map Bear l.self.bears ++ (map Win l.self.wins ++ map Live l.self.lives)))
     ≡ l.fn.out.items ++ text_of l.self
 
 abbrev pub invariant-loop-bearer : goal.invariant-loop-bearer

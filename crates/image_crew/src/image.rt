@@ -8,9 +8,9 @@ use pblk_model::{ChunkState, Mark, Shape};
 use pblk_reference::{Block, Chunk, EndRecord, Row, StartRecord, end_bytes, start_bytes};
 use std::alloc::{AllocError, Global};
 
-/// The small drive: two units of eight chunks of 24 blocks. A line of both units has 4 blocks of start record,
-/// 40 of data and 4 of end record.
-pub(crate) fn small() -> Shape
+/// The shape of the small drive: two units of eight chunks of 24 blocks. A line of both units has 4
+/// blocks of start record, 40 of data and 4 of end record.
+pub fn small() -> Shape
     ensures accepted { IsAccepted result }
     ensures two { units result ≡ 2 }
 {
@@ -21,29 +21,30 @@ pub(crate) fn small() -> Shape
 const PLAIN: u64 = 7;
 
 /// The chunks of an image, by unit and then by line.
-pub(crate) type Units = Vec<Vec<Chunk>>;
+pub type Units = Vec<Vec<Chunk>>;
 
 /// What is done to an image.
 #[derive(Clone, Copy)]
-pub(crate) enum Step {
-    /// The start record of a line of the first mount, with the front 0: the line and its sequence number.
+pub enum Step {
+    /// The start record of a line of the first mount, with the front 0: the line and its sequence
+    /// number.
     First(u32, u64),
-    /// The start record of a line: its sequence number, the first one of its mount, the front, and a row of
-    /// an older line, its sequence number and its bound, or none.
+    /// The start record of a line: its sequence number, the first one of its mount, the front, and
+    /// a row of an older line, its sequence number and its bound, or none.
     Start(u32, u64, u64, u64, Option<(u32, u64, u64)>),
     /// A block at a line address, of a sector and at a position.
     One(u32, u32, u64, u64),
     /// Blocks from a line address on, so many, of sectors and at positions that rise.
     Sectors(u32, u32, u32, u64, u64),
-    /// The same with this tag as their bytes: the line, the line address, how many, the tag, and the first
-    /// sector and position.
+    /// The same with this tag as their bytes: the line, the line address, how many, the tag, and
+    /// the first sector and position.
     Tagged(u32, u32, u32, u64, u64, u64),
     /// Pad blocks from a line address on, so many.
     Pads(u32, u32, u32),
     /// Pad blocks whose bytes have a tag that rises, with the first tag.
     TaggedPads(u32, u32, u32, u64),
-    /// The end record of a line: its sequence number, and pairs of the sectors from 0 on at positions from
-    /// here on.
+    /// The end record of a line: its sequence number, and pairs of the sectors from 0 on at
+    /// positions from here on.
     End(u32, u64, u64),
     /// The chunk of a unit in a line is Closed as it is.
     Close(usize, u32),
@@ -52,7 +53,7 @@ pub(crate) enum Step {
 }
 
 /// The image after these steps from a blank one.
-pub(crate) fn made(alloc: Global, steps: &[Step]) -> Result<Units, AllocError> {
+pub fn made(alloc: Global, steps: &[Step]) -> Result<Units, AllocError> {
     let mut image = blank(alloc)?;
     for step in steps {
         take_step(alloc, &mut image, *step)?;
@@ -182,7 +183,7 @@ fn place(image: &mut Units, line: u32, at: u32, block: Block) -> Result<(), Allo
 }
 
 /// The sector of a tag: the tag as eight bytes, 64 times.
-pub(crate) fn sector(alloc: Global, tag: u64) -> Result<Vec<u8>, AllocError> {
+pub fn sector(alloc: Global, tag: u64) -> Result<Vec<u8>, AllocError> {
     let mut bytes = Vec::new(alloc);
     for _ in 0..64 {
         bytes.extend_from_slice(&tag.to_le_bytes())?;
