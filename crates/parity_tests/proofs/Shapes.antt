@@ -11,7 +11,8 @@ pub same_shape : (a b : Shape) → eqb a.groups b.groups
     && (eqb a.chunks b.chunks
     && (eqb a.clba b.clba
     && (eqb a.ws_min b.ws_min
-    && (eqb a.ws_opt b.ws_opt && (eqb a.mw_cunits b.mw_cunits && (eqb a.sector b.sector && (eqb a.capacity b.capacity && eqb a.ring b.ring)))))))) ≡ true → a ≡ b
+    && (eqb a.ws_opt b.ws_opt && (eqb a.mw_cunits b.mw_cunits && (eqb a.sector b.sector && (eqb a.capacity b.capacity && eqb a.ring b.ring)))))))) ≡ true
+    → a ≡ b
 same_shape a b e =
     let h0 = and_parts _ _ e in
     let h1 = and_parts _ _ h0.1 in

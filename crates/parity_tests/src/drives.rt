@@ -6,11 +6,11 @@ use std::alloc::{AllocError, Global};
 use std::test::Fail;
 use stripe_parity::{Parity, make_for, pad_drive};
 
-/// Which chunks of a drive are written: the unit, the chunk, and how many blocks it has, or none where it
-/// is out of use.
+/// Which chunks of a drive are written: the unit, the chunk, and how many blocks it has, or none
+/// where it is out of use.
 pub(crate) type Written = (u32, u32, Option<u32>);
 
-/// Chunks that were written whole, in part by a failed write, and not at all, on both units or on one.
+/// Chunks written whole, in part by a failed write, and not at all, on both units or on one.
 pub(crate) static MIXED: [Written; 7] = [
     (0, 0, Some(24)),
     (1, 0, Some(24)),

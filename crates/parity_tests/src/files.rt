@@ -84,7 +84,7 @@ fn a_byte_too_many_is_refused(rt: HostRuntime) -> Result<(), Fail> {
     Ok(())
 }
 
-// What reading is refused for where a byte is set wrong before the exclusive ors of the small drive.
+// What reading is refused for where a byte is wrong before the exclusive ors of the small drive.
 fn named(at: usize) -> Option<ParityErr> {
     match at {
         0..8 => Some(ParityErr::Magic),

@@ -37,7 +37,7 @@ fn rebuilt(
     Ok(None)
 }
 
-// What a drive holds before a unit is lost and once it was made anew, and how many blocks were made.
+// What a drive holds before a unit is lost and once it is made anew, and how many blocks were made.
 fn around(alloc: Global, lost: u32) -> Result<(Vec<u8>, Vec<u8>, Option<u32>), Fail> {
     let mut drive = drive_of(alloc, &MIXED)?;
     let parity = parity_of(alloc, &mut drive)?;

@@ -8,7 +8,8 @@ use Rattle.pblk_model.specs.Chunk.{Chunk}
 use Rattle.stripe_parity.specs.declared.kept.KeptChunk.{KeptChunk}
 use Rattle.stripe_parity.specs.ParityFile.{kept_of, pointer_in}
 
-pub one_kept : (media : List Chunk) (n : ℕ) (old new : List KeptChunk) (c : Chunk) (k : KeptChunk) → old ≡ map kept_of (take n media) → slice_get media n ≡ Some c → k ≡ kept_of c
+pub one_kept : (media : List Chunk) (n : ℕ) (old new : List KeptChunk) (c : Chunk) (k : KeptChunk) → old ≡ map kept_of (take n media)
+    → slice_get media n ≡ Some c → k ≡ kept_of c
     → new ≡ old ++ k ∷ [] → new ≡ map kept_of (take (n + 1) media)
 one_kept media n old new c k are there is added =
     added ∙ ap (λ ks. ks ++ k ∷ []) are ∙ ap (λ x. map kept_of (take n media) ++ x ∷ []) is
@@ -16,7 +17,8 @@ one_kept media n old new c k are there is added =
     ∙ ap (map kept_of) (sym (take_next media n c there) ∙ ap (λ m. take m media) (sym (add-one n)))
 
 -- the greatest, with one unit more
-pub most_next : {V : Type 0} (items : V → List KeptChunk) (kept : List V) (chunk i most next : ℕ) (v : V) (k : KeptChunk) → i < length kept → v ≡ get_or kept i v
+pub most_next : {V : Type 0} (items : V → List KeptChunk) (kept : List V) (chunk i most next : ℕ) (v : V) (k : KeptChunk) → i < length kept
+    → v ≡ get_or kept i v
     → slice_get (items v) chunk ≡ Some k → next ≡ max most k.pointer
     → fold max next (map (pointer_in chunk) (map items (drop (i + 1) kept))) ≡ fold max most (map (pointer_in chunk) (map items (drop i kept)))
 most_next items kept chunk i most next v k inside at there is =

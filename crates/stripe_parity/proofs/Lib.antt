@@ -11,6 +11,7 @@ pub mod OneParity
 pub mod ParityIs
 pub mod Placing
 pub mod Putting
+pub mod Ran
 pub mod RebuiltBlocks
 pub mod RebuiltUnits
 pub mod Refused

@@ -40,7 +40,8 @@ below_kept p unit chunk block is below =
     let long = all_get (λ (of : List KeptChunk). length of ≡ p.shape.chunks) p.chunks unit o.0 is.chunks_are o.1 in
     let low : chunk < p.shape.chunks = omega (arith, slice_get_within o.0 chunk k.0 o.2, long) in
     let r = got_within p.rows chunk (omega (arith, low, is.rows_are)) in
-    let same : kept_pointer p.chunks chunk unit ≡ pointer_in chunk o.0 = ap (λ (x : Option (List KeptChunk)). option_map_or (λ (y : KeptChunk). y.pointer) (option_and_then (λ of. slice_get of chunk) x) 0) o.1 in
+    let same : kept_pointer p.chunks chunk unit ≡ pointer_in chunk o.0 =
+    ap (λ (x : Option (List KeptChunk)). option_map_or (λ (y : KeptChunk). y.pointer) (option_and_then (λ of. slice_get of chunk) x) 0) o.1 in
     record {
       of = o.0;
       there = o.1;
@@ -51,14 +52,16 @@ below_kept p unit chunk block is below =
     }
 
 -- what is as kept isn't Open
-pub closed_as_kept : (p : ParityFile) (i : Image) (lost chunk unit : ℕ) (c : Chunk) → IsParity p → AreAsKept p.chunks i lost → unit ≢ lost → chunk_in i chunk unit ≡ Some c → c.state ≢ Open
+pub closed_as_kept : (p : ParityFile) (i : Image) (lost chunk unit : ℕ) (c : Chunk) → IsParity p → AreAsKept p.chunks i lost → unit ≢ lost
+    → chunk_in i chunk unit ≡ Some c → c.state ≢ Open
 closed_as_kept p i lost chunk unit c is same other there =
     let kept : kept_in p.chunks chunk unit ≡ Some (kept_of c) = sym (same unit chunk other) ∙ ap (option_map kept_of) there in
     let o = split_then (λ (of : List KeptChunk). slice_get of chunk) (slice_get p.chunks unit) (kept_of c) kept in
     (all_get _ o.0 chunk (kept_of c) (all_get _ p.chunks unit o.0 is.each o.1) o.2).closed
 
 -- a block of the parity, and the others' ones
-pub rebuilt_block : (p : ParityFile) (i : Image) (lost chunk block : ℕ) (row : List Block) (from b : Block) → slice_get p.rows chunk ≡ Some row → slice_get row block ≡ Some from
+pub rebuilt_block : (p : ParityFile) (i : Image) (lost chunk block : ℕ) (row : List Block) (from b : Block) → slice_get p.rows chunk ≡ Some row
+    → slice_get row block ≡ Some from
     → b ≡ xor_onto from (blocks_but i (Some lost) chunk block) → IsRebuiltBlock p i lost chunk block b
 rebuilt_block p i lost chunk block row from b row-there there is = record {
   from = from;
@@ -67,7 +70,8 @@ rebuilt_block p i lost chunk block row from b row-there there is = record {
 }
 
 -- a row of the parity, from its chunk
-pub row_here : (rows : List DriveChunk) (chunk : ℕ) (r : DriveChunk) → chunk < length rows → r ≡ get_or rows chunk r → slice_get (map (λ (x : DriveChunk). x.chunk.blocks) rows) chunk ≡ Some r.chunk.blocks
+pub row_here : (rows : List DriveChunk) (chunk : ℕ) (r : DriveChunk) → chunk < length rows → r ≡ get_or rows chunk r
+    → slice_get (map (λ (x : DriveChunk). x.chunk.blocks) rows) chunk ≡ Some r.chunk.blocks
 row_here rows chunk r low is = get_mapped (λ (x : DriveChunk). x.chunk.blocks) rows chunk r (slice_get_read rows (length rows) chunk r refl low is)
 
 -- What is kept of a unit, from its list.
@@ -76,8 +80,10 @@ pub record KeptHere (kept : List (Vec KeptChunk Global)) (s : Shape) (unit : ℕ
   pub there : slice_get (map (λ (v : Vec KeptChunk Global). v.items) kept) unit ≡ Some of.items
   pub chunk_is : (chunk : ℕ) → kept_in (map (λ (v : Vec KeptChunk Global). v.items) kept) chunk unit ≡ slice_get of.items chunk
 
-pub kept_here : (kept : List (Vec KeptChunk Global)) (s : Shape) (unit : ℕ) (of : Vec KeptChunk Global) → length (map (λ (v : Vec KeptChunk Global). v.items) kept) ≡ units s
-    → AllByRecursion (λ (ks : List KeptChunk). length ks ≡ s.chunks) (map (λ (v : Vec KeptChunk Global). v.items) kept) → unit < units s → of ≡ get_or kept unit of → KeptHere kept s unit of
+pub kept_here : (kept : List (Vec KeptChunk Global)) (s : Shape) (unit : ℕ) (of : Vec KeptChunk Global)
+    → length (map (λ (v : Vec KeptChunk Global). v.items) kept) ≡ units s
+    → AllByRecursion (λ (ks : List KeptChunk). length ks ≡ s.chunks) (map (λ (v : Vec KeptChunk Global). v.items) kept) → unit < units s
+    → of ≡ get_or kept unit of → KeptHere kept s unit of
 kept_here kept s unit of count chunks low is =
     let within : unit < length kept = omega (arith, low, count, length-map kept (λ (v : Vec KeptChunk Global). v.items)) in
     let at = get_mapped (λ (v : Vec KeptChunk Global). v.items) kept unit of (slice_get_read kept (length kept) unit of refl within is) in

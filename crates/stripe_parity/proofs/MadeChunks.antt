@@ -11,7 +11,8 @@ use Rattle.stripe_parity.specs.ParityFile.{ParityFile, kept_in}
 use Rattle.stripe_parity.specs.Rebuilding.{IsRebuiltBlock, IsRebuiltChunk}
 
 -- what each of a list is at its place, and one more
-pub each_more : {X : Type 0} (P : ℕ → X → Type 0) (xs : List X) (x : X) → ((k : ℕ) (y : X) → slice_get xs k ≡ Some y → P k y) → P (length xs) x → (k : ℕ) (y : X) → slice_get (xs ++ x ∷ []) k ≡ Some y → P k y
+pub each_more : {X : Type 0} (P : ℕ → X → Type 0) (xs : List X) (x : X) → ((k : ℕ) (y : X) → slice_get xs k ≡ Some y → P k y) → P (length xs) x
+    → (k : ℕ) (y : X) → slice_get (xs ++ x ∷ []) k ≡ Some y → P k y
 each_more P [] x each is zero y there = subst (P 0) (same_Some x y there) is
 each_more P [] x each is (suc k) y there = absurd (none-some y there)
 each_more P (z ∷ xs) x each is zero y there = each zero y there
@@ -24,8 +25,10 @@ pub nothing_there : {X Y : Type 0} (f : X → Y) (xs : List X) (k : ℕ) (y : Y)
 nothing_there f xs k y none there = none-some y (sym (ap (λ l. slice_get (map f l) k) none) ∙ there)
 
 -- the chunk of these blocks, as many as are kept
-pub made_is : (p : ParityFile) (i : Image) (lost chunk : ℕ) (k : KeptChunk) (c : Chunk) (size : ℕ) (bytes : List ℕ) (marks : List Mark) → kept_in p.chunks chunk lost ≡ Some k
-    → c ≡ record { state = k.state; blocks = blocks_of size bytes marks } → length marks ≡ k.pointer → ((n : ℕ) (b : Block) → slice_get (blocks_of size bytes marks) n ≡ Some b → IsRebuiltBlock p i lost chunk n b)
+pub made_is : (p : ParityFile) (i : Image) (lost chunk : ℕ) (k : KeptChunk) (c : Chunk) (size : ℕ) (bytes : List ℕ) (marks : List Mark)
+    → kept_in p.chunks chunk lost ≡ Some k
+    → c ≡ record { state = k.state; blocks = blocks_of size bytes marks } → length marks ≡ k.pointer
+    → ((n : ℕ) (b : Block) → slice_get (blocks_of size bytes marks) n ≡ Some b → IsRebuiltBlock p i lost chunk n b)
     → IsRebuiltChunk p i lost chunk c
 made_is p i lost chunk k c size bytes marks kept is many each = subst (IsRebuiltChunk p i lost chunk) (sym is) (record {
   kept = kept ∙ ap (λ n. Some (record { state = k.state; pointer = n })) (sym (length-blocks_of size bytes marks ∙ many));

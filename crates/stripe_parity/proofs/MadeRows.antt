@@ -16,7 +16,8 @@ block_added size old new sector marks more m long whole bytes-are marks-are =
     ∙ ap (λ (s : List ℕ). blocks_of size old marks ++ record { sector = s; mark = m } ∷ []) (take_all size sector (omega (arith, long)))
 
 -- one block more
-pub row_more : {X : Type 0} (f : ℕ → X) (n : ℕ) (old new : List X) (b : X) → old ≡ map f (range_with_len 0 n) → new ≡ old ++ b ∷ [] → b ≡ f n → new ≡ map f (range_with_len 0 (n + 1))
+pub row_more : {X : Type 0} (f : ℕ → X) (n : ℕ) (old new : List X) (b : X) → old ≡ map f (range_with_len 0 n) → new ≡ old ++ b ∷ [] → b ≡ f n
+    → new ≡ map f (range_with_len 0 (n + 1))
 row_more f n old new b is added last =
     added ∙ ap (λ bs. bs ++ b ∷ []) is ∙ ap (λ x. map f (range_with_len 0 n) ++ x ∷ []) last ∙ sym (map-range_with_len_more f 0 n n (omega arith))
 

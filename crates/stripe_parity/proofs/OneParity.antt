@@ -61,9 +61,11 @@ kept_cut s accepted a b r t are e =
 
 all_kept_cut : (s : Shape) → IsAccepted s → (a b : List (List KeptChunk)) (r t : List ℕ) → Paired (Paired (AreKeptOf s)) a b
     → flat_map (flat_map kept_bytes) a ++ r ≡ flat_map (flat_map kept_bytes) b ++ t → (a ≡ b) × (r ≡ t)
-all_kept_cut s accepted a b r t are e = cut_flat (Paired (AreKeptOf s)) (flat_map kept_bytes) (cut_flat (AreKeptOf s) kept_bytes (kept_cut s accepted)) a b r t are e
+all_kept_cut s accepted a b r t are e =
+    cut_flat (Paired (AreKeptOf s)) (flat_map kept_bytes) (cut_flat (AreKeptOf s) kept_bytes (kept_cut s accepted)) a b r t are e
 
-units_paired : (s : Shape) (a b : List (List KeptChunk)) → length a ≡ length b → AllByRecursion (λ of. length of ≡ s.chunks) a → AllByRecursion (λ of. length of ≡ s.chunks) b
+units_paired : (s : Shape) (a b : List (List KeptChunk)) → length a ≡ length b → AllByRecursion (λ of. length of ≡ s.chunks) a
+    → AllByRecursion (λ of. length of ≡ s.chunks) b
     → AllByRecursion (AllByRecursion (IsKept s)) a → AllByRecursion (AllByRecursion (IsKept s)) b → Paired (Paired (AreKeptOf s)) a b
 units_paired s a b many a-long b-long a-fit b-fit = paired_from (Paired (AreKeptOf s)) a b many (λ unit us vs i k.
     let left : length us ≡ s.chunks = all_get (λ (of : List KeptChunk). length of ≡ s.chunks) a unit us a-long i in
@@ -84,7 +86,8 @@ block_cut s a b r t are e =
     let aq = le64 a.mark.position in
     let bl = le64 b.mark.lba in
     let bp = le64 b.mark.position in
-    let first = cut a.sector b.sector (al ++ (aq ++ r)) (bl ++ (bp ++ t)) (are.0.size ∙ sym are.1.size) (sym (regroup a.sector al aq r) ∙ (e ∙ regroup b.sector bl bp t)) in
+    let first = cut a.sector b.sector (al ++ (aq ++ r)) (bl ++ (bp ++ t)) (are.0.size ∙ sym are.1.size)
+    (sym (regroup a.sector al aq r) ∙ (e ∙ regroup b.sector bl bp t)) in
     let second = cut al bl (aq ++ r) (bp ++ t) refl first.1 in
     let third = cut aq bp r t refl second.1 in (
       same_block a b first.0 (le64_same a.mark.lba b.mark.lba are.0.lba are.1.lba second.0)
@@ -92,12 +95,15 @@ block_cut s a b r t are e =
       third.1,
     )
 
-rows_cut : (s : Shape) (a b : List (List Block)) (r t : List ℕ) → Paired (Paired (AreBlocksOf s)) a b → flat_map (flat_map block_bytes) a ++ r ≡ flat_map (flat_map block_bytes) b ++ t → (a ≡ b) × (r ≡ t)
+rows_cut : (s : Shape) (a b : List (List Block)) (r t : List ℕ) → Paired (Paired (AreBlocksOf s)) a b
+    → flat_map (flat_map block_bytes) a ++ r ≡ flat_map (flat_map block_bytes) b ++ t → (a ≡ b) × (r ≡ t)
 rows_cut s a b r t are e = cut_flat (Paired (AreBlocksOf s)) (flat_map block_bytes) (cut_flat (AreBlocksOf s) block_bytes (block_cut s)) a b r t are e
 
-rows_paired : (s : Shape) (p q : ParityFile) → IsParity p → IsParity q → p.shape ≡ s → q.shape ≡ s → p.chunks ≡ q.chunks → Paired (Paired (AreBlocksOf s)) p.rows q.rows
+rows_paired : (s : Shape) (p q : ParityFile) → IsParity p → IsParity q → p.shape ≡ s → q.shape ≡ s → p.chunks ≡ q.chunks
+    → Paired (Paired (AreBlocksOf s)) p.rows q.rows
 rows_paired s p q is js p-shape q-shape same =
-    paired_from (Paired (AreBlocksOf s)) p.rows q.rows (is.rows_are ∙ (ap (λ (x : Shape). x.chunks) (p-shape ∙ sym q-shape) ∙ sym js.rows_are)) (λ chunk us vs i k.
+    paired_from (Paired (AreBlocksOf s)) p.rows q.rows (is.rows_are ∙ (ap (λ (x : Shape). x.chunks) (p-shape ∙ sym q-shape) ∙ sym js.rows_are))
+    (λ chunk us vs i k.
     paired_from (AreBlocksOf s) us vs (is.lengths chunk us i ∙ (ap (λ ks. greatest_pointer ks chunk) same ∙ sym (js.lengths chunk vs k))) (λ n x y j l. (
       subst (λ (z : Shape). IsBlock z x) p-shape (all_get (IsBlock p.shape) us n x (all_get (AllByRecursion (IsBlock p.shape)) p.rows chunk us is.blocks i) j),
       subst (λ (z : Shape). IsBlock z y) q-shape (all_get (IsBlock q.shape) vs n y (all_get (AllByRecursion (IsBlock q.shape)) q.rows chunk vs js.blocks k) l),
@@ -121,7 +127,8 @@ one_parity p q is js shape e =
     let s = q.shape in
     let head = cut (header_bytes p.shape) (header_bytes s) (flat_map (flat_map kept_bytes) p.chunks ++ flat_map (flat_map block_bytes) p.rows)
     (flat_map (flat_map kept_bytes) q.chunks ++ flat_map (flat_map block_bytes) q.rows) refl e in
-    let paired = units_paired s p.chunks q.chunks (is.units_are ∙ (ap units shape ∙ sym js.units_are)) (all_long s p is shape) js.chunks_are (all_kept_of s p is shape) js.each in
+    let paired = units_paired s p.chunks q.chunks (is.units_are ∙ (ap units shape ∙ sym js.units_are)) (all_long s p is shape) js.chunks_are
+    (all_kept_of s p is shape) js.each in
     let kept = all_kept_cut s js.accepted p.chunks q.chunks (flat_map (flat_map block_bytes) p.rows) (flat_map (flat_map block_bytes) q.rows) paired head.1 in
     let rows = rows_cut s p.rows q.rows [] [] (rows_paired s p q is js shape refl kept.0) (ap (λ (w : List ℕ). w ++ []) kept.1) in
     parity_same p q shape kept.0 rows.0
@@ -131,14 +138,17 @@ one_parity p q is js shape e =
 unit_length : (of : List KeptChunk) → length (flat_map kept_bytes of) ≡ 8 * length of
 unit_length of = flat_length kept_bytes 8 of (all_of (λ k. length (kept_bytes k) ≡ 8) (λ k. refl) of)
 
-all_units_length : (s : Shape) (kept : List (List KeptChunk)) → AllByRecursion (λ of. length of ≡ s.chunks) kept → AllByRecursion (λ of. length (flat_map kept_bytes of) ≡ 8 * s.chunks) kept
+all_units_length : (s : Shape) (kept : List (List KeptChunk)) → AllByRecursion (λ of. length of ≡ s.chunks) kept
+    → AllByRecursion (λ of. length (flat_map kept_bytes of) ≡ 8 * s.chunks) kept
 all_units_length s kept all =
-    all_weaker (λ (of : List KeptChunk). length of ≡ s.chunks) (λ (of : List KeptChunk). length (flat_map kept_bytes of) ≡ 8 * s.chunks) kept (λ of is. unit_length of ∙ ap (λ n. 8 * n) is) all
+    all_weaker (λ (of : List KeptChunk). length of ≡ s.chunks) (λ (of : List KeptChunk). length (flat_map kept_bytes of) ≡ 8 * s.chunks) kept
+    (λ of is. unit_length of ∙ ap (λ n. 8 * n) is) all
 
 kept_length : (p : ParityFile) → IsParity p → 32 + length (flat_map (flat_map kept_bytes) p.chunks) ≡ kept_end p.shape
 kept_length p is =
     let s = p.shape in
-    let long : length (flat_map (flat_map kept_bytes) p.chunks) ≡ 8 * s.chunks * length p.chunks = flat_length (flat_map kept_bytes) (8 * s.chunks) p.chunks (all_units_length s p.chunks is.chunks_are) in
+    let long : length (flat_map (flat_map kept_bytes) p.chunks) ≡ 8 * s.chunks * length p.chunks =
+    flat_length (flat_map kept_bytes) (8 * s.chunks) p.chunks (all_units_length s p.chunks is.chunks_are) in
     let all : 8 * s.chunks * length p.chunks ≡ 8 * (length p.chunks * s.chunks) = grind arith in
     ap (λ n. 32 + n) (long ∙ all ∙ ap (λ n. 8 * (n * s.chunks)) is.units_are)
 
@@ -149,7 +159,8 @@ row_length s row all = flat_length block_bytes (s.sector + 16) row
 rows_long : (p : ParityFile) → IsParity p → length (flat_map (flat_map block_bytes) p.rows) ≡ rows_length p.shape p.chunks
 rows_long p is =
     let s = p.shape in
-    let each = all_weaker (AllByRecursion (IsBlock s)) (λ (row : List Block). length (flat_map block_bytes row) ≡ (s.sector + 16) * length row) p.rows (row_length s) is.blocks in
+    let each = all_weaker (AllByRecursion (IsBlock s)) (λ (row : List Block). length (flat_map block_bytes row) ≡ (s.sector + 16) * length row) p.rows
+    (row_length s) is.blocks in
     let sum : sum_by (greatest_pointer p.chunks) (range_with_len 0 (length p.rows)) ≡ sum_by (λ (row : List Block). length row) p.rows =
     sum_of_range (λ (row : List Block). length row) (greatest_pointer p.chunks) p.rows (λ n row there. sym (is.lengths n row there)) in
     length_of_sum (flat_map block_bytes) (s.sector + 16) (λ (row : List Block). length row) p.rows each
@@ -169,7 +180,8 @@ begins_once : (p : ParityFile) (kept : List (List KeptChunk)) → IsParity p →
 begins_once p kept is h =
     let s = p.shape in
     let of = flat_map (flat_map kept_bytes) p.chunks in
-    let front : take (kept_end s) (parity_bytes p) ≡ header_bytes s ++ of = take_front (header_bytes s ++ of) (flat_map (flat_map block_bytes) p.rows) (kept_end s) (front_length p is) in
+    let front : take (kept_end s) (parity_bytes p) ≡ header_bytes s ++ of =
+    take_front (header_bytes s ++ of) (flat_map (flat_map block_bytes) p.rows) (kept_end s) (front_length p is) in
     let head = cut (header_bytes s) (header_bytes s) (flat_map (flat_map kept_bytes) kept) of refl (sym h.bytes ∙ front) in
     let paired = units_paired s kept p.chunks (h.units_are ∙ sym is.units_are) h.chunks_are is.chunks_are h.each is.each in
     (all_kept_cut s is.accepted kept p.chunks [] [] paired (ap (λ (w : List ℕ). w ++ []) head.1)).0
@@ -189,7 +201,8 @@ part_there p unit chunk is unit-low chunk-low =
     let all = flat_map (flat_map kept_bytes) p.chunks in
     let unit-piece = piece_of_flat (flat_map kept_bytes) (8 * s.chunks) p.chunks unit of (all_units_length s p.chunks is.chunks_are) of-there in
     let chunk-piece = piece_of_flat kept_bytes 8 of chunk k (all_of (λ x. length (kept_bytes x) ≡ 8) (λ x. refl) of) k-there in
-    let within : Piece all (kept_bytes k) (8 * s.chunks * unit + 8 * chunk) = piece_in_piece all (flat_map kept_bytes of) (kept_bytes k) (8 * s.chunks * unit) (8 * chunk) unit-piece chunk-piece in
+    let within : Piece all (kept_bytes k) (8 * s.chunks * unit + 8 * chunk) =
+    piece_in_piece all (flat_map kept_bytes of) (kept_bytes k) (8 * s.chunks * unit) (8 * chunk) unit-piece chunk-piece in
     let whole : Piece (parity_bytes p) all 32 = record { before = header_bytes s; after = flat_map (flat_map block_bytes) p.rows; is = refl; count = refl } in
     let piece = piece_in_piece (parity_bytes p) all (kept_bytes k) 32 (8 * s.chunks * unit + 8 * chunk) whole within in
     let at = 32 + 8 * (unit * s.chunks + chunk) in
@@ -200,7 +213,8 @@ long_enough p is (InHeader short) = omega (arith, short, file_length p is)
 long_enough p is (InKept header short) = omega (arith, short, file_length p is)
 long_enough p is (InRows kept begins short) =
     let same = begins_once p kept is begins in
-    let shorter : length (parity_bytes p) < kept_end p.shape + rows_length p.shape p.chunks = subst (λ ks. length (parity_bytes p) < kept_end p.shape + rows_length p.shape ks) same short in
+    let shorter : length (parity_bytes p) < kept_end p.shape + rows_length p.shape p.chunks =
+    subst (λ ks. length (parity_bytes p) < kept_end p.shape + rows_length p.shape ks) same short in
     omega (arith, shorter, file_length p is)
 
 refused_for_memory : (p : ParityFile) (e : ParityErr) → IsParity p → IsFileRefusal p.shape (parity_bytes p) e → e ≡ errors.Memory
@@ -210,12 +224,16 @@ refused_for_memory p errors.Numbers is (long, magic, version, other) = absurd (o
 refused_for_memory p (errors.Short bytes) is (at, ends) = absurd (long_enough p is ends)
 refused_for_memory p errors.Long is (kept, begins, more) =
     let same = begins_once p kept is begins in
-    let longer : kept_end p.shape + rows_length p.shape p.chunks < length (parity_bytes p) = subst (λ ks. kept_end p.shape + rows_length p.shape ks < length (parity_bytes p)) same more in
+    let longer : kept_end p.shape + rows_length p.shape p.chunks < length (parity_bytes p) =
+    subst (λ ks. kept_end p.shape + rows_length p.shape ks < length (parity_bytes p)) same more in
     absurd (omega (arith, longer, file_length p is))
 refused_for_memory p (errors.State unit chunk) is refused = absurd (refused.not (part_there p unit chunk is refused.unit_within refused.chunk_within))
 refused_for_memory p (errors.Differs unit chunk) is refused = absurd refused
 refused_for_memory p (errors.Drive unit event) is refused = absurd refused
 refused_for_memory p errors.Memory is refused = refl
 
-pub never_refused : (p : ParityFile) (s : Shape) (b : List ℕ) (e : ParityErr) → IsParity p → p.shape ≡ s → parity_bytes p ≡ b → IsFileRefusal s b e → e ≡ errors.Memory
-never_refused p s b e is shape same refused = refused_for_memory p e is (subst (λ (z : Shape). IsFileRefusal z (parity_bytes p) e) (sym shape) (subst (λ (x : List ℕ). IsFileRefusal s x e) (sym same) refused))
+pub never_refused : (p : ParityFile) (s : Shape) (b : List ℕ) (e : ParityErr) → IsParity p → p.shape ≡ s → parity_bytes p ≡ b → IsFileRefusal s b e
+    → e ≡ errors.Memory
+never_refused p s b e is shape same refused =
+    refused_for_memory p e is (subst (λ (z : Shape). IsFileRefusal z (parity_bytes p) e) (sym shape)
+    (subst (λ (x : List ℕ). IsFileRefusal s x e) (sym same) refused))

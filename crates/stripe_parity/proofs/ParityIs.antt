@@ -27,7 +27,8 @@ as_many s us fit =
     ap length (sym m.2) ∙ length-map m.0 kept_of ∙ ap length (sym u.2) ∙ fits.fits.count ∙ ap (λ (x : Shape). x.chunks) fits.shape)
 
 -- so a chunk's number is within each list
-pub all_within : {V : Type 0} (items : V → List KeptChunk) (kept : List V) (n chunk : ℕ) → AllByRecursion (λ (of : List KeptChunk). length of ≡ n) (map items kept) → chunk < n
+pub all_within : {V : Type 0} (items : V → List KeptChunk) (kept : List V) (n chunk : ℕ)
+    → AllByRecursion (λ (of : List KeptChunk). length of ≡ n) (map items kept) → chunk < n
     → AllByRecursion (λ v. chunk < length (items v)) kept
 all_within items [] n chunk all low = tt
 all_within items (v ∷ kept) n chunk all low = (omega (arith, all.0, low), all_within items kept n chunk all.1 low)
@@ -40,11 +41,13 @@ row_long i chunk row there =
     ap length (sym r.1) ∙ ap (λ k. length (parity_row i k)) here ∙ length_mapped (parity_block i chunk) 0 (greatest_pointer (kept_chunks i) chunk)
 
 -- the blocks of chunks of a drive are blocks
-pub blocks_fit : (s : Shape) (rows : List DriveChunk) → AllByRecursion (IsChunkIn s) rows → AllByRecursion (AllByRecursion (IsBlock s)) (map (λ (c : DriveChunk). c.chunk.blocks) rows)
+pub blocks_fit : (s : Shape) (rows : List DriveChunk) → AllByRecursion (IsChunkIn s) rows
+    → AllByRecursion (AllByRecursion (IsBlock s)) (map (λ (c : DriveChunk). c.chunk.blocks) rows)
 blocks_fit s [] all = tt
 blocks_fit s (c ∷ rows) all = (all.0.fits.blocks, blocks_fit s rows all.1)
 
-pub parity_is : (s : Shape) (us : List ModelUnit) (rows : List DriveChunk) → IsAccepted s → AreFit s us → NoneOpen (image_of s us) → map (λ (c : DriveChunk). c.chunk.blocks) rows ≡ (parity_of (image_of s us)).rows
+pub parity_is : (s : Shape) (us : List ModelUnit) (rows : List DriveChunk) → IsAccepted s → AreFit s us → NoneOpen (image_of s us)
+    → map (λ (c : DriveChunk). c.chunk.blocks) rows ≡ (parity_of (image_of s us)).rows
     → AllByRecursion (IsChunkIn s) rows → IsParity (parity_of (image_of s us))
 parity_is s us rows accepted fit closed is all =
     let i = image_of s us in

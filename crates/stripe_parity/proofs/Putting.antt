@@ -11,7 +11,8 @@ puts_one (Ok x) old new bytes is = is
 puts_one (Err e) old new bytes is = ([], is ∙ sym (append-nil old))
 
 -- some were added before
-pub puts_after : {T E : Type 0} (r : Result T E) (old mid new first bytes : List ℕ) → mid ≡ old ++ first → Puts r mid new bytes → Puts r old new (first ++ bytes)
+pub puts_after : {T E : Type 0} (r : Result T E) (old mid new first bytes : List ℕ) → mid ≡ old ++ first → Puts r mid new bytes
+    → Puts r old new (first ++ bytes)
 puts_after (Ok x) old mid new first bytes was next = next ∙ ap (λ l. l ++ bytes) was ∙ append_assoc old first bytes
 puts_after (Err e) old mid new first bytes was (more, next) = (first ++ more, next ∙ ap (λ l. l ++ more) was ∙ append_assoc old first more)
 
@@ -24,7 +25,8 @@ flat_more f [] x = append-nil (f x)
 flat_more f (y ∷ xs) x = ap (λ l. f y ++ l) (flat_more f xs x) ∙ sym (append_assoc (f y) (flat_map f xs) (f x))
 
 -- those of one element more
-pub puts_next : {X : Type 0} (f : X → List ℕ) (xs : List X) (i : ℕ) (x : X) (old mid new : List ℕ) → slice_get xs i ≡ Some x → mid ≡ old ++ flat_map f (take i xs) → new ≡ mid ++ f x
+pub puts_next : {X : Type 0} (f : X → List ℕ) (xs : List X) (i : ℕ) (x : X) (old mid new : List ℕ) → slice_get xs i ≡ Some x
+    → mid ≡ old ++ flat_map f (take i xs) → new ≡ mid ++ f x
     → new ≡ old ++ flat_map f (take (i + 1) xs)
 puts_next f xs i x old mid new there was next =
     next ∙ ap (λ l. l ++ f x) was ∙ append_assoc old (flat_map f (take i xs)) (f x)

@@ -33,7 +33,8 @@ same_written first i lost chunk block unit agree (yes same) =
     but_lost (λ u. written_at i chunk (u, block)) lost unit same ∙ sym (but_lost (λ u. written_at first chunk (u, block)) lost unit same)
 same_written first i lost chunk block unit agree (no other) =
     but_other (λ u. written_at i chunk (u, block)) lost unit other
-    ∙ ap (λ (o : Option (List Chunk)). option_and_then (λ c. slice_get c.blocks block) (option_and_then (λ chunks. slice_get chunks chunk) o)) (agree.others unit other)
+    ∙ ap (λ (o : Option (List Chunk)). option_and_then (λ c. slice_get c.blocks block) (option_and_then (λ chunks. slice_get chunks chunk) o))
+    (agree.others unit other)
     ∙ sym (but_other (λ u. written_at first chunk (u, block)) lost unit other)
 
 pub rebuilt_is : (first i : Image) (lost chunk block : ℕ) (was b : Block) → HasSectors first → AgreeBut lost first i → lost < length first.units
@@ -45,7 +46,8 @@ rebuilt_is first i lost chunk block was b sectors agree within there h =
     let all : blocks_but first None chunk block ≡ filter_map w (range_with_len 0 n) =
     filter_map_same (written_but first None chunk block) w (range_with_len 0 n) (λ u. refl) in
     let others : blocks_but i (Some lost) chunk block ≡ filter_map (but_for w lost) (range_with_len 0 n) =
-    filter_map_same (written_but i (Some lost) chunk block) (but_for w lost) (range_with_len 0 (length i.units)) (λ u. same_written first i lost chunk block u agree (ℕ_discrete u lost))
+    filter_map_same (written_but i (Some lost) chunk block) (but_for w lost) (range_with_len 0 (length i.units))
+    (λ u. same_written first i lost chunk block u agree (ℕ_discrete u lost))
     ∙ ap (λ k. filter_map (but_for w lost) (range_with_len 0 k)) agree.count in
     let from : h.from ≡ xor_onto (zero_block size) (filter_map w (range_with_len 0 n)) =
     block_there first chunk block h.from h.there ∙ ap (xor_onto (zero_block size)) all in
@@ -56,9 +58,11 @@ rebuilt_is first i lost chunk block was b sectors agree within there h =
     ∙ zero_first size was (sectors chunk lost block was there)
 
 -- so of a drive's own parity it is the lost one
-pub rebuilt_own : (p : ParityFile) (first i : Image) (lost chunk block : ℕ) (was b : Block) → HasSectors first → p ≡ parity_of first → AgreeBut lost first i → written_at first chunk (lost, block) ≡ Some was
+pub rebuilt_own : (p : ParityFile) (first i : Image) (lost chunk block : ℕ) (was b : Block) → HasSectors first → p ≡ parity_of first → AgreeBut lost first i
+    → written_at first chunk (lost, block) ≡ Some was
     → IsRebuiltBlock p i lost chunk block b → was ≡ b
 rebuilt_own p first i lost chunk block was b sectors is agree there h =
     let c = split_then (λ (c : Chunk). slice_get c.blocks block) (chunk_in first chunk lost) was there in
     let u = split_then (λ (cs : List Chunk). slice_get cs chunk) (slice_get first.units lost) c.0 c.1 in
-    sym (rebuilt_is first i lost chunk block was b sectors agree (slice_get_within first.units lost u.0 u.1) there (subst (λ (q : ParityFile). IsRebuiltBlock q i lost chunk block b) is h))
+    sym (rebuilt_is first i lost chunk block was b sectors agree (slice_get_within first.units lost u.0 u.1) there
+    (subst (λ (q : ParityFile). IsRebuiltBlock q i lost chunk block b) is h))

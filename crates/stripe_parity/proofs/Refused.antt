@@ -34,27 +34,33 @@ pub wanting : (s : Shape) (old new : List ModelUnit) (e : ScanErr) → AreUnarme
 wanting s old new (scan.Drive unit event) calm ran = absurd (none_fails s old new unit event calm ran)
 wanting s old new scan.Memory calm ran = refl
 
-calm_refusal : (s : Shape) (old new : List ModelUnit) (why : ScanErr) → AreUnarmed old → WereFetched s old new (lost_fetch (refusal_of why)) → refusal_of why ≡ errors.Memory
+calm_refusal : (s : Shape) (old new : List ModelUnit) (why : ScanErr) → AreUnarmed old → WereFetched s old new (lost_fetch (refusal_of why))
+    → refusal_of why ≡ errors.Memory
 calm_refusal s old new (scan.Drive unit event) calm ran = absurd (none_fails s old new unit event calm ran)
 calm_refusal s old new scan.Memory calm ran = refl
 
-pub made_wanting : {T : Type 0} (s : Shape) (old new : List ModelUnit) (r : Result T ParityErr) → AreUnarmed old → IfErr r IsFetchRefusal → WereFetched s old new (fetch_error r) → IfErr r (λ e. e ≡ errors.Memory)
+pub made_wanting : {T : Type 0} (s : Shape) (old new : List ModelUnit) (r : Result T ParityErr) → AreUnarmed old → IfErr r IsFetchRefusal
+    → WereFetched s old new (fetch_error r) → IfErr r (λ e. e ≡ errors.Memory)
 made_wanting s old new (Ok x) calm refused ran = tt
 made_wanting s old new (Err e) calm (why, is) ran = is ∙ calm_refusal s old new why calm (subst (λ x. WereFetched s old new (lost_fetch x)) is ran)
 
 -- a drive that agrees with the first one on the other units doesn't differ there
-pub no_difference : (p : ParityFile) (first i : Image) (lost unit chunk : ℕ) → p ≡ parity_of first → AgreeBut lost first i → IsFirstDifference p.chunks i lost unit chunk → ⊥
+pub no_difference : (p : ParityFile) (first i : Image) (lost unit chunk : ℕ) → p ≡ parity_of first → AgreeBut lost first i
+    → IsFirstDifference p.chunks i lost unit chunk → ⊥
 no_difference p first i lost unit chunk is agree h =
-    h.differs (subst (λ (ks : List (List KeptChunk)). AreAsKept ks i lost) (sym (ap (λ (q : ParityFile). q.chunks) is)) (agree_as_kept first i lost agree) unit chunk h.other)
+    h.differs (subst (λ (ks : List (List KeptChunk)). AreAsKept ks i lost) (sym (ap (λ (q : ParityFile). q.chunks) is))
+    (agree_as_kept first i lost agree) unit chunk h.other)
 
 -- fetches leave the chunks of a drive as they were
-pub image_kept : (s : Shape) (old new : DriveView) (e : Option ScanErr) → s ≡ shape_of old → new ≡ with_units new.units old → WereFetched s (map (λ (u : WornUnit). u.unit) old.units) (map (λ (u : WornUnit). u.unit) new.units) e
+pub image_kept : (s : Shape) (old new : DriveView) (e : Option ScanErr) → s ≡ shape_of old → new ≡ with_units new.units old
+    → WereFetched s (map (λ (u : WornUnit). u.unit) old.units) (map (λ (u : WornUnit). u.unit) new.units) e
     → drive_image new ≡ drive_image old
 image_kept s old new e same numbers ran =
     ap (λ (x : Shape). image_of x (map (λ (u : WornUnit). u.unit) new.units)) (ap shape_of numbers ∙ sym same) ∙ ran.1.image
     ∙ ap (λ (x : Shape). image_of x (map (λ (u : WornUnit). u.unit) old.units)) same
 
 -- the chunks of a drive, from its units where they lie
-pub image_from : (s : Shape) (d : DriveView) (us : List WornUnit) → s ≡ shape_of d → us ≡ d.units → image_of s (map (λ (u : WornUnit). u.unit) us) ≡ drive_image d
+pub image_from : (s : Shape) (d : DriveView) (us : List WornUnit) → s ≡ shape_of d → us ≡ d.units
+    → image_of s (map (λ (u : WornUnit). u.unit) us) ≡ drive_image d
 image_from s d us same units =
     ap₂ (λ (x : Shape) (ws : List WornUnit). image_of x (map (λ (u : WornUnit). u.unit) ws)) same units

@@ -19,7 +19,8 @@ given a None = refl
 given a (Some b) = refl
 
 -- a block goes into a sum, by its parts
-pub given_block : (sum buffer out : List ℕ) (mark found left : Mark) (o : Option Block) → o ≡ Some (record { sector = buffer; mark = found }) → out ≡ xor_bytes sum buffer → left ≡ xor_marks mark found
+pub given_block : (sum buffer out : List ℕ) (mark found left : Mark) (o : Option Block) → o ≡ Some (record { sector = buffer; mark = found })
+    → out ≡ xor_bytes sum buffer → left ≡ xor_marks mark found
     → ◌≡◌ {A = Block} (record { sector = out; mark = left }) (xor_given (record { sector = sum; mark = mark }) o)
 given_block sum buffer out mark found left o is bytes marks =
     ap₂ (λ (x : List ℕ) (m : Mark). record { sector = x; mark = m }) bytes marks ∙ ap (xor_given (record { sector = sum; mark = mark })) (sym is)
@@ -58,7 +59,8 @@ others_same w lost a (suc n) before =
     ap (λ o. cons_option o (filter_map (but_for w lost) (range_with_len (a + 1) n))) (but_other w lost a (λ same. omega (arith, same, before)))
     ∙ ap (cons_option (w a)) (others_same w lost (a + 1) n (omega (arith, before)))
 
-sized_cons : (size : ℕ) (o : Option Block) (bs : List Block) → ((b : Block) → o ≡ Some b → HasSize size b) → AllByRecursion (HasSize size) bs → AllByRecursion (HasSize size) (cons_option o bs)
+sized_cons : (size : ℕ) (o : Option Block) (bs : List Block) → ((b : Block) → o ≡ Some b → HasSize size b) → AllByRecursion (HasSize size) bs
+    → AllByRecursion (HasSize size) (cons_option o bs)
 sized_cons size None bs one all = all
 sized_cons size (Some b) bs one all = (one b refl, all)
 
@@ -70,7 +72,8 @@ all_sized size w [] are = tt
 all_sized size w (n ∷ ns) are = sized_cons size (w n) (filter_map w ns) (are n) (all_sized size w ns are)
 
 -- a block of another unit goes in twice
-past_other : (size : ℕ) (o : Option Block) (x r : Block) (bs cs : List Block) → ((b : Block) → o ≡ Some b → HasSize size b) → HasSize size x → AllByRecursion (HasSize size) bs
+past_other : (size : ℕ) (o : Option Block) (x r : Block) (bs cs : List Block) → ((b : Block) → o ≡ Some b → HasSize size b) → HasSize size x
+    → AllByRecursion (HasSize size) bs
     → xor_onto (xor_onto x bs) cs ≡ r → xor_onto (xor_onto x (cons_option o bs)) (cons_option o cs) ≡ r
 past_other size None x r bs cs one has all rest = rest
 past_other size (Some h) x r bs cs one has all rest =
@@ -79,7 +82,8 @@ past_other size (Some h) x r bs cs one has all rest =
 
 one_here : (size : ℕ) (w : ℕ → Option Block) (lost a n : ℕ) (x b : Block) → AreSized size w → HasSize size x → w lost ≡ Some b → Dec (a ≡ lost)
     → (a ≢ lost → xor_onto (xor_onto x (filter_map w (range_with_len (a + 1) n))) (filter_map (but_for w lost) (range_with_len (a + 1) n)) ≡ xor_block x b)
-    → xor_onto (xor_onto x (cons_option (w a) (filter_map w (range_with_len (a + 1) n)))) (cons_option (but_for w lost a) (filter_map (but_for w lost) (range_with_len (a + 1) n))) ≡ xor_block x b
+    → xor_onto (xor_onto x (cons_option (w a) (filter_map w (range_with_len (a + 1) n))))
+    (cons_option (but_for w lost a) (filter_map (but_for w lost) (range_with_len (a + 1) n))) ≡ xor_block x b
 one_here size w lost a n x b are has is (yes same) later =
     let rest = filter_map w (range_with_len (a + 1) n) in
     let first : w a ≡ Some b = ap w same ∙ is in
@@ -110,6 +114,7 @@ pub but_is_lost : (i : Image) (lost : Option ℕ) (chunk block unit : ℕ) → l
 but_is_lost i lost chunk block unit same =
     ap (λ (o : Option ℕ). written_but i o chunk block unit) same ∙ but_lost (λ u. written_at i chunk (u, block)) unit unit refl
 
-pub but_is_there : (i : Image) (lost : Option ℕ) (chunk block unit : ℕ) → lost ≢ Some unit → written_but i lost chunk block unit ≡ written_at i chunk (unit, block)
+pub but_is_there : (i : Image) (lost : Option ℕ) (chunk block unit : ℕ) → lost ≢ Some unit
+    → written_but i lost chunk block unit ≡ written_at i chunk (unit, block)
 but_is_there i None chunk block unit other = refl
 but_is_there i (Some l) chunk block unit other = but_other (λ u. written_at i chunk (u, block)) l unit (λ same. other (ap (λ u. Some u) (sym same)))

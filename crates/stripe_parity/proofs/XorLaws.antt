@@ -100,7 +100,8 @@ mixed_step zero (x ∷ out) [] inside there = absurd (omega (arith, there))
 mixed_step zero (x ∷ out) (y ∷ with) inside there = refl
 mixed_step (suc i) [] with inside there = absurd (omega (arith, inside))
 mixed_step (suc i) (x ∷ out) [] inside there = absurd (omega (arith, there))
-mixed_step (suc i) (x ∷ out) (y ∷ with) inside there = ap (λ (zs : List ℕ). bit_xor x y ∷ zs) (mixed_step i out with (omega (arith, inside)) (omega (arith, there)))
+mixed_step (suc i) (x ∷ out) (y ∷ with) inside there =
+    ap (λ (zs : List ℕ). bit_xor x y ∷ zs) (mixed_step i out with (omega (arith, inside)) (omega (arith, there)))
 
 pub mixed_next : (old with out : List ℕ) (i : ℕ) → i < length old → length with ≡ length old → out ≡ mixed i old with
     → slice_set out i (bit_xor (get_or out i 0) (get_or with i 0)) ≡ mixed (i + 1) old with

@@ -15,8 +15,8 @@ use scan_recovery::{ScanErr, fetch_into, is_written};
 use unit_port::Unit;
 
 /// Replaces a block by its exclusive or with the blocks with a number of the units' chunks with a
-/// number, where they are written, but for the unit `lost`. `sum` is the block's sector; its mark is
-/// handed back. `buffer` has the length of a sector.
+/// number, where they are written, but for the unit `lost`. `sum` is the block's sector; its mark
+/// is handed back. `buffer` has the length of a sector.
 pub(crate) fn add_units<U: Unit>(
     units: &mut [U],
     shape: &Shape,
@@ -50,8 +50,8 @@ pub(crate) fn add_units<U: Unit>(
     Ok(mark)
 }
 
-// Replaces a block by its exclusive or with a block of a unit, if that is written, unless the unit is
-// `lost`.
+// Replaces a block by its exclusive or with a block of a unit, if that is written, unless the unit
+// is `lost`.
 fn add_unit<U: Unit>(
     units: &mut [U],
     shape: &Shape,
@@ -73,7 +73,8 @@ fn add_unit<U: Unit>(
     requires sum { length sum.old ≡ shape.now.sector }
     ensures sum { let i = image_of shape.now (map U.model units.old)
         in IfOk result (λ m. record { sector = sum.new; mark = m }
-        ≡ xor_given (record { sector = sum.old; mark = mark }) (written_but i lost chunk block unit)) }
+        ≡ xor_given (record { sector = sum.old; mark = mark })
+        (written_but i lost chunk block unit)) }
     ensures fetched { WereFetched shape.now (map U.model units.old) (map U.model units.new)
         (error_of result) }
     ensures kept { AreKept (map U.model units.old) (map U.model units.new) }
@@ -83,47 +84,16 @@ fn add_unit<U: Unit>(
     if is_lost(lost, unit) {
         return Ok(mark);
     }
-    add_block(units, shape, chunk, unit, block, buffer, sum, mark)
-}
-
-fn is_lost(lost: Option<u32>, unit: u32) -> bool
-    ensures { IsTrue result ↔ (lost ≡ Some unit) }
-{
-    lost == Some(unit)
-}
-
-// Replaces a block by its exclusive or with a block of a unit, if that is written.
-fn add_block<U: Unit>(
-    units: &mut [U],
-    shape: &Shape,
-    chunk: u32,
-    unit: u32,
-    block: u32,
-    buffer: &mut [u8],
-    sum: &mut [u8],
-    mark: Mark,
-) -> Result<Mark, ScanErr>
-    requires fit { AreFit shape.now (map U.model units.old) }
-    requires closed { (c : ModelChunk)
-        → chunk_in (image_of shape.now (map U.model units.old)) chunk unit ≡ Some c
-        → c.state ≢ states.Open }
-    requires unit { unit < length units.old }
-    requires chunk { chunk < shape.now.chunks }
-    requires buffer { length buffer.old ≡ shape.now.sector }
-    requires sum { length sum.old ≡ shape.now.sector }
-    ensures sum { let i = image_of shape.now (map U.model units.old)
-        in IfOk result (λ m. record { sector = sum.new; mark = m }
-        ≡ xor_given (record { sector = sum.old; mark = mark }) (written_at i chunk (unit, block))) }
-    ensures fetched { WereFetched shape.now (map U.model units.old) (map U.model units.new)
-        (error_of result) }
-    ensures kept { AreKept (map U.model units.old) (map U.model units.new) }
-    ensures wear { map U.wear units.new ≡ map U.wear units.old }
-    ensures others { (k : ℕ) → k ≢ unit → slice_get units.new k ≡ slice_get units.old k }
-{
     if !is_written(units, shape, chunk, unit, block) {
         return Ok(mark);
     }
     let found = fetch_into(units, shape, chunk, unit, block, buffer)?;
     xor_bytes(sum, buffer);
     Ok(xor_marks(mark, found))
+}
+
+fn is_lost(lost: Option<u32>, unit: u32) -> bool
+    ensures { IsTrue result ↔ (lost ≡ Some unit) }
+{
+    lost == Some(unit)
 }

@@ -12,8 +12,8 @@ use crate::kept::KeptChunk;
 use pblk_model::{ChunkState, Shape};
 use unit_port::Unit;
 
-/// The first chunk, by unit and then by chunk, of a unit other than `lost` that has another state or
-/// write pointer than is kept of it.
+/// The first chunk, by unit and then by chunk, of a unit other than `lost` that has another state
+/// or write pointer than is kept of it.
 pub(crate) fn first_difference<U: Unit>(
     shape: &Shape,
     kept: &[Vec<KeptChunk>],
@@ -24,7 +24,8 @@ pub(crate) fn first_difference<U: Unit>(
     requires units { length kept.now ≡ unit_count shape.now }
     requires chunks { AllByRecursion (λ of. length of.items ≡ shape.now.chunks) kept.now }
     ensures first { let i = image_of shape.now (map U.model units.now)
-        in IfSome result (λ at. IsFirstDifference (map (λ of. of.items) kept.now) i lost at.0 at.1) }
+        in IfSome result
+        (λ at. IsFirstDifference (map (λ of. of.items) kept.now) i lost at.0 at.1) }
     ensures none { let i = image_of shape.now (map U.model units.now)
         in IfNone result (AreAsKept (map (λ of. of.items) kept.now) i lost) }
 {

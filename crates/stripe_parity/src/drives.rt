@@ -22,14 +22,15 @@ use std::alloc::Global;
 
 /// The parity of a drive of which no chunk is Open: `make` of its units.
 ///
-/// No chunk and no wear index changes. Refused: `Drive` where a fetch failed or was stopped, which doesn't
-/// come where the drive isn't armed; `Memory`.
+/// No chunk and no wear index changes. Refused: `Drive` where a fetch failed or was stopped, which
+/// doesn't come where the drive isn't armed; `Memory`.
 pub fn make_for(alloc: Global, drive: &mut Drive) -> Result<Parity, ParityErr>
     requires closed { NoneOpen (drive_image drive.old) }
     ensures parity { IfOk result (λ p. p ≡ parity_of (drive_image drive.old)) }
     ensures wanting { AreUnarmed (map (λ (u : WornUnit). u.unit) drive.old.units)
         → IfErr result (λ e. e ≡ Memory) }
-    ensures fetched { WereFetched (shape_of drive.old) (map (λ (u : WornUnit). u.unit) drive.old.units)
+    ensures fetched { WereFetched (shape_of drive.old)
+        (map (λ (u : WornUnit). u.unit) drive.old.units)
         (map (λ (u : WornUnit). u.unit) drive.new.units) (fetch_error result) }
     ensures untouched { drive_image drive.new ≡ drive_image drive.old }
     ensures wear { map (λ (u : WornUnit). u.wear) drive.new.units
@@ -43,8 +44,8 @@ pub fn make_for(alloc: Global, drive: &mut Drive) -> Result<Parity, ParityErr>
 
 /// Closes every Open chunk of a drive: `pad` of its units.
 ///
-/// A sealed drive stays sealed and holds what it held. Refused: `Drive` where a unit was stopped, which
-/// doesn't come where the drive isn't armed; `Memory`, and then nothing was programmed.
+/// A sealed drive stays sealed and holds what it held. Refused: `Drive` where a unit was stopped,
+/// which doesn't come where the drive isn't armed; `Memory`, and then nothing was programmed.
 pub fn pad_drive(alloc: Global, drive: &mut Drive) -> Result<(), ScanErr>
     ensures closed { OnOk result (NoneOpen (drive_image drive.new)) }
     ensures wanting { AreUnarmed (map (λ (u : WornUnit). u.unit) drive.old.units)

@@ -29,12 +29,12 @@ pub enum ParityErr {
     /// What is kept of this chunk can't be: it is the first such one, by unit and then by chunk.
     #[error("chunk {chunk} of unit {unit} has no such state")]
     State { unit: u32, chunk: u32 },
-    /// This chunk of a unit that isn't the lost one has another state or write pointer than the parity
-    /// says: it is the first such one, by unit and then by chunk.
+    /// This chunk of a unit that isn't the lost one has another state or write pointer than the
+    /// parity says: it is the first such one, by unit and then by chunk.
     #[error("chunk {chunk} of unit {unit} is not as the parity says")]
     Differs { unit: u32, chunk: u32 },
-    /// This event of this unit, made in this call, is a fetch that failed or was stopped. Events are
-    /// numbered from 1 in the unit's log, and from 2^64 - 1 on the number stands still.
+    /// This event of this unit, made in this call, is a fetch that failed or was stopped. Events
+    /// are numbered from 1 in the unit's log, and from 2^64 - 1 on the number stands still.
     #[error("event {event} of unit {unit} failed")]
     Drive { unit: u32, event: u64 },
     /// There wasn't enough memory.

@@ -2,8 +2,8 @@
 
 use pblk_model::ChunkState;
 
-/// What a parity keeps of a chunk: its state, and its write pointer, from 0 to CLBA (Open-Channel SSD
-/// Specification 2.0, Chunk states and write pointer).
+/// What a parity keeps of a chunk: its state, and its write pointer, from 0 to CLBA (Open-Channel
+/// SSD Specification 2.0, Chunk states and write pointer).
 #[derive(Clone, Copy, Debug, PartialEq, Eq)]
 pub struct KeptChunk {
     pub state: ChunkState,

@@ -9,9 +9,9 @@ ghost use Rattle.stripe_parity.specs.Rebuilding.{AgreeBut, HasSectors, IsRebuilt
 
 /// A law, and a function that does nothing: what is made anew of a written block is the block.
 ///
-/// Of every drive, its parity, and every drive that agrees with it on all units but one: the exclusive
-/// or of a block of the parity and of the other units' blocks is the block that the first drive's unit
-/// has written there.
+/// Of every drive, its parity, and every drive that agrees with it on all units but one: the
+/// exclusive or of a block of the parity and of the other units' blocks is the block that the first
+/// drive's unit has written there.
 pub fn rebuilt_blocks_are_the_lost_ones()
     ensures { (first i : Image) (lost chunk block : ℕ) (was b : Block) → HasSectors first
         → AgreeBut lost first i → lost < length first.units

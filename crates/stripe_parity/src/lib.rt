@@ -1,10 +1,10 @@
-//! Parity against the loss of a unit: for each chunk number the exclusive ors of the blocks that the
-//! units have written there, and of each chunk its state and its write pointer (the exclusive or over
-//! units is that of RAID level 4; what is kept beside it is this project's).
+//! Parity against the loss of a unit: for each chunk number the exclusive ors of the blocks that
+//! the units have written there, and of each chunk its state and its write pointer (the exclusive
+//! or over units is that of RAID level 4; what is kept beside it is this project's).
 //!
-//! `make` gives the parity of a drive without Open chunks. `Parity::block` makes a block of a lost unit
-//! anew from it and from the other units, and `rebuild` all chunks of the unit in a drive. A law,
-//! `rebuilt_blocks_are_the_lost_ones`, says why that is what was lost.
+//! `make` gives the parity of a drive without Open chunks. `Parity::block` makes a block of a lost
+//! unit anew from it and from the other units, and `rebuild` all chunks of the unit in a drive. A
+//! law, `rebuilt_blocks_are_the_lost_ones`, says why that is what was lost.
 #![tactic(auto)]
 
 mod adding;

@@ -86,48 +86,18 @@ fn make_row<U: Unit>(
     let size = shape.sector as usize;
     let mut buffer = [0; MAX_SECTOR];
     let mut sum = [0; MAX_SECTOR];
-    sum_row(
-        alloc,
-        units,
-        shape,
-        chunk,
-        count,
-        &mut buffer[..size],
-        &mut sum[..size],
-    )
-}
-
-// The same. `buffer` and `sum` have the length of a sector each.
-fn sum_row<U: Unit>(
-    alloc: Global,
-    units: &mut [U],
-    shape: &Shape,
-    chunk: u32,
-    count: u32,
-    buffer: &mut [u8],
-    sum: &mut [u8],
-) -> Result<Chunk, ScanErr>
-    requires accepted { IsAccepted shape.now }
-    requires fit { AreFit shape.now (map U.model units.old) }
-    requires closed { NoneOpen (image_of shape.now (map U.model units.old)) }
-    requires chunk { chunk < shape.now.chunks }
-    requires within { count ≤ shape.now.clba }
-    requires multiple { count % shape.now.ws_min ≡ 0 }
-    requires buffer { length buffer.old ≡ shape.now.sector }
-    requires sum { length sum.old ≡ shape.now.sector }
-    ensures row { let i = image_of shape.now (map U.model units.old)
-        in IfOk result (λ c. c.chunk.blocks ≡ map (parity_block i chunk) (range_with_len 0 count)) }
-    ensures fits { IfOk result (IsChunkIn shape.now) }
-    ensures fetched { WereFetched shape.now (map U.model units.old) (map U.model units.new)
-        (error_of result) }
-    ensures kept { AreKept (map U.model units.old) (map U.model units.new) }
-    ensures wear { map U.wear units.new ≡ map U.wear units.old }
-{
     let mut bytes = Vec::new(alloc);
     let mut marks = Vec::new(alloc);
     for block in 0..count {
         push_sum(
-            units, shape, chunk, block, buffer, sum, &mut bytes, &mut marks,
+            units,
+            shape,
+            chunk,
+            block,
+            &mut buffer[..size],
+            &mut sum[..size],
+            &mut bytes,
+            &mut marks,
         )?;
     }
     let row = chunk_of(alloc, shape, ChunkState::Closed, &bytes, &marks)?;
@@ -155,9 +125,9 @@ pub(crate) fn chunk_of(
     Ok(chunk)
 }
 
-// Adds the exclusive or of a block over all units at the ends of lists of sectors and marks. `buffer`
-// and `sum` have the length of a sector each.
-pub(crate) fn push_sum<U: Unit>(
+// Adds the exclusive or of a block over all units at the ends of lists of sectors and marks.
+// `buffer` and `sum` have the length of a sector each.
+fn push_sum<U: Unit>(
     units: &mut [U],
     shape: &Shape,
     chunk: u32,
@@ -175,7 +145,8 @@ pub(crate) fn push_sum<U: Unit>(
     requires whole { length bytes.old.items ≡ length marks.old.items * shape.now.sector }
     ensures added { let i = image_of shape.now (map U.model units.old)
         in OnOk result (blocks_of shape.now.sector bytes.new.items marks.new.items
-        ≡ blocks_of shape.now.sector bytes.old.items marks.old.items ++ parity_block i chunk block ∷ []) }
+        ≡ blocks_of shape.now.sector bytes.old.items marks.old.items
+        ++ parity_block i chunk block ∷ []) }
     ensures whole { OnOk result
         (length bytes.new.items ≡ length marks.new.items * shape.now.sector) }
     ensures fetched { WereFetched shape.now (map U.model units.old) (map U.model units.new)
@@ -189,7 +160,7 @@ pub(crate) fn push_sum<U: Unit>(
     Ok(())
 }
 
-// Adds a block at the ends of lists of sectors and marks.
+/// Adds a block at the ends of lists of sectors and marks.
 pub(crate) fn push_block(
     bytes: &mut Vec<u8>,
     marks: &mut Vec<Mark>,

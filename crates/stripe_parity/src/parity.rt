@@ -33,8 +33,8 @@ use std::alloc::{AllocError, Global};
 use std::marker::Model;
 use unit_port::Unit;
 
-/// The parity of a drive without Open chunks: of each chunk its state and its write pointer, and for each
-/// chunk number the exclusive ors of the blocks that the units have written there.
+/// The parity of a drive without Open chunks: of each chunk its state and its write pointer, and
+/// for each chunk number the exclusive ors of the blocks that the units have written there.
 #[derive(Debug, Drop)]
 pub struct Parity {
     shape: Shape,
@@ -59,8 +59,8 @@ impl Model for Parity {
 
 /// The parity of the units of a drive of this shape, of which no chunk is Open.
 ///
-/// It fetches each written block once, and changes nothing else of the units. Refused: `Drive` where a
-/// fetch failed or was stopped; `Memory`.
+/// It fetches each written block once, and changes nothing else of the units. Refused: `Drive`
+/// where a fetch failed or was stopped; `Memory`.
 pub fn make<U: Unit>(alloc: Global, units: &mut [U], shape: &Shape) -> Result<Parity, ParityErr>
     requires accepted { IsAccepted shape.now }
     requires fit { AreFit shape.now (map U.model units.old) }
@@ -85,11 +85,11 @@ pub fn make<U: Unit>(alloc: Global, units: &mut [U], shape: &Shape) -> Result<Pa
 impl Parity {
     /// The parity of a file of a drive of this shape.
     ///
-    /// The file is read part by part: the header, the states and write pointers of all chunks, the exclusive
-    /// ors. In each part `Short` comes first, with the input's length, where the input ends within the part.
-    /// Then come `Magic`, `Version` and `Numbers`, where the header isn't the one of such a drive; `State`
-    /// with the first chunk, by unit and then by chunk, whose state and write pointer can't be. `Long` comes
-    /// where bytes remain. The exclusive ors may be any.
+    /// The file is read part by part: the header, the states and write pointers of all chunks, the
+    /// exclusive ors. In each part `Short` comes first, with the input's length, where the input
+    /// ends within the part. Then come `Magic`, `Version` and `Numbers`, where the header isn't the
+    /// one of such a drive; `State` with the first chunk, by unit and then by chunk, whose state
+    /// and write pointer can't be. `Long` comes where bytes remain. The exclusive ors may be any.
     ///
     /// `Memory` aside, no file of a parity is refused.
     pub fn read(alloc: Global, bytes: &[u8], shape: &Shape) -> Result<Parity, ParityErr>
@@ -131,8 +131,8 @@ impl Parity {
         self.kept[unit as usize][chunk as usize]
     }
 
-    /// The first chunk, by unit and then by chunk, of a unit other than `lost` that has another state or
-    /// write pointer than is kept of it. `None` exactly where there is none.
+    /// The first chunk, by unit and then by chunk, of a unit other than `lost` that has another
+    /// state or write pointer than is kept of it. `None` exactly where there is none.
     pub fn differs<U: Unit>(&self, units: &[U], lost: u32) -> Option<(u32, u32)>
         requires fit { AreFit self.now.shape (map U.model units.now) }
         ensures first { let i = image_of self.now.shape (map U.model units.now)
@@ -143,13 +143,13 @@ impl Parity {
         first_difference(&self.shape, &self.kept, units, lost)
     }
 
-    /// Makes a block of the unit `lost` anew: the exclusive or of the parity's block and of the other
-    /// units' ones. Its sector goes to `out`, which has the length of a sector, and its mark is the
-    /// answer.
+    /// Makes a block of the unit `lost` anew: the exclusive or of the parity's block and of the
+    /// other units' ones. Its sector goes to `out`, which has the length of a sector, and its mark
+    /// is the answer.
     ///
-    /// `differs` is None, and the block is below the write pointer that is kept of the lost unit's chunk.
-    /// It takes no memory, and commands the lost unit in no way. Refused: `Drive` where a fetch of
-    /// another unit failed or was stopped.
+    /// `differs` is None, and the block is below the write pointer that is kept of the lost unit's
+    /// chunk. It takes no memory, and commands the lost unit in no way. Refused: `Drive` where a
+    /// fetch of another unit failed or was stopped.
     pub fn block<U: Unit>(
         &self,
         units: &mut [U],
@@ -224,8 +224,8 @@ impl Parity {
         )
     }
 
-    /// Adds the parity at the end of a list, as it stands in a file. For want of memory the list is as
-    /// before.
+    /// Adds the parity at the end of a list, as it stands in a file. For want of memory the list is
+    /// as before.
     pub fn write(&self, out: &mut Vec<u8>) -> Result<(), AllocError>
         ensures added { OnOk result (out.new.items ≡ out.old.items ++ parity_bytes self.now) }
         ensures kept { OnErr result (out.new.items ≡ out.old.items) }

@@ -95,7 +95,8 @@ fn read_unit(
     requires accepted { IsAccepted shape.now }
     requires unit { unit < unit_count shape.now }
     requires reaches { kept_end shape.now ≤ length bytes.now }
-    ensures kept { IfOk result (λ kept. IsUnitPart shape.now bytes.now unit shape.now.chunks kept.items) }
+    ensures kept { IfOk result
+        (λ kept. IsUnitPart shape.now bytes.now unit shape.now.chunks kept.items) }
     ensures refused { IfErr result (IsUnitRefusal shape.now bytes.now unit) }
 {
     let mut kept = Vec::new(alloc);
@@ -128,7 +129,8 @@ fn read_kept(bytes: &[u8], shape: &Shape) -> Option<KeptChunk>
     requires length { length bytes.now ≡ 8 }
     requires accepted { IsAccepted shape.now }
     ensures found { IfSome result (λ k. IsKept shape.now k × (bytes.now ≡ kept_bytes k)) }
-    ensures none { IfNone result ((k : ModelKept) → IsKept shape.now k → bytes.now ≡ kept_bytes k → ⊥) }
+    ensures none { IfNone result
+        ((k : ModelKept) → IsKept shape.now k → bytes.now ≡ kept_bytes k → ⊥) }
 {
     let state = closed_state(bytes[0])?;
     let pointer = pointer_in(bytes);

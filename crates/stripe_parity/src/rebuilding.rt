@@ -26,13 +26,13 @@ use scan_recovery::ScanErr;
 use std::alloc::Global;
 use unit_port::Unit;
 
-/// Makes the chunks of the unit `lost` anew from the drive's parity and the other units, and tells how
-/// many blocks they have.
+/// Makes the chunks of the unit `lost` anew from the drive's parity and the other units, and tells
+/// how many blocks they have.
 ///
-/// The parity is one of this drive's shape, and the unit is one of the drive's. The other units' chunks
-/// and all wear indices stay. Refused: `Differs` exactly where `Parity::differs` names a chunk; `Drive`
-/// where a fetch failed or was stopped, which doesn't come where the drive isn't armed; `Memory`. After a
-/// refusal every chunk of the drive is as before.
+/// The parity is one of this drive's shape, and the unit is one of the drive's. The other units'
+/// chunks and all wear indices stay. Refused: `Differs` exactly where `Parity::differs` names a
+/// chunk; `Drive` where a fetch failed or was stopped, which doesn't come where the drive isn't
+/// armed; `Memory`. After a refusal every chunk of the drive is as before.
 pub fn rebuild(
     alloc: Global,
     drive: &mut Drive,
@@ -41,11 +41,13 @@ pub fn rebuild(
 ) -> Result<u32, ParityErr>
     requires shape { parity.now.shape ≡ shape_of drive.old }
     requires lost { lost < unit_count parity.now.shape }
-    ensures anew { OnOk result (IsRebuilt parity.now lost (drive_image drive.old) (drive_image drive.new)) }
+    ensures anew { OnOk result
+        (IsRebuilt parity.now lost (drive_image drive.old) (drive_image drive.new)) }
 
-    // A drive that has lost no more than this unit is again what it was, where the parity is its own.
+    // A drive that lost no more than this unit is again what it was, where the parity is its own.
     ensures rebuilt { (first : Image) → IsFit first → parity.now ≡ parity_of first
-        → AgreeBut lost first (drive_image drive.old) → OnOk result (drive_image drive.new ≡ first) }
+        → AgreeBut lost first (drive_image drive.old)
+        → OnOk result (drive_image drive.new ≡ first) }
 
     // And where it isn't armed, nothing but memory is wanting.
     ensures wanting { (first : Image) → IsFit first → parity.now ≡ parity_of first

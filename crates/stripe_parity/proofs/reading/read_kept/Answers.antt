@@ -12,7 +12,8 @@ returns-then-not-has_zeros-clause-none c = λ k is e. false≢true (c.if-not-has
 pub returns-then-not-has_place-clause-none : goal.returns-then-not-has_place-clause-none
 returns-then-not-has_place-clause-none c = λ k is e.
     let state = code_same c.in_ok-state.state k.state (c.in_ok-state.ensures.found.0 ∙ ap (λ b. get_or b 0 0) e) in
-    let pointer = le32_same c.pointer_in-pointer.result k.pointer c.pointer_in-pointer.type_inv (pointer_below c.args.shape.now k c.requires.accepted is) (c.pointer_in-pointer.ensures ∙ ap (λ b. slice_range b 4 8) e) in
+    let pointer = le32_same c.pointer_in-pointer.result k.pointer c.pointer_in-pointer.type_inv (pointer_below c.args.shape.now k c.requires.accepted is)
+    (c.pointer_in-pointer.ensures ∙ ap (λ b. slice_range b 4 8) e) in
     let same = kept_same (record { state = c.in_ok-state.state; pointer = c.pointer_in-pointer.result }) k state pointer in
     let found = subst (IsKept c.args.shape.now) (sym same) is in
     false≢true (c.if-not-has_place.ensures.1 (found.place, found.multiple))

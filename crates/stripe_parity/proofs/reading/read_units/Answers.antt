@@ -13,14 +13,18 @@ returns-in_err-of-clause-refused c =
     let s = c.args.shape.now in
     let reaches : kept_end s ≤ length c.args.bytes.now = rw (← c.units.ensures) (omega (arith, c.if-bytes-count.false)) in
     let within : c.loop-unit.unit < units s = omega (arith, c.loop-unit-test.true, c.units-unit-end.ensures) in
-    rw (p.1, p.2) (file_refused s c.args.bytes.now c.loop-unit.unit (map (λ (of : Vec KeptChunk Global). of.items) c.loop-unit.kept.items) c.in_err-of.field-0.0 c.requires.header reaches within c.loop-unit.invariant c.in_err-of.ensures.refused)
+    rw (p.1, p.2) (file_refused s c.args.bytes.now c.loop-unit.unit
+    (map (λ (of : Vec KeptChunk Global). of.items) c.loop-unit.kept.items) c.in_err-of.field-0.0 c.requires.header reaches within c.loop-unit.invariant
+    c.in_err-of.ensures.refused)
 
 pub loop-unit-preserved : goal.loop-unit-preserved
 loop-unit-preserved c =
     let s = c.args.shape.now in
-    let more = ap (map (λ (of : Vec KeptChunk Global). of.items)) c.in_ok-push_unit.ensures ∙ map_last (λ (of : Vec KeptChunk Global). of.items) c.loop-unit.kept.items c.in_ok-of.of in
+    let more = ap (map (λ (of : Vec KeptChunk Global). of.items)) c.in_ok-push_unit.ensures
+    ∙ map_last (λ (of : Vec KeptChunk Global). of.items) c.loop-unit.kept.items c.in_ok-of.of in
     subst (AreUnitParts s c.args.bytes.now (c.loop-unit.unit + 1)) (sym more)
-    (one_unit_more s c.args.bytes.now c.loop-unit.unit (map (λ (of : Vec KeptChunk Global). of.items) c.loop-unit.kept.items) c.in_ok-of.of.items c.loop-unit.invariant c.in_ok-of.ensures.kept)
+    (one_unit_more s c.args.bytes.now c.loop-unit.unit
+    (map (λ (of : Vec KeptChunk Global). of.items) c.loop-unit.kept.items) c.in_ok-of.of.items c.loop-unit.invariant c.in_ok-of.ensures.kept)
 
 pub returns-clause-kept : goal.returns-clause-kept
 returns-clause-kept c =

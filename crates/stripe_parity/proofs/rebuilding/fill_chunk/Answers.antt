@@ -1,6 +1,5 @@
-use Rattle.std.proofs.Common.{◌≡◌, ◌+◌, ◌*◌, ◌<◌, ◌%◌, ℕ, List, [], ◌∷◌, ◌++◌, None, Some, length, length-append, map, slice_get, refl, sym, ap, subst, ◌∙◌, arith}
+use Rattle.std.proofs.Common.{◌≡◌, ◌+◌, ◌*◌, ◌<◌, ◌%◌, ℕ, List, [], ◌∷◌, ◌++◌, Some, length, length-append, map, slice_get, refl, sym, ap, subst, ◌∙◌, arith}
 use Rattle.std.specs.Option.{option_map_or}
-use Rattle.std.proofs.lemmas.Result.{err_from_is_err_and}
 use Rattle.pblk_model.specs.declared.shape.Shape.{Shape}
 use Rattle.pblk_model.specs.Accepted.{IsAccepted}
 use Rattle.pblk_model.specs.Blocks.{blocks_of}
@@ -10,12 +9,13 @@ use Rattle.pblk_model.proofs.BlocksLemmas.{length-blocks_of}
 use Rattle.ocssd_drive.specs.Units.{IsChunkIn}
 use Rattle.unit_port.proofs.Units.{kept_more, kept_none}
 use Rattle.scan_recovery.specs.Units.{image_of}
-use Rattle.scan_recovery.proofs.FetchSteps.{fetched_joined, no_memory, none_fetched}
+use Rattle.scan_recovery.proofs.FetchSteps.{fetched_joined, none_fetched}
 use Rattle.scan_recovery.proofs.PadLoops.{fit_kept}
 use Rattle.stripe_parity.specs.declared.kept.KeptChunk.{KeptChunk}
 use Rattle.stripe_parity.specs.Rebuilding.{AreAsKept, IsRebuiltBlock}
 use Rattle.stripe_parity.proofs.Counts.{kept_in_fits}
 use Rattle.stripe_parity.proofs.MadeChunks.{each_more, made_is, no_blocks}
+use Rattle.stripe_parity.proofs.Ran.{lost_at_last, wanting_at_last}
 use Rattle.stripe_parity.proofs.rebuilding.fill_chunk.Goals as goal
 
 pub loop-block-init : goal.loop-block-init
@@ -27,15 +27,16 @@ loop-block-init g c =
       wear = refl;
       many = ap length c.new-marks.ensures.items;
       whole = rw (c.new-bytes.ensures.items, c.new-marks.ensures.items) (omega arith);
-      each = λ k b there. absurd (no_blocks c.args.parity.now.shape.sector c.new-bytes.result.items c.new-marks.result.items k b c.new-marks.ensures.items there);
+      each = λ k b there. absurd (no_blocks c.args.parity.now.shape.sector c.new-bytes.result.items c.new-marks.result.items k b c.new-marks.ensures.items
+          there);
     }
 
 pub lost_block-requires-clause-fit : goal.lost_block-requires-clause-fit
-lost_block-requires-clause-fit g c =
-    fit_kept c.args.parity.now.shape (map g.U.Unit.model c.args.units.now) (map g.U.Unit.model c.loop-block.units) c.requires.fit c.loop-block.invariant.kept
+lost_block-requires-clause-fit g c = fit_kept _ _ _ c.requires.fit c.loop-block.invariant.kept
 
 pub lost_block-requires-clause-same : goal.lost_block-requires-clause-same
-lost_block-requires-clause-same g c = subst (λ (i : Image). AreAsKept c.args.parity.now.chunks i c.args.lost) (sym c.loop-block.invariant.ran.1.image) c.requires.same
+lost_block-requires-clause-same g c =
+    subst (λ (i : Image). AreAsKept c.args.parity.now.chunks i c.args.lost) (sym c.loop-block.invariant.ran.1.image) c.requires.same
 
 pub lost_block-requires-clause-written : goal.lost_block-requires-clause-written
 lost_block-requires-clause-written g c =
@@ -43,61 +44,52 @@ lost_block-requires-clause-written g c =
 
 pub push_block-requires : goal.push_block-requires
 push_block-requires g c =
-    let size : length c.lost_block.new.out ≡ c.args.parity.now.shape.sector = omega (arith, c.lost_block.auto.out, c.loop-block.auto.sector, c.requires.sector) in
+    let size : length c.lost_block.new.out ≡ c.args.parity.now.shape.sector =
+    omega (arith, c.lost_block.auto.out, c.loop-block.auto.sector, c.requires.sector) in
     c.loop-block.invariant.whole ∙ ap (λ n. length c.loop-block.marks.items * n) (sym size)
 
 pub returns-in_err-mark-clause-fetched : goal.returns-in_err-mark-clause-fetched
 returns-in_err-mark-clause-fetched g c =
-    let p = err_from_is_err_and c.from_residual.result c.from_residual.ensures.1 in
-    rw (p.1, p.2) (fetched_joined c.args.parity.now.shape (map g.U.Unit.model c.args.units.now) (map g.U.Unit.model c.loop-block.units)
-    (map g.U.Unit.model c.lost_block.new.units) (Some c.in_err-mark.field-0.0) c.loop-block.invariant.ran c.in_err-mark.ensures.fetched)
+    lost_at_last c.from_residual.result c.from_residual.ensures.1 c.loop-block.invariant.ran c.in_err-mark.ensures.fetched
 
 pub returns-in_err-mark-clause-kept : goal.returns-in_err-mark-clause-kept
-returns-in_err-mark-clause-kept g c =
-    kept_more (map g.U.Unit.model c.args.units.now) (map g.U.Unit.model c.loop-block.units)
-    (map g.U.Unit.model c.lost_block.new.units) c.loop-block.invariant.kept c.in_err-mark.ensures.kept
+returns-in_err-mark-clause-kept g c = kept_more _ _ _ c.loop-block.invariant.kept c.in_err-mark.ensures.kept
 
 pub returns-in_err-push_block-clause-fetched : goal.returns-in_err-push_block-clause-fetched
 returns-in_err-push_block-clause-fetched g c =
     let r = c.from_residual-in_err-push_block in
-    let p = err_from_is_err_and r.result r.ensures.1 in
-    let s = c.args.parity.now.shape in
-    let us = map g.U.Unit.model c.args.units.now in
-    let new = map g.U.Unit.model c.lost_block.new.units in
-    rw (p.1, p.2) (no_memory s us new (fetched_joined s us (map g.U.Unit.model c.loop-block.units) new None c.loop-block.invariant.ran c.in_ok-mark.ensures.fetched))
+    wanting_at_last r.result r.ensures.1 (fetched_joined _ _ _ _ _ c.loop-block.invariant.ran c.in_ok-mark.ensures.fetched)
 
 pub returns-in_err-push_block-clause-kept : goal.returns-in_err-push_block-clause-kept
-returns-in_err-push_block-clause-kept g c =
-    kept_more (map g.U.Unit.model c.args.units.now) (map g.U.Unit.model c.loop-block.units)
-    (map g.U.Unit.model c.lost_block.new.units) c.loop-block.invariant.kept c.in_ok-mark.ensures.kept
+returns-in_err-push_block-clause-kept g c = kept_more _ _ _ c.loop-block.invariant.kept c.in_ok-mark.ensures.kept
 
 pub returns-in_err-made-clause-fetched : goal.returns-in_err-made-clause-fetched
 returns-in_err-made-clause-fetched g c =
     let r = c.from_residual-in_err-made in
-    let p = err_from_is_err_and r.result r.ensures.1 in
-    rw (p.1, p.2) (no_memory c.args.parity.now.shape (map g.U.Unit.model c.args.units.now) (map g.U.Unit.model c.loop-block.units) c.loop-block.invariant.ran)
+    wanting_at_last r.result r.ensures.1 c.loop-block.invariant.ran
 
 pub loop-block-preserved : goal.loop-block-preserved
 loop-block-preserved g c =
     let s = c.args.parity.now.shape in
     let us = map g.U.Unit.model c.args.units.now in
-    let mid = map g.U.Unit.model c.loop-block.units in
-    let new = map g.U.Unit.model c.lost_block.new.units in
     let size : length c.lost_block.new.out ≡ s.sector = omega (arith, c.lost_block.auto.out, c.loop-block.auto.sector, c.requires.sector) in
     let b : Block = record { sector = c.lost_block.new.out; mark = c.in_ok-mark.mark } in
     let old = blocks_of s.sector c.loop-block.bytes.items c.loop-block.marks.items in
     let added : blocks_of s.sector c.push_block.new.bytes.items c.push_block.new.marks.items ≡ old ++ b ∷ [] =
-    subst (λ n. blocks_of n c.push_block.new.bytes.items c.push_block.new.marks.items ≡ blocks_of n c.loop-block.bytes.items c.loop-block.marks.items ++ b ∷ []) size c.in_ok-push_block.ensures.added in
+    subst (λ n. blocks_of n c.push_block.new.bytes.items c.push_block.new.marks.items ≡ blocks_of n c.loop-block.bytes.items c.loop-block.marks.items ++ b ∷ [])
+    size c.in_ok-push_block.ensures.added in
     let many = length-blocks_of s.sector c.loop-block.bytes.items c.loop-block.marks.items ∙ c.loop-block.invariant.many in
     let more = length-blocks_of s.sector c.push_block.new.bytes.items c.push_block.new.marks.items in
-    let here = subst (λ (i : Image). IsRebuiltBlock c.args.parity.now i c.args.lost c.args.chunk c.loop-block.block b) c.loop-block.invariant.ran.1.image c.in_ok-mark.ensures.block in
+    let here = subst (λ (i : Image). IsRebuiltBlock c.args.parity.now i c.args.lost c.args.chunk c.loop-block.block b) c.loop-block.invariant.ran.1.image
+    c.in_ok-mark.ensures.block in
     record {
-      ran = fetched_joined s us mid new None c.loop-block.invariant.ran c.in_ok-mark.ensures.fetched;
-      kept = kept_more us mid new c.loop-block.invariant.kept c.in_ok-mark.ensures.kept;
+      ran = fetched_joined _ _ _ _ _ c.loop-block.invariant.ran c.in_ok-mark.ensures.fetched;
+      kept = kept_more _ _ _ c.loop-block.invariant.kept c.in_ok-mark.ensures.kept;
       wear = c.in_ok-mark.ensures.wear ∙ c.loop-block.invariant.wear;
       many = sym more ∙ ap length added ∙ length-append old (b ∷ []) ∙ ap (λ n. n + 1) many;
       whole = c.in_ok-push_block.ensures.whole ∙ ap (λ n. length c.push_block.new.marks.items * n) size;
-      each = subst (λ (bs : List Block). (k : ℕ) (x : Block) → slice_get bs k ≡ Some x → IsRebuiltBlock c.args.parity.now (image_of s us) c.args.lost c.args.chunk k x) (sym added)
+      each = subst (λ (bs : List Block). (k : ℕ) (x : Block) → slice_get bs k ≡ Some x
+          → IsRebuiltBlock c.args.parity.now (image_of s us) c.args.lost c.args.chunk k x) (sym added)
           (each_more (λ k x. IsRebuiltBlock c.args.parity.now (image_of s us) c.args.lost c.args.chunk k x) old b c.loop-block.invariant.each
           (subst (λ k. IsRebuiltBlock c.args.parity.now (image_of s us) c.args.lost c.args.chunk k b) (sym many) here));
     }
@@ -129,7 +121,8 @@ returns-clause-chunk g c =
     let i = image_of s (map g.U.Unit.model c.args.units.now) in
     let many : length c.loop-block.marks.items ≡ c.kept-kept.result.pointer = c.loop-block.invariant.many ∙ omega arith in
     let is = c.in_ok-made.ensures.chunk in
-    made_is c.args.parity.now i c.args.lost c.args.chunk c.kept-kept.result c.in_ok-made.made.chunk s.sector c.loop-block.bytes.items c.loop-block.marks.items c.kept-kept.ensures
+    made_is c.args.parity.now i c.args.lost c.args.chunk c.kept-kept.result c.in_ok-made.made.chunk s.sector c.loop-block.bytes.items c.loop-block.marks.items
+    c.kept-kept.ensures
     (is ∙ rw (c.deref.ensures.value, c.deref-2.ensures.value, c.shape-shape.ensures.shape) refl) many c.loop-block.invariant.each
 
 pub returns-clause-fits : goal.returns-clause-fits

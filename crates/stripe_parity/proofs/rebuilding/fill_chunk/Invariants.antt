@@ -14,5 +14,6 @@ invariant-loop-block g l = record {
   wear : map g.U.Unit.wear l.units ≡ map g.U.Unit.wear l.fn.units;
   many : length l.marks.items ≡ l.block;
   whole : length l.bytes.items ≡ length l.marks.items * l.parity.shape.sector;
-  each : (k : ℕ) (b : Block) → slice_get (blocks_of l.parity.shape.sector l.bytes.items l.marks.items) k ≡ Some b → IsRebuiltBlock l.parity (image_of l.parity.shape (map g.U.Unit.model l.fn.units)) l.lost l.fn.chunk k b;
+  each : (k : ℕ) (b : Block) → slice_get (blocks_of l.parity.shape.sector l.bytes.items l.marks.items) k ≡ Some b
+      → IsRebuiltBlock l.parity (image_of l.parity.shape (map g.U.Unit.model l.fn.units)) l.lost l.fn.chunk k b;
 }

@@ -15,6 +15,7 @@ invariant-loop-chunk g l = record {
   kept : AreKept (map g.U.Unit.model l.fn.units) (map g.U.Unit.model l.units);
   wear : map g.U.Unit.wear l.units ≡ map g.U.Unit.wear l.fn.units;
   count : length l.chunks.items ≡ l.chunk;
-  each : (k : ℕ) (c : Chunk) → slice_get (map (λ (x : DriveChunk). x.chunk) l.chunks.items) k ≡ Some c → IsRebuiltChunk l.parity (image_of l.parity.shape (map g.U.Unit.model l.fn.units)) l.lost k c;
+  each : (k : ℕ) (c : Chunk) → slice_get (map (λ (x : DriveChunk). x.chunk) l.chunks.items) k ≡ Some c
+      → IsRebuiltChunk l.parity (image_of l.parity.shape (map g.U.Unit.model l.fn.units)) l.lost k c;
   fits : AllByRecursion (IsChunkIn l.parity.shape) l.chunks.items;
 }

@@ -10,7 +10,8 @@ use Rattle.pblk_model.proofs.Maps.{pieces_all}
 pub returns-in_err-put_kept : goal.returns-in_err-put_kept
 returns-in_err-put_kept c =
     let p = err_from_is_err_and c.from_residual.result c.from_residual.ensures.1 in
-    rw p.1 (some_more c.args.out.now.items c.loop-chunk.out.items c.put_kept.new.out.items (flat_map kept_bytes (take c.loop-chunk.chunk-index c.args.kept.now)) c.loop-chunk.invariant c.in_err-put_kept.ensures)
+    rw p.1 (some_more c.args.out.now.items c.loop-chunk.out.items c.put_kept.new.out.items
+    (flat_map kept_bytes (take c.loop-chunk.chunk-index c.args.kept.now)) c.loop-chunk.invariant c.in_err-put_kept.ensures)
 
 pub loop-chunk-preserved : goal.loop-chunk-preserved
 loop-chunk-preserved c =
@@ -18,4 +19,5 @@ loop-chunk-preserved c =
     (slice_get-get_or c.args.kept.now c.loop-chunk.chunk-index _ c.loop-chunk-test.true) c.loop-chunk.invariant c.in_ok-put_kept.ensures
 
 pub returns : goal.returns
-returns c = pieces_all kept_bytes c.args.kept.now c.loop-chunk.chunk-index c.args.out.now.items c.loop-chunk.out.items (omega (arith, c.loop-chunk-test.false)) c.loop-chunk.invariant
+returns c = pieces_all kept_bytes c.args.kept.now c.loop-chunk.chunk-index c.args.out.now.items c.loop-chunk.out.items
+    (omega (arith, c.loop-chunk-test.false)) c.loop-chunk.invariant

@@ -7,7 +7,8 @@ use Rattle.stripe_parity.proofs.parity.Parity.kept.Goals.{After-index}
 
 -- what is kept of the unit
 here : (c : After-index) → KeptHere c.self.inside.kept.items c.self.inside.shape c.args.unit c.index.result.now
-here c = kept_here c.self.inside.kept.items c.self.inside.shape c.args.unit c.index.result.now c.self.invariant.parity.units_are c.self.invariant.parity.chunks_are
+here c = kept_here c.self.inside.kept.items c.self.inside.shape c.args.unit c.index.result.now c.self.invariant.parity.units_are
+    c.self.invariant.parity.chunks_are
     (rw (← c.self.view_is) at c.requires.unit) c.index.ensures
 
 pub index-requires-2 : goal.index-requires-2

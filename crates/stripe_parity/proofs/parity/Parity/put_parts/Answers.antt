@@ -19,5 +19,7 @@ returns c =
     (three_put o0 o1 o2 o3 (header_bytes p.shape) (flat_map (flat_map kept_bytes) (map (λ (of : Vec KeptChunk Global). of.items) p.kept.items))
     (flat_map (flat_map block_bytes) (map (λ (r : DriveChunk). r.chunk.blocks) p.rows.items))
     (c.in_ok-put.ensures ∙ ap (λ l. o0 ++ l) c.header_of.ensures)
-    (c.in_ok-put_units.ensures ∙ ap (λ (ks : List (Vec KeptChunk Global)). o1 ++ flat_map (flat_map kept_bytes) (map (λ (of : Vec KeptChunk Global). of.items) ks)) c.deref.ensures.value)
-    (c.in_ok-put_rows.ensures ∙ ap (λ (rs : List DriveChunk). o2 ++ flat_map (flat_map block_bytes) (map (λ (r : DriveChunk). r.chunk.blocks) rs)) c.deref-2.ensures.value))
+    (c.in_ok-put_units.ensures ∙ ap
+    (λ (ks : List (Vec KeptChunk Global)). o1 ++ flat_map (flat_map kept_bytes) (map (λ (of : Vec KeptChunk Global). of.items) ks)) c.deref.ensures.value)
+    (c.in_ok-put_rows.ensures ∙ ap
+    (λ (rs : List DriveChunk). o2 ++ flat_map (flat_map block_bytes) (map (λ (r : DriveChunk). r.chunk.blocks) rs)) c.deref-2.ensures.value))

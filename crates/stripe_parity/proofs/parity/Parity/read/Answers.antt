@@ -13,7 +13,8 @@ use Rattle.stripe_parity.proofs.parity.Parity.read.Goals.{In_ok-rows}
 pub returns-in_err-check_header-clause-wanting : goal.returns-in_err-check_header-clause-wanting
 returns-in_err-check_header-clause-wanting c =
     let e = err_from_is_err_and c.from_residual.result c.from_residual.ensures.1 in
-    rw (e.1, e.2) (λ p is shape same. never_refused p c.args.shape.now c.args.bytes.now c.in_err-check_header.field-0.0 is shape same c.in_err-check_header.ensures.refused)
+    rw (e.1, e.2) (λ p is shape same. never_refused p c.args.shape.now c.args.bytes.now c.in_err-check_header.field-0.0 is shape same
+    c.in_err-check_header.ensures.refused)
 
 pub returns-in_err-kept-clause-wanting : goal.returns-in_err-kept-clause-wanting
 returns-in_err-kept-clause-wanting c =
@@ -36,7 +37,8 @@ rows_read c = map (λ (r : DriveChunk). r.chunk.blocks) c.in_ok-rows.rows.items
 
 are_rows : (c : In_ok-rows) → AreRowsOf c.args.shape.now c.args.bytes.now (kept_read c) c.args.shape.now.chunks (length c.args.bytes.now) (rows_read c)
 are_rows c =
-    subst (λ (of : List (Vec KeptChunk Global)). AreRowsOf c.args.shape.now c.args.bytes.now (map (λ (v : Vec KeptChunk Global). v.items) of) c.args.shape.now.chunks (length c.args.bytes.now) (rows_read c))
+    subst (λ (of : List (Vec KeptChunk Global)). AreRowsOf c.args.shape.now c.args.bytes.now
+    (map (λ (v : Vec KeptChunk Global). v.items) of) c.args.shape.now.chunks (length c.args.bytes.now) (rows_read c))
     c.deref.ensures.value c.in_ok-rows.ensures.whole
 
 -- and their parity
@@ -44,10 +46,12 @@ abbrev parity_read : In_ok-rows → ParityFile
 parity_read c = record { shape = c.args.shape.now; chunks = kept_read c; rows = rows_read c }
 
 is_parity : (c : In_ok-rows) → IsParity (parity_read c)
-is_parity c = read_parity c.args.shape.now c.args.bytes.now (kept_read c) (length c.args.bytes.now) c.in_ok-rows.rows.items c.requires c.in_ok-kept.ensures.kept (are_rows c) c.in_ok-rows.ensures.fits
+is_parity c = read_parity c.args.shape.now c.args.bytes.now (kept_read c) (length c.args.bytes.now) c.in_ok-rows.rows.items c.requires c.in_ok-kept.ensures.kept
+    (are_rows c) c.in_ok-rows.ensures.fits
 
 spells : (c : In_ok-rows) → parity_bytes (parity_read c) ≡ c.args.bytes.now
-spells c = whole_file c.args.shape.now c.args.bytes.now (kept_read c) c.args.shape.now.chunks (length c.args.bytes.now) (rows_read c) c.in_ok-kept.ensures.kept (are_rows c) (omega arith)
+spells c = whole_file c.args.shape.now c.args.bytes.now (kept_read c) c.args.shape.now.chunks (length c.args.bytes.now) (rows_read c) c.in_ok-kept.ensures.kept
+    (are_rows c) (omega arith)
 
 pub invariant_of-result : goal.invariant_of-result
 invariant_of-result c = record { parity = is_parity (goal.at.invariant_of-result c).In_ok-rows; rows = c.in_ok-rows.ensures.fits }
