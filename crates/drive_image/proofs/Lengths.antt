@@ -1,8 +1,7 @@
 -- How long an image is.
-use Rattle.std.proofs.Common.{◌≡◌, ℕ, ◌+◌, ◌*◌, List, ◌∷◌, ◌++◌, length, length-append, refl, ap, ◌∙◌, arith}
+use Rattle.std.proofs.Common.{◌≡◌, ℕ, ◌+◌, ◌*◌, List, ◌++◌, length, length-append, ap, ◌∙◌, arith}
 use Rattle.std.specs.List.{AllByRecursion, enumerate_from, flat_map, sum_by}
 use Rattle.std.proofs.lemmas.List.FromFn.{length-enumerate_from}
-use Rattle.pblk_model.specs.Bytes.{le16, le32, zeros}
 use Rattle.pblk_model.specs.Chunk.{Block, pointer}
 use Rattle.pblk_model.specs.Geometry.{Geometry, geometry_bytes}
 use Rattle.pblk_model.specs.ImageFile.{StoredChunk, Drive, block_bytes, blocks_bytes, descriptor_bytes, descriptor_of, descriptors_bytes, header_bytes, image_bytes, unit_descriptors}
@@ -10,7 +9,6 @@ use Rattle.pblk_model.proofs.GeometryBytes.{geometry_length}
 use Rattle.drive_image.specs.Storing.{chunk_bytes, written_in}
 use Rattle.pblk_model.proofs.Lists.{all_everywhere, all_weaker}
 use Rattle.pblk_model.proofs.Maps.{all_enumerate, flat_length, length_of_sum}
-use Rattle.pblk_model.proofs.BytesLemmas.{with_zeros}
 use Rattle.pblk_model.proofs.DescriptorLemmas.{descriptor_length}
 use Rattle.pblk_model.proofs.ImageFileLemmas.{block_length, header_length}
 

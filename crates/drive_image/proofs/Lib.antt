@@ -5,6 +5,7 @@ pub mod FillingSteps
 pub mod Finishing
 pub mod Flat
 pub mod Gotten
+pub mod Judged
 pub mod KeptChunks
 pub mod Lengths
 pub mod ListFacts

@@ -1,16 +1,25 @@
 -- A drive that is filled from an image chunk by chunk.
 use Rattle.std.specs.Prelude.{ℕ, ◌+◌, ◌*◌, ◌/◌, ◌%◌, ◌≡◌, List, Ok}
 use Rattle.std.specs.List.{flat_map, slice_range}
+use Rattle.pblk_model.specs.Accepted.{IsAccepted}
 use Rattle.pblk_model.specs.Chunk.{PointerFits}
 use Rattle.pblk_model.specs.Descriptor.{Descriptor, read_descriptor}
-use Rattle.pblk_model.specs.Geometry.{packed}
+use Rattle.pblk_model.specs.Geometry.{packed, shape_with}
 use Rattle.pblk_model.specs.ImageFile.{StoredChunk, block_bytes, descriptor_at, descriptor_of, first_address, geometry_at, pointer_at, shape_at}
 use Rattle.ocssd_drive.specs.Drive.{DriveView, shape_of, stored, with_chunk_at, with_restored}
-use Rattle.ocssd_geometry.specs.Numbers.{numbers_of}
+use Rattle.ocssd_geometry.specs.Numbers.{IsGeometry, numbers_of}
+use Rattle.drive_image.specs.declared.parts.Numbers.{Numbers}
 
 -- the length in bytes of the blocks of the n-th chunk
 abbrev pub bytes_of : List ℕ → ℕ → ℕ
 bytes_of b n = ((shape_at b).sector + 16) * pointer_at b n
+
+-- these are the numbers of an image, and a drive has them
+pub record AreNumbersOf (b : List ℕ) (n : Numbers) : Type 0 where
+  pub geometry : numbers_of n.geometry ≡ geometry_at b
+  pub geometry_is : IsGeometry n.geometry
+  pub shape : shape_with (numbers_of n.geometry) n.settings.sector n.settings.capacity n.settings.ring ≡ shape_at b
+  pub accepted : IsAccepted (shape_at b)
 
 -- this is the n-th chunk of an image, whose blocks begin at this byte
 pub record IsNth (b : List ℕ) (n at : ℕ) (k : StoredChunk) : Type 0 where

@@ -14,7 +14,7 @@ ghost use Rattle.pblk_model.specs.Shape.{units};
 ghost use Rattle.ocssd_geometry.specs.Numbers.{numbers_of, IsGeometry};
 ghost use Rattle.drive_image.specs.Parts.{chunk_refusals, descriptor_refusal};
 
-use crate::bytes::u64_at;
+use crate::fields::u64_at;
 use crate::kept::first_block;
 use crate::parts::{Numbers, check_reaches};
 use ocssd_chunks::read_descriptor;

@@ -5,9 +5,9 @@
 //! Contracts see a drive as the model's, by `stored`.
 #![tactic(auto)]
 
-mod bytes;
 mod counting;
 mod descriptors;
+mod fields;
 mod kept;
 mod loading;
 mod making;
@@ -15,7 +15,7 @@ mod numbers;
 mod parts;
 mod storing;
 
-pub use loading::load;
+pub use loading::{from_image, load};
 pub use making::blank;
 pub use numbers::Settings;
 pub use ocssd_drive::{Drive, Geometry, GeometryErr};

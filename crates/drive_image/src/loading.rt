@@ -1,21 +1,20 @@
 //! Drives from their images.
 
-ghost use Rattle.std.specs.Prelude.{◌≡◌, ◌+◌, ◌*◌, ◌<◌, ◌≤◌, length, IfOk, IsOkUnless, None, Some, Err};
+ghost use Rattle.std.specs.Prelude.{◌≡◌, ◌+◌, ◌*◌, ◌^◌, ◌<◌, ◌≤◌, length, IfOk, OnOk, IsOkUnless, None, Some, Err};
 ghost use Rattle.std.specs.Result.{result_err};
 ghost use Rattle.pblk_model.specs.declared.image.ImageErr.{ImageErr};
 ghost use Rattle.pblk_model.specs.declared.image.ImageErr.TheVariants as errors;
-ghost use Rattle.pblk_model.specs.Accepted.{IsAccepted};
-ghost use Rattle.pblk_model.specs.Geometry.{shape_with};
 ghost use Rattle.pblk_model.specs.ImageFile.{IsImage, IsImageOf, blank_drive, blocks_end, chunks_at, descriptors_end, geometry_at, image_refusal, shape_at};
 ghost use Rattle.ocssd_chunks.specs.Descriptor.{fields_of};
-ghost use Rattle.ocssd_geometry.specs.Numbers.{numbers_of, IsGeometry};
+ghost use Rattle.ocssd_geometry.specs.Numbers.{numbers_of};
 ghost use Rattle.ocssd_drive.specs.Drive.{IsWhole, stored};
-ghost use Rattle.drive_image.specs.Filling.{GotNth, HasNumbers, IsRow, bytes_of};
+ghost use Rattle.drive_image.specs.Filling.{AreNumbersOf, GotNth, HasNumbers, IsRow, bytes_of};
 ghost use Rattle.drive_image.specs.Quiet.{IsQuiet};
 
 use crate::descriptors::check_chunks;
 use crate::making::made;
 use crate::parts::{Numbers, read_numbers};
+use bytes::Bytes;
 use ocssd_chunks::{Descriptor, read_descriptor};
 use ocssd_drive::Drive;
 use pblk_model::{DESCRIPTOR_LEN, DESCRIPTORS_AT, ImageErr};
@@ -43,65 +42,101 @@ pub fn load(alloc: Global, bytes: &[u8]) -> Result<Drive, ImageErr>
     ensures quiet { IfOk result IsQuiet }
     ensures whole { IfOk result IsWhole }
 {
-    let Numbers { geometry, settings } = judge(bytes)?;
-    let mut drive = made(alloc, &geometry, &settings)?;
-    fill(&mut drive, bytes);
-    Ok(drive)
+    let numbers = judge(bytes)?;
+    let Ok(image) = Bytes::copy_from_slice(alloc, bytes) else {
+        return Err(ImageErr::Memory);
+    };
+    drive_over(alloc, &numbers, &image)
+}
+
+/// As `load`, from bytes that the drive keeps. No sector is copied: each chunk leaves its blocks
+/// where the image has them. The bytes live until the last of these chunks is reset, is given
+/// other blocks, or goes with the drive. Where it is refused they are let go.
+pub fn from_image(alloc: Global, bytes: Vec<u8>) -> Result<Drive, ImageErr>
+    ensures refused { (e : ImageErr) → image_refusal bytes.items ≡ Some e → result ≡ Err e }
+    ensures taken { image_refusal bytes.items ≡ None → IsOkUnless result errors.Memory }
+    ensures image { IfOk result (λ d. IsImage bytes.items (stored d)) }
+    ensures quiet { IfOk result IsQuiet }
+    ensures whole { IfOk result IsWhole }
+{
+    let numbers = judge(&bytes)?;
+    let Ok(image) = Bytes::from_vec(bytes) else {
+        return Err(ImageErr::Memory);
+    };
+    drive_over(alloc, &numbers, &image)
 }
 
 // The numbers of an image that isn't refused.
 fn judge(bytes: &[u8]) -> Result<Numbers, ImageErr>
     ensures refused { result_err result ≡ image_refusal bytes.now }
-    ensures geometry { IfOk result (λ n. numbers_of n.geometry ≡ geometry_at bytes.now) }
-    ensures geometry_accepted { IfOk result (λ n. IsGeometry n.geometry) }
-    ensures shape { IfOk result (λ n. let s = n.settings
-        in shape_with (numbers_of n.geometry) s.sector s.capacity s.ring ≡ shape_at bytes.now) }
-    ensures accepted { IfOk result (λ _. IsAccepted (shape_at bytes.now)) }
+    ensures numbers { IfOk result (AreNumbersOf bytes.now) }
 {
     let numbers = read_numbers(bytes)?;
     check_chunks(bytes, &numbers)?;
     Ok(numbers)
 }
 
+// The drive of an image that isn't refused, whose chunks leave their blocks in the image's bytes.
+fn drive_over(alloc: Global, numbers: &Numbers, image: &Bytes) -> Result<Drive, ImageErr>
+    requires accepted { image_refusal image.now ≡ None }
+    requires numbers { AreNumbersOf image.now numbers.now }
+    ensures memory { IsOkUnless result errors.Memory }
+    ensures image { IfOk result (λ d. IsImageOf image.now (stored d)) }
+    ensures quiet { IfOk result IsQuiet }
+    ensures whole { IfOk result IsWhole }
+{
+    let mut drive = made(alloc, &numbers.geometry, &numbers.settings)?;
+    fill(&mut drive, image)?;
+    Ok(drive)
+}
+
 // Gives a drive of the image's numbers, on which nothing is written, the image's chunks.
-fn fill(drive: &mut Drive, bytes: &[u8])
-    requires accepted { image_refusal bytes.now ≡ None }
-    requires geometry { numbers_of drive.old.geometry ≡ geometry_at bytes.now }
-    requires blank { let s = shape_at bytes.now
-        in stored drive.old ≡ blank_drive (geometry_at bytes.now) s.sector s.capacity s.ring }
+fn fill(drive: &mut Drive, image: &Bytes) -> Result<(), ImageErr>
+    requires accepted { image_refusal image.now ≡ None }
+    requires geometry { numbers_of drive.old.geometry ≡ geometry_at image.now }
+    requires blank { let s = shape_at image.now
+        in stored drive.old ≡ blank_drive (geometry_at image.now) s.sector s.capacity s.ring }
     requires quiet { IsQuiet drive.old }
     requires whole { IsWhole drive.old }
-    ensures image { IsImageOf bytes.now (stored drive.new) }
-    ensures quiet { IsQuiet drive.new }
-    ensures whole { IsWhole drive.new }
+    ensures memory { IsOkUnless result errors.Memory }
+    ensures image { OnOk result (IsImageOf image.now (stored drive.new)) }
+    ensures quiet { OnOk result (IsQuiet drive.new) }
+    ensures whole { OnOk result (IsWhole drive.new) }
 {
     let shape = drive.shape();
     let count = shape.units() * shape.chunks;
     let mut at = DESCRIPTORS_AT + DESCRIPTOR_LEN * count as usize;
     for n in 0..count {
-        at += restore_chunk(drive, bytes, n, at);
+        let length = adopt_chunk(drive, image, n, at)?;
+        at += length;
     }
+    Ok(())
 }
 
-// Gives a drive the n-th chunk of its image, whose blocks begin at `at`. How many bytes these have.
-fn restore_chunk(drive: &mut Drive, bytes: &[u8], n: u32, at: usize) -> usize
-    requires accepted { image_refusal bytes.now ≡ None }
-    requires numbers { HasNumbers bytes.now drive.old }
+// Gives a drive the n-th chunk of its image, whose blocks begin at `at` and stay there. How many
+// bytes these have.
+fn adopt_chunk(drive: &mut Drive, image: &Bytes, n: u32, at: usize) -> Result<usize, ImageErr>
+    requires accepted { image_refusal image.now ≡ None }
+    requires numbers { HasNumbers image.now drive.old }
     requires whole { IsWhole drive.old }
-    requires index { n < chunks_at bytes.now }
-    requires within { at + bytes_of bytes.now n ≤ length bytes.now }
-    ensures length { result ≡ bytes_of bytes.now n }
-    ensures got { GotNth bytes.now n at drive.old drive.new }
-    ensures numbers { HasNumbers bytes.now drive.new }
-    ensures whole { IsWhole drive.new }
+    requires index { n < chunks_at image.now }
+    requires within { at + bytes_of image.now n ≤ length image.now }
+    ensures memory { IsOkUnless result errors.Memory }
+    ensures length { IfOk result (λ length. length ≡ bytes_of image.now n) }
+    ensures bound { length image.now < 2 ^ 63 }
+    ensures got { OnOk result (GotNth image.now n at drive.old drive.new) }
+    ensures numbers { OnOk result (HasNumbers image.now drive.new) }
+    ensures whole { OnOk result (IsWhole drive.new) }
 {
     let shape = drive.shape();
     let (unit, chunk) = (n / shape.chunks, n % shape.chunks);
-    let descriptor = nth_descriptor(bytes, n);
+    let descriptor = nth_descriptor(image, n);
     let count = descriptor.wp as u32;
     let length = (shape.sector as usize + 16) * count as usize;
-    let blocks = &bytes[at..at + length];
-    drive.restore_spelled(
+    let Ok(blocks) = image.slice(at..at + length) else {
+        return Err(ImageErr::Memory);
+    };
+    drive.adopt(
         unit,
         chunk,
         descriptor.wear,
@@ -109,17 +144,18 @@ fn restore_chunk(drive: &mut Drive, bytes: &[u8], n: u32, at: usize) -> usize
         count,
         blocks,
     );
-    length
+    Ok(length)
 }
 
 // The n-th descriptor of an image.
-fn nth_descriptor(bytes: &[u8], n: u32) -> Descriptor
-    requires accepted { image_refusal bytes.now ≡ None }
-    requires index { n < chunks_at bytes.now }
-    ensures { IsRow bytes.now n (fields_of result) }
+fn nth_descriptor(image: &Bytes, n: u32) -> Descriptor
+    requires accepted { image_refusal image.now ≡ None }
+    requires index { n < chunks_at image.now }
+    ensures row { IsRow image.now n (fields_of result) }
+    ensures bound { length image.now < 2 ^ 63 }
 {
     let at = DESCRIPTORS_AT + DESCRIPTOR_LEN * n as usize;
-    let row = &bytes[at..at + DESCRIPTOR_LEN];
+    let row = &image.as_slice()[at..at + DESCRIPTOR_LEN];
     let Ok(descriptor) = read_descriptor(row) else {
         unreachable!()
     };

@@ -13,7 +13,7 @@ ghost use Rattle.pblk_model.specs.ImageFile.{geometry_at, shape_at, short_of};
 ghost use Rattle.ocssd_geometry.specs.Numbers.{numbers_of, IsGeometry};
 ghost use Rattle.drive_image.specs.Parts.{header_refusals, number_refusals};
 
-use crate::bytes::{u32_at, u64_at};
+use crate::fields::{u32_at, u64_at};
 use crate::numbers::{Settings, check_settings};
 use ocssd_drive::Geometry;
 use pblk_model::{DESCRIPTORS_AT, HEADER_LEN, ImageErr};

@@ -12,8 +12,8 @@ ghost use Rattle.ocssd_drive.specs.Drive.{IsWhole, shape_of, stored};
 ghost use Rattle.ocssd_drive.specs.Units.{IsUnitOf, stored_chunks};
 ghost use Rattle.drive_image.specs.Storing.{HasCapacity, IsDescriptorAdded, WasAdded, chunk_bytes, front_bytes, numbers_bytes};
 
-use crate::bytes::put;
 use crate::counting::image_length;
+use crate::fields::put;
 use crate::kept::{first_block, kept_chunk};
 use ocssd_chunks::{Chunk, Descriptor};
 use ocssd_drive::{Drive, Geometry, MemoryUnit, Shape};

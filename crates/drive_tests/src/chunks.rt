@@ -1,14 +1,18 @@
 //! The commands of a chunk of a small drive.
 
+use bytes::Bytes;
 use ocssd_chunks::{
     Chunk, ChunkErr, ChunkState, Descriptor, DescriptorErr, Got, Mark, Shape, has_sectors,
     read_descriptor,
 };
+use std::alloc::{AllocError, Global};
 use std::process::Abort;
 use std::test::Fail;
 
-// What is asked of a chunk. A write names its first block and the block behind its last one. A write that
-// fails or is cut off begins at block 0, and names how many blocks it has and how many multiples of them land.
+// What is asked of a chunk. A write names its first block and the block behind its last one. A
+// write that fails or is cut off begins at block 0, and names how many blocks it has and how many
+// multiples of them land. Blocks that are adopted are named by the first and by the one behind the
+// last, wherever they come to stand.
 #[derive(Clone, Copy)]
 enum Asked {
     Write(usize, usize),
@@ -21,6 +25,7 @@ enum Asked {
     FailReset,
     CutReset(bool),
     Restore(usize),
+    Adopt(usize, usize),
 }
 
 // What it told. A block is known by its number, which is in its mark and fills its sector.
@@ -35,14 +40,15 @@ enum Told {
     Unasked,
 }
 
-// The blocks of a chunk, and two more.
+// The blocks of a chunk, and two more, with their spelling: each as its sector and then its mark.
 #[derive(Drop)]
 struct Blocks {
     bytes: [u8; 13312],
     marks: [Mark; 26],
+    spelled: Bytes,
 }
 
-fn make_blocks() -> Blocks {
+fn make_blocks(alloc: Global) -> Result<Blocks, AllocError> {
     let mut bytes = [0u8; 13312];
     for (at, byte) in bytes.iter_mut().enumerate() {
         *byte = (at / 512 % 256) as u8;
@@ -51,7 +57,18 @@ fn make_blocks() -> Blocks {
     for (at, mark) in marks.iter_mut().enumerate() {
         *mark = mark_of((at % 256) as u8);
     }
-    Blocks { bytes, marks }
+    let mut spelled = Vec::new(alloc);
+    for (sector, mark) in bytes.chunks_exact(512).zip(&marks) {
+        spelled.extend_from_slice(sector)?;
+        spelled.extend_from_slice(&mark.lba.to_le_bytes())?;
+        spelled.extend_from_slice(&mark.position.to_le_bytes())?;
+    }
+    let spelled = Bytes::from_vec(spelled)?;
+    Ok(Blocks {
+        bytes,
+        marks,
+        spelled,
+    })
 }
 
 fn mark_of(block: u8) -> Mark {
@@ -66,6 +83,15 @@ impl Blocks {
     fn part(&self, start: usize, end: usize) -> Option<(&[u8], &[Mark])> {
         if start <= end && end <= 26 {
             Some((&self.bytes[start * 512..end * 512], &self.marks[start..end]))
+        } else {
+            None
+        }
+    }
+
+    // The spelling of these blocks.
+    fn spelled_part(&self, start: usize, end: usize) -> Option<Bytes> {
+        if start <= end && end <= 26 && self.spelled.len() == 26 * 528 {
+            self.spelled.slice(start * 528..end * 528).ok()
         } else {
             None
         }
@@ -90,6 +116,7 @@ fn ask(chunk: &mut Chunk, blocks: &Blocks, asked: &Asked) -> Told {
         Asked::FailReset => part_reset(chunk, None),
         Asked::CutReset(done) => part_reset(chunk, Some(*done)),
         Asked::Restore(count) => restore(chunk, blocks, *count),
+        Asked::Adopt(start, end) => adopt(chunk, blocks, *start, *end),
     }
 }
 
@@ -182,12 +209,31 @@ fn restore(chunk: &mut Chunk, blocks: &Blocks, count: usize) -> Told {
     }
 }
 
-// Asks a new chunk, row by row.
-fn walk(rt: &impl Abort, mut chunk: Chunk, rows: &[(Asked, Told)]) {
-    let blocks = make_blocks();
+// Gives a chunk the spelling of blocks, as those of one that isn't full.
+fn adopt(chunk: &mut Chunk, blocks: &Blocks, start: usize, end: usize) -> Told {
+    let shape = chunk.shape();
+    let Some(kept) = blocks.spelled_part(start, end) else {
+        return Told::Unasked;
+    };
+    let count = (kept.len() / 528 % 256) as u32;
+    if shape.sector != 512 || count == 0 || count >= shape.clba || count % shape.ws_min != 0 {
+        return Told::Unasked;
+    }
+    if kept.len() != count as usize * 528 {
+        return Told::Unasked;
+    }
+    chunk.adopt(ChunkState::Open, count, kept);
+    Told::Done
+}
+
+// Asks a new chunk of the small drive, row by row.
+fn walk(rt: &impl Abort, alloc: Global, rows: &[(Asked, Told)]) -> Result<(), Fail> {
+    let mut chunk = Chunk::new(alloc, &Shape::small())?;
+    let blocks = make_blocks(alloc)?;
     for (row, (asked, told)) in rows.iter().enumerate() {
         assert!(rt; ask(&mut chunk, &blocks, asked) == *told, "row {row}");
     }
+    Ok(())
 }
 
 const FREE: Told = Told::Is(ChunkState::Free, 0);
@@ -223,12 +269,11 @@ static CALLS: [(Asked, Told); 23] = [
 
 #[test]
 fn chunk_calls(rt: HostRuntime) -> Result<(), Fail> {
-    walk(&rt, Chunk::new(rt.alloc(), &Shape::small())?, &CALLS);
-    Ok(())
+    walk(&rt, rt.alloc(), &CALLS)
 }
 
-// A failed write closes the chunk for good, and a failed reset takes it Offline. What is cut off is done or
-// not.
+// A failed write closes the chunk for good, and a failed reset takes it Offline. What is cut off is
+// done or not.
 static FAULTS: [(Asked, Told); 20] = [
     (Asked::CutWrite(4, 0), Told::Done),
     (Asked::State, FREE),
@@ -254,11 +299,45 @@ static FAULTS: [(Asked, Told); 20] = [
 
 #[test]
 fn faults_and_cuts_leave_what_they_should(rt: HostRuntime) -> Result<(), Fail> {
-    walk(&rt, Chunk::new(rt.alloc(), &Shape::small())?, &FAULTS);
-    Ok(())
+    walk(&rt, rt.alloc(), &FAULTS)
 }
 
-// The descriptor of the small drive's first chunk, which has no block. Its block 0 has the address 0.
+// Adopted blocks are read where they lie, what is written on comes behind them, and a reset lets
+// them go.
+static ADOPTED: [(Asked, Told); 24] = [
+    (Asked::Write(0, 2), Told::Done),
+    (Asked::Adopt(12, 16), Told::Done),
+    (Asked::State, Told::Is(ChunkState::Open, 4)),
+    (Asked::Written(0), Told::Block(12)),
+    (Asked::Written(3), Told::Block(15)),
+    (Asked::Written(4), Told::Empty),
+    (Asked::Read(0), Told::Empty),
+    (Asked::Write(2, 6), Told::Refused(ChunkErr::NotAtPointer)),
+    (Asked::Write(4, 12), Told::Done),
+    (Asked::Read(3), Told::Block(15)),
+    (Asked::Read(4), Told::Empty),
+    (Asked::Written(4), Told::Block(4)),
+    (Asked::Write(12, 24), Told::Done),
+    (Asked::State, Told::Is(ChunkState::Closed, 24)),
+    (Asked::Read(0), Told::Block(12)),
+    (Asked::Read(4), Told::Block(4)),
+    (Asked::Read(23), Told::Block(23)),
+    (Asked::Reset, Told::Done),
+    (Asked::State, FREE),
+    (Asked::Written(0), Told::Empty),
+    (Asked::Write(0, 4), Told::Done),
+    (Asked::Written(0), Told::Block(0)),
+    (Asked::Restore(2), Told::Done),
+    (Asked::Written(1), Told::Block(1)),
+];
+
+#[test]
+fn adopted_blocks_are_read_and_let_go(rt: HostRuntime) -> Result<(), Fail> {
+    walk(&rt, rt.alloc(), &ADOPTED)
+}
+
+// The descriptor of the small drive's first chunk, which has no block. Its block 0 has the address
+// 0.
 const BLANK: [u8; 32] = [
     1, 1, 0, 0, 0, 0, 0, 0, 0, 0, 0, 0, 0, 0, 0, 0, 24, 0, 0, 0, 0, 0, 0, 0, 0, 0, 0, 0, 0, 0, 0, 0,
 ];

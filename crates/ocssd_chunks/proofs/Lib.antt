@@ -1,5 +1,7 @@
 pub mod BlockList
 pub mod Descriptors
+pub mod Held
 pub mod Resets
+pub mod SpelledBlocks
 pub mod Writes
 mod Spelling

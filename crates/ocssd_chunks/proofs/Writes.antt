@@ -14,11 +14,6 @@ use Rattle.pblk_model.specs.ChunkStep.{Write, refusal, write_refusal_in, place_r
 use Rattle.pblk_model.specs.Blocks.{blocks_of}
 use Rattle.pblk_model.proofs.Lists.{all_append}
 use Rattle.pblk_model.proofs.BlocksLemmas.{length-blocks_of}
-use Rattle.pblk_model.proofs.ChunkLemmas.{pointer_within}
-
--- the chunk of this state, with the blocks of these bytes and marks
-abbrev pub chunk_of : Shape → ChunkState → List ℕ → List Mark → Chunk
-chunk_of s state bytes marks = record { state = state; blocks = blocks_of s.sector bytes marks }
 
 -- a write of n blocks that isn't refused, where the write pointer is wp
 pub record IsTaken (s : Shape) (wp n : ℕ) : Type 0 where
@@ -58,19 +53,11 @@ IsChunk-joined s c state blocks fits place multiple all =
     }
 
 -- the refusal by the lists' lengths is that by the blocks
-pub refusal-blocks_of : (s : Shape) (state : ChunkState) (bytes more : List ℕ) (marks others : List Mark) (wp at : ℕ) (answer : Option ChunkErr)
-    → wp ≡ length marks → answer ≡ write_refusal_in s state wp at (length others)
-    → refusal s (chunk_of s state bytes marks) (Write at (blocks_of s.sector more others)) ≡ answer
-refusal-blocks_of s state bytes more marks others wp at answer wp_is answer_is =
-    rw (length-blocks_of s.sector bytes marks, length-blocks_of s.sector more others, ← wp_is) (sym answer_is)
-
--- blocks that are appended in a state that fits are within the chunk
-pub room : (s : Shape) (state : ChunkState) (bytes : List ℕ) (marks : List Mark) (n : ℕ)
-    → PointerFits state s.clba (length (blocks_of s.sector bytes marks) + n) → length marks + n ≤ s.clba
-room s state bytes marks n fits =
-    let written = length-blocks_of s.sector bytes marks in
-    let within = pointer_within state s.clba _ fits in
-    omega arith
+pub refusal-blocks_of : (s : Shape) (c : Chunk) (bytes : List ℕ) (marks : List Mark) (wp at : ℕ) (answer : Option ChunkErr)
+    → wp ≡ pointer c → answer ≡ write_refusal_in s c.state wp at (length marks)
+    → refusal s c (Write at (blocks_of s.sector bytes marks)) ≡ answer
+refusal-blocks_of s c bytes marks wp at answer wp_is answer_is =
+    rw (length-blocks_of s.sector bytes marks, ← wp_is) (sym answer_is)
 
 pub some_blocks : (k m : ℕ) → k ≢ 0 → 0 < m → 0 < k * m
 some_blocks k m some positive = mul-pos (pos_of_ne-zero some) positive

@@ -1,12 +1,14 @@
 //! Blocks as bytes and marks that stand in two lists.
 
 ghost use Rattle.std.specs.Prelude.{◌≡◌, ◌+◌, ◌*◌, ◌<◌, ◌≤◌, ◌↔◌, ◌++◌, length, take, drop, IsTrue, Some, slice_get, vec_len, vec_capacity};
+ghost use Rattle.std.specs.Int.{w64};
 ghost use Rattle.std.specs.List.{AllByRecursion};
 ghost use Rattle.pblk_model.specs.Chunk.{IsBlock};
 ghost use Rattle.pblk_model.specs.Blocks.{blocks_of, IsMark};
-ghost use Rattle.pblk_model.specs.Bytes.{le64};
-ghost use Rattle.ocssd_chunks.specs.Spelled.{AddsSpelled};
+ghost use Rattle.pblk_model.specs.Bytes.{le64, number_at};
+ghost use Rattle.ocssd_chunks.specs.Spelled.{block_in, AddsSpelled};
 
+use crate::descriptor::number_in;
 use pblk_model::{Mark, Shape};
 
 /// Adds bytes at the end of a list that has room for them.
@@ -37,8 +39,8 @@ pub fn has_sectors(shape: &Shape, bytes: &[u8], marks: &[Mark]) -> bool
     }
 }
 
-/// Adds `count` blocks, each spelled as its sector of `size` bytes and its mark's two numbers, at the ends
-/// of lists that have room for them.
+/// Adds `count` blocks, each spelled as its sector of `size` bytes and its mark's two numbers, at
+/// the ends of lists that have room for them.
 pub(crate) fn append_spelled(
     bytes: &mut Vec<u8>,
     marks: &mut Vec<Mark>,
@@ -68,27 +70,42 @@ fn mark_at(bytes: &[u8], offset: usize) -> Mark
     requires { offset + 16 ≤ length bytes.now }
     ensures lba { le64 result.lba ≡ take 8 (drop offset bytes.now) }
     ensures position { le64 result.position ≡ take 8 (drop (offset + 8) bytes.now) }
+    ensures numbers { result ≡ record {
+      lba = number_at w64 offset bytes.now;
+      position = number_at w64 (offset + 8) bytes.now;
+    } }
 {
     Mark {
-        lba: number_at(bytes, offset),
-        position: number_at(bytes, offset + 8),
+        lba: number_in(bytes, offset),
+        position: number_in(bytes, offset + 8),
     }
 }
 
-// The number that stands in eight bytes from an offset on.
-fn number_at(bytes: &[u8], offset: usize) -> u64
-    requires { offset + 8 ≤ length bytes.now }
-    ensures { le64 result ≡ take 8 (drop offset bytes.now) }
+/// A block among those that are spelled one after another in these bytes, each as its sector of
+/// `size` bytes and its mark's two numbers.
+pub(crate) fn spelled_block(bytes: &[u8], size: usize, index: usize) -> (&[u8], Mark)
+    requires { (index + 1) * (size + 16) ≤ length bytes.now }
+    ensures length { length result.0.now ≡ size }
+    ensures block { record { sector = result.0.now; mark = result.1 }
+        ≡ block_in size (drop (index * (size + 16)) bytes.now) }
 {
-    let mut number = [0; 8];
-    number.copy_from_slice(&bytes[offset..offset + 8]);
-    u64::from_le_bytes(number)
+    let start = index * (size + 16);
+    let block = &bytes[start..start + size + 16];
+    (&block[..size], mark_at(block, size))
 }
 
-/// Tells contracts that these bytes and marks are blocks of a drive of this shape. It changes nothing.
+/// Tells contracts that these are bytes. It changes nothing.
 ///
-/// `bytes` has a sector for each of `marks`. That each byte is below 256 and each number of a mark below
-/// 2^64 is known of their types alone.
+/// That each is below 256 is known of their type alone.
+pub(crate) fn are_bytes(_bytes: &[u8])
+    ensures { AllByRecursion (λ x. x < 256) _bytes.now }
+{}
+
+/// Tells contracts that these bytes and marks are blocks of a drive of this shape. It changes
+/// nothing.
+///
+/// `bytes` has a sector for each of `marks`. That each byte is below 256 and each number of a mark
+/// below 2^64 is known of their types alone.
 pub fn are_blocks(shape: &Shape, bytes: &[u8], marks: &[Mark])
     requires { length bytes.now ≡ length marks.now * shape.now.sector }
     ensures { let blocks = blocks_of shape.now.sector bytes.now marks.now

@@ -11,23 +11,31 @@ ghost use Rattle.ocssd_chunks.specs.Answers.{write_answer, read_answer, reset_an
 ghost use Rattle.pblk_model.specs.Blocks.{blocks_of};
 
 use crate::blocks::{
-    append_bytes, append_marks, append_spelled, are_blocks, block_at, first_blocks,
+    append_bytes, append_marks, append_spelled, are_blocks, are_bytes, block_at, first_blocks,
+    spelled_block,
 };
 use crate::rules::{
     check_read, check_reset, check_write, is_readable, state_after_reset, state_at,
 };
+use bytes::Bytes;
 use pblk_model::{ChunkErr, ChunkState, Got, Mark, Shape};
 use std::alloc::{AllocError, Global};
 use std::marker::Model;
 
-/// A chunk of a drive of some shape, with its written blocks (Open-Channel SSD Specification 2.0, Chunk
-/// states and write pointer).
+/// A chunk of a drive of some shape, with its written blocks (Open-Channel SSD Specification 2.0,
+/// Chunk states and write pointer).
 ///
 /// All its memory is taken when it is made. A write copies each byte once, and a read one sector.
+/// Bytes that it adopted live until it is reset, or is given other blocks.
 #[derive(Debug, Drop)]
 pub struct Chunk {
     shape: Shape,
     state: ChunkState,
+    // The first blocks, where they were adopted: each is its sector and then its mark's two
+    // numbers.
+    adopted: Bytes,
+    adopted_count: u32,
+    // The blocks after these.
     bytes: Vec<u8>,
     marks: Vec<Mark>,
 }
@@ -60,6 +68,8 @@ impl Chunk {
         Ok(Chunk {
             shape: *shape,
             state: ChunkState::Free,
+            adopted: Bytes::new(),
+            adopted_count: 0,
             bytes,
             marks,
         })
@@ -74,14 +84,14 @@ impl Chunk {
         self.shape
     }
 
-    /// Appends blocks from the block `at` on. `bytes` has the sectors one after another, and `marks`
-    /// their marks.
+    /// Appends blocks from the block `at` on. `bytes` has the sectors one after another, and
+    /// `marks` their marks.
     ///
-    /// Refused, in this order, with the chunk as before: `Offline` and `Closed` by the chunk's state;
-    /// `NotAtPointer` where `at` isn't the write pointer; `NotMultiple` for no block, or no multiple of
-    /// WS_MIN; `PastEnd` where the blocks go past CLBA. A write that is done leaves the chunk Closed
-    /// where all CLBA blocks are written, and Open where not (Open-Channel SSD Specification 2.0, Chunk
-    /// states and write pointer, Vector write).
+    /// Refused, in this order, with the chunk as before: `Offline` and `Closed` by the chunk's
+    /// state; `NotAtPointer` where `at` isn't the write pointer; `NotMultiple` for no block, or no
+    /// multiple of WS_MIN; `PastEnd` where the blocks go past CLBA. A write that is done leaves the
+    /// chunk Closed where all CLBA blocks are written, and Open where not (Open-Channel SSD
+    /// Specification 2.0, Chunk states and write pointer, Vector write).
     pub fn write(&mut self, at: u32, bytes: &[u8], marks: &[Mark]) -> Result<(), ChunkErr>
         requires { length bytes.now ≡ length marks.now * self.old.shape.sector }
         ensures step { let blocks = blocks_of self.old.shape.sector bytes.now marks.now
@@ -96,9 +106,9 @@ impl Chunk {
         ensures shape { self.new.shape ≡ self.old.shape }
         ensures fits { IsChunk self.new.shape self.new.chunk }
     {
-        let pointer = self.marks.len() as u32;
+        let pointer = self.pointer();
         check_write(&self.shape, self.state, pointer, at, marks.len())?;
-        let state = state_at(&self.shape, self.marks.len() + marks.len());
+        let state = state_at(&self.shape, pointer as usize + marks.len());
         self.append(bytes, marks, state);
         Ok(())
     }
@@ -108,16 +118,16 @@ impl Chunk {
         ensures { let blocks = blocks_of self.now.shape.sector bytes.now marks.now
             in result ≡ refusal self.now.shape self.now.chunk (Write at blocks) }
     {
-        let pointer = self.marks.len() as u32;
+        let pointer = self.pointer();
         check_write(&self.shape, self.state, pointer, at, marks.len()).err()
     }
 
     /// Copies the sector of a block to `out`, which has the length of a sector, and gives its mark.
     ///
-    /// `Empty`, with `out` as before, where the block isn't readable: not below the write pointer, or one
-    /// of the last MW_CUNITS blocks of an Open chunk. Refused, in this order, with `out` as before:
-    /// `Offline` by the chunk's state; `PastEnd` where the block isn't below CLBA (Open-Channel SSD
-    /// Specification 2.0, Chunk states and write pointer, Vector read).
+    /// `Empty`, with `out` as before, where the block isn't readable: not below the write pointer,
+    /// or one of the last MW_CUNITS blocks of an Open chunk. Refused, in this order, with `out` as
+    /// before: `Offline` by the chunk's state; `PastEnd` where the block isn't below CLBA
+    /// (Open-Channel SSD Specification 2.0, Chunk states and write pointer, Vector read).
     pub fn read(&self, block: u32, out: &mut [u8]) -> Result<Got, ChunkErr>
         requires { length out.old ≡ self.now.shape.sector }
         ensures step { ChunkStep self.now.shape self.now.chunk
@@ -126,12 +136,11 @@ impl Chunk {
         ensures refused { OnErr result (out.new ≡ out.old) }
     {
         check_read(&self.shape, self.state, block)?;
-        let pointer = self.marks.len() as u32;
+        let pointer = self.pointer();
         if !is_readable(&self.shape, self.state, pointer, block) {
             return Ok(Got::Empty);
         }
-        let size = self.shape.sector as usize;
-        let (sector, mark) = block_at(&self.bytes, &self.marks, size, block as usize);
+        let (sector, mark) = self.block(block);
         out.copy_from_slice(sector);
         Ok(Got::Sector(mark))
     }
@@ -143,10 +152,11 @@ impl Chunk {
         check_read(&self.shape, self.state, block).err()
     }
 
-    /// Takes all blocks away, and leaves the chunk Free, or Offline where it was closed before its end.
+    /// Takes all blocks away, and leaves the chunk Free, or Offline where it was closed before its
+    /// end.
     ///
-    /// Refused `NotResettable`, with the chunk as before, where it is Free or Offline (Open-Channel SSD
-    /// Specification 2.0, Chunk states, Vector reset).
+    /// Refused `NotResettable`, with the chunk as before, where it is Free or Offline (Open-Channel
+    /// SSD Specification 2.0, Chunk states, Vector reset).
     pub fn reset(&mut self) -> Result<(), ChunkErr>
         ensures step { ChunkStep self.old.shape self.old.chunk Reset (reset_answer result)
             self.new.chunk }
@@ -159,7 +169,7 @@ impl Chunk {
         ensures fits { IsChunk self.new.shape self.new.chunk }
     {
         check_reset(self.state)?;
-        let state = state_after_reset(&self.shape, self.state, self.marks.len());
+        let state = state_after_reset(&self.shape, self.state, self.pointer() as usize);
         self.leave_empty(state);
         Ok(())
     }
@@ -171,11 +181,11 @@ impl Chunk {
         check_reset(self.state).err()
     }
 
-    /// What a write leaves that fails: only its first `multiples` times WS_MIN blocks are appended, and
-    /// the chunk is Closed (Open-Channel SSD Specification 2.0, Chunk states).
+    /// What a write leaves that fails: only its first `multiples` times WS_MIN blocks are appended,
+    /// and the chunk is Closed (Open-Channel SSD Specification 2.0, Chunk states).
     ///
-    /// `bytes` has a sector for each of `marks`; the chunk doesn't refuse the write, as `write_refusal`
-    /// tells; and the blocks that are appended are fewer than all.
+    /// `bytes` has a sector for each of `marks`; the chunk doesn't refuse the write, as
+    /// `write_refusal` tells; and the blocks that are appended are fewer than all.
     pub fn fail_write(&mut self, at: u32, bytes: &[u8], marks: &[Mark], multiples: u32)
         requires whole { length bytes.now ≡ length marks.now * self.old.shape.sector }
         requires taken { let blocks = blocks_of self.old.shape.sector bytes.now marks.now
@@ -193,12 +203,12 @@ impl Chunk {
         self.append(bytes, marks, ChunkState::Closed);
     }
 
-    /// What a write leaves where the drive stops within it: its first `multiples` times WS_MIN blocks are
-    /// appended, and the chunk is Closed where all CLBA blocks are written, and Open where not. With 0 the
-    /// chunk is as before (Open-Channel SSD Specification 2.0, Chunk states).
+    /// What a write leaves where the drive stops within it: its first `multiples` times WS_MIN
+    /// blocks are appended, and the chunk is Closed where all CLBA blocks are written, and Open
+    /// where not. With 0 the chunk is as before (Open-Channel SSD Specification 2.0, Chunk states).
     ///
-    /// `bytes` has a sector for each of `marks`; the chunk doesn't refuse the write, as `write_refusal`
-    /// tells; and the blocks that are appended are at most all.
+    /// `bytes` has a sector for each of `marks`; the chunk doesn't refuse the write, as
+    /// `write_refusal` tells; and the blocks that are appended are at most all.
     pub fn cut_write(&mut self, at: u32, bytes: &[u8], marks: &[Mark], multiples: u32)
         requires whole { length bytes.now ≡ length marks.now * self.old.shape.sector }
         requires taken { let blocks = blocks_of self.old.shape.sector bytes.now marks.now
@@ -218,7 +228,7 @@ impl Chunk {
             return;
         }
         let count = multiples as usize * least;
-        let state = state_at(&self.shape, self.marks.len() + count);
+        let state = state_at(&self.shape, self.pointer() as usize + count);
         let (bytes, marks) = first_blocks(bytes, marks, self.shape.sector as usize, count);
         self.append(bytes, marks, state);
     }
@@ -235,9 +245,9 @@ impl Chunk {
         self.leave_empty(ChunkState::Offline);
     }
 
-    /// What a reset leaves where the drive stops within it: what the whole reset leaves where it was
-    /// `done`, and else the chunk as before (Open-Channel SSD Specification 2.0, Chunk states). The chunk is
-    /// Open or Closed, as `reset_refusal` tells.
+    /// What a reset leaves where the drive stops within it: what the whole reset leaves where it
+    /// was `done`, and else the chunk as before (Open-Channel SSD Specification 2.0, Chunk states).
+    /// The chunk is Open or Closed, as `reset_refusal` tells.
     pub fn cut_reset(&mut self, done: bool)
         requires { refusal self.old.shape self.old.chunk Reset ≡ None }
         ensures done { OnTrue done (self.new.chunk ≡ after_reset self.old.shape self.old.chunk) }
@@ -246,18 +256,18 @@ impl Chunk {
         ensures shape { self.new.shape ≡ self.old.shape }
         ensures fits { IsChunk self.new.shape self.new.chunk }
     {
-        let state = state_after_reset(&self.shape, self.state, self.marks.len());
+        let state = state_after_reset(&self.shape, self.state, self.pointer() as usize);
         if done {
             self.leave_empty(state);
         }
     }
 
-    /// Gives the chunk a state, and the blocks of these bytes and marks, in place of those that it had
-    /// (Open-Channel SSD Specification 2.0, Chunk states and write pointer). A new chunk gets the state and
-    /// the blocks that were kept of one by it.
+    /// Gives the chunk a state, and the blocks of these bytes and marks, in place of those that it
+    /// had (Open-Channel SSD Specification 2.0, Chunk states and write pointer). A new chunk gets
+    /// the state and the blocks that were kept of one by it.
     ///
-    /// `bytes` has a sector for each of `marks`, of which there are a multiple of WS_MIN: none for Free and
-    /// Offline, from 1 to below CLBA for Open, up to CLBA for Closed.
+    /// `bytes` has a sector for each of `marks`, of which there are a multiple of WS_MIN: none for
+    /// Free and Offline, from 1 to below CLBA for Open, up to CLBA for Closed.
     pub fn restore(&mut self, state: ChunkState, bytes: &[u8], marks: &[Mark])
         requires whole { length bytes.now ≡ length marks.now * self.old.shape.sector }
         requires place { PointerFits state self.old.shape.clba (length marks.now) }
@@ -271,13 +281,13 @@ impl Chunk {
         self.append(bytes, marks, state);
     }
 
-    /// Gives a chunk a state, and `count` blocks in place of what it had, from bytes in which each block is
-    /// its sector and then its mark, two numbers of eight little-endian bytes (Open-Channel SSD
-    /// Specification 2.0, Chunk states and write pointer; the spelling is this project's). Each sector is
-    /// copied once.
+    /// Gives a chunk a state, and `count` blocks in place of what it had, from bytes in which each
+    /// block is its sector and then its mark, two numbers of eight little-endian bytes
+    /// (Open-Channel SSD Specification 2.0, Chunk states and write pointer; the spelling is this
+    /// project's). Each sector is copied once.
     ///
-    /// The count is a multiple of WS_MIN: none for Free and Offline, from 1 to below CLBA for Open, up to
-    /// CLBA for Closed.
+    /// The count is a multiple of WS_MIN: none for Free and Offline, from 1 to below CLBA for Open,
+    /// up to CLBA for Closed.
     pub fn restore_spelled(&mut self, state: ChunkState, count: u32, bytes: &[u8])
         requires whole { length bytes.now ≡ count * (self.old.shape.sector + 16) }
         requires place { PointerFits state self.old.shape.clba count }
@@ -287,9 +297,8 @@ impl Chunk {
         ensures shape { self.new.shape ≡ self.old.shape }
         ensures fits { IsChunk self.new.shape self.new.chunk }
     {
+        self.leave_empty(ChunkState::Free);
         let size = self.shape.sector as usize;
-        self.bytes.clear();
-        self.marks.clear();
         append_spelled(
             &mut self.bytes,
             &mut self.marks,
@@ -298,6 +307,31 @@ impl Chunk {
             bytes,
         );
         are_blocks(&self.shape, &self.bytes, &self.marks);
+        self.state = state;
+    }
+
+    /// Gives a chunk a state, and `count` blocks in place of what it had, which stay where they
+    /// are: in these bytes each block is its sector and then its mark, two numbers of eight
+    /// little-endian bytes (Open-Channel SSD Specification 2.0, Chunk states and write pointer; the
+    /// spelling is this project's). Nothing is copied. The bytes live until the chunk is reset, or
+    /// is given other blocks.
+    ///
+    /// The count is a multiple of WS_MIN: none for Free and Offline, from 1 to below CLBA for Open,
+    /// up to CLBA for Closed.
+    pub fn adopt(&mut self, state: ChunkState, count: u32, kept: Bytes)
+        requires whole { length kept ≡ count * (self.old.shape.sector + 16) }
+        requires place { PointerFits state self.old.shape.clba count }
+        requires multiple { count % self.old.shape.ws_min ≡ 0 }
+        ensures blocks { AreSpelled count kept self.new.chunk.blocks }
+        ensures state { self.new.chunk.state ≡ state }
+        ensures shape { self.new.shape ≡ self.old.shape }
+        ensures fits { IsChunk self.new.shape self.new.chunk }
+    {
+        are_bytes(kept.as_slice());
+        self.adopted = kept;
+        self.adopted_count = count;
+        self.bytes.clear();
+        self.marks.clear();
         self.state = state;
     }
 
@@ -325,33 +359,58 @@ impl Chunk {
         ensures shape { self.new.shape ≡ self.old.shape }
         ensures fits { IsChunk self.new.shape self.new.chunk }
     {
+        self.adopted = Bytes::new();
+        self.adopted_count = 0;
         self.bytes.clear();
         self.marks.clear();
         self.state = state;
     }
 
-    /// The state, and the write pointer: the number of written blocks, from 0 to CLBA (Open-Channel SSD
-    /// Specification 2.0, Chunk states and write pointer).
+    /// The state, and the write pointer: the number of written blocks, from 0 to CLBA (Open-Channel
+    /// SSD Specification 2.0, Chunk states and write pointer).
     pub fn state(&self) -> (ChunkState, u32)
         ensures state { result.0 ≡ self.now.chunk.state }
         ensures pointer { result.1 ≡ pointer self.now.chunk }
         ensures fits { IsChunk self.now.shape self.now.chunk }
     {
-        (self.state, self.marks.len() as u32)
+        (self.state, self.pointer())
     }
 
-    /// The sector and the mark of a written block, readable or not. `None` exactly where the block isn't
-    /// below the write pointer.
+    // The write pointer.
+    fn pointer(&self) -> u32
+        ensures pointer { result ≡ pointer self.now.chunk }
+        ensures within { result ≤ self.now.shape.clba }
+    {
+        self.adopted_count + self.marks.len() as u32
+    }
+
+    /// The sector and the mark of a written block, readable or not. `None` exactly where the block
+    /// isn't below the write pointer.
     pub fn written(&self, block: u32) -> Option<(&[u8], Mark)>
         ensures block { option_map (λ r. record { sector = r.0.now; mark = r.1 }) result
             ≡ slice_get self.now.chunk.blocks block }
         ensures size { IfSome result (λ r. length r.0.now ≡ self.now.shape.sector) }
         ensures none { IsNone result ↔ (pointer self.now.chunk ≤ block) }
     {
-        if block as usize >= self.marks.len() {
+        if block >= self.pointer() {
             return None;
         }
+        Some(self.block(block))
+    }
+
+    // The sector and the mark of a written block.
+    fn block(&self, index: u32) -> (&[u8], Mark)
+        requires { index < pointer self.now.chunk }
+        ensures length { length result.0.now ≡ self.now.shape.sector }
+        ensures block { slice_get self.now.chunk.blocks index
+            ≡ Some (record { sector = result.0.now; mark = result.1 }) }
+    {
         let size = self.shape.sector as usize;
-        Some(block_at(&self.bytes, &self.marks, size, block as usize))
+        if index < self.adopted_count {
+            spelled_block(self.adopted.as_slice(), size, index as usize)
+        } else {
+            let later = (index - self.adopted_count) as usize;
+            block_at(&self.bytes, &self.marks, size, later)
+        }
     }
 }

@@ -19,6 +19,7 @@ ghost use Rattle.ocssd_drive.specs.Units.{WornUnit, IsChunkIn, IsUnitOf, disarme
 use crate::arm::{fitting, install, make_armings};
 use crate::disarm::disarm_units;
 use crate::memory_unit::MemoryUnit;
+use bytes::Bytes;
 use ocssd_chunks::Chunk;
 use ocssd_geometry::Geometry;
 use pblk_model::{ChunkState, Mark, Shape, ShapeErr};
@@ -26,8 +27,8 @@ use std::alloc::{AllocError, Global};
 use std::marker::Model;
 use unit_port::{FaultPlan, Fuse};
 
-/// A drive in memory: its geometry, the settings of the target on it, and its parallel units, numbered by
-/// group and then by place in the group (Open-Channel SSD Specification 2.0, Geometry).
+/// A drive in memory: its geometry, the settings of the target on it, and its parallel units,
+/// numbered by group and then by place in the group (Open-Channel SSD Specification 2.0, Geometry).
 ///
 /// `sector` is a block's size in bytes, `capacity` the number of user sectors, `ring` the number of
 /// entries of the write buffer.
@@ -54,8 +55,8 @@ impl Model for Drive {
 }
 
 impl Drive {
-    /// Why there is no drive of this geometry with these settings, or None where there is one: the first
-    /// reason, as `Shape::refusal` names it (Open-Channel SSD Specification 2.0, Geometry).
+    /// Why there is no drive of this geometry with these settings, or None where there is one: the
+    /// first reason, as `Shape::refusal` names it (Open-Channel SSD Specification 2.0, Geometry).
     pub fn refusal(geometry: &Geometry, sector: u32, capacity: u64, ring: u32) -> Option<ShapeErr>
         ensures refusal { let shape = shape_with (numbers_of geometry.now) sector capacity ring
             in result ≡ shape_refusal shape }
@@ -68,11 +69,11 @@ impl Drive {
         shape.refusal()
     }
 
-    /// A drive of this geometry with these settings: its units have Free chunks alone, wear indices 0 and
-    /// empty logs, and aren't armed (Open-Channel SSD Specification 2.0, Geometry).
+    /// A drive of this geometry with these settings: its units have Free chunks alone, wear indices
+    /// 0 and empty logs, and aren't armed (Open-Channel SSD Specification 2.0, Geometry).
     ///
-    /// The geometry is one that its own `refusal` finds no fault with, as those that `Geometry::read` gives,
-    /// and `Drive::refusal` finds none with it and these settings.
+    /// The geometry is one that its own `refusal` finds no fault with, as those that
+    /// `Geometry::read` gives, and `Drive::refusal` finds none with it and these settings.
     ///
     /// Takes memory for all blocks of the drive, and fails only where there isn't as much.
     pub fn new(
@@ -109,8 +110,8 @@ impl Drive {
         geometry.shape(self.sector, self.capacity, self.ring)
     }
 
-    /// A unit of the drive; there are as many as the shape says, numbered by group and then by place in the
-    /// group, from 0.
+    /// A unit of the drive; there are as many as the shape says, numbered by group and then by
+    /// place in the group, from 0.
     pub fn unit(&self, unit: u32) -> &MemoryUnit
         requires { unit < units (shape_of self.now) }
         ensures unit { slice_get self.now.units unit ≡ Some result.now }
@@ -119,11 +120,11 @@ impl Drive {
         &self.units[unit as usize]
     }
 
-    /// Gives a chunk of a unit this wear index, this state, and the blocks of these bytes and marks, in place
-    /// of what it had. All else stays. It isn't logged.
+    /// Gives a chunk of a unit this wear index, this state, and the blocks of these bytes and
+    /// marks, in place of what it had. All else stays. It isn't logged.
     ///
-    /// `bytes` has a sector for each of `marks`, of which there are a multiple of WS_MIN: none for Free and
-    /// Offline, from 1 to below CLBA for Open, up to CLBA for Closed.
+    /// `bytes` has a sector for each of `marks`, of which there are a multiple of WS_MIN: none for
+    /// Free and Offline, from 1 to below CLBA for Open, up to CLBA for Closed.
     pub fn restore(
         &mut self,
         unit: u32,
@@ -152,32 +153,34 @@ impl Drive {
         found.restore(chunk, wear, state, bytes, marks);
     }
 
-    /// As `restore`, from `count` blocks of which each is spelled as its sector and then its mark, two
-    /// numbers of eight little-endian bytes. Each sector is copied once.
-    pub fn restore_spelled(
+    /// As `restore`, with `count` blocks that stay where they are: in these bytes each block is its
+    /// sector and then its mark, two numbers of eight little-endian bytes. Nothing is copied, and
+    /// the bytes live until the chunk is reset or given others.
+    pub fn adopt(
         &mut self,
         unit: u32,
         chunk: u32,
         wear: u8,
         state: ChunkState,
         count: u32,
-        bytes: &[u8],
+        kept: Bytes,
     )
         requires unit { unit < units (shape_of self.old) }
         requires chunk { chunk < self.old.geometry.chunks }
-        requires whole { length bytes.now ≡ count * (self.old.sector + 16) }
+        requires whole { length kept ≡ count * (self.old.sector + 16) }
         requires place { PointerFits state self.old.geometry.clba count }
         requires multiple { count % self.old.geometry.ws_min ≡ 0 }
-        ensures restored { RestoresDrive unit chunk wear state count bytes.now self.old self.new }
+        ensures restored { RestoresDrive unit chunk wear state count kept self.old self.new }
         ensures numbers { shape_of self.new ≡ shape_of self.old }
         ensures whole { IsWhole self.new }
     {
         let found = &mut self.units[unit as usize];
-        found.restore_spelled(chunk, wear, state, count, bytes);
+        found.adopt(chunk, wear, state, count, kept);
     }
 
-    /// Puts a chunk of a drive of this one's shape in the place of a chunk of a unit, whose wear index stays. All
-    /// else stays. It isn't logged (Open-Channel SSD Specification 2.0, Chunk states and write pointer).
+    /// Puts a chunk of a drive of this one's shape in the place of a chunk of a unit, whose wear
+    /// index stays. All else stays. It isn't logged (Open-Channel SSD Specification 2.0, Chunk
+    /// states and write pointer).
     pub fn replace_chunk(&mut self, unit: u32, chunk: u32, with: Chunk)
         requires unit { unit < units (shape_of self.old) }
         requires chunk { chunk < self.old.geometry.chunks }
@@ -190,12 +193,12 @@ impl Drive {
         found.replace_chunk(chunk, with);
     }
 
-    /// Arms the units with plans and a fuse, in place of what they were armed with. With a fuse they share a
-    /// stop word, which each command of each unit loads first.
+    /// Arms the units with plans and a fuse, in place of what they were armed with. With a fuse
+    /// they share a stop word, which each command of each unit loads first.
     ///
-    /// Where two plans fall on one command, the first in `plans` counts; where a plan and the fuse fall on
-    /// one command, the fuse counts. A plan or a fuse for a unit that the drive doesn't have counts as none.
-    /// For want of memory the drive stays as it was.
+    /// Where two plans fall on one command, the first in `plans` counts; where a plan and the fuse
+    /// fall on one command, the fuse counts. A plan or a fuse for a unit that the drive doesn't
+    /// have counts as none. For want of memory the drive stays as it was.
     pub fn arm(
         &mut self,
         alloc: Global,
@@ -218,14 +221,16 @@ impl Drive {
 
     /// Takes plans and fuse away.
     ///
-    /// It asks for a drive that was armed: its units are those that one call of `arm` armed, in their order.
-    /// They may have had any commands since. That is what the clause `together` of `arm` tells; a command
-    /// changes nothing of what its unit was armed with, as the clause `event` of each command tells; and units
-    /// that were taken out of the drive must come back to their places.
+    /// It asks for a drive that was armed: its units are those that one call of `arm` armed, in
+    /// their order. They may have had any commands since. That is what the clause `together` of
+    /// `arm` tells; a command changes nothing of what its unit was armed with, as the clause
+    /// `event` of each command tells; and units that were taken out of the drive must come back to
+    /// their places.
     ///
-    /// A unit was stopped since they were armed only where the fuse's unit had its nth program or reset
-    /// since. Each outcome since is by the plans and the fuse, and by whether the command found
-    /// the stop word set. Without plans no command had failed, and without a fuse none was stopped.
+    /// A unit was stopped since they were armed only where the fuse's unit had its nth program or
+    /// reset since. Each outcome since is by the plans and the fuse, and by whether the command
+    /// found the stop word set. Without plans no command had failed, and without a fuse none was
+    /// stopped.
     pub fn disarm(&mut self)
         requires { AreArmedTogether self.old.units }
         ensures units { self.new ≡ with_units (map disarmed self.old.units) self.old }

@@ -20,6 +20,7 @@ use crate::fault::Fault;
 use crate::journal::{Arming, Journal};
 use crate::shown::{Fetched, Landed, Programmed, WasReset};
 use crate::stop_word::StopSeat;
+use bytes::Bytes;
 use ocssd_chunks::{Chunk, are_blocks, has_sectors};
 use pblk_model::{ChunkState, Got, Mark, Shape};
 use std::alloc::{AllocError, Global};
@@ -27,8 +28,8 @@ use std::fmt::{self, Debug, Formatter};
 use std::marker::Model;
 use unit_port::{CommandKind, FaultPlan, Fuse, Unit, UnitErr};
 
-/// A parallel unit in memory: its chunks with their wear indices, its log, and what it is armed with
-/// (Open-Channel SSD Specification 2.0, Parallel units, Chunk descriptor).
+/// A parallel unit in memory: its chunks with their wear indices, its log, and what it is armed
+/// with (Open-Channel SSD Specification 2.0, Parallel units, Chunk descriptor).
 ///
 /// Where the unit isn't armed no command fails and none is stopped.
 #[derive(Drop)]
@@ -63,11 +64,11 @@ impl Debug for MemoryUnit {
 }
 
 impl MemoryUnit {
-    /// A unit of a drive of this shape: its chunks are Free and their wear indices 0, its log is empty, and
-    /// it isn't armed.
+    /// A unit of a drive of this shape: its chunks are Free and their wear indices 0, its log is
+    /// empty, and it isn't armed.
     ///
-    /// Takes memory for all blocks of all chunks, their marks and the logs' words, and fails only where there
-    /// isn't as much.
+    /// Takes memory for all blocks of all chunks, their marks and the logs' words, and fails only
+    /// where there isn't as much.
     pub fn new(alloc: Global, shape: &Shape) -> Result<MemoryUnit, AllocError>
         requires { IsAccepted shape.now }
         ensures new { IfOk result (λ u. u ≡ new_unit shape.now) }
@@ -108,8 +109,8 @@ impl MemoryUnit {
         &self.chunks[chunk as usize]
     }
 
-    /// The wear index of a chunk of the unit, from 0 to 255 (Open-Channel SSD Specification 2.0, Chunk
-    /// descriptor).
+    /// The wear index of a chunk of the unit, from 0 to 255 (Open-Channel SSD Specification 2.0,
+    /// Chunk descriptor).
     pub fn wear(&self, chunk: u32) -> u8
         requires { chunk < length self.now.unit.media }
         ensures { slice_get self.now.wear chunk ≡ Some result }
@@ -117,8 +118,8 @@ impl MemoryUnit {
         self.wear[chunk as usize]
     }
 
-    /// Whether the unit may be given this program: it has the chunk, `bytes` has a sector for each of `marks`,
-    /// and the chunk doesn't refuse the write.
+    /// Whether the unit may be given this program: it has the chunk, `bytes` has a sector for each
+    /// of `marks`, and the chunk doesn't refuse the write.
     pub fn takes_program(&self, chunk: u32, at: u32, bytes: &[u8], marks: &[Mark]) -> bool
         ensures exact { let blocks = blocks_of self.now.unit.shape.sector bytes.now marks.now
             in IsTrue result ↔ ((length bytes.now ≡ length marks.now * self.now.unit.shape.sector)
@@ -139,8 +140,8 @@ impl MemoryUnit {
         }
     }
 
-    /// Whether the unit may be given this fetch: it has the chunk, `out` has the length of a sector, and the
-    /// chunk, which isn't Offline, has the block.
+    /// Whether the unit may be given this fetch: it has the chunk, `out` has the length of a
+    /// sector, and the chunk, which isn't Offline, has the block.
     pub fn takes_fetch(&self, chunk: u32, block: u32, out: &[u8]) -> bool
         ensures exact { IsTrue result ↔ ((length out.now ≡ self.now.unit.shape.sector)
             × IsReady self.now.unit chunk (Read block)) }
@@ -157,7 +158,8 @@ impl MemoryUnit {
         }
     }
 
-    /// Whether the unit may be given this reset: it has the chunk, which is neither Free nor Offline.
+    /// Whether the unit may be given this reset: it has the chunk, which is neither Free nor
+    /// Offline.
     pub fn takes_reset(&self, chunk: u32) -> bool
         ensures exact { IsTrue result ↔ IsReady self.now.unit chunk Reset }
 
@@ -179,11 +181,11 @@ impl MemoryUnit {
         self.chunks.get(chunk as usize)
     }
 
-    /// Gives a chunk of the unit this wear index, this state, and the blocks of these bytes and marks, in
-    /// place of what it had. It isn't logged.
+    /// Gives a chunk of the unit this wear index, this state, and the blocks of these bytes and
+    /// marks, in place of what it had. It isn't logged.
     ///
-    /// `bytes` has a sector for each of `marks`, of which there are a multiple of WS_MIN: none for Free and
-    /// Offline, from 1 to below CLBA for Open, up to CLBA for Closed.
+    /// `bytes` has a sector for each of `marks`, of which there are a multiple of WS_MIN: none for
+    /// Free and Offline, from 1 to below CLBA for Open, up to CLBA for Closed.
     pub fn restore(&mut self, chunk: u32, wear: u8, state: ChunkState, bytes: &[u8], marks: &[Mark])
         requires chunk { chunk < length self.old.unit.media }
         requires whole { length bytes.now ≡ length marks.now * self.old.unit.shape.sector }
@@ -198,31 +200,26 @@ impl MemoryUnit {
         found.restore(state, bytes, marks);
     }
 
-    /// As `restore`, from `count` blocks of which each is spelled as its sector and then its mark, two
-    /// numbers of eight little-endian bytes. Each sector is copied once.
-    pub fn restore_spelled(
-        &mut self,
-        chunk: u32,
-        wear: u8,
-        state: ChunkState,
-        count: u32,
-        bytes: &[u8],
-    )
+    /// As `restore`, with `count` blocks that stay where they are: in these bytes each block is its
+    /// sector and then its mark, two numbers of eight little-endian bytes. Nothing is copied, and
+    /// the bytes live until the chunk is reset or given others.
+    pub fn adopt(&mut self, chunk: u32, wear: u8, state: ChunkState, count: u32, kept: Bytes)
         requires chunk { chunk < length self.old.unit.media }
-        requires whole { length bytes.now ≡ count * (self.old.unit.shape.sector + 16) }
+        requires whole { length kept ≡ count * (self.old.unit.shape.sector + 16) }
         requires place { PointerFits state self.old.unit.shape.clba count }
         requires multiple { count % self.old.unit.shape.ws_min ≡ 0 }
-        ensures restored { RestoresUnit chunk wear state count bytes.now self.old self.new }
+        ensures restored { RestoresUnit chunk wear state count kept self.old self.new }
         ensures fits { IsUnitOf self.new.unit.shape self.new }
     {
         let place = chunk as usize;
         self.wear[place] = wear;
         let found = &mut self.chunks[place];
-        found.restore_spelled(state, count, bytes);
+        found.adopt(state, count, kept);
     }
 
-    /// Puts a chunk of a drive of the unit's shape in the place of one of the unit's chunks, whose wear index
-    /// stays. It isn't logged (Open-Channel SSD Specification 2.0, Chunk states and write pointer).
+    /// Puts a chunk of a drive of the unit's shape in the place of one of the unit's chunks, whose
+    /// wear index stays. It isn't logged (Open-Channel SSD Specification 2.0, Chunk states and
+    /// write pointer).
     pub fn replace_chunk(&mut self, chunk: u32, with: Chunk)
         requires chunk { chunk < length self.old.unit.media }
         requires with { IsChunkIn self.old.unit.shape with }
@@ -232,7 +229,8 @@ impl MemoryUnit {
         self.chunks[chunk as usize] = with;
     }
 
-    /// Arms the unit, which has this number in its drive, with what was made of these plans and this fuse.
+    /// Arms the unit, which has this number in its drive, with what was made of these plans and
+    /// this fuse.
     pub(crate) fn arm(&mut self, arming: Arming, unit: u32, plans: &[FaultPlan], fuse: Option<Fuse>)
         requires programs { IsTally plans.now unit kinds.Program 0 arming.programs }
         requires fetches { IsTally plans.now unit kinds.Fetch 0 arming.fetches }

@@ -8,7 +8,7 @@ ghost use Rattle.pblk_cli.specs.Endings.{reason_of};
 ghost use Rattle.pblk_cli.specs.Reading.{CannotRead, ReadsFile, RefusesBytes};
 
 use crate::refusal::Refusal;
-use drive_image::load;
+use drive_image::from_image;
 use ocssd_drive::Drive;
 use pblk_model::ImageErr;
 use pblk_outside::{FileErr, Files};
@@ -35,14 +35,14 @@ pub(crate) fn read_file<'a, F: Files>(
     }
 }
 
-/// The drive of an image of these bytes, which are let go.
+/// The drive of an image of these bytes, which it keeps; they are let go where they are refused.
 pub(crate) fn drive_of<'a>(alloc: Global, bytes: Vec<u8>) -> Result<Drive, Refusal<'a>>
     ensures drive { IfOk result (λ drive. IsImage bytes.items (stored drive)) }
     ensures quiet { IfOk result IsQuiet }
     ensures whole { IfOk result IsWhole }
     ensures refused { IfErr result (λ refusal. RefusesBytes bytes.items (reason_of refusal)) }
 {
-    match load(alloc, &bytes) {
+    match from_image(alloc, bytes) {
         Ok(drive) => Ok(drive),
         Err(e) => Err(refusal_of(e)),
     }

@@ -1,7 +1,7 @@
 //! Which bytes are taken as an image, and why others are refused.
 
 use crate::image::fixture::{Edit, NONE, edit, small_image};
-use drive_image::{GeometryErr, ImageErr, load};
+use drive_image::{GeometryErr, ImageErr, from_image, load};
 use std::alloc::Global;
 use std::process::Abort;
 use std::test::Fail;
@@ -10,13 +10,14 @@ use std::test::Fail;
 /// the refusal.
 type Row = ([Edit; 3], usize, Option<ImageErr>);
 
-// The edits and their refusals, row by row.
+// The edits and their refusals, row by row, from bytes that are lent and from bytes that are given.
 fn walk(rt: &impl Abort, alloc: Global, rows: &[Row]) -> Result<(), Fail> {
     for (row, (edits, length, refusal)) in rows.iter().enumerate() {
         let mut bytes = small_image(alloc)?;
         edit(&mut bytes, edits);
         bytes.resize(*length, 0)?;
         assert!(rt; load(alloc, &bytes).err() == *refusal, "row {row}");
+        assert!(rt; from_image(alloc, bytes).err() == *refusal, "row {row}");
     }
     Ok(())
 }

@@ -1,7 +1,9 @@
 //! What is made, kept and read back.
 
 use crate::image::fixture::{Edit, NONE, edit, small_image};
-use drive_image::{Geometry, GeometryErr, ImageErr, Settings, blank, load, store};
+use drive_image::{
+    Drive, Geometry, GeometryErr, ImageErr, Settings, blank, from_image, load, store,
+};
 use std::alloc::{AllocError, Global};
 use std::test::Fail;
 
@@ -57,8 +59,8 @@ fn add_blocks(bytes: &mut Vec<u8>, count: usize, byte: u8) -> Result<(), AllocEr
 }
 
 // The small drive with chunk 1 of unit 0 Open with two blocks, chunk 0 of unit 1 Closed by a failed
-// write after four, its chunk 1 Closed with 24, and its chunk 7 Offline. The bytes that are ignored are
-// all this one.
+// write after four, its chunk 1 Closed with 24, and its chunk 7 Offline. The bytes that are ignored
+// are all this one.
 fn written_image(alloc: Global, ignored: u8) -> Result<Vec<u8>, AllocError> {
     let chunks: [Edit; 14] = [
         (4160, 4),
@@ -85,17 +87,23 @@ fn written_image(alloc: Global, ignored: u8) -> Result<Vec<u8>, AllocError> {
     Ok(bytes)
 }
 
+// Whether what is stored of a drive, behind what stands there, is the spelling of the written
+// image.
+fn is_stored(alloc: Global, drive: &Drive) -> Result<bool, Fail> {
+    let mut bytes = Vec::new(alloc);
+    bytes.push(77)?;
+    store(drive, &mut bytes)?;
+    let mut kept = Vec::new(alloc);
+    kept.push(77)?;
+    kept.extend_from_slice(&written_image(alloc, 0)?)?;
+    Ok(bytes.len() == 4641 + 30 * 528 && bytes == kept)
+}
+
 #[test]
 fn what_is_kept_is_read_and_kept_again(rt: HostRuntime) -> Result<(), Fail> {
-    let drive = load(rt.alloc(), &written_image(rt.alloc(), 5)?)?;
-    let mut bytes = Vec::new(rt.alloc());
-    bytes.push(77)?;
-    store(&drive, &mut bytes)?;
-    let mut kept = Vec::new(rt.alloc());
-    kept.push(77)?;
-    kept.extend_from_slice(&written_image(rt.alloc(), 0)?)?;
-    assert!(rt; bytes.len() == 4641 + 30 * 528);
-    assert!(rt; bytes == kept);
+    let image = written_image(rt.alloc(), 5)?;
+    assert!(rt; is_stored(rt.alloc(), &load(rt.alloc(), &image)?)?);
+    assert!(rt; is_stored(rt.alloc(), &from_image(rt.alloc(), image)?)?);
     Ok(())
 }
 

@@ -12,49 +12,50 @@ use Rattle.drive_image.proofs.loading.fill.Goals.{After-units}
 counted : (b : List ℕ) (n : ℕ) (s : Shape) → n ≡ units s → s ≡ shape_at b → n * s.chunks ≡ chunks_at b
 counted b n s is same = ap (λ m. m * s.chunks) is ∙ ap (λ (s : Shape). units s * s.chunks) same
 
-count_is : (c : After-units) → c.units.result * c.shape-shape.result.chunks ≡ chunks_at c.args.bytes.now
-count_is c = counted c.args.bytes.now c.units.result c.shape-shape.result c.units.ensures (c.shape-shape.ensures.shape ∙ ap image.shape_of c.requires.blank)
+count_is : (c : After-units) → c.units.result * c.shape-shape.result.chunks ≡ chunks_at c.args.image.now
+count_is c = counted c.args.image.now c.units.result c.shape-shape.result c.units.ensures (c.shape-shape.ensures.shape ∙ ap image.shape_of c.requires.blank)
 
 pub loop-n-init : goal.loop-n-init
-loop-n-init c = begun c.args.bytes.now _ c.args.drive.now c.requires.geometry c.requires.blank c.requires.whole c.requires.quiet
+loop-n-init c = begun c.args.image.now _ c.args.drive.now c.requires.geometry c.requires.blank c.requires.whole c.requires.quiet
     (ap (λ n. 4128 + 32 * n) (count_is c))
 
-pub restore_chunk-at-requires-clause-numbers : goal.restore_chunk-at-requires-clause-numbers
-restore_chunk-at-requires-clause-numbers c = c.loop-n.invariant.numbers
+pub adopt_chunk-requires-clause-numbers : goal.adopt_chunk-requires-clause-numbers
+adopt_chunk-requires-clause-numbers c = c.loop-n.invariant.numbers
 
-pub restore_chunk-at-requires-clause-whole : goal.restore_chunk-at-requires-clause-whole
-restore_chunk-at-requires-clause-whole c = c.loop-n.invariant.whole
+pub adopt_chunk-requires-clause-whole : goal.adopt_chunk-requires-clause-whole
+adopt_chunk-requires-clause-whole c = c.loop-n.invariant.whole
 
-pub restore_chunk-at-requires-clause-index : goal.restore_chunk-at-requires-clause-index
-restore_chunk-at-requires-clause-index c = subst (λ m. c.loop-n.n < m)
-    (count_is (goal.at.restore_chunk-at-requires-clause-index c).After-units) c.loop-n-test.true
+pub adopt_chunk-requires-clause-index : goal.adopt_chunk-requires-clause-index
+adopt_chunk-requires-clause-index c = subst (λ m. c.loop-n.n < m)
+    (count_is (goal.at.adopt_chunk-requires-clause-index c).After-units) c.loop-n-test.true
 
-pub restore_chunk-at-requires-clause-within : goal.restore_chunk-at-requires-clause-within
-restore_chunk-at-requires-clause-within c = within_image c.args.bytes.now c.loop-n.n c.loop-n.at _
-    (taken_of c.args.bytes.now c.requires.accepted) c.loop-n.invariant.filled (restore_chunk-at-requires-clause-index c)
+pub adopt_chunk-requires-clause-within : goal.adopt_chunk-requires-clause-within
+adopt_chunk-requires-clause-within c = within_image c.args.image.now c.loop-n.n c.loop-n.at _
+    (taken_of c.args.image.now c.requires.accepted) c.loop-n.invariant.filled (adopt_chunk-requires-clause-index c)
 
 pub overflow_add-at-in-loop-n : goal.overflow_add-at-in-loop-n
 overflow_add-at-in-loop-n c =
-    let b = c.args.bytes.now in
+    let b = c.args.image.now in
     let inside = subst (λ m. c.loop-n.n < m) (count_is (goal.at.overflow_add-at-in-loop-n c).After-units) c.loop-n-test.true in
     let within : c.loop-n.at + bytes_of b c.loop-n.n ≤ length b = within_image b c.loop-n.n c.loop-n.at _
     (taken_of b c.requires.accepted) c.loop-n.invariant.filled inside in
-    let same : c.restore_chunk-at.result ≡ bytes_of b c.loop-n.n = c.restore_chunk-at.ensures.length in
+    let same : c.in_ok-length.length ≡ bytes_of b c.loop-n.n = c.in_ok-length.ensures.length in
     omega arith
 
 pub loop-n-preserved : goal.loop-n-preserved
 loop-n-preserved c =
-    let r = c.restore_chunk-at in
+    let r = c.in_ok-length in
     let inside = subst (λ m. c.loop-n.n < m) (count_is (goal.at.loop-n-preserved c).After-units) c.loop-n-test.true in
-    gone_on c.args.bytes.now c.loop-n.n c.loop-n.at r.result c.loop-n.drive r.new.drive c.loop-n.invariant r.ensures.got r.ensures.numbers r.ensures.whole
+    gone_on c.args.image.now c.loop-n.n c.loop-n.at r.length c.loop-n.drive c.adopt_chunk.new.drive c.loop-n.invariant r.ensures.got r.ensures.numbers
+    r.ensures.whole
     inside r.ensures.length
 
 pub returns-clause-image : goal.returns-clause-image
 returns-clause-image c =
     let d = (goal.at.returns-clause-image c).After-units in
     let count = count_is d in
-    let same : c.loop-n.n ≡ chunks_at c.args.bytes.now = omega arith in
-    finished c.args.bytes.now c.loop-n.at c.loop-n.drive (subst (λ n. IsFilling c.args.bytes.now n c.loop-n.at c.loop-n.drive) same c.loop-n.invariant)
+    let same : c.loop-n.n ≡ chunks_at c.args.image.now = omega arith in
+    finished c.args.image.now c.loop-n.at c.loop-n.drive (subst (λ n. IsFilling c.args.image.now n c.loop-n.at c.loop-n.drive) same c.loop-n.invariant)
 
 pub returns-clause-quiet : goal.returns-clause-quiet
 returns-clause-quiet c = c.loop-n.invariant.quiet

@@ -2,4 +2,4 @@ use Rattle.drive_image.proofs.Finishing.{IsFilling}
 use Rattle.drive_image.proofs.loading.fill.Given as goal
 
 abbrev pub invariant-loop-n : goal.invariant-loop-n
-invariant-loop-n l = IsFilling l.bytes l.n l.at l.drive
+invariant-loop-n l = IsFilling l.image l.n l.at l.drive

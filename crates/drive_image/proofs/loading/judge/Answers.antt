@@ -22,3 +22,8 @@ pub returns-clause-refused : goal.returns-clause-refused
 returns-clause-refused c =
     let b = c.args.bytes.now in
     sym (append_none (header_refusals b ++ number_refusals b) (chunk_refusals b) (sym c.in_ok-numbers.ensures.refused) ∙ sym c.in_ok-check_chunks.ensures)
+
+pub returns-clause-numbers : goal.returns-clause-numbers
+returns-clause-numbers c =
+    let n = c.in_ok-numbers.ensures in
+    record { geometry = n.geometry; geometry_is = n.geometry_accepted; shape = n.shape; accepted = n.accepted }

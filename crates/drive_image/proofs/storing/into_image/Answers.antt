@@ -1,4 +1,4 @@
-use Rattle.std.proofs.Common.{◌≡◌, ◌++◌, ◌+◌, ℕ, length, length-append, subst, arith}
+use Rattle.std.proofs.Common.{subst, arith}
 use Rattle.pblk_model.specs.ImageFile.{blocks_bytes, image_bytes}
 use Rattle.pblk_laws.specs.GeometryFields.{FitsFields}
 use Rattle.ocssd_geometry.specs.Numbers.{numbers_of}

@@ -1,4 +1,4 @@
-use Rattle.std.proofs.Common.{◌≡◌, ◌*◌, ◌<◌, length, refl, arith, inr}
+use Rattle.std.proofs.Common.{◌*◌, ◌<◌, refl, arith, inr}
 use Rattle.std.proofs.Math.Nat.{mul-mod_left, pos_of_ne-zero}
 use Rattle.std.proofs.lemmas.List.{length-take-le}
 use Rattle.pblk_model.specs.Blocks.{blocks_of}
@@ -12,10 +12,10 @@ append-requires-clause-place c =
     let is_taken = taken q.shape q.state _ c.args.at _ (rw (← c.self.view_is) at c.requires.taken) in
     let part = rw (← c.self.view_is) at c.requires.part in
     let more = length-blocks_of q.shape.sector c.args.bytes.now c.args.marks.now in
-    let written = length-blocks_of q.shape.sector q.bytes.items q.marks.items in
-    let wp_is : length (blocks_of q.shape.sector q.bytes.items q.marks.items) ≡ c.len.result = omega (arith, q.marks.ok.0) in
+    let pointer_is = rw (← c.self.view_is) at c.pointer.ensures.pointer in
     let some = some_blocks c.args.multiples q.shape.ws_min c.if-multiples-eq0.false c.self.invariant.accepted.drive.ws_min in
-    rw (c.state_at-state.ensures, ← c.self.view_is, c.first_blocks.ensures.count, wp_is) (placed _ q.shape.clba (omega arith) (omega (arith, is_taken.room)))
+    rw (c.state_at-state.ensures, ← c.self.view_is, c.first_blocks.ensures.count, ← pointer_is)
+    (placed _ q.shape.clba (omega arith) (omega (arith, is_taken.room)))
 
 pub append-requires-clause-multiple : goal.append-requires-clause-multiple
 append-requires-clause-multiple c = rw (← c.self.view_is, c.first_blocks.ensures.count) (mul-mod_left c.args.multiples c.self.inside.shape.ws_min)
@@ -27,9 +27,8 @@ returns-clause-chunk c = λ some.
     let blocks = blocks_of q.shape.sector c.args.bytes.now c.args.marks.now in
     let more = length-blocks_of q.shape.sector c.args.bytes.now c.args.marks.now in
     let count = length-take-le (c.args.multiples * q.shape.ws_min) blocks (omega arith) in
-    let written = length-blocks_of q.shape.sector q.bytes.items q.marks.items in
-    let wp_is : length (blocks_of q.shape.sector q.bytes.items q.marks.items) ≡ c.len.result = omega (arith, q.marks.ok.0) in
-    rw (c.append.ensures.chunk, c.state_at-state.ensures, ← c.self.view_is, c.first_blocks.ensures.first, count, wp_is) refl
+    let pointer_is = rw (← c.self.view_is) at c.pointer.ensures.pointer in
+    rw (c.append.ensures.chunk, c.state_at-state.ensures, ← c.self.view_is, c.first_blocks.ensures.first, count, ← pointer_is) refl
 
 pub returns-clause-stop : goal.returns-clause-stop
 returns-clause-stop c =

@@ -5,25 +5,25 @@ use Rattle.ocssd_drive.specs.Drive.{shape_of}
 use Rattle.ocssd_drive.specs.Units.{WornUnit}
 use Rattle.ocssd_drive.proofs.Drives.{unit_found, unit_within, whole_again}
 use Rattle.ocssd_drive.proofs.Restoring.{restored_is, stored-restored}
-use Rattle.ocssd_drive.proofs.drive.Drive.restore_spelled.Goals as goal
+use Rattle.ocssd_drive.proofs.drive.Drive.adopt.Goals as goal
 
-pub restore_spelled-requires-clause-chunk : goal.restore_spelled-requires-clause-chunk
-restore_spelled-requires-clause-chunk c =
+pub adopt-requires-clause-chunk : goal.adopt-requires-clause-chunk
+adopt-requires-clause-chunk c =
     let at = unit_found c.self.inside c.args.self.now c.args.unit _ c.self.invariant c.self.view_is c.requires.unit c.index_mut-found.ensures.value in
     rw (at.fits.fits.count, at.fits.shape) (rw (← c.self.view_is) at c.requires.chunk)
 
-pub restore_spelled-requires-clause-whole : goal.restore_spelled-requires-clause-whole
-restore_spelled-requires-clause-whole c =
+pub adopt-requires-clause-whole : goal.adopt-requires-clause-whole
+adopt-requires-clause-whole c =
     let at = unit_found c.self.inside c.args.self.now c.args.unit _ c.self.invariant c.self.view_is c.requires.unit c.index_mut-found.ensures.value in
     rw (at.fits.shape) (rw (← c.self.view_is) at c.requires.whole)
 
-pub restore_spelled-requires-clause-place : goal.restore_spelled-requires-clause-place
-restore_spelled-requires-clause-place c =
+pub adopt-requires-clause-place : goal.adopt-requires-clause-place
+adopt-requires-clause-place c =
     let at = unit_found c.self.inside c.args.self.now c.args.unit _ c.self.invariant c.self.view_is c.requires.unit c.index_mut-found.ensures.value in
     rw (at.fits.shape) (rw (← c.self.view_is) at c.requires.place)
 
-pub restore_spelled-requires-clause-multiple : goal.restore_spelled-requires-clause-multiple
-restore_spelled-requires-clause-multiple c =
+pub adopt-requires-clause-multiple : goal.adopt-requires-clause-multiple
+adopt-requires-clause-multiple c =
     let at = unit_found c.self.inside c.args.self.now c.args.unit _ c.self.invariant c.self.view_is c.requires.unit c.index_mut-found.ensures.value in
     rw (at.fits.shape) (rw (← c.self.view_is) at c.requires.multiple)
 
@@ -31,7 +31,7 @@ pub returns-clause-restored : goal.returns-clause-restored
 returns-clause-restored c =
     let at = unit_found c.self.inside c.args.self.now c.args.unit _ c.self.invariant c.self.view_is c.requires.unit c.index_mut-found.ensures.value in
     let d : DriveView = drive_view c.self.inside in
-    let r = c.restore_spelled.ensures.restored in
+    let r = c.adopt.ensures.restored in
     rw (← c.self.view_is) (record {
       blocks = r.blocks;
       spelling = r.spelling;
@@ -46,7 +46,7 @@ index_mut-found-requires c = unit_within c.self.inside c.args.self.now c.args.un
 pub invariant_of-self : goal.invariant_of-self
 invariant_of-self c = whole_again (drive_view c.self.inside) c.args.unit _ _ c.self.invariant
     (unit_found c.self.inside c.args.self.now c.args.unit _ c.self.invariant c.self.view_is c.requires.unit c.index_mut-found.ensures.value)
-    c.restore_spelled.ensures.fits (ap (λ (u : WornUnit). u.unit.shape) c.restore_spelled.ensures.restored.is)
+    c.adopt.ensures.fits (ap (λ (u : WornUnit). u.unit.shape) c.adopt.ensures.restored.is)
 
 pub returns-clause-numbers : goal.returns-clause-numbers
 returns-clause-numbers c = ap shape_of c.self.view_is
