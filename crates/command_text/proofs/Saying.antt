@@ -1,5 +1,5 @@
 -- What is said in pieces.
-use Rattle.std.proofs.Common.{Bor, Result, Ok, Err, zero, suc, get_or, drop, codes, ◌<◌, ◌≡◌, ℕ, ◌+◌, ◌≤◌, inl, inr, refl, List, [], ◌∷◌, ◌++◌, length, take, sym, ap, ◌∙◌, subst, arith, append_assoc, length-append}
+use Rattle.std.proofs.Common.{Bor, Result, Ok, Err, zero, suc, get_or, drop, codes, ◌<◌, ◌≡◌, ℕ, ◌+◌, ◌≤◌, inl, inr, refl, List, [], ◌∷◌, ◌++◌, length, take, sym, ap, ap₂, ◌∙◌, subst, arith, append_assoc, length-append}
 use Rattle.std.proofs.lemmas.List.{take-append-le, append-nil}
 use Rattle.std.proofs.Math.Seq.{take-append-add}
 use Rattle.std.specs.Prelude.{IsTrue, OnErr}
@@ -93,6 +93,13 @@ spaced_then k ns ys = append_assoc (codes " " ++ decimal k) (spaced ns) ys
 pub number_line_text : (word digits : List ℕ) (n : ℕ) → digits ≡ decimal n → word ++ (codes " " ++ (digits ++ newline)) ≡ word ++ spaced (n ∷ []) ++ newline
 number_line_text word digits n e = ap (λ ds. word ++ (codes " " ++ (ds ++ newline))) e
     ∙ sym (append_assoc word (spaced (n ∷ [])) newline ∙ ap (λ ys. word ++ ys) (spaced_then n [] newline))
+
+pub pair_line_text : (word a b : List ℕ) (k m : ℕ) → a ≡ decimal k → b ≡ decimal m
+    → word ++ (codes " " ++ (a ++ (codes " " ++ (b ++ newline)))) ≡ word ++ spaced (k ∷ m ∷ []) ++ newline
+pair_line_text word a b k m ea eb =
+    ap₂ (λ (x y : List ℕ). word ++ (codes " " ++ (x ++ (codes " " ++ (y ++ newline))))) ea eb
+    ∙ sym (append_assoc word (spaced (k ∷ m ∷ [])) newline
+    ∙ ap (λ ys. word ++ ys) (spaced_then k (m ∷ []) newline ∙ ap (λ ys. codes " " ++ (decimal k ++ ys)) (spaced_then m [] newline)))
 
 three_numbers : (k m n : ℕ) → spaced (k ∷ m ∷ n ∷ []) ++ newline ≡ codes " " ++
     (decimal k ++ (codes " " ++ (decimal m ++ (codes " " ++ (decimal n ++ newline)))))

@@ -12,7 +12,8 @@ use pblk_outside::{Sink, SinkErr};
 
 /// Writes the line of a file that could not be read or written.
 ///
-/// A control character of ASCII in its name is written as `\x` and two lower-case hexadecimal digits.
+/// A control character of ASCII in its name is written as `\x` and two lower-case hexadecimal
+/// digits.
 pub fn tell_failed<O: Sink>(out: &mut O, name: &str)
     ensures said { Says (failed_line name.now) (O.view out.old) (O.view out.new) }
     ensures same_told { (O.view out.new).told ≡ (O.view out.old).told }

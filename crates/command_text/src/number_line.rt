@@ -9,7 +9,7 @@ use itoa::Buffer;
 use pblk_outside::Sink;
 
 /// Writes the line of a word and a number.
-pub(crate) fn tell_number<O: Sink>(out: &mut O, word: &[u8], number: u64)
+pub fn tell_number<O: Sink>(out: &mut O, word: &[u8], number: u64)
     ensures said { Says (word.now ++ spaced (number ∷ []) ++ newline)
         (O.view out.old) (O.view out.new) }
     ensures same_told { (O.view out.new).told ≡ (O.view out.old).told }

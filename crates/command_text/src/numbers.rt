@@ -17,8 +17,9 @@ pub fn created_text(alloc: Global, bytes: usize) -> Result<String, AllocError>
     Ok(out)
 }
 
-/// What `geometry` prints: the numbers of the drive's geometry and settings, in blocks but for `sector`,
-/// which is in bytes, and how many of its chunks are in each state. Fails only for want of memory.
+/// What `geometry` prints: the numbers of the drive's geometry and settings, in blocks but for
+/// `sector`, which is in bytes, and how many of its chunks are in each state. Fails only for want
+/// of memory.
 pub fn geometry_text(alloc: Global, drive: &Drive) -> Result<String, AllocError>
     ensures { IfOk result (λ text. string_bytes text ≡ geometry_text (stored drive.now)) }
 {
@@ -43,8 +44,8 @@ pub fn geometry_text(alloc: Global, drive: &Drive) -> Result<String, AllocError>
     Ok(out)
 }
 
-// Adds the line of a word and a number.
-fn put_line(out: &mut String, word: &str, number: u64) -> Result<(), AllocError>
+/// Adds the line of a word and a number.
+pub(crate) fn put_line(out: &mut String, word: &str, number: u64) -> Result<(), AllocError>
     ensures { OnOk result
         (string_bytes out.new ≡ string_bytes out.old ++ number_line word.now number) }
 {

@@ -4,8 +4,8 @@ pub mod Items
 pub mod Names
 pub mod Numbers
 pub mod OptionValues
-pub mod ParityWords
 pub mod PlanWords
 pub mod Reading
+pub mod RebuildWords
 pub mod RunReading
 pub mod StopWords

@@ -8,7 +8,7 @@ use Rattle.std.proofs.lemmas.Str.Parse.{digit_from_value}
 use Rattle.pblk_model.specs.CommandText as text
 use Rattle.command_words.specs.Grammar as model
 use Rattle.command_words.specs.Grammar.{Name, IsPlainWord, IsCommandLine, first_word}
-use Rattle.command_words.specs.Words.{AreSoakWords, AreWordsOf, IsOneName}
+use Rattle.command_words.specs.Words.{AreSoakWords, AreTwoNames, AreWordsOf, IsOneName}
 use Rattle.command_words.proofs.Items.{plain_items}
 use Rattle.command_words.proofs.Numbers.{digits}
 
@@ -37,6 +37,36 @@ words_of_show words image (e, plain) = record { items = Name image ∷ []; spell
 pub words_of_report : (words : List (List ℕ)) (image : List ℕ) → IsOneName words image → AreWordsOf words (model.Report image)
 words_of_report words image (e, plain) = record { items = Name image ∷ []; spelled = ([], plain, e, refl); of = (refl, refl, refl) }
 
+two_names : (words : List (List ℕ)) (one two : List ℕ) (items : List model.Item) → model.AreItems items words → model.names_in items ≡ one ∷ two ∷ []
+    → model.options_in items ≡ [] → model.flags_in items ≡ [] → AreTwoNames words one two
+two_names words one two items spelled names options flags =
+    let plain = plain_items items words spelled options flags in
+    let are : words ≡ one ∷ two ∷ [] = plain.0 ∙ names in
+    let each = subst (λ ws. AllByRecursion IsPlainWord ws) are plain.1 in
+    record { words_are = are; plain_first = each.0; plain_second = each.1.0 }
+
+pub names_of_parity : (words : List (List ℕ)) (image parity : List ℕ) → AreWordsOf words (model.Parity image parity) → AreTwoNames words image parity
+names_of_parity words image parity h = two_names words image parity h.items h.spelled h.of.0 h.of.1 h.of.2
+
+pub names_of_certify : (words : List (List ℕ)) (image name : List ℕ) → AreWordsOf words (model.Certify image name) → AreTwoNames words image name
+names_of_certify words image name h = two_names words image name h.items h.spelled h.of.0 h.of.1 h.of.2
+
+pub names_of_check : (words : List (List ℕ)) (image name : List ℕ) → AreWordsOf words (model.Check image name) → AreTwoNames words image name
+names_of_check words image name h = two_names words image name h.items h.spelled h.of.0 h.of.1 h.of.2
+
+two_spelled : (words : List (List ℕ)) (one two : List ℕ) → AreTwoNames words one two → model.AreItems (Name one ∷ Name two ∷ []) words
+two_spelled words one two h = (two ∷ [], h.plain_first, h.words_are, ([], h.plain_second, refl, refl))
+
+pub words_of_parity : (words : List (List ℕ)) (image parity : List ℕ) → AreTwoNames words image parity → AreWordsOf words (model.Parity image parity)
+words_of_parity words image parity h =
+    record { items = Name image ∷ Name parity ∷ []; spelled = two_spelled words image parity h; of = (refl, refl, refl) }
+
+pub words_of_certify : (words : List (List ℕ)) (image name : List ℕ) → AreTwoNames words image name → AreWordsOf words (model.Certify image name)
+words_of_certify words image name h = record { items = Name image ∷ Name name ∷ []; spelled = two_spelled words image name h; of = (refl, refl, refl) }
+
+pub words_of_check : (words : List (List ℕ)) (image name : List ℕ) → AreTwoNames words image name → AreWordsOf words (model.Check image name)
+words_of_check words image name h = record { items = Name image ∷ Name name ∷ []; spelled = two_spelled words image name h; of = (refl, refl, refl) }
+
 pub soak_of : (words : List (List ℕ)) (image : List ℕ) (number rounds : ℕ) → AreWordsOf words (model.Soak image number rounds)
     → AreSoakWords words image number rounds
 soak_of words image number rounds h =
@@ -44,7 +74,7 @@ soak_of words image number rounds h =
     let are : words ≡ image ∷ decimal number ∷ decimal rounds ∷ [] = plain.0 ∙ h.of.0 in
     record { words_are = are; plain = (subst (λ ws. AllByRecursion IsPlainWord ws) are plain.1).0; load = h.of.3 }
 
-digits_plain : (n : ℕ) → n < 2 ^ 64 → IsPlainWord (decimal n)
+pub digits_plain : (n : ℕ) → n < 2 ^ 64 → IsPlainWord (decimal n)
 digits_plain n small = by (decimal n) (digits_decimal digits n small) (decimal_nonempty n small)
   where
     by : (bytes : List ℕ) → AllDigits 10 bytes → 0 < length bytes → IsPlainWord bytes
@@ -127,6 +157,9 @@ second_byte (byte ∷ bytes) = first_byte bytes
 show_or_soak : (first : List ℕ) → first ≡ codes "show" → first ≡ codes "soak" → ⊥
 show_or_soak first a b = let same : 104 ≡ 111 = ap second_byte (sym a ∙ b) in omega (arith, same)
 
+certify_or_rebuild : (first : List ℕ) → first ≡ codes "certify" → first ≡ codes "rebuild" → ⊥
+certify_or_rebuild first a b = let same : 99 ≡ 114 = ap first_byte (sym a ∙ b) in omega (arith, same)
+
 pub as_create : (words rest : List (List ℕ)) (first : List ℕ) (P : model.CommandLine → Type 0) → words ≡ first ∷ rest → first ≡ codes "create"
     → ((image : List ℕ) (numbers : text.CreateNumbers) → AreWordsOf rest (model.Create image numbers) → P (model.Create image numbers))
     → (c : model.CommandLine) → IsCommandLine words c → P c
@@ -138,6 +171,8 @@ as_create words rest first P e is k (model.Parity image parity) h = absurd (crea
 as_create words rest first P e is k (model.Rebuild image parity unit) h = absurd (cc (is, (words_of words rest first _ e h).0))
 as_create words rest first P e is k (model.Run image script options) h = absurd (cc (is, (words_of words rest first _ e h).0))
 as_create words rest first P e is k (model.Soak image number rounds) h = absurd (cc (is, (words_of words rest first _ e h).0))
+as_create words rest first P e is k (model.Certify image certificate) h = absurd (cc (is, (words_of words rest first _ e h).0))
+as_create words rest first P e is k (model.Check image certificate) h = absurd (cc (is, (words_of words rest first _ e h).0))
 
 pub as_geometry : (words rest : List (List ℕ)) (first : List ℕ) (P : model.CommandLine → Type 0) → words ≡ first ∷ rest → first ≡ codes "geometry"
     → ((image : List ℕ) → AreWordsOf rest (model.Geometry image) → P (model.Geometry image)) → (c : model.CommandLine) → IsCommandLine words c → P c
@@ -149,6 +184,8 @@ as_geometry words rest first P e is k (model.Parity image parity) h = absurd (cc
 as_geometry words rest first P e is k (model.Rebuild image parity unit) h = absurd (cc (is, (words_of words rest first _ e h).0))
 as_geometry words rest first P e is k (model.Run image script options) h = absurd (cc (is, (words_of words rest first _ e h).0))
 as_geometry words rest first P e is k (model.Soak image number rounds) h = absurd (cc (is, (words_of words rest first _ e h).0))
+as_geometry words rest first P e is k (model.Certify image certificate) h = absurd (cc (is, (words_of words rest first _ e h).0))
+as_geometry words rest first P e is k (model.Check image certificate) h = absurd (cc (is, (words_of words rest first _ e h).0))
 
 pub as_show : (words rest : List (List ℕ)) (first : List ℕ) (P : model.CommandLine → Type 0) → words ≡ first ∷ rest → first ≡ codes "show"
     → ((image : List ℕ) → AreWordsOf rest (model.Show image) → P (model.Show image)) → (c : model.CommandLine) → IsCommandLine words c → P c
@@ -160,6 +197,8 @@ as_show words rest first P e is k (model.Parity image parity) h = absurd (cc (is
 as_show words rest first P e is k (model.Rebuild image parity unit) h = absurd (cc (is, (words_of words rest first _ e h).0))
 as_show words rest first P e is k (model.Run image script options) h = absurd (cc (is, (words_of words rest first _ e h).0))
 as_show words rest first P e is k (model.Soak image number rounds) h = absurd (show_or_soak first is (words_of words rest first _ e h).0)
+as_show words rest first P e is k (model.Certify image certificate) h = absurd (cc (is, (words_of words rest first _ e h).0))
+as_show words rest first P e is k (model.Check image certificate) h = absurd (cc (is, (words_of words rest first _ e h).0))
 
 pub as_report : (words rest : List (List ℕ)) (first : List ℕ) (P : model.CommandLine → Type 0) → words ≡ first ∷ rest → first ≡ codes "report"
     → ((image : List ℕ) → AreWordsOf rest (model.Report image) → P (model.Report image)) → (c : model.CommandLine) → IsCommandLine words c → P c
@@ -171,6 +210,8 @@ as_report words rest first P e is k (model.Parity image parity) h = absurd (pari
 as_report words rest first P e is k (model.Rebuild image parity unit) h = absurd (cc (is, (words_of words rest first _ e h).0))
 as_report words rest first P e is k (model.Run image script options) h = absurd (cc (is, (words_of words rest first _ e h).0))
 as_report words rest first P e is k (model.Soak image number rounds) h = absurd (cc (is, (words_of words rest first _ e h).0))
+as_report words rest first P e is k (model.Certify image certificate) h = absurd (cc (is, (words_of words rest first _ e h).0))
+as_report words rest first P e is k (model.Check image certificate) h = absurd (cc (is, (words_of words rest first _ e h).0))
 
 pub as_run : (words rest : List (List ℕ)) (first : List ℕ) (P : model.CommandLine → Type 0) → words ≡ first ∷ rest → first ≡ codes "run"
     → ((image script : List ℕ) (options : model.RunOptions) → AreWordsOf rest (model.Run image script options) → P (model.Run image script options))
@@ -183,6 +224,8 @@ as_run words rest first P e is k (model.Parity image parity) h = absurd (cc (is,
 as_run words rest first P e is k (model.Rebuild image parity unit) h = absurd (cc (is, (words_of words rest first _ e h).0))
 as_run words rest first P e is k (model.Run image script options) h = k image script options (words_of words rest first _ e h).1
 as_run words rest first P e is k (model.Soak image number rounds) h = absurd (cc (is, (words_of words rest first _ e h).0))
+as_run words rest first P e is k (model.Certify image certificate) h = absurd (cc (is, (words_of words rest first _ e h).0))
+as_run words rest first P e is k (model.Check image certificate) h = absurd (cc (is, (words_of words rest first _ e h).0))
 
 pub as_parity : (words rest : List (List ℕ)) (first : List ℕ) (P : model.CommandLine → Type 0) → words ≡ first ∷ rest → first ≡ codes "parity"
     → ((image parity : List ℕ) → AreWordsOf rest (model.Parity image parity) → P (model.Parity image parity)) → (c : model.CommandLine) → IsCommandLine words c
@@ -195,6 +238,8 @@ as_parity words rest first P e is k (model.Parity image parity) h = k image pari
 as_parity words rest first P e is k (model.Rebuild image parity unit) h = absurd (cc (is, (words_of words rest first _ e h).0))
 as_parity words rest first P e is k (model.Run image script options) h = absurd (cc (is, (words_of words rest first _ e h).0))
 as_parity words rest first P e is k (model.Soak image number rounds) h = absurd (cc (is, (words_of words rest first _ e h).0))
+as_parity words rest first P e is k (model.Certify image certificate) h = absurd (cc (is, (words_of words rest first _ e h).0))
+as_parity words rest first P e is k (model.Check image certificate) h = absurd (cc (is, (words_of words rest first _ e h).0))
 
 pub as_rebuild : (words rest : List (List ℕ)) (first : List ℕ) (P : model.CommandLine → Type 0) → words ≡ first ∷ rest → first ≡ codes "rebuild"
     → ((image parity : List ℕ) (unit : ℕ) → AreWordsOf rest (model.Rebuild image parity unit) → P (model.Rebuild image parity unit))
@@ -207,6 +252,8 @@ as_rebuild words rest first P e is k (model.Parity image parity) h = absurd (cc 
 as_rebuild words rest first P e is k (model.Rebuild image parity unit) h = k image parity unit (words_of words rest first _ e h).1
 as_rebuild words rest first P e is k (model.Run image script options) h = absurd (cc (is, (words_of words rest first _ e h).0))
 as_rebuild words rest first P e is k (model.Soak image number rounds) h = absurd (cc (is, (words_of words rest first _ e h).0))
+as_rebuild words rest first P e is k (model.Certify image certificate) h = absurd (certify_or_rebuild first (words_of words rest first _ e h).0 is)
+as_rebuild words rest first P e is k (model.Check image certificate) h = absurd (cc (is, (words_of words rest first _ e h).0))
 
 pub as_soak : (words rest : List (List ℕ)) (first : List ℕ) (P : model.CommandLine → Type 0) → words ≡ first ∷ rest → first ≡ codes "soak"
     → ((image : List ℕ) (number rounds : ℕ) → AreWordsOf rest (model.Soak image number rounds) → P (model.Soak image number rounds))
@@ -219,3 +266,33 @@ as_soak words rest first P e is k (model.Parity image parity) h = absurd (cc (is
 as_soak words rest first P e is k (model.Rebuild image parity unit) h = absurd (cc (is, (words_of words rest first _ e h).0))
 as_soak words rest first P e is k (model.Run image script options) h = absurd (cc (is, (words_of words rest first _ e h).0))
 as_soak words rest first P e is k (model.Soak image number rounds) h = k image number rounds (words_of words rest first _ e h).1
+as_soak words rest first P e is k (model.Certify image certificate) h = absurd (cc (is, (words_of words rest first _ e h).0))
+as_soak words rest first P e is k (model.Check image certificate) h = absurd (cc (is, (words_of words rest first _ e h).0))
+
+pub as_certify : (words rest : List (List ℕ)) (first : List ℕ) (P : model.CommandLine → Type 0) → words ≡ first ∷ rest → first ≡ codes "certify"
+    → ((image certificate : List ℕ) → AreWordsOf rest (model.Certify image certificate) → P (model.Certify image certificate))
+    → (c : model.CommandLine) → IsCommandLine words c → P c
+as_certify words rest first P e is k (model.Create image numbers) h = absurd (cc (is, (words_of words rest first _ e h).0))
+as_certify words rest first P e is k (model.Geometry image) h = absurd (cc (is, (words_of words rest first _ e h).0))
+as_certify words rest first P e is k (model.Show image) h = absurd (cc (is, (words_of words rest first _ e h).0))
+as_certify words rest first P e is k (model.Report image) h = absurd (cc (is, (words_of words rest first _ e h).0))
+as_certify words rest first P e is k (model.Certify image certificate) h = k image certificate (words_of words rest first _ e h).1
+as_certify words rest first P e is k (model.Check image certificate) h = absurd (cc (is, (words_of words rest first _ e h).0))
+as_certify words rest first P e is k (model.Run image script options) h = absurd (cc (is, (words_of words rest first _ e h).0))
+as_certify words rest first P e is k (model.Soak image number rounds) h = absurd (cc (is, (words_of words rest first _ e h).0))
+as_certify words rest first P e is k (model.Parity image parity) h = absurd (cc (is, (words_of words rest first _ e h).0))
+as_certify words rest first P e is k (model.Rebuild image parity unit) h = absurd (certify_or_rebuild first is (words_of words rest first _ e h).0)
+
+pub as_check : (words rest : List (List ℕ)) (first : List ℕ) (P : model.CommandLine → Type 0) → words ≡ first ∷ rest → first ≡ codes "check"
+    → ((image certificate : List ℕ) → AreWordsOf rest (model.Check image certificate) → P (model.Check image certificate))
+    → (c : model.CommandLine) → IsCommandLine words c → P c
+as_check words rest first P e is k (model.Create image numbers) h = absurd (cc (is, (words_of words rest first _ e h).0))
+as_check words rest first P e is k (model.Geometry image) h = absurd (cc (is, (words_of words rest first _ e h).0))
+as_check words rest first P e is k (model.Show image) h = absurd (cc (is, (words_of words rest first _ e h).0))
+as_check words rest first P e is k (model.Report image) h = absurd (cc (is, (words_of words rest first _ e h).0))
+as_check words rest first P e is k (model.Certify image certificate) h = absurd (cc (is, (words_of words rest first _ e h).0))
+as_check words rest first P e is k (model.Check image certificate) h = k image certificate (words_of words rest first _ e h).1
+as_check words rest first P e is k (model.Run image script options) h = absurd (cc (is, (words_of words rest first _ e h).0))
+as_check words rest first P e is k (model.Soak image number rounds) h = absurd (cc (is, (words_of words rest first _ e h).0))
+as_check words rest first P e is k (model.Parity image parity) h = absurd (cc (is, (words_of words rest first _ e h).0))
+as_check words rest first P e is k (model.Rebuild image parity unit) h = absurd (cc (is, (words_of words rest first _ e h).0))

@@ -192,6 +192,10 @@ pub data CommandLine : Type 0 where
   Parity : List ℕ → List ℕ → CommandLine
   -- make a unit of an image anew from its parity and the other units
   Rebuild : List ℕ → List ℕ → ℕ → CommandLine
+  -- make the certificate of what an image holds, in a file
+  Certify : List ℕ → List ℕ → CommandLine
+  -- check the certificate in a file against an image
+  Check : List ℕ → List ℕ → CommandLine
   -- run on an image a script, with these options
   Run : List ℕ → List ℕ → RunOptions → CommandLine
   -- run on an image the load of this number, of so many rounds
@@ -207,6 +211,8 @@ AreItemsOf items (Report image) = (names_in items ≡ image ∷ []) × (options_
 AreItemsOf items (Parity image parity) = (names_in items ≡ image ∷ parity ∷ []) × (options_in items ≡ []) × (flags_in items ≡ [])
 AreItemsOf items (Rebuild image parity unit) = (names_in items ≡ image ∷ parity ∷ decimal unit ∷ []) × (options_in items ≡ [])
     × (flags_in items ≡ []) × (unit < 2 ^ 32)
+AreItemsOf items (Certify image certificate) = (names_in items ≡ image ∷ certificate ∷ []) × (options_in items ≡ []) × (flags_in items ≡ [])
+AreItemsOf items (Check image certificate) = (names_in items ≡ image ∷ certificate ∷ []) × (options_in items ≡ []) × (flags_in items ≡ [])
 AreItemsOf items (Run image script options) = (names_in items ≡ image ∷ script ∷ []) × AllByRecursion IsRunOption (options_in items)
     × IsStop options.stop (values_in (codes "stop") items) × ArePlans options.plans (values_in (codes "fail") items) × (length options.plans ≤ 16)
     × IsLanes options.lanes (values_in (codes "lanes") items) × (flags_in items ≡ flags_of options.collector)
@@ -220,6 +226,8 @@ first_word (Show image) = codes "show"
 first_word (Report image) = codes "report"
 first_word (Parity image parity) = codes "parity"
 first_word (Rebuild image parity unit) = codes "rebuild"
+first_word (Certify image certificate) = codes "certify"
+first_word (Check image certificate) = codes "check"
 first_word (Run image script options) = codes "run"
 first_word (Soak image number rounds) = codes "soak"
 

@@ -48,6 +48,8 @@ seen (lines.Show image) = model.Show image.now
 seen (lines.Report image) = model.Report image.now
 seen (lines.Parity image parity) = model.Parity image.now parity.now
 seen (lines.Rebuild image parity unit) = model.Rebuild image.now parity.now unit
+seen (lines.Certify image certificate) = model.Certify image.now certificate.now
+seen (lines.Check image certificate) = model.Check image.now certificate.now
 seen (lines.Run image script options) = model.Run image.now script.now (options_seen options)
 seen (lines.Soak image number rounds) = model.Soak image.now number rounds
 
@@ -61,11 +63,11 @@ pub record AreWordsOf (words : List (List ℕ)) (c : model.CommandLine) : Type 0
 abbrev pub IsOneName : List (List ℕ) → List ℕ → Type 0
 IsOneName words name = (words ≡ name ∷ []) × IsPlainWord name
 
--- the words are two names alone: an image's and that of the file of its parity
-pub record AreParityWords (words : List (List ℕ)) (image parity : List ℕ) : Type 0 where
-  pub words_are : words ≡ image ∷ parity ∷ []
-  pub plain_image : IsPlainWord image
-  pub plain_parity : IsPlainWord parity
+-- the words are these two names alone
+pub record AreTwoNames (words : List (List ℕ)) (first second : List ℕ) : Type 0 where
+  pub words_are : words ≡ first ∷ second ∷ []
+  pub plain_first : IsPlainWord first
+  pub plain_second : IsPlainWord second
 
 -- the words are these names and a unit alone
 pub record AreRebuildWords (words : List (List ℕ)) (image parity : List ℕ) (unit : ℕ) : Type 0 where

@@ -72,6 +72,16 @@ pub enum CommandLine<'a> {
         parity: &'a str,
         unit: u32,
     },
+    /// Makes the certificate of what an image holds, in a file of this name.
+    Certify {
+        image: &'a str,
+        certificate: &'a str,
+    },
+    /// Checks the certificate in the file of this name against an image.
+    Check {
+        image: &'a str,
+        certificate: &'a str,
+    },
     /// Runs a script on an image.
     Run {
         image: &'a str,

@@ -11,7 +11,8 @@ use crate::item::{Item, read_item};
 use crate::number::read_number;
 use crate::options::CreateOption;
 
-/// What has been read of the words of `create`: the image's name, and the number of each option that is named.
+/// What has been read of the words of `create`: the image's name, and the number of each option
+/// that is named.
 #[derive(Clone, Copy, Debug)]
 pub(crate) struct CreateWords<'a> {
     pub(crate) image: Option<&'a str>,
@@ -37,7 +38,8 @@ pub(crate) fn read_create(words: &[String]) -> Option<(&str, CreateNumbers)>
 }
 
 impl CreateNumbers {
-    /// The numbers where no option is named: those of a small drive of one group of two parallel units.
+    /// The numbers where no option is named: those of a small drive of one group of two parallel
+    /// units.
     pub fn small() -> CreateNumbers
         ensures { AreNumbers create_options (numbers_of (numbers_seen result)) [] }
     {
@@ -88,7 +90,8 @@ impl<'a> CreateWords<'a> {
         }
     }
 
-    // With an option. None where there is no option of this name, it has a value, or this isn't its number.
+    // With an option. None where there is no option of this name, it has a value, or this isn't its
+    // number.
     fn with_option(self, name: &'a str, value: &'a str) -> Option<CreateWords<'a>>
         ensures taken { IfSome result (λ next. (items : List model.Item)
             → HasRead items self.entry

@@ -4,18 +4,18 @@ ghost use Rattle.std.specs.Prelude.{◌≡◌, List, ℕ, Some, map, IfSome, IfN
 ghost use Rattle.std.specs.Option.{option_map};
 ghost use Rattle.command_words.specs.Grammar as model;
 ghost use Rattle.command_words.specs.Grammar.{IsCommandLine};
-ghost use Rattle.command_words.specs.Words.{AreWordsOf, IsOneName, seen};
+ghost use Rattle.command_words.specs.Words.{AreTwoNames, AreWordsOf, IsOneName, seen};
 
 use crate::command::CommandLine;
 use crate::create::read_create;
 use crate::item::is_plain;
-use crate::parity::{read_parity, read_rebuild};
+use crate::rebuild::read_rebuild;
 use crate::run::read_run;
 use crate::soak::read_soak;
 
 /// Reads the words of a command line: `create IMAGE`, `geometry IMAGE`, `show IMAGE`, `report
-/// IMAGE`, `parity IMAGE PARITY`, `rebuild IMAGE PARITY UNIT`, `run IMAGE SCRIPT` or `soak IMAGE
-/// NUMBER ROUNDS`.
+/// IMAGE`, `parity IMAGE PARITY`, `rebuild IMAGE PARITY UNIT`, `certify IMAGE CERTIFICATE`, `check
+/// IMAGE CERTIFICATE`, `run IMAGE SCRIPT` or `soak IMAGE NUMBER ROUNDS`.
 ///
 /// Options of `create` stand anywhere after its first word, as `--name value` or `--name=value`,
 /// each at most once: `--groups` and `--units` (in a group) are below 2^16; `--chunks`, `--blocks`,
@@ -27,8 +27,8 @@ use crate::soak::read_soak;
 /// named up to 16 times, with `p:unit:nth:cut`, `f:unit:nth` or `r:unit:nth`. Lanes are 0 to 8, and
 /// the nth of a stop is at least 1. The numbers of stops and plans are below 2^32.
 ///
-/// The numbers of `rebuild` and `soak` are spelled in the same way. The unit is below 2^32, the number of
-/// the load below 2^64, and the rounds are 1 to 3,125.
+/// The numbers of `rebuild` and `soak` are spelled in the same way. The unit is below 2^32, the
+/// number of the load below 2^64, and the rounds are 1 to 3,125.
 ///
 /// The other commands have no options. None where the words are no command: the first one is none
 /// of these, a word is missing or too many, a word is empty, a word begins with `-` and isn't one
@@ -61,7 +61,7 @@ pub fn read_words(words: &[String]) -> Option<CommandLine<'_>>
             Some(CommandLine::Report { image })
         }
         "parity" => {
-            let (image, parity) = read_parity(rest)?;
+            let (image, parity) = read_names(rest)?;
             Some(CommandLine::Parity { image, parity })
         }
         "rebuild" => {
@@ -71,6 +71,14 @@ pub fn read_words(words: &[String]) -> Option<CommandLine<'_>>
                 parity,
                 unit,
             })
+        }
+        "certify" => {
+            let (image, certificate) = read_names(rest)?;
+            Some(CommandLine::Certify { image, certificate })
+        }
+        "check" => {
+            let (image, certificate) = read_names(rest)?;
+            Some(CommandLine::Check { image, certificate })
         }
         "run" => {
             let (image, script, options) = read_run(rest)?;
@@ -103,4 +111,22 @@ fn read_name(words: &[String]) -> Option<&str>
     };
     let image = image.as_str();
     if is_plain(image) { Some(image) } else { None }
+}
+
+// The words after the first one of a command that names an image and another file.
+fn read_names(words: &[String]) -> Option<(&str, &str)>
+    ensures found { IfSome result (λ r. AreTwoNames (map string_bytes words.now) r.0.now r.1.now) }
+    ensures only { (image other : List ℕ) → AreTwoNames (map string_bytes words.now) image other
+        → IsSomeAnd result (λ r. (r.0.now ≡ image) × (r.1.now ≡ other)) }
+{
+    let [image, other] = words else {
+        return None;
+    };
+    let image = image.as_str();
+    let other = other.as_str();
+    if is_plain(image) && is_plain(other) {
+        Some((image, other))
+    } else {
+        None
+    }
 }

@@ -32,6 +32,10 @@ pub mod TidyRuns
 pub mod LoadsApart
 pub mod SoakComes
 pub mod ParityComes
+pub mod CertificatesCome
+pub mod CertificateTexts
+pub mod CertificateFits
+pub mod Certifying
 pub mod OldHeads
 pub mod WornLines
 pub mod EventLines

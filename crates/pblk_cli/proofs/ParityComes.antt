@@ -1,7 +1,6 @@
 -- What a parity, and a unit that is made anew from one, come to.
-use Rattle.std.proofs.Common.{◌≡◌, ◌<◌, ◌++◌, ◌∷◌, [], inl, inr, ℕ, List, Some, map, codes, refl, sym, ap, ap₂, subst, ◌∙◌, append_assoc}
+use Rattle.std.proofs.Common.{◌≡◌, ◌<◌, inl, inr, ℕ, List, Some, map, codes, refl, sym, ap, subst, ◌∙◌}
 use Rattle.std.specs.Bool.{IsTrue}
-use Rattle.std.specs.Fmt.{decimal}
 use Rattle.pblk_outside.specs.Files.{FilesView, IsCalm, SameOthers}
 use Rattle.pblk_model.specs.CommandText.{number_line}
 use Rattle.pblk_model.specs.Contents.{contents, end}
@@ -9,7 +8,6 @@ use Rattle.pblk_model.specs.Image.{Image}
 use Rattle.pblk_model.specs.ImageFile.{Drive, IsImage, image_bytes, image_of}
 use Rattle.pblk_model.specs.Sealed.{IsSealed}
 use Rattle.pblk_model.specs.Shape.{units}
-use Rattle.pblk_model.specs.Text.{newline, spaced}
 use Rattle.unit_port.specs.Commands.{AreUnarmed}
 use Rattle.unit_port.specs.Unit.{ModelUnit}
 use Rattle.world_laws.specs.Finding.{NoneOpen}
@@ -35,7 +33,7 @@ use Rattle.pblk_cli.specs.Rebuilding.{IsAnew, IsRefusedAs, RefusesRebuild}
 use Rattle.pblk_cli.specs.Running.{CannotReadBoth}
 use Rattle.pblk_cli.specs.Telling.{Refuses, Stores}
 use Rattle.pblk_cli.proofs.HandedDrives.{image_handed}
-use Rattle.pblk_cli.proofs.Reading.{is_there}
+use Rattle.pblk_cli.proofs.Reading.{bytes_cases, is_there, unread_both_cases, unread_cases}
 use Rattle.pblk_cli.proofs.RunComes.{others}
 use Rattle.pblk_cli.proofs.StoredUnits.{same_numbers}
 
@@ -151,24 +149,15 @@ rebuild_refused i old new p unit bytes errors.Memory file calm ran refused = inl
 -- the image could not be read
 pub unread_image : (image parity : List ℕ) (old new : FilesView) (q : Refusal) → CannotRead image (reason_of q) old new
     → ParityComesTo image parity (Refuses (reason_of q)) old new
-unread_image image parity old new (refusals.Image e) h = absurd h
-unread_image image parity old new (refusals.Script e) h = absurd h
-unread_image image parity old new (refusals.Parity e) h = absurd h
-unread_image image parity old new (refusals.Failed name) h = inl h
-unread_image image parity old new (refusals.Missing name) h = h
-unread_image image parity old new refusals.Words h = absurd h
-unread_image image parity old new refusals.Memory h = h
+unread_image image parity old new q h =
+    unread_cases (λ r. ParityComesTo image parity (Refuses r) old new) image old new (λ file k. inl k) (λ file k. k) (λ k. k) (reason_of q) h
 
 -- it was read, and its bytes are refused
 pub refused_image : (image parity bytes : List ℕ) (old new : FilesView) → ReadsFile image bytes old new → (q : Refusal) → RefusesBytes bytes (reason_of q)
     → ParityComesTo image parity (Refuses (reason_of q)) old new
-refused_image image parity bytes old new read (refusals.Image e) h = (bytes, read.0, h, read.1)
-refused_image image parity bytes old new read (refusals.Script e) h = absurd h
-refused_image image parity bytes old new read (refusals.Parity e) h = absurd h
-refused_image image parity bytes old new read (refusals.Failed name) h = absurd h
-refused_image image parity bytes old new read (refusals.Missing name) h = absurd h
-refused_image image parity bytes old new read refusals.Words h = absurd h
-refused_image image parity bytes old new read refusals.Memory h = (is_there image bytes old read.0, read.1)
+refused_image image parity bytes old new read q h =
+    bytes_cases (λ r. ParityComesTo image parity (Refuses r) old new) bytes (λ e is. (bytes, read.0, is, read.1)) (is_there image bytes old read.0, read.1)
+    (reason_of q) h
 
 -- a file that was written after one was read is stored
 pub stored_after : (image found name bytes : List ℕ) (old mid new : FilesView) → ReadsFile image found old mid → (IsTrue mid.told → new.file name ≡ Some bytes)
@@ -185,26 +174,17 @@ stored_alone name bytes old new stored calm same told = (λ new_tells. stored (s
 -- one of the two files could not be read
 pub unread_either : (image parity : List ℕ) (unit : ℕ) (old new : FilesView) (q : Refusal) → CannotReadBoth image parity (reason_of q) old new
     → RebuildComesTo image parity unit (Refuses (reason_of q)) old new
-unread_either image parity unit old new (refusals.Image e) h = absurd h
-unread_either image parity unit old new (refusals.Script e) h = absurd h
-unread_either image parity unit old new (refusals.Parity e) h = absurd h
-unread_either image parity unit old new (refusals.Failed name) (inl h) = inl h
-unread_either image parity unit old new (refusals.Failed name) (inr h) = inr (inl h)
-unread_either image parity unit old new (refusals.Missing name) h = h
-unread_either image parity unit old new refusals.Words h = absurd h
-unread_either image parity unit old new refusals.Memory h = h
+unread_either image parity unit old new q h =
+    unread_both_cases (λ r. RebuildComesTo image parity unit (Refuses r) old new) image parity old new
+    (λ file k. elim k [ inl first ↦ inl first | inr second ↦ inr (inl second) ]) (λ file k. k) (λ k. k) (reason_of q) h
 
 -- both were read, and the image's bytes are refused
 pub refused_bytes : (image parity found bytes : List ℕ) (unit : ℕ) (old new : FilesView) → ReadsFile image found old new → ReadsFile parity bytes old new
     → (q : Refusal)
     → RefusesBytes found (reason_of q) → RebuildComesTo image parity unit (Refuses (reason_of q)) old new
-refused_bytes image parity found bytes unit old new a b (refusals.Image e) h = (found, a.0, is_there parity bytes old b.0, h, a.1)
-refused_bytes image parity found bytes unit old new a b (refusals.Script e) h = absurd h
-refused_bytes image parity found bytes unit old new a b (refusals.Parity e) h = absurd h
-refused_bytes image parity found bytes unit old new a b (refusals.Failed name) h = absurd h
-refused_bytes image parity found bytes unit old new a b (refusals.Missing name) h = absurd h
-refused_bytes image parity found bytes unit old new a b refusals.Words h = absurd h
-refused_bytes image parity found bytes unit old new a b refusals.Memory h = (is_there image found old a.0, a.1)
+refused_bytes image parity found bytes unit old new a b q h =
+    bytes_cases (λ r. RebuildComesTo image parity unit (Refuses r) old new) found (λ e is. (found, a.0, is_there parity bytes old b.0, is, a.1))
+    (is_there image found old a.0, a.1) (reason_of q) h
 
 -- what both files give
 abbrev pub input_of : (image parity found bytes : List ℕ) (d : Drive) (old new : FilesView) → ReadsFile image found old new → ReadsFile parity bytes old new
@@ -226,17 +206,8 @@ refused_rebuild image parity found bytes unit d old new a b is (refusals.Script 
 refused_rebuild image parity found bytes unit d old new a b is (refusals.Parity e) h = (input_of image parity found bytes d old new a b is, h, a.1)
 refused_rebuild image parity found bytes unit d old new a b is (refusals.Failed name) h = absurd h
 refused_rebuild image parity found bytes unit d old new a b is (refusals.Missing name) h = absurd h
+refused_rebuild image parity found bytes unit d old new a b is (refusals.Certificate line) h = absurd h
+refused_rebuild image parity found bytes unit d old new a b is (refusals.Check e) h = absurd h
 refused_rebuild image parity found bytes unit d old new a b is refusals.Words h =
     (d, record { bytes = found; read = a.0; is = is }, is_there parity bytes old b.0, h, a.1)
 refused_rebuild image parity found bytes unit d old new a b is refusals.Memory h = (is_there image found old a.0, a.1)
-
--- the line of a word and two numbers
-spaced_then : (k : ℕ) (ns ys : List ℕ) → spaced (k ∷ ns) ++ ys ≡ codes " " ++ (decimal k ++ (spaced ns ++ ys))
-spaced_then k ns ys = append_assoc (codes " " ++ decimal k) (spaced ns) ys
-
-pub pair_line_text : (word a b : List ℕ) (k m : ℕ) → a ≡ decimal k → b ≡ decimal m
-    → word ++ (codes " " ++ (a ++ (codes " " ++ (b ++ newline)))) ≡ word ++ spaced (k ∷ m ∷ []) ++ newline
-pair_line_text word a b k m ea eb =
-    ap₂ (λ (x y : List ℕ). word ++ (codes " " ++ (x ++ (codes " " ++ (y ++ newline))))) ea eb
-    ∙ sym (append_assoc word (spaced (k ∷ m ∷ [])) newline
-    ∙ ap (λ ys. word ++ ys) (spaced_then k (m ∷ []) newline ∙ ap (λ ys. codes " " ++ (decimal k ++ ys)) (spaced_then m [] newline)))

@@ -12,18 +12,14 @@ use Rattle.pblk_cli.specs.Endings.{reason_of}
 use Rattle.pblk_cli.specs.Reading.{ReadsFile, RefusesBytes}
 use Rattle.pblk_cli.specs.Running.{IsRunOfScript, RefusesScript}
 use Rattle.pblk_cli.specs.Telling.{FailsWriting, Refuses}
-use Rattle.pblk_cli.proofs.Reading.{is_there}
+use Rattle.pblk_cli.proofs.Reading.{bytes_cases, is_there}
 
 -- both files were read, and the image's bytes are refused
 pub image_refused_comes : (image script found commands : List ℕ) (options : RunOptions) (old new : FilesView) → ReadsFile image found old new
     → ReadsFile script commands old new → (q : Refusal) → RefusesBytes found (reason_of q) → RunComesTo image script options (Refuses (reason_of q)) old new
-image_refused_comes image script found commands options old new a b (refusals.Image e) h = (found, a.0, is_there script commands old b.0, h, a.1)
-image_refused_comes image script found commands options old new a b (refusals.Script e) h = absurd h
-image_refused_comes image script found commands options old new a b (refusals.Parity e) h = absurd h
-image_refused_comes image script found commands options old new a b (refusals.Failed name) h = absurd h
-image_refused_comes image script found commands options old new a b (refusals.Missing name) h = absurd h
-image_refused_comes image script found commands options old new a b refusals.Words h = absurd h
-image_refused_comes image script found commands options old new a b refusals.Memory h = (is_there image found old a.0, a.1)
+image_refused_comes image script found commands options old new a b q h =
+    bytes_cases (λ r. RunComesTo image script options (Refuses r) old new) found (λ e is. (found, a.0, is_there script commands old b.0, is, a.1))
+    (is_there image found old a.0, a.1) (reason_of q) h
 
 -- the image is one of a drive, and the script is refused
 pub script_refused_comes : (image script found commands : List ℕ) (options : RunOptions) (d : Drive) (old new : FilesView) → ReadsFile image found old new
@@ -45,6 +41,8 @@ script_refused_comes image script found commands options d old new a b is (refus
 script_refused_comes image script found commands options d old new a b is (refusals.Parity e) h = absurd h
 script_refused_comes image script found commands options d old new a b is (refusals.Failed name) h = absurd h
 script_refused_comes image script found commands options d old new a b is (refusals.Missing name) h = absurd h
+script_refused_comes image script found commands options d old new a b is (refusals.Certificate line) h = absurd h
+script_refused_comes image script found commands options d old new a b is (refusals.Check e) h = absurd h
 script_refused_comes image script found commands options d old new a b is refusals.Words h = absurd h
 script_refused_comes image script found commands options d old new a b is refusals.Memory h = (is_there image found old a.0, a.1)
 

@@ -14,30 +14,21 @@ use Rattle.pblk_cli.specs.Running.{IsRunOfLoad, RefusesLoad}
 use Rattle.pblk_cli.specs.Telling.{Refuses}
 use Rattle.pblk_cli.proofs.CalmRuns.{contents_of, none_at_zero}
 use Rattle.pblk_cli.proofs.LoadsApart.{loads_apart}
-use Rattle.pblk_cli.proofs.Reading.{is_there}
+use Rattle.pblk_cli.proofs.Reading.{bytes_cases, is_there, unread_cases}
 use Rattle.pblk_cli.proofs.RunComes.{others}
 
 -- the image could not be read
 pub read_refused_comes : (image : List ℕ) (number rounds : ℕ) (old new : FilesView) → (q : Refusal) → CannotRead image (reason_of q) old new
     → SoakComesTo image number rounds (Refuses (reason_of q)) old new
-read_refused_comes image number rounds old new (refusals.Image e) h = absurd h
-read_refused_comes image number rounds old new (refusals.Script e) h = absurd h
-read_refused_comes image number rounds old new (refusals.Parity e) h = absurd h
-read_refused_comes image number rounds old new (refusals.Failed name) h = (h.0, inl h.1)
-read_refused_comes image number rounds old new (refusals.Missing name) h = h
-read_refused_comes image number rounds old new refusals.Words h = absurd h
-read_refused_comes image number rounds old new refusals.Memory h = h
+read_refused_comes image number rounds old new q h =
+    unread_cases (λ r. SoakComesTo image number rounds (Refuses r) old new) image old new (λ file k. (k.0, inl k.1)) (λ file k. k) (λ k. k) (reason_of q) h
 
 -- the image was read, and its bytes are refused
 pub bytes_refused_come : (image found : List ℕ) (number rounds : ℕ) (old new : FilesView) → ReadsFile image found old new
     → (q : Refusal) → RefusesBytes found (reason_of q) → SoakComesTo image number rounds (Refuses (reason_of q)) old new
-bytes_refused_come image found number rounds old new a (refusals.Image e) h = (found, a.0, h, a.1)
-bytes_refused_come image found number rounds old new a (refusals.Script e) h = absurd h
-bytes_refused_come image found number rounds old new a (refusals.Parity e) h = absurd h
-bytes_refused_come image found number rounds old new a (refusals.Failed name) h = absurd h
-bytes_refused_come image found number rounds old new a (refusals.Missing name) h = absurd h
-bytes_refused_come image found number rounds old new a refusals.Words h = absurd h
-bytes_refused_come image found number rounds old new a refusals.Memory h = (is_there image found old a.0, a.1)
+bytes_refused_come image found number rounds old new a q h =
+    bytes_cases (λ r. SoakComesTo image number rounds (Refuses r) old new) found (λ e is. (found, a.0, is, a.1)) (is_there image found old a.0, a.1)
+    (reason_of q) h
 
 -- the image is one of a drive, on which no load was run
 pub load_refused_comes : (image found : List ℕ) (number rounds : ℕ) (d : Drive) (old new : FilesView) → ReadsFile image found old new → IsImage found d
@@ -47,6 +38,8 @@ load_refused_comes image found number rounds d old new a is (refusals.Script e) 
 load_refused_comes image found number rounds d old new a is (refusals.Parity e) h = absurd h
 load_refused_comes image found number rounds d old new a is (refusals.Failed name) h = absurd h
 load_refused_comes image found number rounds d old new a is (refusals.Missing name) h = absurd h
+load_refused_comes image found number rounds d old new a is (refusals.Certificate line) h = absurd h
+load_refused_comes image found number rounds d old new a is (refusals.Check e) h = absurd h
 load_refused_comes image found number rounds d old new a is refusals.Words h = (d, record { bytes = found; read = a.0; is = is }, h, a.1)
 load_refused_comes image found number rounds d old new a is refusals.Memory h = (is_there image found old a.0, a.1)
 

@@ -1,6 +1,6 @@
 -- What each command comes to, by the files before and after: a text, or a refusal with its cause.
 -- No other ending is left.
-use Rattle.std.specs.Prelude.{ℕ, ◌<◌, ◌≤◌, ◌≡◌, ◌⊎◌, ⊤, true, false, List, [], map, length, Some, None, Err, codes}
+use Rattle.std.specs.Prelude.{ℕ, ◌<◌, ◌≤◌, ◌≡◌, ◌≢◌, ◌⊎◌, ⊤, true, false, List, [], map, length, Some, None, Err, codes, ◌↔◌, IsTrue, Bool}
 use Rattle.pblk_outside.specs.Files.{FilesView}
 use Rattle.pblk_model.specs.declared.script.Command.{Command}
 use Rattle.command_words.specs.Grammar.{CommandLine, Create, Geometry, Show, Report, Parity, Rebuild, Run, Soak, IsCommandLine, IsLoad, RunOptions, helpers_of}
@@ -10,6 +10,7 @@ use Rattle.pblk_model.specs.History.{after, users}
 use Rattle.pblk_model.specs.Image.{Image as ModelImage}
 use Rattle.pblk_model.specs.Shape.{units}
 use Rattle.pblk_model.specs.ImageFile.{Drive, IsImage, image_bytes, image_of, image_refusal, shape_of}
+use Rattle.command_words.specs.Grammar as commands
 use Rattle.pblk_model.specs.ScriptText.{IsScript, read_script}
 use Rattle.pblk_model.specs.Sealed.{IsSealed}
 use Rattle.pblk_model.specs.Text.{Closed, Transcript, text_of}
@@ -30,6 +31,14 @@ use Rattle.stripe_parity.specs.ParityBytes.{parity_bytes}
 use Rattle.stripe_parity.specs.ParityFile.{IsParity, ParityFile, parity_of}
 use Rattle.stripe_parity.specs.Rebuilding.{AreAsKept, IsRebuilt, kept_blocks}
 use Rattle.world_laws.specs.Finding.{NoneOpen}
+use Rattle.image_check.specs.declared.certificate.Certificate.{Certificate as Certifying}
+use Rattle.image_check.specs.Right as right
+use Rattle.image_check.specs.Right.{IsInOrder, IsRight, said_contents}
+use Rattle.image_check.specs.Makes.{AreFirst}
+use Rattle.image_check.specs.declared.error.CheckErr.TheVariants as errors
+use Rattle.image_check.specs.Text.{IsFirstWrong}
+use Rattle.image_check.specs.Text as certificates
+use Rattle.command_text.specs.Certificates.{certified_text, checked_text}
 use Rattle.command_text.specs.Says.{Says}
 use Rattle.pblk_cli.specs.Parities.{IsFileOf, IsLostOf, RefusesParity}
 use Rattle.load_maker.specs.Loads.{load}
@@ -40,7 +49,7 @@ use Rattle.pblk_cli.specs.Status.{status_of_run}
 use Rattle.pblk_cli.specs.Stops.{AreAllTold, AreNames, AreOutcomesBy, HasBegun, fuse_on}
 use Rattle.pblk_cli.specs.Synced.{AreFlushesSynced, IsAllSynced}
 use Rattle.pblk_cli.specs.Worn.{AreRefusedIn}
-use Rattle.pblk_cli.specs.Telling.{Call, Image, Script, OfParity, Failed, Missing, Words, Memory, Ending, Gives, Refuses, Tells, Holds, IsThere, AreUntouched, Stores, FailsReading, IsMissing, FailsWriting}
+use Rattle.pblk_cli.specs.Telling.{Call, Image, Script, OfParity, Failed, Missing, Words, Memory, Ending, Gives, Refuses, Tells, Holds, IsThere, AreUntouched, Stores, FailsReading, IsMissing, FailsWriting, Certificate, Check, Reason}
 
 -- Creating.
 
@@ -82,6 +91,91 @@ ShowComesTo = TellsComeTo show_text
 -- the numbers of the drive's chunks, and of what the image holds
 abbrev pub ReportComesTo : List ℕ → Ending → FilesView → FilesView → Type 0
 ReportComesTo = TellsComeTo numbers_text
+
+-- Certificates.
+
+-- these bytes are the text of a certificate that is right for an image
+pub record IsCertificateOf (i : ModelImage) (bytes : List ℕ) : Type 0 where
+  pub certificate : Certifying
+  pub right : IsRight i certificate
+  pub order : IsInOrder certificate
+  pub spelled : bytes ≡ certificates.text_of certificate
+
+-- they are, and of several records that bear a position the certificate names the first
+pub record IsMadeOf (i : ModelImage) (bytes : List ℕ) : Type 0 where
+  pub is : IsCertificateOf i bytes
+  pub first : AreFirst i is.certificate.bears
+
+-- that of what the image holds was made, and stored
+pub record CertificateMade (image name : List ℕ) (status : ℕ) (text : List ℕ) (old new : FilesView) : Type 0 where
+  pub drive : Drive
+  pub drive_is : IsDriveOf image old drive
+  pub bytes : List ℕ
+  pub made : IsMadeOf (image_of drive) bytes
+  pub status_is : status ≡ 0
+  pub text_is : text ≡ certified_text (length bytes)
+  pub stored : Stores name bytes old new
+
+abbrev pub CertifyComesTo : List ℕ → List ℕ → Ending → FilesView → FilesView → Type 0
+CertifyComesTo image name (Gives status text) old new = CertificateMade image name status text old new
+CertifyComesTo image name (Refuses (Image e)) old new = (bytes : List ℕ) × Holds image bytes old × (image_refusal bytes ≡ Some e) × AreUntouched old new
+-- the image could not be read; or it is accepted, and the certificate could not be written
+CertifyComesTo image name (Refuses (Failed file)) old new = ((file ≡ image) × FailsReading image old new)
+    ⊎ ((file ≡ name) × ((d : Drive) × IsDriveOf image old d) × FailsWriting name old new)
+CertifyComesTo image name (Refuses (Missing file)) old new = (file ≡ image) × IsMissing image old new
+CertifyComesTo image name (Refuses Memory) old new = IsThere image old × AreUntouched old new
+CertifyComesTo image name ending old new = ⊥
+
+-- the bytes are a certificate that is right for an image
+pub record IsCheckedOf (i : ModelImage) (bytes : List ℕ) (status : ℕ) (text : List ℕ) : Type 0 where
+  pub is : IsCertificateOf i bytes
+  -- each sector holds what the certificate's places say
+  pub contents : said_contents i is.certificate.wins ≡ contents i
+  -- whether the image is tidy is told
+  pub tidy : Bool
+  pub tidy_is : IsTrue tidy ↔ IsTidy i
+  pub status_is : status ≡ 0
+  pub text_is : text ≡ checked_text tidy
+
+-- Both files were read, and the bytes of the certificate's file, to its end, are a certificate that is right for the image.
+pub record CertificateRight (image name : List ℕ) (status : ℕ) (text : List ℕ) (old new : FilesView) : Type 0 where
+  pub drive : Drive
+  pub drive_is : IsDriveOf image old drive
+  pub bytes : List ℕ
+  pub read : Holds name bytes old
+  pub checked : IsCheckedOf (image_of drive) bytes status text
+  pub untouched : AreUntouched old new
+
+-- Why bytes are no certificate that is right for an image: from a line on they are none, or they are one and it is refused.
+abbrev pub RefusesCertificate : ModelImage → List ℕ → Reason → Type 0
+RefusesCertificate i bytes (Certificate line) = IsFirstWrong bytes line × (IsCertificateOf i bytes → ⊥)
+RefusesCertificate i bytes (Check e) = (c : Certifying) × (bytes ≡ certificates.text_of c) × right.Refuses i c e × (e ≢ errors.Memory)
+    × (IsCertificateOf i bytes → ⊥)
+RefusesCertificate i bytes reason = ⊥
+
+-- Both files were read, the image is accepted, and the bytes of the certificate's file are refused for this reason.
+pub record CertificateWrong (image name : List ℕ) (reason : Reason) (old new : FilesView) : Type 0 where
+  pub drive : Drive
+  pub drive_is : IsDriveOf image old drive
+  pub bytes : List ℕ
+  pub read : Holds name bytes old
+  pub why : RefusesCertificate (image_of drive) bytes reason
+  pub untouched : AreUntouched old new
+
+abbrev pub CheckComesTo : List ℕ → List ℕ → Ending → FilesView → FilesView → Type 0
+CheckComesTo image name (Gives status text) old new = CertificateRight image name status text old new
+-- both files were read, and the image is refused
+CheckComesTo image name (Refuses (Image e)) old new = (bytes : List ℕ) × Holds image bytes old
+    × IsThere name old × (image_refusal bytes ≡ Some e) × AreUntouched old new
+CheckComesTo image name (Refuses (Certificate line)) old new = CertificateWrong image name (Certificate line) old new
+CheckComesTo image name (Refuses (Check e)) old new = CertificateWrong image name (Check e) old new
+-- the image, or, where it is there, the certificate could not be read
+CheckComesTo image name (Refuses (Failed file)) old new = ((file ≡ image) × FailsReading image old new)
+    ⊎ ((file ≡ name) × IsThere image old × FailsReading name old new)
+CheckComesTo image name (Refuses (Missing file)) old new = ((file ≡ image) × IsMissing image old new)
+    ⊎ ((file ≡ name) × IsThere image old × IsMissing name old new)
+CheckComesTo image name (Refuses Memory) old new = IsThere image old × AreUntouched old new
+CheckComesTo image name ending old new = ⊥
 
 -- Runs.
 
@@ -297,6 +391,8 @@ IsWithinLimits (Show image) = ⊤
 IsWithinLimits (Report image) = ⊤
 IsWithinLimits (Parity image parity) = ⊤
 IsWithinLimits (Rebuild image parity unit) = ⊤
+IsWithinLimits (commands.Certify image name) = ⊤
+IsWithinLimits (commands.Check image name) = ⊤
 IsWithinLimits (Run image script options) = options.lanes ≤ 8
 IsWithinLimits (Soak image number rounds) = IsLoad number rounds
 
@@ -369,6 +465,8 @@ ComesTo (Show image) ending old new = ShowComesTo image ending old new
 ComesTo (Report image) ending old new = ReportComesTo image ending old new
 ComesTo (Parity image parity) ending old new = ParityComesTo image parity ending old new
 ComesTo (Rebuild image parity unit) ending old new = RebuildComesTo image parity unit ending old new
+ComesTo (commands.Certify image name) ending old new = CertifyComesTo image name ending old new
+ComesTo (commands.Check image name) ending old new = CheckComesTo image name ending old new
 ComesTo (Run image script options) ending old new = RunComesTo image script options ending old new
 ComesTo (Soak image number rounds) ending old new = SoakComesTo image number rounds ending old new
 

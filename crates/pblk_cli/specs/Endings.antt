@@ -3,7 +3,7 @@ use Rattle.std.specs.Prelude.{Result, Ok, Err}
 use Rattle.pblk_cli.specs.declared.output.Output.{Output}
 use Rattle.pblk_cli.specs.declared.refusal.Refusal.{Refusal}
 use Rattle.pblk_cli.specs.declared.refusal.Refusal.TheVariants as refusals
-use Rattle.pblk_cli.specs.Telling.{Reason, Image, Script, OfParity, Failed, Missing, Words, Memory, Ending, Gives, Refuses}
+use Rattle.pblk_cli.specs.Telling.{Reason, Image, Script, OfParity, Failed, Missing, Words, Memory, Ending, Gives, Refuses, Certificate, Check}
 
 abbrev pub reason_of : Refusal → Reason
 reason_of (refusals.Image e) = Image e
@@ -11,6 +11,8 @@ reason_of (refusals.Script e) = Script e
 reason_of (refusals.Parity e) = OfParity e
 reason_of (refusals.Failed name) = Failed name.now
 reason_of (refusals.Missing name) = Missing name.now
+reason_of (refusals.Certificate line) = Certificate line
+reason_of (refusals.Check e) = Check e
 reason_of refusals.Words = Words
 reason_of refusals.Memory = Memory
 

@@ -11,6 +11,7 @@ pub mod Laws
 pub mod Endings
 pub mod Creating
 pub mod Reading
+pub mod Certifying
 pub mod Running
 pub mod Rebuilding
 pub mod Program

@@ -8,6 +8,8 @@ use Rattle.pblk_model.specs.declared.image.ImageErr.{ImageErr}
 use Rattle.pblk_model.specs.declared.script.ScriptErr.{ScriptErr}
 use Rattle.pblk_model.specs.CommandText.{image_line, script_line, failed_line, missing_line, memory_line, words_line}
 use Rattle.stripe_parity.specs.declared.error.ParityErr.{ParityErr}
+use Rattle.image_check.specs.declared.error.CheckErr.{CheckErr}
+use Rattle.command_text.specs.Certificates.{certificate_line, check_line}
 use Rattle.command_text.specs.Says.{Says}
 use Rattle.pblk_cli.specs.Parities.{parity_line}
 
@@ -30,6 +32,10 @@ pub data Reason : Type 0 where
   Failed : List ℕ → Reason
   -- it isn't there
   Missing : List ℕ → Reason
+  -- a certificate's bytes, by the first line that isn't of one
+  Certificate : ℕ → Reason
+  -- a certificate that isn't right
+  Check : CheckErr → Reason
   -- the words, by what the image is
   Words : Reason
   Memory : Reason
@@ -45,6 +51,8 @@ status_of (Script e) = 2
 status_of (OfParity e) = 3
 status_of (Failed name) = 4
 status_of (Missing name) = 4
+status_of (Certificate line) = 3
+status_of (Check e) = 3
 status_of Words = 1
 status_of Memory = 7
 
@@ -54,6 +62,8 @@ line_of (Script e) = script_line e
 line_of (OfParity e) = parity_line e
 line_of (Failed name) = failed_line name
 line_of (Missing name) = missing_line name
+line_of (Certificate line) = certificate_line line
+line_of (Check e) = check_line e
 line_of Words = words_line
 line_of Memory = memory_line
 

@@ -1,8 +1,10 @@
 //! The program behind the command `pblk`: it reads its words, makes images (`create`), tells their
-//! numbers (`geometry`) and what they hold (`show` and `report`), and runs scripts (`run`)
-//! and loads (`soak`) on them.
+//! numbers (`geometry`) and what they hold (`show` and `report`), keeps their parity and makes lost
+//! units anew (`parity` and `rebuild`), makes and checks certificates of what they hold (`certify`
+//! and `check`), and runs scripts (`run`) and loads (`soak`) on them.
 #![tactic(auto)]
 
+mod certificates;
 mod create;
 mod drive_run;
 mod geometry;

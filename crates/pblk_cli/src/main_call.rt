@@ -7,6 +7,7 @@ ghost use Rattle.pblk_cli.specs.Commands.{CallEnds, ComesTo, IsWithinLimits};
 ghost use Rattle.pblk_cli.specs.Endings.{ending_of};
 ghost use Rattle.pblk_cli.specs.Program.{ProgramEnds};
 
+use crate::certificates::{certify, check};
 use crate::create::create;
 use crate::geometry::geometry;
 use crate::output::Output;
@@ -28,9 +29,9 @@ use std::thread::Threads;
 /// | Status | Comes |
 /// |---|---|
 /// | 0 | the command did all its work, and its text was written |
-/// | 1 | the words are no command; or `soak` is asked for on an image of fewer than 32 sectors |
+/// | 1 | the words are no command; `soak` on under 32 sectors; `rebuild` of no unit of the drive |
 /// | 2 | the script is refused |
-/// | 3 | the image is refused, or what `create` is to make |
+/// | 3 | the image is refused, or what `create` is to make; or the parity, or the certificate |
 /// | 4 | a file could not be read or written, or isn't there |
 /// | 5 | a run's text has an `e` line, which names an event of a unit; the text was written |
 /// | 6 | a run's text has no `e` line, but a `worn` line: there was no room; the text was written |
@@ -38,8 +39,18 @@ use std::thread::Threads;
 /// | 8 | the command did its work, and its text could not be written whole |
 ///
 /// With each status but 0, 5, 6 and 8 one line says why. The words are judged first; then files are
-/// read, the image before the script; then the image is judged, then the script; the file is
-/// written before the text. A run may wait: nothing says that its call returns.
+/// read, the image before the script, the parity or the certificate; then the image is judged, then
+/// the unit that is to be made anew, then the other file. Files are written before the text, the
+/// image before its parity. A run may wait: nothing says that its call returns.
+///
+/// `parity` closes the Open chunks of the image, which leaves what a sealed one holds, and makes a
+/// file of its parity. `rebuild` makes a unit anew from that file and from the other units. Where
+/// the parity is that of a drive with which the one found agrees on all other units, the image left
+/// is that drive's, chunk by chunk.
+///
+/// `certify` makes a certificate that is right for the image. `check` says yes only where the
+/// certificate is right for the image, and refuses none that is; it tells whether the image is
+/// tidy. Neither changes the image.
 ///
 /// `soak` makes the load of a number, of so many rounds, for the drive of the image, and runs it as
 /// `run` runs a script, with two lanes and a collector. In place of the transcript it writes one
@@ -109,6 +120,8 @@ fn do_command<'a, R: Threads + Wait + Sync, F: Files>(
             parity,
             unit,
         } => rebuild_unit(alloc, image, parity, unit, files),
+        CommandLine::Certify { image, certificate } => certify(alloc, image, certificate, files),
+        CommandLine::Check { image, certificate } => check(alloc, image, certificate, files),
         CommandLine::Run {
             image,
             script,

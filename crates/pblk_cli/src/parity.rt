@@ -20,8 +20,8 @@ use pblk_outside::Files;
 use std::alloc::{AllocError, Global};
 use stripe_parity::{Parity, ParityErr, make_for, pad_drive, rebuild};
 
-/// Reads an image and closes the Open chunks of its drive. Stores the drive under the image's name, and then
-/// the file of its parity under the other one.
+/// Reads an image and closes the Open chunks of its drive. Stores the drive under the image's name,
+/// and then the file of its parity under the other one.
 pub(crate) fn make_parity<'a, F: Files>(
     alloc: Global,
     image: &'a str,
@@ -85,8 +85,8 @@ fn told(alloc: Global, word: &str, number: u64) -> Result<String, AllocError>
     Ok(text)
 }
 
-/// Reads an image and the file of a parity, makes a unit of the image's drive anew, and stores the drive under
-/// the image's name.
+/// Reads an image and the file of a parity, makes a unit of the image's drive anew, and stores the
+/// drive under the image's name.
 pub(crate) fn rebuild_unit<'a, F: Files>(
     alloc: Global,
     image: &'a str,

@@ -5,7 +5,7 @@ ghost use Rattle.pblk_model.specs.Text.{newline, spaced};
 ghost use Rattle.command_text.specs.Says.{Says};
 ghost use Rattle.pblk_cli.specs.Parities.{parity_line};
 
-use command_text::{tell, tell_memory};
+use command_text::{tell, tell_memory, tell_number};
 use itoa::Buffer;
 use pblk_outside::Sink;
 use stripe_parity::ParityErr;
@@ -31,17 +31,6 @@ pub(crate) fn tell_parity<O: Sink>(out: &mut O, error: &ParityErr)
         ParityErr::Drive { unit, event } => tell_numbers(out, b"parity Drive", unit, event),
         ParityErr::Memory => tell_memory(out),
     }
-}
-
-// Writes the line of a word and a number.
-fn tell_number<O: Sink>(out: &mut O, word: &[u8], number: u64)
-    ensures said { Says (word.now ++ spaced (number ∷ []) ++ newline)
-        (O.view out.old) (O.view out.new) }
-    ensures same_told { (O.view out.new).told ≡ (O.view out.old).told }
-    ensures never_falls { (O.view out.old).faults ≤ (O.view out.new).faults }
-{
-    let mut digits = Buffer::new();
-    tell(out, &[word, b" ", digits.format(number).as_bytes(), b"\n"]);
 }
 
 // Writes the line of a word and two numbers.

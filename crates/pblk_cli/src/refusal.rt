@@ -8,8 +8,10 @@ ghost use Rattle.pblk_cli.specs.Telling.{Finishes, Gives, Refuses, Tells, status
 use crate::output::Output;
 use crate::parity_line::tell_parity;
 use command_text::{
-    tell, tell_failed, tell_image, tell_memory, tell_missing, tell_script, tell_words,
+    tell_certificate, tell_check, tell_failed, tell_image, tell_memory, tell_missing, tell_script,
+    tell_words,
 };
+use image_check::CheckErr;
 use pblk_model::{ImageErr, ScriptErr};
 use pblk_outside::{Sink, SinkErr};
 use std::alloc::{AllocError, AllocFailed};
@@ -28,6 +30,10 @@ pub(crate) enum Refusal<'a> {
     Failed(&'a str),
     /// The file of this name isn't there.
     Missing(&'a str),
+    /// The certificate's bytes are none, by the first line that isn't of one.
+    Certificate(u32),
+    /// The certificate isn't right.
+    Check(CheckErr),
     /// The words, which ask for more than the image has.
     Words,
     /// There was no memory.
@@ -58,7 +64,8 @@ impl Refusal<'_> {
         match self {
             Refusal::Words => 1,
             Refusal::Script(_) => 2,
-            Refusal::Image(_) | Refusal::Parity(_) => 3,
+            Refusal::Image(_) | Refusal::Parity(_) | Refusal::Certificate(_) | Refusal::Check(_) =>
+                3,
             Refusal::Failed(_) | Refusal::Missing(_) => 4,
             Refusal::Memory => 7,
         }
@@ -78,6 +85,8 @@ impl Refusal<'_> {
             Refusal::Parity(e) => tell_parity(out, &e),
             Refusal::Failed(name) => tell_failed(out, name),
             Refusal::Missing(name) => tell_missing(out, name),
+            Refusal::Certificate(line) => tell_certificate(out, line),
+            Refusal::Check(e) => tell_check(out, &e),
             Refusal::Words => tell_words(out),
             Refusal::Memory => tell_memory(out),
         }

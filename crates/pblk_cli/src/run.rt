@@ -75,7 +75,7 @@ pub(crate) fn run<'a, R: Threads + Wait + Sync, F: Files>(
     }
 }
 
-// The bytes of both files, of the image's first.
+/// The bytes of both files, of the image's first.
 pub(crate) fn read_both<'a, F: Files>(
     alloc: Global,
     image: &'a str,

@@ -4,6 +4,8 @@
 #[cfg(test)]
 mod blocks;
 #[cfg(test)]
+mod certificates;
+#[cfg(test)]
 mod copies;
 #[cfg(test)]
 mod create;

@@ -8,8 +8,8 @@ use std::sync::Wait;
 use std::test::Fail;
 use std::thread::Threads;
 
-// What is done on the blank small drive before a unit of it is lost, and with which status that ends.
-const RUNS: [(&str, u8); 6] = [
+/// What is done on the blank small drive, and with which status that ends.
+pub(crate) static RUNS: [(&str, u8); 6] = [
     ("run|image|script", 0),
     // chunks are closed before their ends
     ("run|image|script|--fail|p:0:2:1", 0),
@@ -74,13 +74,13 @@ fn comes_back<R: Threads + Wait + Sync>(
     Ok(status == 0 && text.starts_with(b"rebuilt ") && again == whole)
 }
 
-// What goes otherwise where a unit is lost after a run, if anything.
-fn wrong_run<R: Threads + Wait + Sync>(
+/// The files after such a run, of the image and a script; none where it ends otherwise.
+pub(crate) fn after_run<R: Threads + Wait + Sync>(
     rt: &R,
     alloc: Global,
     run: &str,
     status: u8,
-) -> Result<&'static str, AllocError> {
+) -> Result<Option<MemoryFiles>, AllocError> {
     let mut files = MemoryFiles::new(alloc, &[])?;
     let script = text_of(
         alloc,
@@ -88,12 +88,25 @@ fn wrong_run<R: Threads + Wait + Sync>(
     )?;
     files.put("script", script.as_bytes())?;
     if !ends(rt, alloc, &mut files, "create|image", 0, "created 4640\n")? {
-        return Ok("create");
+        return Ok(None);
     }
     let (ended, _) = called(rt, alloc, &mut files, run)?;
     if ended != status {
-        return Ok("run");
+        return Ok(None);
     }
+    Ok(Some(files))
+}
+
+// What goes otherwise where a unit is lost after a run, if anything.
+fn wrong_run<R: Threads + Wait + Sync>(
+    rt: &R,
+    alloc: Global,
+    run: &str,
+    status: u8,
+) -> Result<&'static str, AllocError> {
+    let Some(mut files) = after_run(rt, alloc, run, status)? else {
+        return Ok("run");
+    };
     let (_, held) = called(rt, alloc, &mut files, "show|image")?;
     let (ended, text) = called(rt, alloc, &mut files, "parity|image|kept")?;
     if ended != 0 || !text.starts_with(b"parity ") {

@@ -40,6 +40,12 @@ pub fn told(alloc: Global, line: &str) -> Result<String, AllocError> {
                 unit,
             },
         ) => format!(in alloc; "rebuild [{image}] [{parity}] {unit}"),
+        Some(CommandLine::Certify { image, certificate }) => {
+            format!(in alloc; "certify [{image}] [{certificate}]")
+        }
+        Some(CommandLine::Check { image, certificate }) => {
+            format!(in alloc; "check [{image}] [{certificate}]")
+        }
         None => format!(in alloc; "refused"),
     }
 }

@@ -13,6 +13,8 @@ const ACCEPTED: &[(&str, &str)] = &[
     ("run|a|b", "run [a] [b]"),
     ("parity|a|b", "parity [a] [b]"),
     ("rebuild|a|b|7", "rebuild [a] [b] 7"),
+    ("certify|a|b", "certify [a] [b]"),
+    ("check|a|b", "check [a] [b]"),
     ("soak|a|1|1", "soak [a] 1 1"),
     ("soak|7|0|3125", "soak [7] 0 3125"),
     (
@@ -128,6 +130,8 @@ const REFUSED: &[&str] = &[
     "rebuild|a|b",
     "rebuild|a|b|-1",
     "rebuild|a|b|4294967296",
+    "certify|a",
+    "check|a|b|c",
     "Create|a",
     "creat|a",
     "a",

@@ -3,8 +3,8 @@ use Rattle.command_words.specs.Grammar as model
 use Rattle.command_words.specs.Grammar.{IsCommandLine}
 use Rattle.command_words.specs.Words.{numbers_seen, options_seen}
 use Rattle.command_words.proofs.ItemWords.{first_word_of}
-use Rattle.command_words.proofs.Names.{as_create, as_geometry, as_show, as_report, as_parity, as_rebuild, as_run, as_soak, command_of, soak_of, words_of_soak, name_of_geometry, name_of_show, name_of_report, words_of_geometry, words_of_show, words_of_report}
-use Rattle.command_words.proofs.ParityWords.{parity_of, rebuild_of, words_of_parity, words_of_rebuild}
+use Rattle.command_words.proofs.Names.{as_create, as_geometry, as_show, as_report, as_parity, as_rebuild, as_run, as_soak, command_of, soak_of, words_of_soak, name_of_geometry, name_of_show, name_of_report, words_of_geometry, words_of_show, words_of_report, as_certify, as_check, names_of_parity, names_of_certify, names_of_check, words_of_parity, words_of_certify, words_of_check}
+use Rattle.command_words.proofs.RebuildWords.{rebuild_of, words_of_rebuild}
 use Rattle.command_words.proofs.words.read_words.Goals as goal
 
 pub returns-in_err-image-in-create-clause-none : goal.returns-in_err-image-in-create-clause-none
@@ -132,20 +132,20 @@ returns-in_err-image-in-parity-clause-none c =
     let first = first_word_of c.args.words.now c.first-item.result c.as_str.result.now c.in-len1-up.len_at_least c.first-item.is c.as_str.ensures.value in
     rw c.from_residual-in_err-image-in-parity.ensures
     (as_parity (map string_bytes c.args.words.now) _ c.as_str.result.now (λ x. ⊥) first c.in-parity.is
-    (λ image parity h. c.in_err-image-in-parity.ensures.only image parity (parity_of _ image parity h)))
+    (λ image parity h. c.in_err-image-in-parity.ensures.only image parity (names_of_parity _ image parity h)))
 
 pub returns-in_err-image-in-parity-clause-only : goal.returns-in_err-image-in-parity-clause-only
 returns-in_err-image-in-parity-clause-only c = λ line h.
     let first = first_word_of c.args.words.now c.first-item.result c.as_str.result.now c.in-len1-up.len_at_least c.first-item.is c.as_str.ensures.value in
     absurd (as_parity (map string_bytes c.args.words.now) _ c.as_str.result.now (λ x. ⊥) first c.in-parity.is
-    (λ image parity h. c.in_err-image-in-parity.ensures.only image parity (parity_of _ image parity h)) line h)
+    (λ image parity h. c.in_err-image-in-parity.ensures.only image parity (names_of_parity _ image parity h)) line h)
 
 pub returns-in_ok-image-in-parity-clause-only : goal.returns-in_ok-image-in-parity-clause-only
 returns-in_ok-image-in-parity-clause-only c =
     let first = first_word_of c.args.words.now c.first-item.result c.as_str.result.now c.in-len1-up.len_at_least c.first-item.is c.as_str.ensures.value in
     as_parity (map string_bytes c.args.words.now) _ c.as_str.result.now
     (λ line. Some (model.Parity c.in_ok-image-in-parity.image.now c.in_ok-image-in-parity.parity.now) ≡ Some line) first c.in-parity.is
-    (λ image parity h. let same = c.in_ok-image-in-parity.ensures.only image parity (parity_of _ image parity h) in
+    (λ image parity h. let same = c.in_ok-image-in-parity.ensures.only image parity (names_of_parity _ image parity h) in
     ap (λ x. Some (model.Parity x c.in_ok-image-in-parity.parity.now)) same.0
     ∙ ap (λ x. Some (model.Parity image x)) same.1)
 
@@ -216,3 +216,59 @@ returns-in_ok-image-in-soak-clause-found c =
     command_of (map string_bytes c.args.words.now) _
     (model.Soak c.in_ok-image-in-soak.image.now c.in_ok-image-in-soak.number c.in_ok-image-in-soak.rounds) (rw c.in-soak.is at first)
     (words_of_soak _ c.in_ok-image-in-soak.image.now c.in_ok-image-in-soak.number c.in_ok-image-in-soak.rounds c.in_ok-image-in-soak.ensures.found)
+
+pub returns-in_err-image-in-certify-clause-none : goal.returns-in_err-image-in-certify-clause-none
+returns-in_err-image-in-certify-clause-none c =
+    let first = first_word_of c.args.words.now c.first-item.result c.as_str.result.now c.in-len1-up.len_at_least c.first-item.is c.as_str.ensures.value in
+    rw c.from_residual-in_err-image-in-certify.ensures
+    (as_certify (map string_bytes c.args.words.now) _ c.as_str.result.now (λ x. ⊥) first c.in-certify.is
+    (λ image certificate h. c.in_err-image-in-certify.ensures.only image certificate (names_of_certify _ image certificate h)))
+
+pub returns-in_err-image-in-certify-clause-only : goal.returns-in_err-image-in-certify-clause-only
+returns-in_err-image-in-certify-clause-only c = λ line h.
+    let first = first_word_of c.args.words.now c.first-item.result c.as_str.result.now c.in-len1-up.len_at_least c.first-item.is c.as_str.ensures.value in
+    absurd (as_certify (map string_bytes c.args.words.now) _ c.as_str.result.now (λ x. ⊥) first c.in-certify.is
+    (λ image certificate h. c.in_err-image-in-certify.ensures.only image certificate (names_of_certify _ image certificate h)) line h)
+
+pub returns-in_ok-image-in-certify-clause-only : goal.returns-in_ok-image-in-certify-clause-only
+returns-in_ok-image-in-certify-clause-only c =
+    let first = first_word_of c.args.words.now c.first-item.result c.as_str.result.now c.in-len1-up.len_at_least c.first-item.is c.as_str.ensures.value in
+    as_certify (map string_bytes c.args.words.now) _ c.as_str.result.now
+    (λ line. Some (model.Certify c.in_ok-image-in-certify.image.now c.in_ok-image-in-certify.certificate.now) ≡ Some line) first c.in-certify.is
+    (λ image certificate h. let same = c.in_ok-image-in-certify.ensures.only image certificate (names_of_certify _ image certificate h) in
+    ap (λ x. Some (model.Certify x c.in_ok-image-in-certify.certificate.now)) same.0 ∙ ap (λ x. Some (model.Certify image x)) same.1)
+
+pub returns-in_ok-image-in-certify-clause-found : goal.returns-in_ok-image-in-certify-clause-found
+returns-in_ok-image-in-certify-clause-found c =
+    let first = first_word_of c.args.words.now c.first-item.result c.as_str.result.now c.in-len1-up.len_at_least c.first-item.is c.as_str.ensures.value in
+    command_of (map string_bytes c.args.words.now) _ (model.Certify c.in_ok-image-in-certify.image.now c.in_ok-image-in-certify.certificate.now)
+    (rw c.in-certify.is at first)
+    (words_of_certify _ c.in_ok-image-in-certify.image.now c.in_ok-image-in-certify.certificate.now c.in_ok-image-in-certify.ensures.found)
+
+pub returns-in_err-image-in-check-clause-none : goal.returns-in_err-image-in-check-clause-none
+returns-in_err-image-in-check-clause-none c =
+    let first = first_word_of c.args.words.now c.first-item.result c.as_str.result.now c.in-len1-up.len_at_least c.first-item.is c.as_str.ensures.value in
+    rw c.from_residual-in_err-image-in-check.ensures
+    (as_check (map string_bytes c.args.words.now) _ c.as_str.result.now (λ x. ⊥) first c.in-check.is
+    (λ image certificate h. c.in_err-image-in-check.ensures.only image certificate (names_of_check _ image certificate h)))
+
+pub returns-in_err-image-in-check-clause-only : goal.returns-in_err-image-in-check-clause-only
+returns-in_err-image-in-check-clause-only c = λ line h.
+    let first = first_word_of c.args.words.now c.first-item.result c.as_str.result.now c.in-len1-up.len_at_least c.first-item.is c.as_str.ensures.value in
+    absurd (as_check (map string_bytes c.args.words.now) _ c.as_str.result.now (λ x. ⊥) first c.in-check.is
+    (λ image certificate h. c.in_err-image-in-check.ensures.only image certificate (names_of_check _ image certificate h)) line h)
+
+pub returns-in_ok-image-in-check-clause-only : goal.returns-in_ok-image-in-check-clause-only
+returns-in_ok-image-in-check-clause-only c =
+    let first = first_word_of c.args.words.now c.first-item.result c.as_str.result.now c.in-len1-up.len_at_least c.first-item.is c.as_str.ensures.value in
+    as_check (map string_bytes c.args.words.now) _ c.as_str.result.now
+    (λ line. Some (model.Check c.in_ok-image-in-check.image.now c.in_ok-image-in-check.certificate.now) ≡ Some line) first c.in-check.is
+    (λ image certificate h. let same = c.in_ok-image-in-check.ensures.only image certificate (names_of_check _ image certificate h) in
+    ap (λ x. Some (model.Check x c.in_ok-image-in-check.certificate.now)) same.0 ∙ ap (λ x. Some (model.Check image x)) same.1)
+
+pub returns-in_ok-image-in-check-clause-found : goal.returns-in_ok-image-in-check-clause-found
+returns-in_ok-image-in-check-clause-found c =
+    let first = first_word_of c.args.words.now c.first-item.result c.as_str.result.now c.in-len1-up.len_at_least c.first-item.is c.as_str.ensures.value in
+    command_of (map string_bytes c.args.words.now) _ (model.Check c.in_ok-image-in-check.image.now c.in_ok-image-in-check.certificate.now)
+    (rw c.in-check.is at first)
+    (words_of_check _ c.in_ok-image-in-check.image.now c.in_ok-image-in-check.certificate.now c.in_ok-image-in-check.ensures.found)

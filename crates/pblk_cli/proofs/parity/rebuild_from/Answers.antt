@@ -34,7 +34,8 @@ returns-in-Ok-clause-anew c =
       file = is;
       same = h.same;
       anew = h.anew;
-      first = λ i lost. h.rebuilt i lost.fits (first_parity (drive_image c.args.drive.now) c.args.unit c.args.bytes.now c.in_ok-parity.parity i is lost) lost.agree;
+      first = λ i lost. h.rebuilt i lost.fits
+          (first_parity (drive_image c.args.drive.now) c.args.unit c.args.bytes.now c.in_ok-parity.parity i is lost) lost.agree;
       blocks_are = h.blocks;
       numbers = h.numbers;
       wear = h.wear;
@@ -44,6 +45,7 @@ returns-in-Ok-clause-anew c =
 pub returns-clause-refused : goal.returns-clause-refused
 returns-clause-refused c =
     let is = file (goal.at.returns-clause-refused c).After-rebuild in
-    rebuild_refused (drive_image c.args.drive.now) (map (λ (u : WornUnit). u.unit) c.args.drive.now.units) (map (λ (u : WornUnit). u.unit) c.rebuild.new.drive.units)
+    rebuild_refused (drive_image c.args.drive.now) (map (λ (u : WornUnit). u.unit) c.args.drive.now.units)
+    (map (λ (u : WornUnit). u.unit) c.rebuild.new.drive.units)
     c.in_ok-parity.parity c.args.unit c.args.bytes.now c.in-Err.e is (unarmed_of c.args.drive.now c.args.drive.now refl c.requires.quiet)
     c.in-Err.ensures.fetched c.in-Err.ensures.refused

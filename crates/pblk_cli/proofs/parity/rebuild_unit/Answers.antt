@@ -11,7 +11,8 @@ returns-in-Err-drive_of-clause-comes g c =
 
 pub returns-in-Err-rebuilt-clause-comes : goal.returns-in-Err-rebuilt-clause-comes
 returns-in-Err-rebuilt-clause-comes g c =
-    refused_rebuild c.args.image.now c.args.parity.now c.in-Ok.read.0.items c.deref.result.now c.args.unit (stored c.in-Ok-drive_of.drive) _ _ c.in-Ok.ensures.image
+    refused_rebuild c.args.image.now c.args.parity.now c.in-Ok.read.0.items c.deref.result.now c.args.unit
+    (stored c.in-Ok-drive_of.drive) _ _ c.in-Ok.ensures.image
     (rw c.deref.ensures.value c.in-Ok.ensures.script) c.in-Ok-drive_of.ensures.drive c.in-Err-rebuilt.refusal c.in-Err-rebuilt.ensures.refused
 
 pub returns-in-Ok-write-clause-comes : goal.returns-in-Ok-write-clause-comes

@@ -1,6 +1,5 @@
 use Rattle.std.proofs.Common.{◌∙◌}
-use Rattle.command_text.proofs.Saying.{said_as}
-use Rattle.pblk_cli.proofs.ParityComes.{pair_line_text}
+use Rattle.command_text.proofs.Saying.{pair_line_text, said_as}
 use Rattle.pblk_cli.proofs.parity_line.tell_numbers.Goals as goal
 
 pub returns-clause-said : goal.returns-clause-said

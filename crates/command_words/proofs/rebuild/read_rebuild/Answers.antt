@@ -1,8 +1,8 @@
 use Rattle.std.proofs.Common.{◌≡◌, ◌∙◌, [], ◌∷◌, sym, arith}
 use Rattle.std.specs.Fmt.{decimal}
-use Rattle.command_words.proofs.ParityWords.{three_words}
+use Rattle.command_words.proofs.Names.{three_words}
 use Rattle.command_words.proofs.StopWords.{same_number}
-use Rattle.command_words.proofs.parity.read_rebuild.Goals as goal
+use Rattle.command_words.proofs.rebuild.read_rebuild.Goals as goal
 
 pub returns-clause-only : goal.returns-clause-only
 returns-clause-only c = λ image parity unit h.

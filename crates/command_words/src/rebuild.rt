@@ -1,29 +1,10 @@
-//! The words of `parity` and of `rebuild`.
+//! The words of `rebuild`.
 
 ghost use Rattle.std.specs.Prelude.{ℕ, List, ◌≡◌, IfSome, IsSomeAnd, map, string_bytes};
-ghost use Rattle.command_words.specs.Words.{AreParityWords, AreRebuildWords};
+ghost use Rattle.command_words.specs.Words.{AreRebuildWords};
 
 use crate::item::is_plain;
 use crate::number::read_small;
-
-/// Reads the words after `parity`: the image, and the file of its parity.
-pub(crate) fn read_parity(words: &[String]) -> Option<(&str, &str)>
-    ensures found { IfSome result
-        (λ r. AreParityWords (map string_bytes words.now) r.0.now r.1.now) }
-    ensures only { (image parity : List ℕ)
-        → AreParityWords (map string_bytes words.now) image parity
-        → IsSomeAnd result (λ r. (r.0.now ≡ image) × (r.1.now ≡ parity)) }
-{
-    let [image, parity] = words else {
-        return None;
-    };
-    let image = image.as_str();
-    let parity = parity.as_str();
-    if !is_plain(image) || !is_plain(parity) {
-        return None;
-    }
-    Some((image, parity))
-}
 
 /// Reads the words after `rebuild`: the image, the file of its parity, and a unit.
 pub(crate) fn read_rebuild(words: &[String]) -> Option<(&str, &str, u32)>
