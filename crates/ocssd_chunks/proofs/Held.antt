@@ -1,19 +1,19 @@
 -- The blocks of a chunk: those that it adopted, and those that were written since.
-use Rattle.std.proofs.Common.{◌≡◌, ℕ, ◌+◌, ◌-◌, ◌*◌, ◌%◌, ◌<◌, ◌≤◌, List, [], ◌++◌, length, drop, Some, slice_get, sym, ap, ◌∙◌, append_assoc, arith, length-append}
-use Rattle.std.proofs.lemmas.List.{append-nil, nil_from_length, take_all}
+use Rattle.std.proofs.Common.{◌≡◌, ℕ, ◌+◌, ◌-◌, ◌*◌, ◌<◌, ◌≤◌, List, [], ◌++◌, length, drop, Some, slice_get, sym, ap, ◌∙◌, append_assoc, arith, length-append}
+use Rattle.std.proofs.lemmas.List.{append-nil, nil_from_length}
 use Rattle.pblk_model.specs.declared.shape.Shape.{Shape}
 use Rattle.pblk_model.specs.declared.chunk.Mark.{Mark}
 use Rattle.pblk_model.specs.declared.chunk.ChunkState.{ChunkState}
 use Rattle.pblk_model.specs.Blocks.{blocks_of}
-use Rattle.pblk_model.specs.Chunk.{Chunk, IsChunk, PointerFits}
+use Rattle.pblk_model.specs.Chunk.{Chunk, PointerFits}
 use Rattle.pblk_model.proofs.BlocksLemmas.{blocks_of-append, length-blocks_of}
 use Rattle.pblk_model.proofs.ChunkLemmas.{pointer_within}
 use Rattle.pblk_model.proofs.Parts.{get_first, get_rest}
 use Rattle.ocssd_chunks.specs.DriveChunk.{DriveChunk}
 use Rattle.ocssd_chunks.specs.Sound.{IsSound, drive_chunk, held_blocks}
 use Rattle.ocssd_chunks.specs.declared.chunk.Chunk.TheInside.{Inside}
-use Rattle.ocssd_chunks.specs.Spelled.{AreSpelled, block_in, blocks_in}
-use Rattle.ocssd_chunks.proofs.SpelledBlocks.{AreBytes, blocks_are, blocks_back, blocks_count, slice_get-blocks_in}
+use Rattle.ocssd_chunks.specs.Spelled.{AddsSpelled, block_in, blocks_in}
+use Rattle.ocssd_chunks.proofs.SpelledBlocks.{blocks_count, slice_get-blocks_in}
 
 pub held_count : (size n : ℕ) (spelled bytes : List ℕ) (marks : List Mark) → length (held_blocks size n spelled bytes marks) ≡ n + length marks
 held_count size n spelled bytes marks =
@@ -48,28 +48,13 @@ room s state n spelled bytes marks more fits =
     omega (arith, held_count s.sector n spelled bytes marks, pointer_within state s.clba _ fits)
 
 -- nothing was written since: the blocks are those that are spelled
-held_alone : (size n : ℕ) (spelled bytes : List ℕ) (marks : List Mark) → marks ≡ [] → held_blocks size n spelled bytes marks ≡ blocks_in size n spelled
+pub held_alone : (size n : ℕ) (spelled bytes : List ℕ) (marks : List Mark) → marks ≡ [] → held_blocks size n spelled bytes marks ≡ blocks_in size n spelled
 held_alone size n spelled bytes marks none = rw none (append-nil (blocks_in size n spelled))
 
--- the blocks that a chunk adopts are spelled so
-pub adopted_spelling : (size n : ℕ) (spelled bytes : List ℕ) (marks : List Mark) → marks ≡ [] → AreBytes spelled → length spelled ≡ n * (size + 16)
-    → AreSpelled n spelled (held_blocks size n spelled bytes marks)
-adopted_spelling size n spelled bytes marks none all whole =
-    let long : (size + 16) * n ≡ length spelled = grind (arith, whole) in
-    rw (held_alone size n spelled bytes marks none) (record {
-      count_is = blocks_count size n spelled;
-      spelling = blocks_back size n spelled all (omega (arith, long)) ∙ take_all ((size + 16) * n) spelled (omega (arith, long));
-    })
-
--- and they are a chunk's
-pub adopted_chunk : (s : Shape) (state : ChunkState) (n : ℕ) (spelled bytes : List ℕ) (marks : List Mark) → marks ≡ [] → AreBytes spelled
-    → length spelled ≡ n * (s.sector + 16) → PointerFits state s.clba n → n % s.ws_min ≡ 0
-    → IsChunk s (record { state = state; blocks = held_blocks s.sector n spelled bytes marks })
-adopted_chunk s state n spelled bytes marks none all whole place multiple =
-    let long : (s.sector + 16) * n ≡ length spelled = grind (arith, whole) in
-    let count = blocks_count s.sector n spelled in
-    rw (held_alone s.sector n spelled bytes marks none)
-    (record { place = rw count place; multiple = rw count multiple; blocks = blocks_are s n spelled all (omega (arith, long)) })
+-- none was adopted, and those that are spelled were added
+pub held_added : (size n count : ℕ) (kept spelled bytes : List ℕ) (marks : List Mark) → n ≡ 0 → AddsSpelled size count spelled [] bytes [] marks
+    → held_blocks size n kept bytes marks ≡ blocks_in size count spelled
+held_added size n count kept spelled bytes marks none a = rw (none, a.bytes_added, a.marks_added) a.blocks
 
 -- what the fields are of a chunk without blocks
 pub record IsEmpty (q : Inside) (s : Shape) : Type 0 where

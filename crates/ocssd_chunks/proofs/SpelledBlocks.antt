@@ -2,13 +2,13 @@
 use Rattle.std.proofs.Common.{◌≡◌, ℕ, zero, suc, ◌+◌, ◌*◌, ◌^◌, ◌<◌, ◌≤◌, List, [], ◌∷◌, ◌++◌, Some, slice_get, length, length-drop, take, drop, get_or, refl, sym, ap, ◌∙◌, subst, arith, take-add}
 use Rattle.std.specs.Int.{w64, from_le_bytes}
 use Rattle.std.specs.List.{AllByRecursion, flat_map}
-use Rattle.std.proofs.lemmas.List.{length-take-le, drop-drop}
+use Rattle.std.proofs.lemmas.List.{length-take-le, drop-drop, take-take}
 use Rattle.std.proofs.lemmas.Nat.{le_bytes_8}
 use Rattle.pblk_model.specs.declared.shape.Shape.{Shape}
 use Rattle.pblk_model.specs.Bytes.{le64, number_at}
 use Rattle.pblk_model.specs.Chunk.{IsBlock}
 use Rattle.pblk_model.specs.ImageFile.{block_bytes}
-use Rattle.pblk_model.proofs.BytesLemmas.{eight_bytes}
+use Rattle.pblk_model.proofs.BytesLemmas.{eight_bytes, number_front}
 use Rattle.pblk_model.proofs.Numbers.{suc-times}
 use Rattle.pblk_model.proofs.Parts.{all_dropped, all_taken}
 use Rattle.ocssd_chunks.specs.Spelled.{block_in, blocks_in}
@@ -48,6 +48,24 @@ slice_get-blocks_in size (suc n) zero b below =
     rw none refl
 slice_get-blocks_in size (suc n) (suc k) b below =
     rw (suc-times k (size + 16), ← drop-drop (k * (size + 16)) (size + 16) b) (slice_get-blocks_in size n k (drop (size + 16) b) (omega arith))
+
+-- what is read of a block alone is what stands there in all bytes
+pub block_front : (size : ℕ) (b : List ℕ) → block_in size (take (size + 16) b) ≡ block_in size b
+block_front size b =
+    rw (
+      take-take size (size + 16) b (omega arith),
+      number_front w64 size (size + 16) b (omega arith),
+      number_front w64 (size + 8) (size + 16) b (omega arith),
+    ) refl
+
+-- one block more
+pub blocks_in-next : (size n : ℕ) (b : List ℕ) → blocks_in size (suc n) b ≡ blocks_in size n b ++ (block_in size (drop (n * (size + 16)) b) ∷ [])
+blocks_in-next size zero b =
+    let none : 0 * (size + 16) ≡ 0 = omega arith in
+    rw none refl
+blocks_in-next size (suc n) b =
+    rw (suc-times n (size + 16), ← drop-drop (n * (size + 16)) (size + 16) b)
+    (ap (λ bs. block_in size b ∷ bs) (blocks_in-next size n (drop (size + 16) b)))
 
 block_back : (size : ℕ) (b : List ℕ) → AreBytes b → size + 16 ≤ length b → block_bytes (block_in size b) ≡ take (size + 16) b
 block_back size b h within =

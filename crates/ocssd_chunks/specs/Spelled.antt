@@ -22,7 +22,7 @@ pub record AreSpelled (count : ℕ) (spelled : List ℕ) (blocks : List Block) :
   pub count_is : length blocks ≡ count
   pub spelling : flat_map block_bytes blocks ≡ spelled
 
--- the sectors and the marks of such blocks were added at the ends of two lists
+-- the sectors and the marks of the blocks that bytes begin with, so many, were added at the ends of two lists
 pub record AddsSpelled (size count : ℕ) (spelled old_bytes new_bytes : List ℕ) (old_marks new_marks : List Mark) : Type 0 where
   pub bytes : List ℕ
   pub marks : List Mark
@@ -30,4 +30,4 @@ pub record AddsSpelled (size count : ℕ) (spelled old_bytes new_bytes : List �
   pub marks_added : new_marks ≡ old_marks ++ marks
   pub whole : length bytes ≡ count * size
   pub many : length marks ≡ count
-  pub spelling : flat_map block_bytes (blocks_of size bytes marks) ≡ spelled
+  pub blocks : blocks_of size bytes marks ≡ blocks_in size count spelled

@@ -1,11 +1,9 @@
-//! Blocks as bytes and marks that stand in two lists.
+//! Blocks as bytes and marks that stand in two lists, and as bytes that spell them.
 
 ghost use Rattle.std.specs.Prelude.{◌≡◌, ◌+◌, ◌*◌, ◌<◌, ◌≤◌, ◌↔◌, ◌++◌, length, take, drop, IsTrue, Some, slice_get, vec_len, vec_capacity};
-ghost use Rattle.std.specs.Int.{w64};
 ghost use Rattle.std.specs.List.{AllByRecursion};
 ghost use Rattle.pblk_model.specs.Chunk.{IsBlock};
 ghost use Rattle.pblk_model.specs.Blocks.{blocks_of, IsMark};
-ghost use Rattle.pblk_model.specs.Bytes.{le64, number_at};
 ghost use Rattle.ocssd_chunks.specs.Spelled.{block_in, AddsSpelled};
 
 use crate::descriptor::number_in;
@@ -68,12 +66,7 @@ pub(crate) fn append_spelled(
 // The mark whose two numbers stand from an offset on.
 fn mark_at(bytes: &[u8], offset: usize) -> Mark
     requires { offset + 16 ≤ length bytes.now }
-    ensures lba { le64 result.lba ≡ take 8 (drop offset bytes.now) }
-    ensures position { le64 result.position ≡ take 8 (drop (offset + 8) bytes.now) }
-    ensures numbers { result ≡ record {
-      lba = number_at w64 offset bytes.now;
-      position = number_at w64 (offset + 8) bytes.now;
-    } }
+    ensures { result ≡ (block_in offset bytes.now).mark }
 {
     Mark {
         lba: number_in(bytes, offset),

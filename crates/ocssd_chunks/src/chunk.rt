@@ -297,6 +297,7 @@ impl Chunk {
         ensures shape { self.new.shape ≡ self.old.shape }
         ensures fits { IsChunk self.new.shape self.new.chunk }
     {
+        are_bytes(bytes);
         self.leave_empty(ChunkState::Free);
         let size = self.shape.sector as usize;
         append_spelled(
@@ -306,7 +307,6 @@ impl Chunk {
             count as usize,
             bytes,
         );
-        are_blocks(&self.shape, &self.bytes, &self.marks);
         self.state = state;
     }
 

@@ -1,6 +1,6 @@
 //! The descriptor of a chunk: 32 bytes (Open-Channel SSD Specification 2.0, Chunk descriptor).
 
-ghost use Rattle.std.specs.Prelude.{◌≡◌, ◌+◌, ◌^◌, ◌<◌, ◌≤◌, length, take, drop, Ok, IsTrue};
+ghost use Rattle.std.specs.Prelude.{◌≡◌, ◌+◌, ◌^◌, ◌<◌, ◌≤◌, length, Ok, IsTrue};
 ghost use Rattle.std.specs.Int.{w64};
 ghost use Rattle.std.specs.Result.{result_map_both};
 ghost use Rattle.pblk_model.specs.Bytes.{le64, number_at};
@@ -106,8 +106,7 @@ fn put_number(out: &mut [u8], number: u64)
 /// The number in the eight bytes from an offset on.
 pub(crate) fn number_in(bytes: &[u8], offset: usize) -> u64
     requires { offset + 8 ≤ length bytes.now }
-    ensures number { result ≡ number_at w64 offset bytes.now }
-    ensures spelling { le64 result ≡ take 8 (drop offset bytes.now) }
+    ensures { result ≡ number_at w64 offset bytes.now }
 {
     let mut number = [0; 8];
     number.copy_from_slice(&bytes[offset..offset + 8]);

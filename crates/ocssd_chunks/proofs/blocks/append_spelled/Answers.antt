@@ -1,5 +1,5 @@
-use Rattle.std.proofs.Common.{◌≡◌, ◌+◌, ◌-◌, ◌*◌, ◌++◌, [], ◌∷◌, length, take, sym, ap, ◌∙◌, length-append, arith}
-use Rattle.std.proofs.lemmas.List.{take-append-drop, length-take-le}
+use Rattle.std.proofs.Common.{◌≡◌, ◌+◌, ◌-◌, ◌*◌, [], ◌∷◌, length, take, ap, ◌∙◌, length-append, arith}
+use Rattle.std.proofs.lemmas.List.{length-take-le}
 use Rattle.ocssd_chunks.proofs.Spelling.{spelling_goes_on, room_for_next, room_for_more}
 use Rattle.ocssd_chunks.proofs.blocks.append_spelled.Goals as goal
 use Rattle.pblk_model.proofs.Numbers.{next_at}
@@ -24,8 +24,6 @@ loop-block-preserved c =
     let l = c.loop-block in
     let size = c.args.size in
     let rest = l.rest.now in
-    let split : rest ≡ c.split_at.result.0.now ++ c.split_at.result.1.now =
-    rw (c.split_at.ensures.front, c.split_at.ensures.back) (sym (take-append-drop (size + 16) rest)) in
     let more : c.args.count - l._block ≡ (c.args.count - (l._block + 1)) + 1 = omega (arith, c.loop-block-test.true) in
     let k = c.args.count - (l._block + 1) in
     let sector = take size c.split_at.result.0.now in
@@ -36,8 +34,8 @@ loop-block-preserved c =
     ∙ length-append l.marks.items (c.mark_at.result ∷ []) in
     record {
       so_far = spelling_goes_on size l._block c.args.spelled.now rest c.split_at.result.0.now c.split_at.result.1.now _ _ _ _ _ _ c.mark_at.result
-          l.invariant.so_far split c.split_at.ensures.front_len c.mark_at.ensures.lba c.mark_at.ensures.position c.append_bytes.ensures.items
-          c.append_marks.ensures.items;
+          l.invariant.so_far (room_for_next l._block c.args.count (size + 16) _ c.loop-block-test.true l.invariant.left) c.split_at.ensures.front
+          c.split_at.ensures.back c.mark_at.ensures c.append_bytes.ensures.items c.append_marks.ensures.items;
       left = omega (arith, l.invariant.left, ap (λ n. n * (size + 16)) more, next_at k (size + 16), c.split_at.ensures.back_len);
       room_for_bytes = omega (
         arith,

@@ -1,5 +1,6 @@
 use Rattle.std.proofs.Common.{length, ap, arith}
-use Rattle.ocssd_chunks.proofs.Held.{adopted_chunk, adopted_spelling}
+use Rattle.ocssd_chunks.proofs.Held.{held_alone}
+use Rattle.ocssd_chunks.proofs.SpelledChunk.{spelled_chunk, spelled_so}
 use Rattle.ocssd_chunks.proofs.chunk.Chunk.adopt.Goals as goal
 use Rattle.pblk_model.proofs.ChunkLemmas.{pointer_within}
 
@@ -7,14 +8,16 @@ pub returns-clause-blocks : goal.returns-clause-blocks
 returns-clause-blocks c =
     let q = c.self.inside in
     let all = rw c.as_slice.ensures at c.are_bytes.ensures in
-    adopted_spelling q.shape.sector c.args.count c.args.kept _ _ c.clear-2.ensures.items all (rw (← c.self.view_is) at c.requires.whole)
+    rw (held_alone q.shape.sector c.args.count c.args.kept c.clear.new.self.items c.clear-2.new.self.items c.clear-2.ensures.items)
+    (spelled_so q.shape.sector c.args.count c.args.kept all (rw (← c.self.view_is) at c.requires.whole))
 
 pub returns-clause-fits : goal.returns-clause-fits
 returns-clause-fits c =
     let q = c.self.inside in
     let all = rw c.as_slice.ensures at c.are_bytes.ensures in
-    adopted_chunk q.shape c.args.state c.args.count c.args.kept _ _ c.clear-2.ensures.items all (rw (← c.self.view_is) at c.requires.whole)
-    (rw (← c.self.view_is) at c.requires.place) (rw (← c.self.view_is) at c.requires.multiple)
+    rw (held_alone q.shape.sector c.args.count c.args.kept c.clear.new.self.items c.clear-2.new.self.items c.clear-2.ensures.items)
+    (spelled_chunk q.shape c.args.state c.args.count c.args.kept all (rw (← c.self.view_is) at c.requires.whole)
+    (rw (← c.self.view_is) at c.requires.place) (rw (← c.self.view_is) at c.requires.multiple))
 
 pub invariant_of-self : goal.invariant_of-self
 invariant_of-self c =
