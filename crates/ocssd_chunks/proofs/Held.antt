@@ -4,7 +4,7 @@ use Rattle.std.proofs.lemmas.List.{append-nil, nil_from_length}
 use Rattle.pblk_model.specs.declared.shape.Shape.{Shape}
 use Rattle.pblk_model.specs.declared.chunk.Mark.{Mark}
 use Rattle.pblk_model.specs.declared.chunk.ChunkState.{ChunkState}
-use Rattle.pblk_model.specs.Blocks.{blocks_of}
+use Rattle.pblk_model.specs.Blocks.{block_in, blocks_in, blocks_of}
 use Rattle.pblk_model.specs.Chunk.{Chunk, PointerFits}
 use Rattle.pblk_model.proofs.BlocksLemmas.{blocks_of-append, length-blocks_of}
 use Rattle.pblk_model.proofs.ChunkLemmas.{pointer_within}
@@ -12,8 +12,8 @@ use Rattle.pblk_model.proofs.Parts.{get_first, get_rest}
 use Rattle.ocssd_chunks.specs.DriveChunk.{DriveChunk}
 use Rattle.ocssd_chunks.specs.Sound.{IsSound, drive_chunk, held_blocks}
 use Rattle.ocssd_chunks.specs.declared.chunk.Chunk.TheInside.{Inside}
-use Rattle.ocssd_chunks.specs.Spelled.{AddsSpelled, block_in, blocks_in}
-use Rattle.ocssd_chunks.proofs.SpelledBlocks.{blocks_count, slice_get-blocks_in}
+use Rattle.ocssd_chunks.specs.Spelled.{AddsSpelled}
+use Rattle.pblk_model.proofs.SpelledBlocks.{blocks_count, slice_get-blocks_in}
 
 pub held_count : (size n : ℕ) (spelled bytes : List ℕ) (marks : List Mark) → length (held_blocks size n spelled bytes marks) ≡ n + length marks
 held_count size n spelled bytes marks =

@@ -4,8 +4,9 @@ use Rattle.std.proofs.lemmas.List.{take_all}
 use Rattle.pblk_model.specs.declared.shape.Shape.{Shape}
 use Rattle.pblk_model.specs.declared.chunk.ChunkState.{ChunkState}
 use Rattle.pblk_model.specs.Chunk.{IsChunk, PointerFits}
-use Rattle.ocssd_chunks.specs.Spelled.{AreSpelled, blocks_in}
-use Rattle.ocssd_chunks.proofs.SpelledBlocks.{AreBytes, blocks_are, blocks_back, blocks_count}
+use Rattle.pblk_model.specs.Blocks.{blocks_in}
+use Rattle.ocssd_chunks.specs.Spelled.{AreSpelled}
+use Rattle.pblk_model.proofs.SpelledBlocks.{AreBytes, blocks_are, blocks_back, blocks_count}
 
 pub spelled_so : (size n : ℕ) (spelled : List ℕ) → AreBytes spelled → length spelled ≡ n * (size + 16) → AreSpelled n spelled (blocks_in size n spelled)
 spelled_so size n spelled all whole =

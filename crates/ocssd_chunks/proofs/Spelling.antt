@@ -2,10 +2,11 @@
 use Rattle.std.proofs.Common.{◌≡◌, ℕ, suc, ◌+◌, ◌-◌, ◌*◌, ◌<◌, ◌≤◌, List, [], ◌∷◌, ◌++◌, length, take, drop, refl, sym, ap, ◌∙◌, arith, append_assoc, length-append}
 use Rattle.std.proofs.lemmas.List.{append-nil, take-take, drop-drop, length-take-le}
 use Rattle.pblk_model.specs.declared.chunk.Mark.{Mark}
-use Rattle.ocssd_chunks.specs.Spelled.{AddsSpelled, block_in}
+use Rattle.pblk_model.specs.Blocks.{block_in}
+use Rattle.ocssd_chunks.specs.Spelled.{AddsSpelled}
 use Rattle.pblk_model.proofs.Numbers.{next_at}
 use Rattle.pblk_model.proofs.BlocksLemmas.{blocks_of-append}
-use Rattle.ocssd_chunks.proofs.SpelledBlocks.{block_front, blocks_in-next}
+use Rattle.pblk_model.proofs.SpelledBlocks.{block_front, blocks_in-next}
 
 -- the first n blocks of what is spelled were added, and the rest is left
 pub record IsSpellingSoFar (size n : ℕ) (spelled rest old_bytes new_bytes : List ℕ) (old_marks new_marks : List Mark) : Type 0 where

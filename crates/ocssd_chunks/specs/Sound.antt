@@ -3,9 +3,8 @@ use Rattle.std.specs.Prelude.{ℕ, ◌+◌, ◌*◌, ◌^◌, ◌<◌, ◌≤◌
 use Rattle.pblk_model.specs.declared.chunk.Mark.{Mark}
 use Rattle.pblk_model.specs.Accepted.{IsAccepted}
 use Rattle.pblk_model.specs.Chunk.{Block, IsChunk}
-use Rattle.pblk_model.specs.Blocks.{blocks_of}
+use Rattle.pblk_model.specs.Blocks.{blocks_in, blocks_of}
 use Rattle.ocssd_chunks.specs.DriveChunk.{DriveChunk}
-use Rattle.ocssd_chunks.specs.Spelled.{blocks_in}
 use Rattle.ocssd_chunks.specs.declared.chunk.Chunk.TheInside.{Inside}
 
 -- n blocks that are spelled in bytes, and then those of two lists

@@ -1,21 +1,10 @@
 -- Blocks of which each is spelled as its sector and then its mark.
-use Rattle.std.specs.Prelude.{ℕ, zero, suc, ◌+◌, ◌*◌, ◌++◌, ◌≡◌, List, [], ◌∷◌, length, take, drop}
-use Rattle.std.specs.Int.{w64}
+use Rattle.std.specs.Prelude.{ℕ, ◌*◌, ◌++◌, ◌≡◌, List, length}
 use Rattle.std.specs.List.{flat_map}
 use Rattle.pblk_model.specs.declared.chunk.Mark.{Mark}
-use Rattle.pblk_model.specs.Blocks.{blocks_of}
-use Rattle.pblk_model.specs.Bytes.{number_at}
+use Rattle.pblk_model.specs.Blocks.{blocks_in, blocks_of}
 use Rattle.pblk_model.specs.Chunk.{Block}
 use Rattle.pblk_model.specs.ImageFile.{block_bytes}
-
--- the block at the front of these bytes, where a sector has this size
-abbrev pub block_in : ℕ → List ℕ → Block
-block_in size bytes = record { sector = take size bytes; mark = record { lba = number_at w64 size bytes; position = number_at w64 (size + 8) bytes } }
-
--- the first blocks, so many, that these bytes spell
-abbrev pub blocks_in : ℕ → ℕ → List ℕ → List Block
-blocks_in size zero bytes = []
-blocks_in size (suc n) bytes = block_in size bytes ∷ blocks_in size n (drop (size + 16) bytes)
 
 -- these blocks, so many, are spelled so
 pub record AreSpelled (count : ℕ) (spelled : List ℕ) (blocks : List Block) : Type 0 where

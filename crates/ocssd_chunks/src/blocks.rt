@@ -3,8 +3,8 @@
 ghost use Rattle.std.specs.Prelude.{◌≡◌, ◌+◌, ◌*◌, ◌<◌, ◌≤◌, ◌↔◌, ◌++◌, length, take, drop, IsTrue, Some, slice_get, vec_len, vec_capacity};
 ghost use Rattle.std.specs.List.{AllByRecursion};
 ghost use Rattle.pblk_model.specs.Chunk.{IsBlock};
-ghost use Rattle.pblk_model.specs.Blocks.{blocks_of, IsMark};
-ghost use Rattle.ocssd_chunks.specs.Spelled.{block_in, AddsSpelled};
+ghost use Rattle.pblk_model.specs.Blocks.{block_in, blocks_of, IsMark};
+ghost use Rattle.ocssd_chunks.specs.Spelled.{AddsSpelled};
 
 use crate::descriptor::number_in;
 use pblk_model::{Mark, Shape};

@@ -8,6 +8,7 @@ use Rattle.std.proofs.lemmas.Nat.{div-mul-add, mod-mul-add}
 use Rattle.std.proofs.lemmas.Option.{slice_get_within}
 use Rattle.std.proofs.Math.Nat.{mul-add, mul-le-mul_right}
 use Rattle.pblk_model.specs.Accepted.{IsAccepted}
+use Rattle.pblk_model.specs.Blocks.{blocks_in}
 use Rattle.pblk_model.specs.Bytes.{number_at}
 use Rattle.pblk_model.specs.Chunk.{Block, Chunk, IsBlock, IsChunk, PointerFits}
 use Rattle.pblk_model.specs.Descriptor.{Descriptor, read_descriptor}
@@ -15,11 +16,12 @@ use Rattle.pblk_model.specs.Geometry.{packed}
 use Rattle.pblk_model.specs.Image.{IsFit}
 use Rattle.pblk_model.specs.ImageFile.{StoredChunk, Drive, IsImage, IsImageOf, block_bytes, blocks_bytes, blocks_end, chunks_at, descriptor_at, descriptor_of, descriptors_end, first_address, geometry_at, image_of, image_refusal, pointer_at, shape_at, shape_of}
 use Rattle.pblk_model.specs.Shape.{units}
-use Rattle.pblk_laws.proofs.ImageBytesBlocks.{AreBytes, Spans, all_of_range, blocks_are, blocks_back, blocks_count, blocks_in, get_of_range, spans_range}
+use Rattle.pblk_laws.proofs.ImageBytesRanges.{Spans, all_of_range, get_of_range, spans_range}
 use Rattle.pblk_laws.proofs.ImageBytesHeld.{IsTaken, row_is, state_of, taken_of}
 use Rattle.pblk_model.proofs.Lists.{all_weaker}
 use Rattle.pblk_model.proofs.Maps.{all_mapped, sum_more}
 use Rattle.pblk_model.proofs.Parts.{all_dropped}
+use Rattle.pblk_model.proofs.SpelledBlocks.{AreBytes, blocks_are, blocks_back, blocks_count}
 
 -- The drive.
 

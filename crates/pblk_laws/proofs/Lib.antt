@@ -40,7 +40,7 @@ pub mod ScriptHeard
 pub mod ScriptTurns
 pub mod ScriptRead
 pub mod ImageBytesHeld
-pub mod ImageBytesBlocks
+pub mod ImageBytesRanges
 pub mod ImageBytesDrive
 pub mod LineBlocksLemmas
 pub mod Refusals

@@ -7,6 +7,7 @@ pub mod Lists
 pub mod Maps
 mod Settings
 pub mod Sizes
+pub mod SpelledBlocks
 pub mod LineOrder
 pub mod OrderedBlocks
 pub mod LeastLengths

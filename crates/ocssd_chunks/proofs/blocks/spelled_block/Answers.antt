@@ -1,5 +1,5 @@
 use Rattle.std.proofs.Common.{◌≡◌, ◌+◌, ◌-◌, ◌*◌, drop, arith}
-use Rattle.ocssd_chunks.proofs.SpelledBlocks.{block_front}
+use Rattle.pblk_model.proofs.SpelledBlocks.{block_front}
 use Rattle.ocssd_chunks.proofs.blocks.spelled_block.Goals as goal
 
 pub returns-clause-block : goal.returns-clause-block

@@ -1,16 +1,17 @@
--- Blocks that bytes spell one after another, and pieces that stand side by side.
-use Rattle.std.proofs.Common.{◌≡◌, ℕ, zero, suc, ◌+◌, ◌-◌, ◌*◌, ◌^◌, ◌<◌, ◌≤◌, Some, List, [], ◌∷◌, ◌++◌, map, length, length-drop, take, drop, get_or, refl, sym, ap, ◌∙◌, subst, arith, take-add}
+-- Blocks that bytes spell one after another.
+use Rattle.std.proofs.Common.{◌≡◌, ℕ, zero, suc, ◌+◌, ◌*◌, ◌^◌, ◌<◌, ◌≤◌, List, [], ◌∷◌, ◌++◌, Some, slice_get, length, length-drop, take, drop, get_or, refl, sym, ap, ◌∙◌, subst, arith, take-add}
 use Rattle.std.specs.Int.{w64, from_le_bytes}
-use Rattle.std.specs.List.{AllByRecursion, flat_map, range_with_len, slice_get, slice_range}
-use Rattle.std.proofs.lemmas.List.{length-take-le}
+use Rattle.std.specs.List.{AllByRecursion, flat_map}
+use Rattle.std.proofs.lemmas.List.{length-take-le, drop-drop, take-take}
 use Rattle.std.proofs.lemmas.Nat.{le_bytes_8}
-use Rattle.std.proofs.lemmas.Option.{none-some, same_Some}
 use Rattle.pblk_model.specs.declared.shape.Shape.{Shape}
+use Rattle.pblk_model.specs.Blocks.{block_in, blocks_in}
 use Rattle.pblk_model.specs.Bytes.{le64, number_at}
-use Rattle.pblk_model.specs.Chunk.{Block, IsBlock}
+use Rattle.pblk_model.specs.Chunk.{IsBlock}
 use Rattle.pblk_model.specs.ImageFile.{block_bytes}
-use Rattle.pblk_laws.proofs.EndSpelling.{eight_below}
-use Rattle.pblk_model.proofs.Parts.{all_dropped, all_taken, joined}
+use Rattle.pblk_model.proofs.BytesLemmas.{eight_bytes, number_front}
+use Rattle.pblk_model.proofs.Numbers.{suc-times}
+use Rattle.pblk_model.proofs.Parts.{all_dropped, all_taken}
 
 abbrev pub AreBytes : List ℕ → Type 0
 AreBytes b = AllByRecursion (λ x. x < 256) b
@@ -31,22 +32,40 @@ number_back b at h within =
     le_bytes_8 (take 8 (drop at b)) (number_at w64 at b) (slice_size b at within) (λ i. each_byte (take 8 (drop at b)) i eight) refl
 
 number_below : (b : List ℕ) (at : ℕ) → AreBytes b → at + 8 ≤ length b → number_at w64 at b < 2 ^ 64
-number_below b at h within = subst (λ bytes. from_le_bytes w64 bytes < 2 ^ 64) (number_back b at h within) (eight_below (number_at w64 at b))
+number_below b at h within = subst (λ bytes. from_le_bytes w64 bytes < 2 ^ 64) (number_back b at h within) (eight_bytes (number_at w64 at b) [])
 
 -- Blocks.
-
--- the block that bytes begin with: its sector, and then its mark
-abbrev pub block_in : ℕ → List ℕ → Block
-block_in size b = record { sector = take size b; mark = record { lba = number_at w64 size b; position = number_at w64 (size + 8) b } }
-
--- the blocks that bytes begin with, so many
-abbrev pub blocks_in : ℕ → ℕ → List ℕ → List Block
-blocks_in size zero b = []
-blocks_in size (suc n) b = block_in size b ∷ blocks_in size n (drop (size + 16) b)
 
 pub blocks_count : (size n : ℕ) (b : List ℕ) → length (blocks_in size n b) ≡ n
 blocks_count size zero b = refl
 blocks_count size (suc n) b = ap suc (blocks_count size n (drop (size + 16) b))
+
+-- the k-th block
+pub slice_get-blocks_in : (size n k : ℕ) (b : List ℕ) → k < n → slice_get (blocks_in size n b) k ≡ Some (block_in size (drop (k * (size + 16)) b))
+slice_get-blocks_in size zero k b below = absurd (omega arith)
+slice_get-blocks_in size (suc n) zero b below =
+    let none : 0 * (size + 16) ≡ 0 = omega arith in
+    rw none refl
+slice_get-blocks_in size (suc n) (suc k) b below =
+    rw (suc-times k (size + 16), ← drop-drop (k * (size + 16)) (size + 16) b) (slice_get-blocks_in size n k (drop (size + 16) b) (omega arith))
+
+-- what is read of a block alone is what stands there in all bytes
+pub block_front : (size : ℕ) (b : List ℕ) → block_in size (take (size + 16) b) ≡ block_in size b
+block_front size b =
+    rw (
+      take-take size (size + 16) b (omega arith),
+      number_front w64 size (size + 16) b (omega arith),
+      number_front w64 (size + 8) (size + 16) b (omega arith),
+    ) refl
+
+-- one block more
+pub blocks_in-next : (size n : ℕ) (b : List ℕ) → blocks_in size (suc n) b ≡ blocks_in size n b ++ (block_in size (drop (n * (size + 16)) b) ∷ [])
+blocks_in-next size zero b =
+    let none : 0 * (size + 16) ≡ 0 = omega arith in
+    rw none refl
+blocks_in-next size (suc n) b =
+    rw (suc-times n (size + 16), ← drop-drop (n * (size + 16)) (size + 16) b)
+    (ap (λ bs. block_in size b ∷ bs) (blocks_in-next size n (drop (size + 16) b)))
 
 block_back : (size : ℕ) (b : List ℕ) → AreBytes b → size + 16 ≤ length b → block_bytes (block_in size b) ≡ take (size + 16) b
 block_back size b h within =
@@ -84,46 +103,3 @@ blocks_are s (suc n) b h within =
       },
       blocks_are s n (drop (size + 16) b) (all_dropped (λ x. x < 256) (size + 16) b h) rest,
     )
-
--- What is made for each number of a range.
-
-pub all_of_range : {X : Type 0} (P : X → Type 0) (f : ℕ → X) (a n : ℕ) → ((m : ℕ) → a ≤ m → m < a + n → P (f m)) → AllByRecursion P (map f (range_with_len a n))
-all_of_range P f a zero each = tt
-all_of_range P f a (suc n) each = (each a (omega arith) (omega arith), all_of_range P f (a + 1) n (λ m low high. each m (omega arith) (omega arith)))
-
-pub get_of_range : {X : Type 0} (f : ℕ → X) (a n k : ℕ) (x : X) → slice_get (map f (range_with_len a n)) k ≡ Some x → f (a + k) ≡ x
-get_of_range f a zero k x is = absurd (none-some x is)
-get_of_range f a (suc n) zero x is =
-    let here : a + zero ≡ a = omega arith in
-    ap f here ∙ same_Some (f a) x is
-get_of_range f a (suc n) (suc k) x is =
-    let here : a + suc k ≡ a + 1 + k = omega arith in
-    ap f here ∙ get_of_range f (a + 1) n k x is
-
--- Pieces that stand side by side.
-
-nothing : (b : List ℕ) (n : ℕ) → [] ≡ slice_range b n n
-nothing b n =
-    let none : zero ≡ n - n = omega arith in
-    ap (λ m. take m (drop n b)) none
-
--- these bytes stand from one place to another
-pub record Spans (b bytes : List ℕ) (from to : ℕ) : Type 0 where
-  pub order : from ≤ to
-  pub is : bytes ≡ slice_range b from to
-
-pub spans_range : {X : Type 0} (b : List ℕ) (at : ℕ → ℕ) (g : X → List ℕ) (f : ℕ → X) (a n : ℕ)
-    → ((m : ℕ) → a ≤ m → m < a + n → Spans b (g (f m)) (at m) (at (m + 1)))
-    → Spans b (flat_map g (map f (range_with_len a n))) (at a) (at (a + n))
-spans_range b at g f a zero each =
-    let here : a ≡ a + zero = omega arith in
-    subst (λ m. Spans b [] (at a) (at m)) here (record { order = omega arith; is = nothing b (at a) })
-spans_range b at g f a (suc n) each =
-    let here : a + 1 + n ≡ a + suc n = omega arith in
-    let first = each a (omega arith) (omega arith) in
-    let rest = spans_range b at g f (a + 1) n (λ m low high. each m (omega arith) (omega arith)) in
-    subst (λ m. Spans b (flat_map g (map f (range_with_len a (suc n)))) (at a) (at m)) here (record {
-      order = omega (arith, first.order, rest.order);
-      is = ap (λ x. x ++ flat_map g (map f (range_with_len (a + 1) n))) first.is
-          ∙ (ap (λ x. slice_range b (at a) (at (a + 1)) ++ x) rest.is ∙ joined b (at a) (at (a + 1)) (at (a + 1 + n)) first.order rest.order);
-    })
