@@ -11,16 +11,16 @@ use std::thread::Threads;
 // Images, and their certificates, which take the images' places.
 const MADE: &str = "
 images=drive small ; after=head none/end 0/ ; text=certified 16/
-images=drive small 5=17 ; after=head 0/end 1/line 0 1 0/bear 0 0 4/win 5 0 0 4/live 0 1/ ; text=certified 56/
+after=head 0/end 1/line 0 1 0/bear 0 0 4/win 5 0 0 4/live 0 1/ ; text=certified 56/
 images=absent ; status=4 ; text=files Missing image/
 images=drive small 5=17 cut:100 ; status=3 ; text=image Short 100/
-images=drive small 5=17 ; files=1 ; status=4 ; text=files Failed image/
+files=1 ; status=4 ; text=files Failed image/
 images=drive small ; output=1 ; after=head none/end 0/ ; status=8 ; text=certif
 ";
 
 #[test]
 fn certificates_are_made(rt: HostRuntime) -> Result<(), Fail> {
-    check(&rt, rt.alloc(), "call=certify|image|image", MADE)
+    check(&rt, rt.alloc(), "call=certify|image|image ; images=drive small 5=17", MADE)
 }
 
 // Images, and what is told of them by one certificate.
@@ -36,15 +36,6 @@ images=drive small 5=17 cut:100 ; status=3 ; text=image Short 100/
 images=drive small 5=17 ; files=1 ; status=4 ; text=files Failed image/
 images=drive small 5=17 ; files=2 ; status=4 ; text=files Failed script/
 images=drive small 5=17 ; output=1 ; status=8 ; text=yes/ti
-images=drive small 5=17 ; script=head 0/end 1/line 0 2 0/bear 0 0 4/win 5 0 0 4/live 0 1/ ; status=3 ; text=check Line 0/
-images=drive small 5=17 ; script=head none/end 1/line 0 1 0/bear 0 0 4/win 5 0 0 4/live 0 1/ ; status=3 ; text=check Head/
-images=drive small 5=17 ; script=head 0/end 1/line 0 1 0/bear 0 0 5/win 5 0 0 4/live 0 1/ ; status=3 ; text=check Bearer 0/
-images=drive small 5=17 ; script=head 0/end 1/line 0 1 0/bear 0 0 4/win 5 0 0 4/live 0 2/ ; status=3 ; text=check Live 0/
-# The image is judged before the certificate.
-images=drive small 5=17 cut:100 ; script=/ ; status=3 ; text=image Short 100/
-images=drive small 5=17 ; script=/ ; status=3 ; text=certificate Form 1/
-images=drive small 5=17 ; script=head 0/ ; status=3 ; text=certificate Form 2/
-images=drive small 5=17 ; script=absent ; status=4 ; text=files Missing script/
 ";
 
 #[test]
@@ -52,6 +43,25 @@ fn certificates_are_checked(rt: HostRuntime) -> Result<(), Fail> {
     let usual =
         "call=check|image|script ; script=head 0/end 1/line 0 1 0/bear 0 0 4/win 5 0 0 4/live 0 1/";
     check(&rt, rt.alloc(), usual, CHECKED)
+}
+
+// Certificates of one image that aren't right, and what is told of them.
+const WRONG: &str = "
+script=head 0/end 1/line 0 2 0/bear 0 0 4/win 5 0 0 4/live 0 1/ ; text=check Line 0/
+script=head none/end 1/line 0 1 0/bear 0 0 4/win 5 0 0 4/live 0 1/ ; text=check Head/
+script=head 0/end 1/line 0 1 0/bear 0 0 5/win 5 0 0 4/live 0 1/ ; text=check Bearer 0/
+script=head 0/end 1/line 0 1 0/bear 0 0 4/win 5 0 0 4/live 0 2/ ; text=check Live 0/
+# The image is judged before the certificate.
+images=drive small 5=17 cut:100 ; script=/ ; text=image Short 100/
+script=/ ; text=certificate Form 1/
+script=head 0/ ; text=certificate Form 2/
+script=absent ; status=4 ; text=files Missing script/
+";
+
+#[test]
+fn wrong_certificates_are_refused(rt: HostRuntime) -> Result<(), Fail> {
+    let usual = "call=check|image|script ; images=drive small 5=17 ; status=3";
+    check(&rt, rt.alloc(), usual, WRONG)
 }
 
 // What goes otherwise where the image is certified after a run, and that is checked, if anything.
