@@ -60,6 +60,7 @@ pub mod LeftTidy
 pub mod ToldRest
 pub mod WrittenThen
 pub mod RestingThen
+pub mod StillThen
 pub mod RunNumbers
 pub mod RunStates
 pub mod VictimSteps

@@ -87,10 +87,10 @@ module _ (i : Image) (w : World) (is : IsTidyMount i w) where
     abbrev now : Logs
     now = log_of (world_at i w n is.mount.legal within).world
 
-    mount_v : IsLegalMount i (world_at i w n is.mount.legal within).world
+    pub mount_v : IsLegalMount i (world_at i w n is.mount.legal within).world
     mount_v = record { accepted = is.mount.accepted; fit = is.mount.fit; legal = v.legal }
 
-    told : AreSameTold i (log_of (world_at i w n is.mount.legal within).world) (logs_at n (log_of w))
+    pub told : AreSameTold i (log_of (world_at i w n is.mount.legal within).world) (logs_at n (log_of w))
     told = told_at i w n is.mount.legal within v
 
     b : (x : Begun) × (begun (log_of w 0) ≡ Some x)
@@ -133,16 +133,16 @@ module _ (i : Image) (w : World) (is : IsTidyMount i w) where
             ap (option_and_then (λ (l : Logged). unit_event_of l.event)) (ap (λ (xs : List Logged). slice_get xs number) parts
             ∙ get_more (now (suc unit)) more number from.0 from.1) ∙ from.2
 
-    none_lost : NoStripeLost (log_of (world_at i w n is.mount.legal within).world 0)
+    pub none_lost : NoStripeLost (log_of (world_at i w n is.mount.legal within).world 0)
     none_lost = faultless_kept i (world_at i w n is.mount.legal within).world v.legal faultless
 
-    wide : AreWide (known_image i (log_of (world_at i w n is.mount.legal within).world))
+    pub wide : AreWide (known_image i (log_of (world_at i w n is.mount.legal within).world))
     wide = faultless_wide i (world_at i w n is.mount.legal within).world mount_v b.0 begins faultless whole
 
     pub wide_then : AreWide (known_image i (engine_prefix n (log_of w)))
     wide_then = subst AreWide (sym (image_same i now (engine_prefix n (log_of w)) v.told)) wide
 
-    full : OpensWhenFull i (log_of (world_at i w n is.mount.legal within).world)
+    pub full : OpensWhenFull i (log_of (world_at i w n is.mount.legal within).world)
     full o there =
         let at = among_contained (openings (now 0)) o there in
         let h : IsOpening (now 0) at.0 o = opening_is (now 0) at.0 o at.1 in

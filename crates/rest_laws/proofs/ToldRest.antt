@@ -5,14 +5,16 @@ use Rattle.pblk_model.specs.Chunk.{Chunk}
 use Rattle.pblk_model.specs.Image.{Image}
 use Rattle.pblk_model.specs.LineOrder.{start_len}
 use Rattle.pblk_model.specs.Records.{Record}
+use Rattle.pblk_model.specs.StartRecord.{StartRecord}
 use Rattle.pblk_world.specs.AtRest.{asked_by, HasNoWork, IsCopyDue, IsDue, IsUrgent, pad_target, victim_now}
-use Rattle.pblk_world.specs.EngineLog.{AsFound, begun, Freed, has_failed, is_answered, is_as_found, life_of, LineLife, Opened, Opening, Placed, stripes_of}
+use Rattle.pblk_world.specs.EngineLog.{AsFound, Begun, begun, Freed, has_failed, is_answered, is_as_found, life_of, LineLife, Opened, Opening, Placed, stripes_of}
 use Rattle.pblk_world.specs.Events.{Logged, Stripe}
 use Rattle.pblk_world.specs.Freeing.{HasLandedIn, IsAnswered, IsCountedIn, IsReplaced, IsWrittenRecord, MayFree}
 use Rattle.pblk_world.specs.Fronts.{synced, taken, waiting}
 use Rattle.pblk_world.specs.Lines.{are_empty, chunks_of, is_given_up, is_over_state, place_of}
 use Rattle.pblk_world.specs.Placing.{data_blocks, end_address, end_blocks, IsData, IsEnd, is_done_with, IsNext, IsPad, IsStart, line_end, next_address, next_block, start_blocks, stripe_at}
-use Rattle.pblk_world.specs.Space.{position_limit}
+use Rattle.pblk_world.specs.Opening.{MayOpen}
+use Rattle.pblk_world.specs.Space.{open_addresses, position_limit}
 use Rattle.pblk_world.specs.Starts.{has_landed_start, have_landed}
 use Rattle.pblk_world.specs.Victims.{victim}
 use Rattle.pblk_world.specs.World.{Logs}
@@ -114,14 +116,25 @@ module _ (i : Image) (a b : Logs) (h : AreSameTold i a b) where
     has_address = subst₂ (λ (log : List Logged) n. length (waiting i.shape log) < n) (sym h.own) (sym (addresses_told i a b h)) is.has_address;
   }
 
+  pub no_program_told : (asked : ℕ) → ((stripe : Stripe) → ¬ IsDue i b (pad_target i b asked) stripe)
+      → (stripe : Stripe) → ¬ IsDue i a (pad_target i a asked) stripe
+  no_program_told asked none stripe is = none stripe (due_still asked stripe is)
+
+  pub no_opening_told : ((beginning : Begun) (line : ℕ) (start : StartRecord) → begun (b 0) ≡ Some beginning
+      → 0 < length (waiting i.shape (b 0)) → open_addresses i b ≡ 0 → ¬ MayOpen i b beginning line start)
+      → (beginning : Begun) (line : ℕ) (start : StartRecord) → begun (a 0) ≡ Some beginning
+      → 0 < length (waiting i.shape (a 0)) → open_addresses i a ≡ 0 → ¬ MayOpen i a beginning line start
+  no_opening_told none beginning line start begins waits full may =
+      none beginning line start (ap begun h.own ∙ begins)
+      (subst (λ (log : List Logged). 0 < length (waiting i.shape log)) (sym h.own) waits) (open_told i a b h ∙ full)
+      (opening_told i a b h beginning line start may)
+
   pub no_work_told : (asked : ℕ) → HasNoWork i b asked → HasNoWork i a asked
   no_work_told asked none = record {
     no_reset = λ line range given. ap (λ (j : Image). are_empty j line) (sym (image_same i a b h))
         ∙ none.no_reset line range (ap (λ (log : List Logged). is_given_up log line) h.own ∙ given);
-    no_program = λ stripe is. none.no_program stripe (due_still asked stripe is);
-    no_opening = λ beginning line start begins waits full may. none.no_opening beginning line start (ap begun h.own ∙ begins)
-        (subst (λ (log : List Logged). 0 < length (waiting i.shape log)) (sym h.own) waits) (open_told i a b h ∙ full)
-        (opening_told i a b h beginning line start may);
+    no_program = no_program_told asked none.no_program;
+    no_opening = no_opening_told none.no_opening;
     no_copy = λ is. none.no_copy (copy_still is);
   }
 

@@ -16,7 +16,8 @@
 //! - Where no stripe is under way and none of an end record is left, only the line that was opened
 //!   last may be written to. Then the front taken is near the front freed.
 //! - Where no stripe is under way, none is to be placed and no line is to be opened, a copy that is
-//!   due has room in the ring.
+//!   due has room in the ring. In a mount over a tidy image in which nothing failed it was so at
+//!   each length of the engine's log.
 //! - As long as more data addresses are left than entries wait, a mount at rest has nothing left to
 //!   do. Then all that was taken below the pad target has landed, collection isn't due, and there
 //!   is room for sixteen more sectors.

@@ -1,23 +1,28 @@
 //! Laws on a mount at rest: each is the contract of a function that does nothing.
 
-ghost use Rattle.std.specs.Prelude.{◌≡◌, ◌+◌, ◌-◌, ◌*◌, ◌≤◌, ◌<◌, ℕ, true, false, [], length};
+ghost use Rattle.std.specs.Prelude.{◌≡◌, ◌+◌, ◌-◌, ◌*◌, ◌≤◌, ◌<◌, ℕ, true, false, Some, []};
+ghost use Rattle.std.specs.Prelude.{length, take};
 ghost use Rattle.std.specs.List.{Contains, filter, range_with_len};
 ghost use Rattle.pblk_model.specs.Image.{Image, width};
 ghost use Rattle.pblk_model.specs.Shape.{units};
-ghost use Rattle.pblk_world.specs.AtRest.{IsCopyDue, pad_target};
-ghost use Rattle.pblk_world.specs.EngineLog.{Opened, Opening, life_of, openings};
+ghost use Rattle.pblk_model.specs.StartRecord.{StartRecord};
+ghost use Rattle.pblk_world.specs.AtRest.{IsCopyDue, IsDue, logs_at, pad_target};
+ghost use Rattle.pblk_world.specs.EngineLog.{Begun, Opened, Opening, begun, life_of, openings};
 ghost use Rattle.pblk_world.specs.EngineLog.{Placed, is_answered, placements};
 ghost use Rattle.pblk_world.specs.Events.{Stripe};
 ghost use Rattle.pblk_world.specs.Fronts.{synced, taken, waiting};
 ghost use Rattle.pblk_world.specs.Lines.{are_over, found_image, known_image};
+ghost use Rattle.pblk_world.specs.Opening.{MayOpen};
 ghost use Rattle.pblk_world.specs.Placing.{IsEnd};
-ghost use Rattle.pblk_world.specs.Space.{addresses, freed, is_due, position_limit, ring_limit, room};
+ghost use Rattle.pblk_world.specs.Space.{addresses, freed, is_due, open_addresses};
+ghost use Rattle.pblk_world.specs.Space.{position_limit, ring_limit, room};
 ghost use Rattle.pblk_world.specs.World.{World, log_of};
 ghost use Rattle.pblk_world.specs.LegalMounts.{IsLegalMount, NoStripeLost};
 ghost use Rattle.core_laws.specs.Spent.{OpensWhenFull};
 ghost use Rattle.rest_laws.specs.NewestOpened.{IsLastOpened};
 ghost use Rattle.rest_laws.specs.RestingMounts.{IsRestingMount, IsStillMount};
 ghost use Rattle.rest_laws.specs.Tidy.{has_free_chunks};
+ghost use Rattle.rest_laws.specs.TidyMounts.{HasNumbersLeft, IsTidyMount};
 
 /// Where no stripe is under way and none of a line's end record is left to be placed, nothing more
 /// is written to that line before it is reset, unless it was opened last.
@@ -83,9 +88,24 @@ pub fn at_rest_there_is_room()
 
 /// Where no stripe is under way, none is to be placed and no line is to be opened, a copy that is
 /// due finds room in the ring, and so do fifteen entries after it: the front taken is as far below
-/// the end of what users may claim there.
+/// the end of what users may claim there (clause `end`). In a mount over a tidy image in which
+/// nothing failed it was so at each length of the engine's log at which numbers were left (clause
+/// `length`).
 pub fn a_copy_that_is_due_has_room()
-    ensures { (i : Image) (w : World) (asked : ℕ) → IsStillMount i w asked
+    ensures end { (i : Image) (w : World) (asked : ℕ) → IsStillMount i w asked
         → IsCopyDue i (log_of w)
         → taken (log_of w 0) + 16 ≤ ring_limit i.shape (log_of w 0) }
+    ensures length { (i : Image) (w : World) (n asked : ℕ) → IsTidyMount i w
+        → 0 < n → n ≤ length (log_of w 0) → HasNumbersLeft i.shape (take n (log_of w 0))
+        → ((p : Placed) → Contains (placements (take n (log_of w 0))) p
+        → is_answered (take n (log_of w 0)) p ≡ true)
+        → ((stripe : Stripe)
+        → ¬ IsDue i (logs_at n (log_of w)) (pad_target i (logs_at n (log_of w)) asked) stripe)
+        → ((beginning : Begun) (line : ℕ) (start : StartRecord)
+        → begun (take n (log_of w 0)) ≡ Some beginning
+        → 0 < length (waiting i.shape (take n (log_of w 0)))
+        → open_addresses i (logs_at n (log_of w)) ≡ 0
+        → ¬ MayOpen i (logs_at n (log_of w)) beginning line start)
+        → IsCopyDue i (logs_at n (log_of w))
+        → taken (take n (log_of w 0)) + 16 ≤ ring_limit i.shape (take n (log_of w 0)) }
 {}
