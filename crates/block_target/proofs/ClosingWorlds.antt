@@ -13,7 +13,7 @@ use Rattle.pblk_model.specs.Shape.{units as units_of}
 use Rattle.pblk_model.proofs.Lists.{IsAmong}
 use Rattle.pblk_model.proofs.Parts.{all_at, before_last, get_first, get_last}
 use Rattle.pblk_world.specs.AtRest.{IsAtRest}
-use Rattle.pblk_world.specs.EngineLog.{Placed, begun, is_answered, placements}
+use Rattle.pblk_world.specs.EngineLog.{Begun, Placed, begun, is_answered, placements}
 use Rattle.pblk_model.specs.UnitLog.{UnitEvent}
 use Rattle.pblk_world.specs.Events.{Does, Logged, Maker}
 use Rattle.pblk_world.proofs.VictimsLemmas.{whole_prefix}
@@ -39,6 +39,7 @@ use Rattle.block_port.proofs.Rising.{behind}
 use Rattle.write_ring.specs.declared.view.Key.{Key}
 use Rattle.chronicle.specs.Prefixes.{ArePrefixes, Prefixes, logs_of}
 use Rattle.chronicle.specs.Views.{Past}
+use Rattle.chronicle.proofs.PrefixLemmas.{begins_length}
 use Rattle.chronicle.proofs.Rests.{still_begun}
 use Rattle.pblk_engine.specs.Endings.{HasEnded, HasMadeAll}
 use Rattle.pblk_engine.specs.Mounts.{IsMounted}
@@ -49,7 +50,7 @@ use Rattle.pblk_engine.specs.declared.errors.SettleErr.TheVariants as errors
 use Rattle.pblk_engine.proofs.Accepted.{begun_known}
 use Rattle.pblk_engine.proofs.InOrder.{after_resets, none_was_left, opened_full}
 use Rattle.pblk_engine.proofs.OpenedPasts.{all_logs}
-use Rattle.block_target.specs.Closes.{AreAllBack, EndsAtSynced, IsClosed, IsKept, IsTidyClose, IsTold, NoneLost, TellsClosed, answer_at, close_faults, close_worns, joined, lost_places, with_workers, writes_from}
+use Rattle.block_target.specs.Closes.{AreAllBack, EndsAtSynced, IsClosed, IsKept, IsTidyClose, IsTold, NoneLost, TellsClosed, WasWorkedOff, answer_at, close_faults, close_worns, joined, lost_places, with_workers, writes_from}
 use Rattle.block_target.specs.Sessions.{EndBelow, SessionView, WereRefused, answer_to, claim_of, faults_of, history_lines}
 use Rattle.block_target.specs.Targets.{TargetView}
 use Rattle.block_target.proofs.ClosingAlone.{alone_refused}
@@ -100,11 +101,17 @@ closed_worns i logs (Err (errors.Worn wanted have)) own worns tells ends were =
     refused_more i logs own (taken (logs 0)) 0 worns a (omega arith) were
     (refused_now i logs own (taken (logs 0)) a refl ends (le_refl (taken (logs 0))) tells.1)
 
+-- a log that has begun isn't empty
+some_event : (log : List Logged) (b : Begun) → begun log ≡ Some b → 0 < length log
+some_event [] b is = absurd (none-some b is)
+some_event (l ∷ log) b is = omega arith
+
 -- ---- a closed target
 
 module _ (past : Past) (key : Key) (handed : List ModelUnit) (wear : List (List ℕ)) (target : TargetView) (t : SessionView) (ts : List SessionView)
     (workers : List WorkerView) (settled : Result (Unit {0}) SettleErr) (units : List ModelUnit) (worn : List (List ℕ))
-    (mounted : IsMounted past key handed wear) (all : AreAllBack target (t ∷ ts) workers) (kept : AllByRecursion (IsKept past handed) (t ∷ ts))
+    (mounted : IsMounted past key handed wear) (begins : ArePrefixes past.logs t.worker.known) (all : AreAllBack target (t ∷ ts) workers)
+    (kept : AllByRecursion (IsKept past handed) (t ∷ ts))
     (closed : HasClosed past key handed wear t.worker (with_workers workers ts) target.named (joined target.pass.pass (t ∷ ts)) settled units worn) where
   abbrev over : HasEnded past key handed wear (with_workers workers ts ++ closed.last ∷ []) target.named (joined target.pass.pass (t ∷ ts)) units worn
   over = closed.ended
@@ -310,6 +317,25 @@ module _ (past : Past) (key : Key) (handed : List ModelUnit) (wear : List (List 
         no_worn_flush i w (length log) wanted have mount room (left_before i.shape log (length log) some numbers) told.1
     closes_tidy (Err (errors.Drive unit event)) told = tt
 
+  -- ---- how many pumps it took
+
+  worked_off : WasWorkedOff past handed (t ∷ ts) w
+  worked_off = record {
+    ticket = t;
+    its = refl;
+    last = closed.last;
+    knew = from_late closed.last.known (knew_of closed.last first_in);
+    own = closed.own;
+    pumps = closed.count;
+    settled = closed.pumps;
+    begun =
+        let some : 0 < length (logs_of past.logs 0) = some_event (logs_of past.logs 0) mounted.beginning mounted.has_begun in
+        let longer : length (logs_of past.logs 0) ≤ length (logs_of closed.pumps.first.known 0) =
+        begins_length (logs_of past.logs 0) (logs_of closed.pumps.first.known 0)
+        ((still_begun past.logs t.worker.known closed.pumps.first.known begins closed.pumps.waited.keeps).each 0) in
+        omega (arith, some, longer);
+  }
+
   pub is_closed : IsClosed past key handed wear (t ∷ ts) workers settled units worn
   is_closed = record {
     world = w;
@@ -326,6 +352,7 @@ module _ (past : Past) (key : Key) (handed : List ModelUnit) (wear : List (List 
     others_knew = λ k v there. over.knew (other_in k v there).0 v (other_in k v there).1;
     nobody = none_of;
     nobody_late = late_none;
+    worked_off = worked_off;
     tells = tells;
     reasons = over.reasons;
     after_resets = after_resets i w mounted.beginning has_begun over.in_order;

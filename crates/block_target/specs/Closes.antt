@@ -29,6 +29,7 @@ use Rattle.write_ring.specs.declared.view.Key.{Key}
 use Rattle.write_ring.specs.declared.view.Part.{Part}
 use Rattle.chronicle.specs.Prefixes.{AreLegalLogs, logs_of}
 use Rattle.chronicle.specs.Views.{Past}
+use Rattle.pblk_engine.specs.Alone.{HasSettledAlone}
 use Rattle.pblk_engine.specs.Arms.{IsArm}
 use Rattle.pblk_engine.specs.Workers.{Made, WorkerView}
 use Rattle.pblk_engine.specs.declared.errors.SettleErr.{SettleErr}
@@ -160,6 +161,18 @@ pub record IsTold (i : Image) (handed : List ModelUnit) (world : World) (settled
   -- each Worn had its cause
   pub worns : WereRefused i (log_of world) t.own (taken (log_of world 0)) 0 (worns_in k t settled)
 
+-- The first ticket's worker had the target to itself when it worked it off, and made so many pumps.
+-- The engine's log is as they left it.
+pub record WasWorkedOff (past : Past) (handed : List ModelUnit) (tickets : List SessionView) (world : World) : Type 0 where
+  pub ticket : SessionView
+  pub its : slice_get tickets 0 ≡ Some ticket
+  pub last : WorkerView
+  pub knew : (author : ℕ) → IsPrefix (logs_of last.known author) (log_of world author)
+  pub own : logs_of last.known 0 ≡ log_of world 0
+  pub pumps : ℕ
+  pub settled : HasSettledAlone past.image handed ticket.worker last 0 pumps
+  pub begun : 0 < length (logs_of settled.first.known 0)
+
 -- A target was closed, with this answer: there is one world that is legal and goes on from the
 -- mount's past, and the units are as it leaves them.
 pub record IsClosed (past : Past) (key : Key) (handed : List ModelUnit) (wear : List (List ℕ)) (tickets : List SessionView) (workers : List WorkerView)
@@ -186,6 +199,8 @@ pub record IsClosed (past : Past) (key : Key) (handed : List ModelUnit) (wear : 
   -- who has no number of 64 bits, as the opening, lost none where none was lost before the mount
   -- began
   pub nobody_late : NoneLost (logs_of past.logs) → (worker : ℕ) → 2 ^ 64 ≤ worker → drive_faults_of worker world ≡ []
+  -- how many pumps it took
+  pub worked_off : WasWorkedOff past handed tickets world
   -- what the close told
   pub tells : TellsClosed past.image (log_of world) settled
   -- All the engine did had its reason, and it did its work in its order. No line is left that may

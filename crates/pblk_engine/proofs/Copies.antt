@@ -62,7 +62,7 @@ use Rattle.pblk_core.specs.declared.target_core.Core.{Core}
 use Rattle.pblk_core.proofs.CopiesDue.{copy_by_test, copy_due_is}
 use Rattle.pblk_core.proofs.StandsFacts.{window_taken_is}
 use Rattle.pblk_core.proofs.StandsTold.{copies_told}
-use Rattle.pblk_engine.specs.Copying.{HasClaimed, IsFetched, copy_row}
+use Rattle.pblk_engine.specs.Copying.{HasClaimed, IsBegunNow, IsFetched, copy_row}
 use Rattle.pblk_engine.specs.CopyPlaces.{copy_of}
 use Rattle.pblk_engine.specs.Fetches.{IsReadableAt}
 use Rattle.pblk_engine.specs.Hearts.{HasCopies, HasNoCopy, IsClaimedCopy, IsHeart, IsSettled}
@@ -140,6 +140,10 @@ module _ (i : Image) (w : World) (c : Core) (v : View) (mount : IsLegalMount i w
         alone = λ k l from below. absurd (omega arith);
         granted = λ k knows entry mark from below its users. absurd (omega arith);
       }
+
+  pub begun_now : IsBegunNow i (log_of w) job
+  unfolding begun
+  begun_now = record { begun = begun; at = refl }
 
 -- ---- how far claims have come
 

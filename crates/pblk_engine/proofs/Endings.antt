@@ -140,4 +140,5 @@ module _ (chronicle table place : TableId) (past : Past) (key : Key) (handed : L
     ended = has_ended (subst (λ (a : AuthorView). AreAllClaims key.first (taken_of (logs_of a.known 0)) pass intake.pass) (sym its) all) spare as_put
         tiled filled copies;
     kept = subst (λ (a : AuthorView). HasKept i a.known w) its has_kept;
+    own = ap (λ (a : AuthorView). logs_of a.known 0) (sym its) ∙ sym own_log;
   }

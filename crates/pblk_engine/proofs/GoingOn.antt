@@ -29,9 +29,11 @@ goes_learned old new is keeps = record {
 }
 
 -- it was told so much
+pub told_only : (old new : WorkerView) (known : Prefixes) → new ≡ record old { known = known } → new ≡ record old { known = new.known }
+told_only old new known is = is ∙ ap (λ (k : Prefixes). record old { known = k }) (sym (ap (λ (w : WorkerView). w.known) is))
+
 pub goes_told : (old new : WorkerView) (known : Prefixes) → new ≡ record old { known = known } → ArePrefixes old.known new.known → GoesOn old new []
-goes_told old new known is keeps =
-    goes_learned old new (is ∙ ap (λ (k : Prefixes). record old { known = k }) (sym (ap (λ (w : WorkerView). w.known) is))) keeps
+goes_told old new known is keeps = goes_learned old new (told_only old new known is) keeps
 
 pub goes_placed : (old new : WorkerView) → new ≡ record old { stripe = new.stripe } → GoesOn old new []
 goes_placed old new is = record {

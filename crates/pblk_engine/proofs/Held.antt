@@ -3,15 +3,20 @@ use Rattle.std.proofs.Common.{◌≡◌, ◌≤◌, length, sym, subst, ap, ◌�
 use Rattle.atomic_table.specs.Seated.{TableId}
 use Rattle.pblk_model.specs.Image.{Image}
 use Rattle.pblk_world.specs.AtRest.{logs_at}
+use Rattle.pblk_world.specs.Fronts.{taken}
 use Rattle.pblk_world.specs.LegalMounts.{IsLegalMount}
 use Rattle.pblk_world.specs.Orders.{NoneToFree}
 use Rattle.pblk_world.specs.Space.{room}
 use Rattle.pblk_world.specs.World.{Logs, log_of}
 use Rattle.world_laws.proofs.ToldTables.{room_told}
 use Rattle.write_ring.specs.declared.view.Key.{Key}
+use Rattle.write_ring.specs.declared.view.View.{View}
+use Rattle.pblk_core.specs.Stands.{Stands}
+use Rattle.pblk_core.specs.declared.target_core.Core.{Core}
+use Rattle.pblk_core.proofs.StandsFacts.{window_taken_is}
 use Rattle.chronicle.specs.Handles.{AuthorView}
 use Rattle.chronicle.specs.Views.{Past}
-use Rattle.chronicle.specs.Prefixes.{AreLegalLogs, ArePrefixes, logs_of}
+use Rattle.chronicle.specs.Prefixes.{Prefixes, AreLegalLogs, ArePrefixes, logs_of}
 use Rattle.chronicle.proofs.Rests.{still_begun}
 use Rattle.pblk_engine.proofs.Decisions.{by_left, told_left}
 use Rattle.pblk_engine.proofs.Knowledge.{mount_of}
@@ -58,6 +63,13 @@ module _ (logs table : TableId) (past : Past) (key : Key) (place : TableId) (h :
       → place' ≡ table → new.intake.key ≡ key → IsSettled new.author.past.image (logs_of new.author.known) new.core new.intake
       → IsHeartOf logs table past key place' new
   held_then place' new decided = held_after place' new decided.same decided.keeps
+
+-- what its intake has taken are the takes of the engine's log
+pub its_taken : (i : Image) (known : Prefixes) (legal : AreLegalLogs i known) (c : Core) (v : View) → IsHeart i (logs_of known) c v
+    → v.intake.taken ≡ taken (logs_of known 0)
+its_taken i known legal c v heart =
+    heart.taken ∙ window_taken_is i legal.world c (subst (λ (logs : Logs). Stands i logs c) (sym legal.logs) heart.stands)
+    ∙ ap (λ (logs : Logs). taken (logs 0)) legal.logs
 
 -- ---- by the world that it knows
 

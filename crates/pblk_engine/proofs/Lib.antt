@@ -32,6 +32,7 @@ pub mod Asks
 pub mod Takes
 pub mod TakesOn
 pub mod NextWork
+pub mod NoneToPlace
 pub mod RestingHearts
 pub mod Looks
 pub mod Openings
@@ -43,6 +44,7 @@ pub mod SlotPlaces
 pub mod CopyPlaces
 pub mod Copies
 pub mod CopySearch
+pub mod CopiesAlone
 pub mod Pads
 pub mod Stops
 pub mod FreedLines
@@ -76,6 +78,10 @@ pub mod RunFetches
 pub mod ReadLooks
 pub mod ReadAnswers
 mod WorkedOff
-mod Ticks
+mod LoneSettlings
 mod PumpCounts
 mod LaterRests
+pub mod TakenClaims
+pub mod LoneTakes
+pub mod LoneCopies
+pub mod LonePumps

@@ -20,7 +20,7 @@ use Rattle.pblk_core.specs.Copies.{is_copying}
 use Rattle.pblk_core.specs.declared.target_core.Core.{Core}
 use Rattle.pblk_engine.specs.Hearts.{HasCopies, IsHeart, IsSettled}
 
-has_put : (p q : Part) → q.puts ≡ p.puts → (r : Row) → HasPut r q → HasPut r p
+pub has_put : (p q : Part) → q.puts ≡ p.puts → (r : Row) → HasPut r q → HasPut r p
 has_put p q puts r is = (is.0, ap (λ (rows : List Row). get_elem? rows is.0) (sym puts) ∙ is.1)
 
 -- a copy that it claimed is claimed still

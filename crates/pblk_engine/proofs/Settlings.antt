@@ -1,5 +1,5 @@
 -- An engine that is worked off, look by look.
-use Rattle.std.proofs.Common.{◌≡◌, ◌≢◌, ℕ, ◌<◌, ◌≤◌, max, Bool, true, false, None, Some, Result, Ok, Err, List, [], ◌∷◌, ◌++◌, length, take, append_assoc, append-nil, refl, sym, subst, ap, ◌∙◌, arith, le_trans}
+use Rattle.std.proofs.Common.{◌≡◌, ◌≢◌, ℕ, ◌<◌, ◌≤◌, max, Bool, true, false, Result, Ok, Err, List, [], ◌∷◌, ◌++◌, length, take, append_assoc, append-nil, refl, sym, subst, ap, ◌∙◌, arith, le_trans}
 use Rattle.std.specs.Prelude.{IsTrue}
 use Rattle.std.specs.Result.{IsErr, IsErrAnd}
 use mathlib.Core.List.{IsPrefix}
@@ -12,7 +12,6 @@ use Rattle.pblk_world.specs.Fronts.{synced, taken}
 use Rattle.pblk_world.specs.World.{Logs}
 use Rattle.rest_laws.proofs.LengthLogs.{taken_rises}
 use Rattle.unit_port.specs.Unit.{ModelUnit}
-use Rattle.write_ring.specs.declared.view.Desk.{Desk}
 use Rattle.write_ring.specs.declared.view.Key.{Key}
 use Rattle.write_ring.specs.declared.view.Part.{Part}
 use Rattle.write_ring.specs.Handles.{AreAllClaims}
@@ -25,7 +24,7 @@ use Rattle.pblk_core.specs.declared.work.Work.{Work}
 use Rattle.pblk_core.specs.declared.work.Work.TheVariants as works
 use Rattle.pblk_engine.specs.Hearts.{HeartView}
 use Rattle.pblk_engine.specs.Pumps.{GoesOn, HasPumped, IsFaultOf, NoFaults}
-use Rattle.pblk_engine.specs.Settlings.{HasLooked, HasSettled, HasWorked, IsAllTaken, IsWorkedOff, IsWornAt, TellsSettled}
+use Rattle.pblk_engine.specs.Settlings.{HasSettled, HasWorked, IsAllTaken, IsWorkedOff, IsWornAt, TellsSettled}
 use Rattle.pblk_engine.specs.Workers.{Made, WorkerView}
 use Rattle.pblk_engine.specs.declared.errors.DriveErr.{DriveErr}
 use Rattle.pblk_engine.specs.declared.errors.SettleErr.{SettleErr}
@@ -94,20 +93,11 @@ worked_look old new known is keeps low most = record {
   asked_before = low;
 }
 
--- by the heart as it had taken what was filled, as it knew what was claimed, and once the worker
--- was told
-module _ (old told new : WorkerView) (first claims heart : HeartView) (asks : Bool) (claimed : ℕ)
-    (told_is : told ≡ record old { known = heart.author.known }) (keeps : ArePrefixes old.known told.known)
-    (took : first.intake.intake.taken ≡ taken (logs_of first.author.known 0)) (same : claims ≡ record first { intake = claims.intake })
-    (desk : claims.intake.intake ≡ first.intake.intake)
-    (met : heart ≡ record claims { author = record claims.author { known = heart.author.known } })
-    (own : logs_of heart.author.known 0 ≡ logs_of claims.author.known 0)
+-- by the heart as it was when the worker was told
+module _ (old told new : WorkerView) (heart : HeartView) (asks : Bool) (claimed : ℕ) (told_is : told ≡ record old { known = heart.author.known })
+    (keeps : ArePrefixes old.known told.known) (front : heart.intake.intake.taken ≡ taken (logs_of heart.author.known 0))
     (raised : IsTrue asks → new ≡ record told { asked = max told.asked claimed }) (still : asks ≡ false → new ≡ told)
     (low : IsTrue asks → claimed ≤ heart.intake.intake.taken) where
-  front : heart.intake.intake.taken ≡ taken (logs_of heart.author.known 0)
-  front = ap (λ (h : HeartView). h.intake.intake.taken) met ∙ ap (λ (d : Desk). d.taken) desk ∙ took
-      ∙ ap (λ (h : HeartView). taken (logs_of h.author.known 0)) (sym same) ∙ ap (λ (log : List Logged). taken log) (sym own)
-
   asked : (new ≡ record told { asked = new.asked }) × (told.asked ≤ new.asked) × (new.asked ≤ max told.asked (taken (logs_of heart.author.known 0)))
   asked = asked_pads asks told new claimed (taken (logs_of heart.author.known 0)) raised still (λ is. subst (λ n. claimed ≤ n) front (low is))
 
@@ -173,6 +163,30 @@ fault_then handed one two e none is = record {
   number = is.number;
 }
 
+-- what is kept of looks, and of pumps that lost no command
+pub record HasGoneOn (old new : WorkerView) : Type 0 where
+  pub more : List Made
+  pub on : HasWorked old new more
+  pub none : NoFaults more
+
+pub gone_none : (w : WorkerView) → HasGoneOn w w
+gone_none w = record { more = []; on = worked_none w; none = tt }
+
+pub gone_look : (a b c : WorkerView) → HasGoneOn a b → HasWorked b c [] → HasGoneOn a c
+gone_look a b c x on = record {
+  more = x.more ++ [];
+  on = worked_then a b c x.more [] x.on on;
+  none = none_of_both x.more [] x.none tt;
+}
+
+pub gone_pump : (i : Image) (handed : List ModelUnit) (a b c : WorkerView) (did : Did) → HasGoneOn a b → HasPumped i handed roles.All b c (Ok did)
+    → HasGoneOn a c
+gone_pump i handed a b c did x y = record {
+  more = x.more ++ y.more;
+  on = worked_then a b c x.more y.more x.on (worked_pump b c y.more y.on);
+  none = none_of_both x.more y.more x.none y.tells.0;
+}
+
 module _ (i : Image) (key : Key) (handed : List ModelUnit) (pass : Part) where
   tells_then : (known : Prefixes) (one two : List Made) (result : Result (Unit {0}) SettleErr) → NoFaults one
       → TellsSettled i key handed pass known two result → TellsSettled i key handed pass known (one ++ two) result
@@ -181,38 +195,22 @@ module _ (i : Image) (key : Key) (handed : List ModelUnit) (pass : Part) where
   tells_then known one two (Err (errors.Drive unit event)) none is =
       fault_then handed one two (record { unit = unit; event = event }) none is
 
-  -- what is kept of looks that did pieces of work
-  pub record HasGoneOn (old new : WorkerView) : Type 0 where
-    pub more : List Made
-    pub on : HasWorked old new more
-    pub none : NoFaults more
-
-  pub gone_none : (w : WorkerView) → HasGoneOn w w
-  gone_none w = record {
-    more = [];
-    on = worked_none w;
-    none = tt;
+  -- a look that ends it
+  pub settled_then : (a b c : WorkerView) (result : Result (Unit {0}) SettleErr) → HasGoneOn a b → HasWorked b c []
+      → TellsSettled i key handed pass c.known [] result → HasSettled i key handed pass a c result
+  settled_then a b c result x on told = record {
+    more = x.more ++ [];
+    on = worked_then a b c x.more [] x.on on;
+    tells = tells_then c.known x.more [] result x.none told;
   }
 
-  pub gone_then : (a b c : WorkerView) (did : Did) → HasGoneOn a b → HasLooked i key handed pass b c (Ok (Some did)) → HasGoneOn a c
-  gone_then a b c did x y = record {
-    more = x.more ++ y.more;
-    on = worked_then a b c x.more y.more x.on y.on;
-    none = none_of_both x.more y.more x.none y.tells;
-  }
-
-  pub settled_then : (a b c : WorkerView) → HasGoneOn a b → HasLooked i key handed pass b c (Ok None) → HasSettled i key handed pass a c (Ok tt)
-  settled_then a b c x y = record {
-    more = x.more ++ y.more;
-    on = worked_then a b c x.more y.more x.on y.on;
-    tells = tells_then c.known x.more y.more (Ok tt) x.none y.tells;
-  }
-
-  pub lost_then : (a b c : WorkerView) (e : SettleErr) → HasGoneOn a b → HasLooked i key handed pass b c (Err e) → HasSettled i key handed pass a c (Err e)
+  -- a pump that lost a command
+  pub lost_then : (a b c : WorkerView) (e : DriveErr) → HasGoneOn a b → HasPumped i handed roles.All b c (Err e)
+      → HasSettled i key handed pass a c (Err (errors.Drive e.unit e.event))
   lost_then a b c e x y = record {
     more = x.more ++ y.more;
-    on = worked_then a b c x.more y.more x.on y.on;
-    tells = tells_then c.known x.more y.more (Err e) x.none y.tells;
+    on = worked_then a b c x.more y.more x.on (worked_pump b c y.more y.on);
+    tells = fault_then handed x.more y.more e x.none y.tells.0;
   }
 
   -- ---- a look's answers
@@ -222,37 +220,13 @@ module _ (i : Image) (key : Key) (handed : List ModelUnit) (pass : Part) where
   all_taken logs claimed copies is claims =
       record { copies = copies; claims = subst (λ n. AreAllClaims key.first n pass copies) is claims }
 
-  pub looked_settled : (old new : WorkerView) (claimed : ℕ) (copies : Part) → HasWorked old new [] → AreAllClaims key.first claimed pass copies
-      → IsWorkedOff i (logs_of new.known) claimed → HasLooked i key handed pass old new (Ok None)
-  looked_settled old new claimed copies on claims is = record {
-    more = [];
-    on = on;
-    tells = (tt, all_taken (logs_of new.known) claimed copies is.all_taken claims, is.on_drive, is.resting);
-  }
+  pub looked_settled : (known : Prefixes) (claimed : ℕ) (copies : Part) → AreAllClaims key.first claimed pass copies → IsWorkedOff i (logs_of known) claimed
+      → TellsSettled i key handed pass known [] (Ok tt)
+  looked_settled known claimed copies claims is = (tt, all_taken (logs_of known) claimed copies is.all_taken claims, is.on_drive, is.resting)
 
-  pub looked_worn : (old new : WorkerView) (claimed have : ℕ) (copies : Part) → HasWorked old new [] → AreAllClaims key.first claimed pass copies
-      → IsWornAt i (logs_of new.known) claimed have → HasLooked i key handed pass old new (Err (errors.Worn claimed have))
-  looked_worn old new claimed have copies on claims is = record {
-    more = [];
-    on = on;
-    tells = (tt, all_taken (logs_of new.known) claimed copies is.all_taken claims, is.all_taken, is.worn);
-  }
-
-  pub looked_pumped : (old look new : WorkerView) (did : Did) → HasWorked old look [] → HasPumped i handed roles.All look new (Ok did)
-      → HasLooked i key handed pass old new (Ok (Some did))
-  looked_pumped old look new did on is = record {
-    more = is.more;
-    on = worked_then old look new [] is.more on (worked_pump look new is.more is.on);
-    tells = is.tells.0;
-  }
-
-  pub looked_lost : (old look new : WorkerView) (e : DriveErr) → HasWorked old look [] → HasPumped i handed roles.All look new (Err e)
-      → HasLooked i key handed pass old new (Err (errors.Drive e.unit e.event))
-  looked_lost old look new e on is = record {
-    more = is.more;
-    on = worked_then old look new [] is.more on (worked_pump look new is.more is.on);
-    tells = is.tells.0;
-  }
+  pub looked_worn : (known : Prefixes) (claimed have : ℕ) (copies : Part) → AreAllClaims key.first claimed pass copies
+      → IsWornAt i (logs_of known) claimed have → TellsSettled i key handed pass known [] (Err (errors.Worn claimed have))
+  looked_worn known claimed have copies claims is = (tt, all_taken (logs_of known) claimed copies is.all_taken claims, is.all_taken, is.worn)
 
 -- an error that is handed on by a `?`
 pub lost_is : {X E : Type 0} (r : Result X E) (e : E) (P : E → Type 0) → ((w : E) → P w → w ≡ e) → IsErr r → IsErrAnd r P

@@ -1,5 +1,5 @@
 -- An engine that was worked off by its first worker, and ended then.
-use Rattle.std.specs.Prelude.{ℕ, List, [], ◌∷◌, ◌++◌, Option, Some, None, Result, Ok, Err}
+use Rattle.std.specs.Prelude.{ℕ, List, [], ◌∷◌, ◌++◌, ◌≡◌, Option, Result, Ok, Err}
 use Rattle.pblk_model.specs.Image.{Image}
 use Rattle.pblk_world.specs.Fronts.{taken}
 use Rattle.pblk_world.specs.World.{Logs, log_of}
@@ -7,14 +7,14 @@ use Rattle.unit_port.specs.Unit.{ModelUnit}
 use Rattle.write_ring.specs.declared.view.Key.{Key}
 use Rattle.write_ring.specs.declared.view.Part.{Part}
 use Rattle.chronicle.specs.Views.{Past}
+use Rattle.chronicle.specs.Prefixes.{logs_of}
+use Rattle.pblk_engine.specs.Alone.{HasSettledAlone}
 use Rattle.pblk_engine.specs.Endings.{HasEnded}
 use Rattle.pblk_engine.specs.Pumps.{IsFaultOf, NoFaults}
 use Rattle.pblk_engine.specs.Settlings.{HasWorked, IsWorkedOff, IsWornAt}
 use Rattle.pblk_engine.specs.Workers.{Made, WorkerView}
 use Rattle.pblk_engine.specs.declared.errors.SettleErr.{SettleErr}
 use Rattle.pblk_engine.specs.declared.errors.SettleErr.TheVariants as errors
-use Rattle.pblk_engine.specs.declared.winding_down.Settlement.{Settlement}
-use Rattle.pblk_engine.specs.declared.winding_down.Settlement.TheVariants as settlements
 
 -- What the call tells of these logs, with the commands that the worker made in it: all that was
 -- claimed is on the drive, and collection isn't due or the engine is at rest; or it is worn; or a
@@ -30,21 +30,8 @@ pub record HasWorkedOff (i : Image) (handed : List ModelUnit) (old new : WorkerV
   pub on : HasWorked old new more
   pub tells : TellsEnd i handed logs more result
 
--- what is answered by how far an engine is, and by its front taken: nothing where there is more to
--- do
-abbrev pub answer_at : Settlement → ℕ → Option (Result (Unit {0}) SettleErr)
-answer_at settlements.Settled front = Some (Ok tt)
-answer_at (settlements.Worn have) front = Some (Err (errors.Worn front have))
-answer_at settlements.Behind front = None
-
--- the same where it was settled before: a command that was lost is told anyhow
-abbrev pub answer_of : Result (Unit {0}) SettleErr → Settlement → ℕ → Option (Result (Unit {0}) SettleErr)
-answer_of (Err (errors.Drive unit event)) settlement front = Some (Err (errors.Drive unit event))
-answer_of (Ok x) settlement front = answer_at settlement front
-answer_of (Err (errors.Worn wanted have)) settlement front = answer_at settlement front
-
 -- An engine was worked off by its first worker, with this answer, and has ended: what is told holds
--- of its world.
+-- of its world. The worker had the engine to itself, and its pumps were counted.
 pub record HasClosed (past : Past) (key : Key) (handed : List ModelUnit) (wear : List (List ℕ)) (first : WorkerView)
     (workers : List WorkerView) (named : Option ℕ) (pass : Part) (settled : Result (Unit {0}) SettleErr)
     (units : List ModelUnit) (worn : List (List ℕ)) : Type 0 where
@@ -54,3 +41,7 @@ pub record HasClosed (past : Past) (key : Key) (handed : List ModelUnit) (wear :
   pub on : HasWorked first last more
   pub ended : HasEnded past key handed wear (workers ++ last ∷ []) named pass units worn
   pub tells : TellsEnd past.image handed (log_of ended.world) more settled
+  pub count : ℕ
+  pub pumps : HasSettledAlone past.image handed first last 0 count
+  -- the engine's log is as the pumps left it
+  pub own : logs_of last.known 0 ≡ log_of ended.world 0

@@ -141,3 +141,4 @@ pub record HasEndedOf (heart : HeartView) (past : Past) (key : Key) (handed : Li
     (workers : List WorkerView) (named : Option ℕ) (pass : Part) (units : List ModelUnit) (worn : List (List ℕ)) : Type 0 where
   pub ended : HasEnded past key handed wear workers named pass units worn
   pub kept : HasKept past.image heart.author.known ended.world
+  pub own : logs_of heart.author.known 0 ≡ log_of ended.world 0

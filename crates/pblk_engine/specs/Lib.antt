@@ -30,4 +30,5 @@ pub mod Waits
 pub mod Takes
 pub mod Settlings
 pub mod Ticks
+pub mod Alone
 pub mod Closed

@@ -1,5 +1,5 @@
 -- To what an engine comes that is worked off.
-use Rattle.std.specs.Prelude.{ℕ, ◌≡◌, ◌≤◌, ◌⊎◌, false, List, ◌++◌, length, max, Option, Some, None, Result, Ok, Err}
+use Rattle.std.specs.Prelude.{ℕ, ◌≡◌, ◌≤◌, ◌⊎◌, false, List, ◌++◌, length, max, Result, Ok, Err}
 use Rattle.pblk_model.specs.Image.{Image}
 use Rattle.pblk_world.specs.AtRest.{IsAtRest, IsWornFlush}
 use Rattle.pblk_world.specs.Events.{Logged}
@@ -15,7 +15,6 @@ use Rattle.pblk_engine.specs.Pumps.{IsFaultOf, NoFaults}
 use Rattle.pblk_engine.specs.Workers.{Made, WorkerView}
 use Rattle.pblk_engine.specs.declared.errors.SettleErr.{SettleErr}
 use Rattle.pblk_engine.specs.declared.errors.SettleErr.TheVariants as errors
-use Rattle.pblk_engine.specs.declared.outcomes.Did.{Did}
 
 -- By this log of the engine all that was claimed is taken: each position from the ring's first one
 -- to the front taken is in one claim of the pass or of the intake, and no other position is in any.
@@ -60,15 +59,3 @@ pub record HasSettled (i : Image) (key : Key) (handed : List ModelUnit) (pass : 
   pub more : List Made
   pub on : HasWorked old new more
   pub tells : TellsSettled i key handed pass new.known more result
-
--- The same of one look: where it did a piece of work, nothing else is told.
-abbrev pub TellsLook : Image → Key → List ModelUnit → Part → Prefixes → List Made → Result (Option Did) SettleErr → Type 0
-TellsLook i key handed pass known more (Ok None) = TellsSettled i key handed pass known more (Ok tt)
-TellsLook i key handed pass known more (Ok (Some did)) = NoFaults more
-TellsLook i key handed pass known more (Err e) = TellsSettled i key handed pass known more (Err e)
-
-pub record HasLooked (i : Image) (key : Key) (handed : List ModelUnit) (pass : Part) (old new : WorkerView)
-    (result : Result (Option Did) SettleErr) : Type 0 where
-  pub more : List Made
-  pub on : HasWorked old new more
-  pub tells : TellsLook i key handed pass new.known more result

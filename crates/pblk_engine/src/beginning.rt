@@ -16,6 +16,7 @@ use crate::heart::Heart;
 use crate::mount::Mount;
 use crate::places::ArmPlaces;
 use crate::settling::settle;
+use crate::shared::Shared;
 use chronicle::{Author, Chronicle};
 use numbered_locks::NumberedLocks;
 use pblk_core::Core;
@@ -99,11 +100,13 @@ impl<M: Mount, U: Unit> Engine<M, U> {
     {
         let heart = Heart::new(&chronicle, &ring, parts);
         Engine {
-            ring,
-            chronicle,
+            shared: Shared {
+                ring,
+                chronicle,
+                arms,
+            },
             heart: Mutex::new(heart),
             queue: AtomicU64::new(0),
-            arms,
         }
     }
 }

@@ -20,6 +20,7 @@ use crate::errors::FetchErr;
 use crate::heart::Heart;
 use crate::mount::Mount;
 use crate::outcomes::Did;
+use crate::shared::Shared;
 use crate::worker::Worker;
 use pblk_core::Work;
 use std::sync::{MutexGuard, Wait};
@@ -29,9 +30,9 @@ use unit_port::Unit;
 // they are, and to hand the lock on takes longer than to copy one.
 const RUN: u32 = 16;
 
-impl<M: Mount, U: Unit> Engine<M, U> {
+impl<M: Mount, U: Unit> Shared<M, U> {
     // Has the block of a sector fetched, which is copied next, into the heart's buffer.
-    fn fetch_copy<R: Wait>(
+    pub(crate) fn fetch_copy<R: Wait>(
         &self,
         rt: &R,
         heart: &mut Heart<M>,
@@ -55,7 +56,9 @@ impl<M: Mount, U: Unit> Engine<M, U> {
         self.arms.unlock(held, arm);
         fetched
     }
+}
 
+impl<M: Mount, U: Unit> Engine<M, U> {
     // Has the block of a sector fetched, puts its copy into the ring, and takes all that is filled
     // there. `Copied` comes exactly where the copy was taken: else its claim was refused, or an
     // entry before it isn't filled yet.
@@ -77,11 +80,11 @@ impl<M: Mount, U: Unit> Engine<M, U> {
         ensures copied { IfOk result (λ did. (did ≡ dids.Copied) ⊎ (did ≡ dids.NotCopied)) }
         ensures knows { result ≡ Ok dids.Copied → worker.new.known ≡ heart.new.author.known }
     {
-        self.fetch_copy(rt, heart, worker, of)?;
-        let Some(at) = heart.put_copy(&self.ring, of) else {
+        self.shared.fetch_copy(rt, heart, worker, of)?;
+        let Some(at) = heart.put_copy(&self.shared.ring, of) else {
             return Ok(Did::NotCopied);
         };
-        heart.take_filled(&self.chronicle, &self.ring);
+        heart.take_filled(&self.shared.chronicle, &self.shared.ring);
         self.tell(heart, worker);
         if at < heart.front().position {
             Ok(Did::Copied)
@@ -111,7 +114,7 @@ impl<M: Mount, U: Unit> Engine<M, U> {
         ensures some { (why : WhyOf) → result ≢ Ok (dids.Nothing why) }
         ensures knows { result ≡ Ok dids.Copied → worker.new.known ≡ heart.new.author.known }
     {
-        match heart.next_copy(&self.ring) {
+        match heart.next_copy(&self.shared.ring) {
             NextCopy::At(of) => self.copy_sector(rt, heart, worker, &of),
             NextCopy::Full => Ok(Did::NotCopied),
             NextCopy::Nothing => Ok(Did::Other),
@@ -145,7 +148,7 @@ impl<M: Mount, U: Unit> Engine<M, U> {
     ) -> Result<Did, FetchErr>
         ensures collected { HasCollectedRun M.handed worker.old worker.new result }
     {
-        heart.take_filled(&self.chronicle, &self.ring);
+        heart.take_filled(&self.shared.chronicle, &self.shared.ring);
         self.tell(heart, worker);
         for copied in 0..RUN {
             match self.collect_next(rt, heart, worker)? {

@@ -8,7 +8,7 @@ ghost use Rattle.chronicle.specs.Prefixes.{ArePrefixes, logs_of, longer_of};
 ghost use Rattle.write_window.specs.Window.{IsHeld};
 ghost use Rattle.pblk_core.specs.declared.work.Work.TheVariants as works;
 ghost use Rattle.pblk_engine.specs.Arms.{number_told};
-ghost use Rattle.pblk_engine.specs.Copying.{HasClaimed, IsFetched, WasRefused};
+ghost use Rattle.pblk_engine.specs.Copying.{HasClaimed, IsBegunNow, IsFetched, WasRefused};
 ghost use Rattle.pblk_engine.specs.Deeds.{HasDone};
 ghost use Rattle.pblk_engine.specs.Fetches.{TellsFetch};
 ghost use Rattle.pblk_engine.specs.Hearts.{IsRingOf};
@@ -78,6 +78,9 @@ impl<M: Mount> Heart<M> {
             ≤ self.new.intake.found.claimed }
         ensures reached { result ≢ answer.Nothing
             → self.old.intake.intake.taken ≤ self.new.intake.found.claimed }
+        ensures claimed_rises { self.old.intake.found.claimed ≤ self.new.intake.found.claimed }
+        ensures begun { (of : _) → result ≡ answer.At of
+            → IsBegunNow M.past.image (logs_of self.old.author.known) of.job }
     {
         let Some(job) = self.core.copy_ready() else {
             return NextCopy::Nothing;
@@ -89,6 +92,22 @@ impl<M: Mount> Heart<M> {
         }
         let (unit, block) = self.core.address(job.line, job.at);
         NextCopy::At(CopyPlace { job, unit, block })
+    }
+
+    /// Whether the ring has no room for one entry more: whether `claimed`, as it is loaded now, is
+    /// at the end of the ring's room.
+    pub(crate) fn is_full(&mut self, ring: &Ring) -> bool
+        requires ring { IsRingOf M.ring M.key ring.now }
+        ensures full { IsTrue result → self.old.intake.intake.freed + M.key.size
+            ≤ self.new.intake.found.claimed }
+        ensures same { self.new ≡ record self.old {
+          intake = record self.old.intake { found = self.new.intake.found };
+        } }
+        ensures reached { self.old.intake.intake.taken ≤ self.new.intake.found.claimed }
+        ensures claimed_rises { self.old.intake.found.claimed ≤ self.new.intake.found.claimed }
+    {
+        let claimed = ring.reached(&mut self.intake);
+        is_slot_held(&self.core, self.slots, claimed)
     }
 
     /// Fetches the block of the sector that is copied next into the heart's buffer. It needs both
@@ -155,6 +174,7 @@ impl<M: Mount> Heart<M> {
         ensures refused { result ≡ None → self.new ≡ record self.old {
           intake = record self.old.intake { found = self.new.intake.found };
         } }
+        ensures claimed_rises { self.old.intake.found.claimed ≤ self.new.intake.found.claimed }
         ensures why { result ≡ None → WasRefused M.key self.old.intake self.new.intake }
     {
         let source = Source {

@@ -62,6 +62,8 @@ impl<M: Mount> Heart<M> {
         ensures log { taken (logs_of self.old.author.known 0) ≤ result }
         ensures found { (pass_view pass.new).found.claimed ≡ result }
         ensures rises { (pass_view pass.old).found.claimed ≤ result }
+        ensures heart_found { self.new.intake.found.claimed ≡ result }
+        ensures heart_rises { self.old.intake.found.claimed ≤ result }
         ensures most { result ≤ 2 ^ 62 }
         ensures same { self.new ≡ record self.old { intake = self.new.intake } }
         ensures same_desk { self.new.intake.intake ≡ self.old.intake.intake }
@@ -197,11 +199,12 @@ fn end_pool(pool: Pool)
 }
 
 impl<M: Mount, U: Unit> Engine<M, U> {
-    /// Works the engine off by the first worker, as `settle` does, and ends it. Nobody goes on
-    /// after that. So at its end all that was claimed is on the drive, and collection isn't due or
-    /// the engine is at rest, or the answer tells why not. `Worn` comes where the engine is at rest
-    /// and can't bring all of it to the drive. `Drive` names the command that the first worker
-    /// lost.
+    /// Works the engine off by the first worker, as `settle` does, and ends it. Nobody else goes on
+    /// meanwhile, and nobody does after that. So at its end all that was claimed is on the drive,
+    /// and collection isn't due or the engine is at rest, or the answer tells why not. `Worn` comes
+    /// where the engine is at rest and can't bring all of it to the drive. `Drive` names the
+    /// command that the first worker lost. The pumps that it makes are as those of `settle`, and
+    /// the engine's log ends as they left it.
     ///
     /// The workers, with the first one, are all that the mount had but those that made no command,
     /// and `names` is the token that named them. The workers' vector has room for one more. The

@@ -3,13 +3,10 @@ ghost use Rattle.std.specs.Prelude.{◌≡◌};
 ghost use Rattle.pblk_engine.specs.Hearts.{IsRingOf};
 ghost use Rattle.chronicle.specs.Prefixes.{AreLegalLogs, ArePrefixes, logs_of};
 
-use crate::arm::Arm;
 use crate::heart::Heart;
 use crate::mount::Mount;
-use crate::places::ArmPlaces;
+use crate::shared::Shared;
 use crate::worker::Worker;
-use chronicle::Chronicle;
-use numbered_locks::NumberedLocks;
 use std::marker::Model;
 use std::sync::atomic::AtomicU64;
 use std::sync::atomic::Ordering::Relaxed;
@@ -23,34 +20,30 @@ use write_ring::Ring;
 /// lock of its own. Who holds both locks took the engine's first. A program and most fetches hold a
 /// unit's lock alone, so units work at the same time.
 pub struct Engine<M: Mount, U: Unit> {
-    pub(crate) ring: Ring,
-    pub(crate) chronicle: Chronicle,
+    pub(crate) shared: Shared<M, U>,
     pub(crate) heart: Mutex<Heart<M>>,
     // How many threads wait for the engine's lock.
     pub(crate) queue: AtomicU64,
-    pub(crate) arms: NumberedLocks<Arm<M, U>, ArmPlaces<M, U>>,
 }
 
-// Contracts see nothing of it: all that it shares is under locks.
+// Contracts see nothing of it: the heart is under its lock.
 impl<M: Mount, U: Unit> Model for Engine<M, U> {
-    ghost use Rattle.std.specs.Prelude.{◌≡◌};
-    ghost use Rattle.numbered_locks.specs.Handles.{places};
-    ghost use Rattle.pblk_model.specs.Shape.{units};
-    ghost use Rattle.pblk_engine.specs.Hearts.{IsRingOf};
-
     ghost Value = { Unit {0} };
 
     ghost view = { λ _. tt };
-
-    ghost invariant = { λ e. (e.chronicle ≡ M.chronicle) × IsRingOf M.ring M.key e.ring
-        × (places e.arms ≡ units M.past.image.shape) };
 }
 
-// How often a thread looks whether the engine's lock is free before it sleeps.
-const TURNS: u32 = 100;
+// How often a thread looks again whether the engine's lock is free before it counts as one that
+// waits, and how often from then on before it sleeps.
+const EARLY: u32 = 8;
 
-// How many loads there are between two such looks. They are a fraction of a microsecond.
-const LOADS: u32 = 400;
+const LATE: u32 = 40;
+
+// How many loads there are before the first of these looks, and before a later one at most. A
+// thousand are less than half a microsecond.
+const FEWEST: u32 = 200;
+
+const MOST: u32 = 3200;
 
 impl<M: Mount, U: Unit> Engine<M, U> {
     /// Takes the engine's lock. Most holds are shorter than the time in which a thread is put to
@@ -58,6 +51,9 @@ impl<M: Mount, U: Unit> Engine<M, U> {
     /// short pauses, before it sleeps.
     pub(crate) fn hold<R: Wait>(&self, rt: &R) -> MutexGuard<'_, Heart<M>> {
         if let Some(heart) = self.heart.try_lock() {
+            return heart;
+        }
+        if let Some(heart) = self.look_again(EARLY, FEWEST) {
             return heart;
         }
         self.queue.fetch_add(1, Relaxed);
@@ -68,18 +64,30 @@ impl<M: Mount, U: Unit> Engine<M, U> {
 
     // Waits for the engine's lock: first it looks again and again, and then it sleeps.
     fn wait<R: Wait>(&self, rt: &R) -> MutexGuard<'_, Heart<M>> {
-        for _ in 0..TURNS {
-            self.pause();
-            if let Some(heart) = self.heart.try_lock() {
-                return heart;
-            }
+        if let Some(heart) = self.look_again(LATE, MOST) {
+            return heart;
         }
         self.heart.lock(rt)
     }
 
+    // Takes the engine's lock if one of so many looks finds it free. The pause before the first is
+    // of so many loads, and each later one is twice as long, up to the most. A look takes the cache
+    // line of the lock from whoever has it, so looks that come too often make holds longer.
+    fn look_again(&self, looks: u32, loads: u32) -> Option<MutexGuard<'_, Heart<M>>> {
+        let mut loads = loads;
+        for _ in 0..looks {
+            self.pause(loads);
+            if let Some(heart) = self.heart.try_lock() {
+                return Some(heart);
+            }
+            loads = loads.saturating_mul(2).min(MOST);
+        }
+        None
+    }
+
     // Passes a little time. Each turn has a load, since a loop without one takes none.
-    fn pause(&self) {
-        for _ in 0..LOADS {
+    fn pause(&self, loads: u32) {
+        for _ in 0..loads {
             let _ = self.queue.load(Relaxed);
         }
     }
@@ -88,7 +96,7 @@ impl<M: Mount, U: Unit> Engine<M, U> {
     /// more was granted meanwhile. To wake a thread takes longer than most holds.
     pub(crate) fn release(&self, heart: MutexGuard<'_, Heart<M>>) {
         drop(heart);
-        self.ring.tell_grant();
+        self.shared.ring.tell_grant();
     }
 
     /// Whether a thread waits for the engine's lock now. Nothing is promised of the answer.
@@ -100,7 +108,7 @@ impl<M: Mount, U: Unit> Engine<M, U> {
     pub fn ring(&self) -> &Ring
         ensures ring { IsRingOf M.ring M.key result.now }
     {
-        &self.ring
+        &self.shared.ring
     }
 
     /// The heart learns what the worker knows, and then the worker knows all that the heart does.
@@ -115,9 +123,6 @@ impl<M: Mount, U: Unit> Engine<M, U> {
         ensures keeps { ArePrefixes worker.old.known worker.new.known }
         ensures legal { AreLegalLogs M.past.image heart.new.author.known }
     {
-        let known = worker.note(&self.chronicle);
-        heart.meet(&self.chronicle, known);
-        let told = heart.note(&self.chronicle);
-        worker.meet(&self.chronicle, told);
+        self.shared.tell(heart, worker);
     }
 }

@@ -1,6 +1,6 @@
 //! The author of the engine's log.
 
-ghost use Rattle.std.specs.Prelude.{◌≡◌, ◌<◌, ℕ, false, length, slice_get, Some};
+ghost use Rattle.std.specs.Prelude.{◌≡◌, ◌<◌, ◌^◌, ℕ, false, length, slice_get, Some};
 ghost use Rattle.std.specs.List.{Contains};
 ghost use mathlib.Core.List.{IsPrefix};
 ghost use Rattle.pblk_model.specs.Shape.{units};
@@ -113,6 +113,14 @@ impl EngineAuthor {
         ensures { result ≡ stop_count (logs_of self.now.known 0) unit }
     {
         self.stops[unit as usize]
+    }
+
+    /// How many units the drive has.
+    pub(crate) fn units(&self) -> u32
+        requires few { units self.now.past.image.shape < 2 ^ 32 }
+        ensures { result ≡ units self.now.past.image.shape }
+    {
+        self.stops.len() as u32
     }
 
     /// A note of all that the author knows, which is a legal world.

@@ -1,29 +1,50 @@
 //! What a look under the engine's lock gives.
 
-ghost use Rattle.std.specs.Prelude.{◌≡◌, ◌≢◌, ◌≤◌, ◌<◌, ◌^◌, ℕ, length, slice_get, Some, IfSome, IsSome};
+ghost use Rattle.std.specs.Prelude.{◌≡◌, ◌≢◌, ◌≤◌, ◌<◌, ◌^◌, ℕ, false, length, map, slice_get, Some, IfSome, IsSome};
 ghost use Rattle.pblk_model.specs.Bytes.{zeros};
+ghost use Rattle.pblk_model.specs.Shape.{units};
+ghost use Rattle.pblk_world.specs.EngineLog.{takes};
+ghost use Rattle.pblk_world.specs.Fronts.{taken};
 ghost use Rattle.pblk_world.specs.AtRest.{IsAtRest, IsCopyDue, logs_at};
 ghost use Rattle.pblk_world.specs.Orders.{AreReset};
-ghost use Rattle.pblk_world.specs.Reasons.{WasRoom};
-ghost use Rattle.pblk_world.specs.Space.{is_due, room};
-ghost use Rattle.chronicle.specs.Prefixes.{logs_of};
+ghost use Rattle.pblk_world.specs.Reasons.{HasReasons, WasRoom};
+ghost use Rattle.pblk_world.specs.Space.{freed, is_due, room};
+ghost use Rattle.chronicle.specs.Prefixes.{AreLegalLogs, logs_of};
 ghost use Rattle.core_laws.specs.SlotOf.{slot_of};
 ghost use Rattle.l2p_map.specs.declared.slot.Slot.TheVariants as slots;
+ghost use Rattle.pblk_core.specs.Landing.{IsUnderWayOn};
 ghost use Rattle.pblk_core.specs.Resets.{IsToReset};
+ghost use Rattle.pblk_core.specs.Stands.{IsStanding};
 ghost use Rattle.pblk_core.specs.declared.work.Why.{Why as WhyOf};
 ghost use Rattle.pblk_core.specs.declared.work.Why.TheVariants as whys;
 ghost use Rattle.pblk_core.specs.declared.work.Work.TheVariants as works;
 ghost use Rattle.step_laws.specs.SlotBlocks.{IsBlockOfSlot};
-ghost use Rattle.pblk_engine.specs.Hearts.{IsRingOf};
+ghost use Rattle.pblk_engine.specs.Alone.{IsCopyAlone, at_look};
+ghost use Rattle.pblk_engine.specs.Hearts.{IsRingOf, ring_row};
 ghost use Rattle.pblk_engine.specs.Looks.{front_synced, front_taken, latest_by};
 ghost use Rattle.pblk_engine.specs.Pumps.{IsBusy};
 
 use crate::heart::Heart;
 use crate::mount::Mount;
 use l2p_map::Slot;
-use pblk_core::Work;
+use pblk_core::{Core, Work};
 use pblk_model::Front;
 use write_ring::Ring;
+
+// Whether the program of a stripe is under way on one of the drive's units, of which there are so
+// many.
+fn is_any_under_way(core: &Core, count: u32) -> bool
+    requires standing { IsStanding core.now }
+    requires count { count ≡ units core.now.layout }
+    ensures { result ≡ false → (unit : ℕ) → unit < count → ¬ IsUnderWayOn core.now unit }
+{
+    for unit in 0..count {
+        if core.is_under_way(unit) {
+            return true;
+        }
+    }
+    false
+}
 
 impl<M: Mount> Heart<M> {
     /// What comes next. Where that is nothing, and nothing is in flight, the target is at rest for
@@ -46,6 +67,33 @@ impl<M: Mount> Heart<M> {
             → ¬ IsCopyDue M.past.image (logs_of self.now.author.known) }
     {
         self.core.next_work()
+    }
+
+    /// Whether a unit has the program of a stripe under way. Where none has and the next work is a
+    /// copy, the copy is all that can be done.
+    pub(crate) fn has_stripe_under_way(&self) -> bool
+        ensures none { result ≡ false → self.now.work ≡ works.Copy
+            → IsCopyAlone M.past.image (at_look self.now.author.known) }
+    {
+        let count = self.author.units();
+        is_any_under_way(&self.core, count)
+    }
+
+    /// What the heart stands for, by the logs that it knows: what the ring has taken and freed.
+    /// These are a legal world, and the engine did all of its work for a reason.
+    pub(crate) fn stands(&self)
+        ensures took { self.now.intake.intake.took
+            ≡ map ring_row (takes (logs_of self.now.author.known 0)) }
+        ensures taken { self.now.intake.intake.taken ≡ taken (logs_of self.now.author.known 0) }
+        ensures first { M.key.first ≤ self.now.intake.intake.taken }
+        ensures freed { self.now.intake.intake.freed
+            ≡ freed M.past.image.shape (logs_of self.now.author.known 0) }
+        ensures size { M.key.size ≡ M.past.image.shape.ring }
+        ensures legal { AreLegalLogs M.past.image self.now.author.known }
+        ensures reasons { HasReasons M.past.image (logs_of self.now.author.known) }
+        ensures begun { 0 < length (logs_of self.now.author.known 0) }
+    {
+        let _ = &self.slots;
     }
 
     /// The front taken: all that was taken so far.

@@ -25,16 +25,17 @@ use crate::errors::DriveErr;
 use crate::heart::Heart;
 use crate::mount::Mount;
 use crate::outcomes::Did;
+use crate::shared::Shared;
 use crate::worker::Worker;
 use chronicle::Note;
 use crossbeam_utils::Backoff;
 use std::sync::{MutexGuard, Wait};
 use unit_port::Unit;
 
-impl<M: Mount, U: Unit> Engine<M, U> {
+impl<M: Mount, U: Unit> Shared<M, U> {
     // Places the stripe that the core names, and fills the worker's with it. Tells how many stops
     // of its unit's programs the engine had noted.
-    fn place_stripe(&self, heart: &mut Heart<M>, worker: &mut Worker<M>) -> (Note, u64)
+    pub(crate) fn place_stripe(&self, heart: &mut Heart<M>, worker: &mut Worker<M>) -> (Note, u64)
         requires named { heart.old.work ≡ works.Program }
         requires known { worker.old.known ≡ heart.old.author.known }
         ensures note { IsNoteOf M.chronicle M.past result.0 }
@@ -47,13 +48,15 @@ impl<M: Mount, U: Unit> Engine<M, U> {
             ≤ stop_count (logs_of result.0.known 0) worker.new.stripe.stripe.unit }
         ensures worker { let old = worker.old in worker.new
             ≡ record old { stripe = worker.new.stripe } }
+        ensures same_pass { heart.new.intake.pass ≡ heart.old.intake.pass }
+        ensures same_taken { heart.new.intake.intake.taken ≡ heart.old.intake.intake.taken }
     {
         let stops = heart.place(&self.chronicle, &self.ring, &mut worker.stripe);
         (heart.note(&self.chronicle), stops)
     }
 
     // Has the worker's stripe programmed, unless it has to wait.
-    fn try_program<R: Wait>(
+    pub(crate) fn try_program<R: Wait>(
         &self,
         rt: &R,
         note: Note,
@@ -77,7 +80,7 @@ impl<M: Mount, U: Unit> Engine<M, U> {
 
     // Has the worker's stripe programmed at its turn. Tells how that ended, and the number of the
     // event in the unit's log, from 1.
-    fn program_stripe<R: Wait>(
+    pub(crate) fn program_stripe<R: Wait>(
         &self,
         rt: &R,
         note: Note,
@@ -110,6 +113,39 @@ impl<M: Mount, U: Unit> Engine<M, U> {
         unreachable!()
     }
 
+    // Tells the heart how the program of the worker's stripe ended. The worker knows all that the
+    // heart does then.
+    pub(crate) fn answer_stripe(
+        &self,
+        heart: &mut Heart<M>,
+        note: Note,
+        worker: &mut Worker<M>,
+        how: Ended,
+        stops: u64,
+    )
+        requires note { IsNoteOf M.chronicle M.past note }
+        requires last { IsLastProgram note.known worker.old.stripe how stops }
+        ensures worker { let old = worker.old in worker.new
+            ≡ record old { known = worker.new.known } }
+        ensures keeps { ArePrefixes worker.old.known worker.new.known }
+        ensures learns { ArePrefixes note.known worker.new.known }
+        ensures knows { worker.new.known ≡ heart.new.author.known }
+        ensures same_pass { heart.new.intake.pass ≡ heart.old.intake.pass }
+        ensures same_taken { heart.new.intake.intake.taken ≡ heart.old.intake.intake.taken }
+    {
+        heart.answer(
+            &self.chronicle,
+            &self.ring,
+            note,
+            worker.stripe(),
+            how,
+            stops,
+        );
+        self.tell(heart, worker);
+    }
+}
+
+impl<M: Mount, U: Unit> Engine<M, U> {
     // Tells the engine how the program of the worker's stripe ended. The worker knows all that the
     // heart does then.
     fn answer_program<R: Wait>(
@@ -128,15 +164,8 @@ impl<M: Mount, U: Unit> Engine<M, U> {
         ensures learns { ArePrefixes note.known worker.new.known }
     {
         let mut heart = self.hold(rt);
-        heart.answer(
-            &self.chronicle,
-            &self.ring,
-            note,
-            worker.stripe(),
-            how,
-            stops,
-        );
-        self.tell(&mut heart, worker);
+        self.shared
+            .answer_stripe(&mut heart, note, worker, how, stops);
         self.release(heart);
     }
 
@@ -157,9 +186,9 @@ impl<M: Mount, U: Unit> Engine<M, U> {
         ensures worked { IfOk result IsOfWorker }
         ensures some { (why : WhyOf) → result ≢ Ok (dids.Nothing why) }
     {
-        let (note, stops) = self.place_stripe(&mut heart, worker);
+        let (note, stops) = self.shared.place_stripe(&mut heart, worker);
         self.release(heart);
-        let (note, how, event) = self.program_stripe(rt, note, worker, stops);
+        let (note, how, event) = self.shared.program_stripe(rt, note, worker, stops);
         self.answer_program(rt, note, worker, how, stops);
         let unit = worker.stripe().unit();
         match how {

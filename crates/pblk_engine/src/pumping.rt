@@ -52,7 +52,7 @@ impl<M: Mount, U: Unit> Engine<M, U> {
     {
         let mut heart = self.hold(rt);
         let beating = &mut *heart;
-        beating.take_filled(&self.chronicle, &self.ring);
+        beating.take_filled(&self.shared.chronicle, &self.shared.ring);
         self.tell(beating, worker);
         let work = beating.next_work();
         self.pump_held(rt, heart, work, worker, role)
@@ -91,8 +91,10 @@ impl<M: Mount, U: Unit> Engine<M, U> {
             )?),
             (Role::Lane, Work::Copy) => Ok(Did::Other),
             (_, Work::Program) => self.program(rt, heart, worker),
-            (_, Work::Open) => Ok(self.open_line(heart, worker)),
-            (_, Work::Reset { line, unit }) => self.reset(rt, heart, worker, line, unit),
+            (_, Work::Open) => Ok(self.shared.open_line(&mut heart, worker)),
+            (_, Work::Reset { line, unit }) => {
+                self.shared.reset(rt, &mut heart, worker, line, unit)
+            }
         }
     }
 }

@@ -36,7 +36,7 @@ impl<M: Mount, U: Unit> Engine<M, U> {
     {
         let mut heart = self.hold(rt);
         let beating = &mut *heart;
-        beating.take_filled(&self.chronicle, &self.ring);
+        beating.take_filled(&self.shared.chronicle, &self.shared.ring);
         if beating.front().position < seen {
             return false;
         }
@@ -92,9 +92,9 @@ impl<M: Mount, U: Unit> Engine<M, U> {
             → IsLatest M.past.image (logs_of looked) place.sought.lba out.new }
         ensures size { length out.new ≡ length out.old }
     {
-        let (held, mut arm) = self.arms.lock(rt, place.unit);
-        let fetched = arm.fetch_marked(&self.chronicle, worker, place.sought, out);
-        self.arms.unlock(held, arm);
+        let (held, mut arm) = self.shared.arms.lock(rt, place.unit);
+        let fetched = arm.fetch_marked(&self.shared.chronicle, worker, place.sought, out);
+        self.shared.arms.unlock(held, arm);
         match fetched {
             Ok(is_it) => Ok(is_it),
             Err(event) => Err(DriveErr {
@@ -161,9 +161,9 @@ impl<M: Mount, U: Unit> Engine<M, U> {
             place.sought.lba out.new }
         ensures size { length out.new ≡ length out.old }
     {
-        let (held, mut arm) = self.arms.lock(rt, place.unit);
-        let fetched = heart.fetch_looked(&self.chronicle, &mut arm, worker, place, out);
-        self.arms.unlock(held, arm);
+        let (held, mut arm) = self.shared.arms.lock(rt, place.unit);
+        let fetched = heart.fetch_looked(&self.shared.chronicle, &mut arm, worker, place, out);
+        self.shared.arms.unlock(held, arm);
         Ok(fetched?)
     }
 
@@ -214,7 +214,7 @@ impl<M: Mount, U: Unit> Engine<M, U> {
     {
         let mut heart = self.hold(rt);
         let beating = &mut *heart;
-        beating.take_filled(&self.chronicle, &self.ring);
+        beating.take_filled(&self.shared.chronicle, &self.shared.ring);
         self.tell(beating, worker);
         let mut look = RunLook::empty();
         beating.look_all(lba, out, &mut look);

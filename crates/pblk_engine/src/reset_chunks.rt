@@ -85,6 +85,8 @@ fn take_reset<M: Mount, U: Unit>(
     ensures learns { ArePrefixes unit.now.known heart.new.author.known }
     ensures worked { answer ≢ Err UnitErr.Stopped
         → HasWorkSince heart.old.author.known heart.new.author.known }
+    ensures same_pass { heart.new.intake.pass ≡ heart.old.intake.pass }
+    ensures same_taken { heart.new.intake.intake.taken ≡ heart.old.intake.intake.taken }
 {
     if was_stopped(answer) {
         // the engine still has the chunk as one that is to be reset
@@ -132,6 +134,8 @@ pub(crate) fn reset_chunk<M: Mount, U: Unit>(
     ensures learns { ArePrefixes heart.old.author.known worker.new.known }
     ensures worked { IsOk result.1
         → HasWorkSince heart.old.author.known worker.new.known }
+    ensures same_pass { heart.new.intake.pass ≡ heart.old.intake.pass }
+    ensures same_taken { heart.new.intake.intake.taken ≡ heart.old.intake.intake.taken }
 {
     let mut arm = arm;
     let note = meet_both(chronicle, heart, &mut arm, worker);

@@ -4,7 +4,7 @@ ghost use Rattle.std.specs.Prelude.{◌≡◌, ◌+◌, ◌<◌};
 use std::marker::Model;
 use std::sync::ledger::{Blank, Book, Ledger, Share};
 
-/// A count of pumps. One step is one pump, also one that found nothing to do.
+/// A count of pumps. One step is one pump, whatever it answers.
 #[derive(Drop)]
 pub struct Steps<L: Ledger> {
     book: Book<L>,

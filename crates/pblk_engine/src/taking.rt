@@ -1,6 +1,6 @@
 //! Entries that are taken from the write ring.
 
-ghost use Rattle.std.specs.Prelude.{◌≡◌, ◌≤◌, ◌<◌, ◌+◌, ◌^◌, ℕ, true, None, Some, map, slice_index};
+ghost use Rattle.std.specs.Prelude.{◌≡◌, ◌≤◌, ◌<◌, ◌+◌, ◌^◌, ℕ, true, None, Some, length, map, slice_index};
 ghost use mathlib.Core.List.{IsPrefix};
 ghost use Rattle.pblk_world.specs.EngineLog.{takes};
 ghost use Rattle.pblk_world.specs.Events.{Decides, Take};
@@ -8,10 +8,12 @@ ghost use Rattle.pblk_world.specs.Fronts.{taken};
 ghost use Rattle.pblk_world.specs.Orders.{NoneToFree};
 ghost use Rattle.chronicle.specs.Prefixes.{AreLegalLogs, logs_of};
 ghost use Rattle.write_ring.specs.Handles.{IsIntakeOf};
+ghost use Rattle.write_ring.specs.Stock.{HasPut};
+ghost use Rattle.write_ring.specs.declared.view.Row.{Row};
 ghost use Rattle.pblk_core.specs.Taken.{entry_of, mark_of};
 ghost use Rattle.pblk_engine.specs.Asks.{IsRaisedByVictims};
 ghost use Rattle.pblk_engine.specs.Hearts.{HasDecided, IsBeating, IsRingOf, IsSettled, parts, ring_row};
-ghost use Rattle.pblk_engine.specs.Takes.{TakesOn};
+ghost use Rattle.pblk_engine.specs.Takes.{HasTakenRow, TakesOn};
 ghost use Rattle.pblk_engine.specs.WorkSince.{HasWorkSince};
 ghost use Rattle.pblk_engine.specs.declared.taking.Filled.TheVariants as filled;
 
@@ -164,7 +166,8 @@ fn take_and_settle(
 
 impl<M: Mount> Heart<M> {
     /// Takes each entry that is filled, in the order of their positions, up to the first position
-    /// that isn't filled. Where none is filled nothing else is done.
+    /// that isn't filled. Where none is filled nothing else is done. A copy that the heart put at a
+    /// position that was taken is the entry that was taken there.
     pub(crate) fn take_filled(&mut self, chronicle: &Chronicle, ring: &Ring) -> Filled
         requires of { chronicle.now ≡ M.chronicle }
         requires ring { IsRingOf M.ring M.key ring.now }
@@ -174,10 +177,16 @@ impl<M: Mount> Heart<M> {
         ensures gap { (at : ℕ) → result ≡ filled.Gap at → (at ≡ self.new.intake.intake.taken)
             × (at < self.new.intake.found.claimed) }
         ensures took { IsPrefix self.old.intake.intake.took self.new.intake.intake.took }
+        ensures as_put { (r : Row) → HasPut r self.new.intake.pass
+            → self.old.intake.intake.taken ≤ r.position
+            → r.position < self.new.intake.intake.taken
+            → HasTakenRow self.old.intake self.new.intake r }
         ensures takes { self.new.intake.intake.took
             ≡ map ring_row (takes (logs_of self.new.author.known 0)) }
         ensures taken { self.new.intake.intake.taken ≡ taken (logs_of self.new.author.known 0) }
         ensures rises { self.old.intake.intake.taken ≤ self.new.intake.intake.taken }
+        ensures count { length self.new.intake.intake.took + self.old.intake.intake.taken
+            ≡ length self.old.intake.intake.took + self.new.intake.intake.taken }
         ensures claimed { self.old.intake.found.claimed ≤ self.new.intake.found.claimed }
         ensures worked { self.old.intake.intake.taken < self.new.intake.intake.taken
             → HasWorkSince self.old.author.known self.new.author.known }

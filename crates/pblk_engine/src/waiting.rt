@@ -51,7 +51,7 @@ impl<M: Mount, U: Unit> Engine<M, U> {
     {
         let mut heart = self.hold(rt);
         let beating = &mut *heart;
-        let filled = beating.take_filled(&self.chronicle, &self.ring);
+        let filled = beating.take_filled(&self.shared.chronicle, &self.shared.ring);
         self.tell(beating, worker);
         beating.ask_pad(worker, position);
         let synced = beating.synced();
@@ -90,9 +90,9 @@ impl<M: Mount, U: Unit> Engine<M, U> {
     {
         let mut heart = self.hold(rt);
         let beating = &mut *heart;
-        let filled = beating.take_filled(&self.chronicle, &self.ring);
+        let filled = beating.take_filled(&self.shared.chronicle, &self.shared.ring);
         self.tell(beating, worker);
-        let granted = beating.granted(&self.ring);
+        let granted = beating.granted(&self.shared.ring);
         if wanted <= granted {
             return Ok(Roomed::There);
         }
@@ -120,9 +120,9 @@ impl<M: Mount, U: Unit> Engine<M, U> {
         ensures same_worker { worker.new ≡ worker.old }
     {
         let mut heart = self.hold(rt);
-        let known = worker.note(&self.chronicle);
-        heart.meet(&self.chronicle, known);
-        heart.all_claimed(&self.ring, pass)
+        let known = worker.note(&self.shared.chronicle);
+        heart.meet(&self.shared.chronicle, known);
+        heart.all_claimed(&self.shared.ring, pass)
     }
 }
 

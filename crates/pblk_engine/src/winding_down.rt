@@ -1,20 +1,23 @@
 //! How an engine is worked off, before it is closed.
-ghost use Rattle.std.specs.Prelude.{◌≡◌, ◌≢◌, ◌<◌, ◌≤◌, ◌⊎◌, ℕ, length, true};
+ghost use Rattle.std.specs.Prelude.{◌≡◌, ◌≢◌, ◌<◌, ◌≤◌, ◌⊎◌, [], Err, ℕ, length, true};
 ghost use Rattle.pblk_world.specs.AtRest.{IsAtRest};
 ghost use Rattle.chronicle.specs.Prefixes.{logs_of};
 ghost use Rattle.pblk_core.specs.declared.work.Why.{Why as WhyOf};
 ghost use Rattle.pblk_core.specs.declared.work.Why.TheVariants as whys;
+ghost use Rattle.pblk_core.specs.declared.work.Work.{Work as WorkOf};
 ghost use Rattle.pblk_core.specs.declared.work.Work.TheVariants as works;
 ghost use Rattle.write_ring.specs.Handles.{AreAllClaims, pass_view};
+ghost use Rattle.pblk_engine.specs.Alone.{CanBeDone, HasSettledAlone};
+ghost use Rattle.pblk_engine.specs.Closed.{HasWorkedOff};
 ghost use Rattle.pblk_engine.specs.Endings.{IsPassIn};
-ghost use Rattle.pblk_engine.specs.Settlings.{HasLooked, HasSettled, IsWorkedOff, IsWornAt};
-ghost use Rattle.pblk_engine.specs.Closed.{HasWorkedOff, answer_of};
-ghost use Rattle.pblk_engine.specs.Ticks.{HasTicked, TicksAt, pumped_at};
+ghost use Rattle.pblk_engine.specs.Settlings.{HasSettled, HasWorked, IsWorkedOff, IsWornAt};
+ghost use Rattle.pblk_engine.specs.Settlings.{TellsSettled};
 ghost use Rattle.pblk_engine.specs.Hearts.{IsRingOf};
 ghost use Rattle.pblk_world.specs.Fronts.{synced, taken};
 ghost use Rattle.pblk_world.specs.Space.{is_due};
 ghost use Rattle.numbered_locks.specs.Handles.{places};
 ghost use Rattle.pblk_model.specs.Shape.{units as units_of};
+ghost use Rattle.pblk_engine.specs.declared.winding_down.Look.TheVariants as looks;
 ghost use Rattle.pblk_engine.specs.declared.winding_down.Settlement.TheVariants as settlements;
 
 use crate::arm::Arm;
@@ -22,97 +25,19 @@ use crate::engine::Engine;
 use crate::errors::SettleErr;
 use crate::heart::Heart;
 use crate::mount::Mount;
-use crate::outcomes::{Did, Role};
 use crate::places::ArmPlaces;
+use crate::shared::Shared;
 use crate::steps::Steps;
 use crate::waiting::is_stuck;
 use crate::worker::Worker;
 use chronicle::Chronicle;
 use crossbeam_utils::Backoff;
 use numbered_locks::NumberedLocks;
-use pblk_core::{Why, Work};
+use pblk_core::Work;
 use std::sync::ledger::{Blank, Ledger};
 use std::sync::{Mutex, Wait};
 use unit_port::Unit;
 use write_ring::{Pass, Ring};
-
-impl<M: Mount, U: Unit> Engine<M, U> {
-    /// Works until all that was claimed is on the drive, and collection isn't due or the engine is
-    /// at rest. The pass has all shares of the ring but the intake's, so nobody else claims for
-    /// users any more. It asks for pads up to what is claimed, unless a sector is to be copied
-    /// first.
-    ///
-    /// `Worn` comes instead where all that was claimed is taken and asked for, not all of it is on
-    /// the drive, and there is nothing to do and nothing in flight: then the engine's log is at
-    /// rest at the length that the worker knows. `Drive` names the command that was lost.
-    ///
-    /// It counts one step for each pump that it makes, also for one that found nothing to do since
-    /// another worker has to come on first. A look that makes no pump counts nothing. What other
-    /// workers do meanwhile isn't counted.
-    pub fn settle<R: Wait, L: Ledger>(
-        &self,
-        rt: &R,
-        worker: &mut Worker<M>,
-        pass: &mut Pass,
-        steps: &mut Steps<L>,
-    ) -> Result<(), SettleErr>
-        requires pass_of { IsPassIn M.ring M.key pass.old }
-        requires shares { (pass_view pass.old).pass.shares ≡ 127 }
-        ensures pass_of { IsPassIn M.ring M.key pass.new }
-        ensures same_pass { (pass_view pass.new).pass ≡ (pass_view pass.old).pass }
-        ensures settled { HasSettled M.past.image M.key M.handed (pass_view pass.old).pass
-            worker.old worker.new result }
-        ensures ticks { HasTicked M.past.image M.handed worker.old worker.new steps.old steps.new }
-    {
-        let backoff = Backoff::new();
-        for _ in rt.forever() {
-            match self.settle_once(rt, worker, pass, steps)? {
-                None => return Ok(()),
-                // another worker has to come on first
-                Some(Did::NotCopied | Did::Nothing(Why::Busy)) => backoff.snooze(),
-                Some(_) => backoff.reset(),
-            }
-        }
-        unreachable!()
-    }
-
-    // Looks once, and does one piece of work where that isn't so. `None` comes where it is.
-    fn settle_once<R: Wait, L: Ledger>(
-        &self,
-        rt: &R,
-        worker: &mut Worker<M>,
-        pass: &mut Pass,
-        steps: &mut Steps<L>,
-    ) -> Result<Option<Did>, SettleErr>
-        requires pass_of { IsPassIn M.ring M.key pass.old }
-        requires shares { (pass_view pass.old).pass.shares ≡ 127 }
-        ensures pass_of { IsPassIn M.ring M.key pass.new }
-        ensures same_pass { (pass_view pass.new).pass ≡ (pass_view pass.old).pass }
-        ensures looked { HasLooked M.past.image M.key M.handed (pass_view pass.old).pass
-            worker.old worker.new result }
-        ensures ticks { TicksAt M.past.image M.handed worker.old worker.new steps.old steps.new
-            (pumped_at result) }
-    {
-        let mut heart = self.hold(rt);
-        heart.take_filled(&self.chronicle, &self.ring);
-        let claimed = heart.all_claimed(&self.ring, pass);
-        self.tell(&mut heart, worker);
-        heart.ask_pad(worker, claimed);
-        let work = heart.next_work();
-        match heart.settlement(work, claimed) {
-            Settlement::Settled => Ok(None),
-            Settlement::Worn { have } => Err(SettleErr::Worn {
-                wanted: claimed,
-                have,
-            }),
-            Settlement::Behind => {
-                steps.tick();
-                let did = self.pump_held(rt, heart, work, worker, Role::All)?;
-                Ok(Some(did))
-            }
-        }
-    }
-}
 
 // How far an engine is that is to be worked off.
 #[derive(Clone, Copy, Debug, PartialEq, Eq)]
@@ -123,6 +48,19 @@ enum Settlement {
     Worn { have: u64 },
     // There is more to do, or something is in flight.
     Behind,
+}
+
+// What a look of a settling finds.
+#[derive(Clone, Copy, Debug, PartialEq, Eq)]
+enum Look {
+    // All that was claimed is on the drive, and collection isn't due or the engine is at rest.
+    Settled,
+    // The engine is at rest, and the positions from `have` to `wanted` aren't on the drive.
+    Worn { wanted: u64, have: u64 },
+    // Nothing can be done yet, as where a stripe is under way: it is to look again.
+    Waits,
+    // This can be done.
+    Work(Work),
 }
 
 impl<M: Mount> Heart<M> {
@@ -156,62 +94,110 @@ impl<M: Mount> Heart<M> {
         }
         Settlement::Behind
     }
-}
-
-// Takes all that was claimed, and tells how far the engine is then. Nobody else has the heart, so
-// that stays so.
-fn finish<M: Mount, R: Wait>(
-    rt: &R,
-    chronicle: &Chronicle,
-    ring: &Ring,
-    heart: &mut Heart<M>,
-    pass: &mut Pass,
-) -> Settlement
-    requires of { chronicle.now ≡ M.chronicle }
-    requires ring { IsRingOf M.ring M.key ring.now }
-    requires pass_of { IsPassIn M.ring M.key pass.old }
-    requires shares { (pass_view pass.old).pass.shares ≡ 127 }
-    ensures pass_of { IsPassIn M.ring M.key pass.new }
-    ensures same_pass { (pass_view pass.new).pass ≡ (pass_view pass.old).pass }
-    ensures all { AreAllClaims M.key.first (taken (logs_of heart.new.author.known 0))
-        (pass_view pass.old).pass heart.new.intake.pass }
-    ensures settled { result ≡ settlements.Settled
-        → IsWorkedOff M.past.image (logs_of heart.new.author.known)
-        (taken (logs_of heart.new.author.known 0)) }
-    ensures worn { (have : ℕ) → result ≡ settlements.Worn have
-        → IsWornAt M.past.image (logs_of heart.new.author.known)
-        (taken (logs_of heart.new.author.known 0)) have }
-{
-    for _ in rt.forever() {
-        heart.take_filled(chronicle, ring);
-        let claimed = heart.all_claimed(ring, pass);
-        if heart.front().position == claimed {
-            let work = heart.next_work();
-            return heart.settlement(work, claimed);
+    // What a look finds, where so much was claimed.
+    fn found(&self, claimed: u64) -> Look
+        ensures settled { result ≡ looks.Settled
+            → IsWorkedOff M.past.image (logs_of self.now.author.known) claimed }
+        ensures worn { (wanted have : ℕ) → result ≡ looks.Worn wanted have → (wanted ≡ claimed)
+            × IsWornAt M.past.image (logs_of self.now.author.known) claimed have }
+        ensures work { (work : WorkOf) → result ≡ looks.Work work → (work ≡ self.now.work)
+            × CanBeDone M.past.image self.now.author.known work }
+    {
+        let work = self.next_work();
+        match self.settlement(work, claimed) {
+            Settlement::Settled => Look::Settled,
+            Settlement::Worn { have } => Look::Worn {
+                wanted: claimed,
+                have,
+            },
+            Settlement::Behind => match work {
+                Work::Nothing(_) => Look::Waits,
+                Work::Copy => {
+                    if self.has_stripe_under_way() {
+                        Look::Waits
+                    } else {
+                        Look::Work(work)
+                    }
+                }
+                _ => Look::Work(work),
+            },
         }
     }
-    unreachable!()
 }
 
-// What a close answers, by what settling told, by how far the engine is then, and by its front
-// taken. `None` comes where there is more to do.
-fn answer(
-    settled: Result<(), SettleErr>,
-    settlement: Settlement,
-    front: u64,
-) -> Option<Result<(), SettleErr>>
-    ensures { result ≡ answer_of settled settlement front }
-{
-    match settled {
-        Err(SettleErr::Drive { unit, event }) => Some(Err(SettleErr::Drive { unit, event })),
-        Err(SettleErr::Worn { wanted: _, have: _ }) | Ok(()) => match settlement {
-            Settlement::Settled => Some(Ok(())),
-            Settlement::Worn { have } => Some(Err(SettleErr::Worn {
-                wanted: front,
-                have,
-            })),
-            Settlement::Behind => None,
-        },
+impl<M: Mount, U: Unit> Shared<M, U> {
+    // Takes all that was claimed, and asks for pads up to there, unless a sector is to be copied
+    // first. Tells how far the engine is then, or what is to be done next.
+    fn look_alone<R: Wait>(
+        &self,
+        rt: &R,
+        heart: &mut Heart<M>,
+        worker: &mut Worker<M>,
+        pass: &mut Pass,
+    ) -> Look
+        requires pass_of { IsPassIn M.ring M.key pass.old }
+        requires shares { (pass_view pass.old).pass.shares ≡ 127 }
+        ensures pass_of { IsPassIn M.ring M.key pass.new }
+        ensures same_pass { (pass_view pass.new).pass ≡ (pass_view pass.old).pass }
+        ensures worked { HasWorked worker.old worker.new [] }
+        ensures knows { worker.new.known ≡ heart.new.author.known }
+        ensures claims { AreAllClaims M.key.first heart.new.intake.intake.taken
+            (pass_view pass.old).pass heart.new.intake.pass }
+        ensures log { AreAllClaims M.key.first heart.old.intake.intake.taken
+            (pass_view pass.old).pass heart.old.intake.pass
+            → logs_of heart.new.author.known 0 ≡ logs_of heart.old.author.known 0 }
+        ensures settled { result ≡ looks.Settled → TellsSettled M.past.image M.key M.handed
+            (pass_view pass.old).pass worker.new.known [] (Ok tt) }
+        ensures worn { (wanted have : ℕ) → result ≡ looks.Worn wanted have
+            → TellsSettled M.past.image M.key M.handed (pass_view pass.old).pass worker.new.known
+            [] (Err (SettleErr.Worn wanted have)) }
+        ensures work { (work : WorkOf) → result ≡ looks.Work work → (work ≡ heart.new.work)
+            × CanBeDone M.past.image worker.new.known work }
+    {
+        heart.stands();
+        let claimed = self.take_claimed(rt, heart, pass);
+        self.tell(heart, worker);
+        heart.stands();
+        heart.ask_pad(worker, claimed);
+        heart.found(claimed)
+    }
+
+    /// Works by a worker that has the heart to itself, until all that was claimed is on the drive,
+    /// and collection isn't due or the engine is at rest. See [`Engine::settle`].
+    pub(crate) fn settle<R: Wait, L: Ledger>(
+        &self,
+        rt: &R,
+        heart: &mut Heart<M>,
+        worker: &mut Worker<M>,
+        pass: &mut Pass,
+        steps: &mut Steps<L>,
+    ) -> Result<(), SettleErr>
+        requires pass_of { IsPassIn M.ring M.key pass.old }
+        requires shares { (pass_view pass.old).pass.shares ≡ 127 }
+        ensures pass_of { IsPassIn M.ring M.key pass.new }
+        ensures same_pass { (pass_view pass.new).pass ≡ (pass_view pass.old).pass }
+        ensures settled { HasSettled M.past.image M.key M.handed (pass_view pass.old).pass
+            worker.old worker.new result }
+        ensures ticks { HasSettledAlone M.past.image M.handed worker.old worker.new
+            steps.old steps.new }
+        ensures knows { worker.new.known ≡ heart.new.author.known }
+        ensures claims { AreAllClaims M.key.first heart.new.intake.intake.taken
+            (pass_view pass.old).pass heart.new.intake.pass }
+    {
+        let backoff = Backoff::new();
+        for _ in rt.forever() {
+            match self.look_alone(rt, heart, worker, pass) {
+                Look::Settled => return Ok(()),
+                Look::Worn { wanted, have } => return Err(SettleErr::Worn { wanted, have }),
+                Look::Waits => backoff.snooze(),
+                Look::Work(work) => {
+                    steps.tick();
+                    self.pump_alone(rt, heart, work, worker, pass)?;
+                    backoff.reset();
+                }
+            }
+        }
+        unreachable!()
     }
 }
 
@@ -224,8 +210,51 @@ pub(crate) struct Apart<M: Mount, U: Unit> {
 }
 
 impl<M: Mount, U: Unit> Engine<M, U> {
-    // Settles it, and takes it apart. Where others have gone on since, it is put together and
-    // settled again.
+    /// Works until all that was claimed is on the drive, and collection isn't due or the engine is
+    /// at rest, and gives the engine back. Nobody else goes on meanwhile. The pass has all shares
+    /// of the ring but the intake's, so nobody else claims any more, and no lock is held. It asks
+    /// for pads up to what is claimed, unless a sector is to be copied first.
+    ///
+    /// `Worn` comes instead where all that was claimed is taken and asked for, not all of it is on
+    /// the drive, and there is nothing to do and nothing in flight: then the engine's log is at
+    /// rest at the length that the worker knows. `Drive` names the command that was lost.
+    ///
+    /// It counts one step for each pump that it makes. Each pump does a piece of work, unless the
+    /// ring has no room for a copy, or a command was lost: that pump is the last. It makes none at
+    /// a look that finds nothing to do, or a copy while a stripe is under way: then it looks again.
+    /// Before each look it waits until all that was claimed is filled.
+    pub fn settle<R: Wait, L: Ledger>(
+        self,
+        rt: &R,
+        worker: &mut Worker<M>,
+        pass: &mut Pass,
+        steps: &mut Steps<L>,
+    ) -> (Engine<M, U>, Result<(), SettleErr>)
+        requires pass_of { IsPassIn M.ring M.key pass.old }
+        requires shares { (pass_view pass.old).pass.shares ≡ 127 }
+        ensures pass_of { IsPassIn M.ring M.key pass.new }
+        ensures same_pass { (pass_view pass.new).pass ≡ (pass_view pass.old).pass }
+        ensures settled { HasSettled M.past.image M.key M.handed (pass_view pass.old).pass
+            worker.old worker.new result.1 }
+        ensures ticks { HasSettledAlone M.past.image M.handed worker.old worker.new
+            steps.old steps.new }
+    {
+        let Engine {
+            shared,
+            heart,
+            queue,
+        } = self;
+        let mut heart = heart.into_inner();
+        let settled = shared.settle(rt, &mut heart, worker, pass, steps);
+        let engine = Engine {
+            shared,
+            heart: Mutex::new(heart),
+            queue,
+        };
+        (engine, settled)
+    }
+
+    // Settles it, and takes it apart.
     pub(crate) fn work_off<R: Wait, L: Ledger>(
         self,
         rt: &R,
@@ -247,38 +276,30 @@ impl<M: Mount, U: Unit> Engine<M, U> {
             (pass_view pass.old).pass result.0.heart.intake.pass }
         ensures worked { HasWorkedOff M.past.image M.handed worker.old worker.new
             (logs_of result.0.heart.author.known) result.1 }
+        ensures ticks { (count : ℕ)
+            × HasSettledAlone M.past.image M.handed worker.old worker.new 0 count }
+        ensures knows { worker.new.known ≡ result.0.heart.author.known }
     {
+        let Engine {
+            shared,
+            heart,
+            queue: _,
+        } = self;
+        let mut heart = heart.into_inner();
         let mut steps = Steps::<L>::new(blank);
-        let mut engine = self;
-        for _ in rt.forever() {
-            let settled = engine.settle(rt, worker, pass, &mut steps);
-            let Engine {
-                ring,
-                chronicle,
-                heart,
-                queue,
-                arms,
-            } = engine;
-            let mut heart = heart.into_inner();
-            let settlement = finish(rt, &chronicle, &ring, &mut heart, pass);
-            let front = heart.front().position;
-            if let Some(answer) = answer(settled, settlement, front) {
-                let apart = Apart {
-                    ring,
-                    chronicle,
-                    heart,
-                    arms,
-                };
-                return (apart, answer);
-            }
-            engine = Engine {
-                ring,
-                chronicle,
-                heart: Mutex::new(heart),
-                queue,
-                arms,
-            };
-        }
-        unreachable!()
+        let settled = shared.settle(rt, &mut heart, worker, pass, &mut steps);
+        heart.stands();
+        let Shared {
+            ring,
+            chronicle,
+            arms,
+        } = shared;
+        let apart = Apart {
+            ring,
+            chronicle,
+            heart,
+            arms,
+        };
+        (apart, settled)
     }
 }

@@ -1,6 +1,7 @@
 use Rattle.std.proofs.Common.{◌≡◌, ◌<◌, ◌+◌, ℕ, List, [], ◌∷◌, ◌++◌, Result, length, map, sym, subst, ap, ◌∙◌, arith}
 use Rattle.std.specs.List.{AllByRecursion}
 use Rattle.unit_port.specs.Unit.{ModelUnit}
+use Rattle.chronicle.specs.Prefixes.{ArePrefixes}
 use Rattle.chronicle.specs.Views.{Past}
 use Rattle.write_ring.specs.declared.view.Key.{Key}
 use Rattle.pblk_engine.specs.Closed.{HasClosed}
@@ -46,14 +47,15 @@ close-requires-clause-shares g c =
 -- of a target and its tickets, of which there is one at least
 closes : (past : Past) (key : Key) (handed : List ModelUnit) (wear : List (List ℕ)) (target : TargetView) (tickets : List SessionView)
     (workers rest : List WorkerView) (first : WorkerView) (settled : Result (Unit {0}) SettleErr) (units : List ModelUnit) (worn : List (List ℕ))
-    → IsMounted past key handed wear → AreAllBack target tickets workers → AllByRecursion (IsKept past handed) tickets
+    → IsMounted past key handed wear → ArePrefixes past.logs first.known → AreAllBack target tickets workers → AllByRecursion (IsKept past handed) tickets
     → with_workers workers tickets ≡ rest ++ first ∷ []
     → HasClosed past key handed wear first rest target.named (joined target.pass.pass tickets) settled units worn
     → IsClosed past key handed wear tickets workers settled units worn
-closes past key handed wear target [] workers rest first settled units worn mounted all kept split closed = absurd (omega (arith, all.some))
-closes past key handed wear target (t ∷ ts) workers rest first settled units worn mounted all kept split closed =
+closes past key handed wear target [] workers rest first settled units worn mounted begins all kept split closed = absurd (omega (arith, all.some))
+closes past key handed wear target (t ∷ ts) workers rest first settled units worn mounted begins all kept split closed =
     let parts = last_same (with_workers workers ts) rest t.worker first split in
-    is_closed past key handed wear target t ts workers settled units worn mounted all kept
+    is_closed past key handed wear target t ts workers settled units worn mounted
+    (subst (λ (v : WorkerView). ArePrefixes past.logs v.known) (sym parts.1) begins) all kept
     (subst (λ (v : WorkerView). HasClosed past key handed wear v (with_workers workers ts) target.named (joined target.pass.pass (t ∷ ts)) settled units worn)
     (sym parts.1)
     (subst (λ (vs : List WorkerView). HasClosed past key handed wear first vs target.named (joined target.pass.pass (t ∷ ts)) settled units worn)
@@ -70,7 +72,7 @@ returns g c =
     record {
       closed = closes past key handed wear inside tickets c.args.workers.items c.take_last-first.new.values.items c.take_last-first.result
           c.close.result.1 (map g.U.Unit.model c.close.result.0.items) (map g.U.Unit.wear c.close.result.0.items)
-          c.self.invariant.mounted
+          c.self.invariant.mounted c.stands.ensures.begun
           (subst (λ (v : TargetView). AreAllBack v tickets c.args.workers.items) (sym c.self.view_is) c.requires.all) c.take_all_in.ensures.kept
           (ap (λ (ws : List WorkerView). with_workers ws tickets) (sym c.gather-workers.ensures.items) ∙ sym c.take_all_in.ensures.workers
           ∙ c.take_last-first.ensures.items)

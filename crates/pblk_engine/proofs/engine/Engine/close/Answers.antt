@@ -27,3 +27,4 @@ returns g c =
     c.work_off-apart.ensures.same_pass
     (subst (λ (vs : List WorkerView). HasEndedOf heart g.M.Mount.past g.M.Mount.key g.M.Mount.handed g.M.Mount.wear vs c.args.names.spare
     (pass_view c.work_off-apart.new.pass).pass units worn) c.put.ensures.items c.close-units.ensures))
+    c.work_off-apart.ensures.ticks.0 c.work_off-apart.ensures.ticks.1 c.work_off-apart.ensures.knows

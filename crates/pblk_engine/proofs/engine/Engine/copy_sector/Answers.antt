@@ -4,7 +4,7 @@ use Rattle.pblk_engine.specs.Hearts.{HeartView}
 use Rattle.pblk_engine.specs.Pumps.{HasCollected}
 use Rattle.pblk_engine.specs.WorkSince.{HasWorkSince}
 use Rattle.pblk_engine.specs.Workers.{WorkerView}
-use Rattle.pblk_engine.proofs.GoingOn.{all_known}
+use Rattle.pblk_engine.proofs.GoingOn.{all_known, told_only}
 use Rattle.pblk_engine.proofs.PumpSteps.{collected_copied, collected_lost, collected_refused}
 use Rattle.pblk_engine.proofs.Settlings.{lost_is}
 use Rattle.pblk_engine.proofs.WorkSince.{decided_later, decided_still}
@@ -32,8 +32,7 @@ returns-in_default-clause-collected g c = λ role reset.
 module _ (g : Over) (c : After-front g) where
   -- the worker learned what the heart knows then
   learned : c.tell.new.worker ≡ record c.fetch_copy.new.worker { known = c.tell.new.worker.known }
-  learned = c.tell.ensures.worker
-      ∙ ap (λ (k : Prefixes). record c.fetch_copy.new.worker { known = k }) (sym (ap (λ (w : WorkerView). w.known) c.tell.ensures.worker))
+  learned = told_only c.fetch_copy.new.worker c.tell.new.worker c.tell.new.heart.author.known c.tell.ensures.worker
 
   -- all that the heart knew before it knew when it put the copy
   kept : ArePrefixes c.args.heart.now.author.known c.put_copy.new.self.author.known

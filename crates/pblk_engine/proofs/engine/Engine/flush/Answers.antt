@@ -1,4 +1,4 @@
-use Rattle.std.proofs.Common.{◌≡◌, ◌<◌, ◌≤◌, [], sym, subst, ap, ◌∙◌, arith}
+use Rattle.std.proofs.Common.{◌≡◌, ◌<◌, ◌≤◌, [], refl, sym, subst, ap, ◌∙◌, arith}
 use Rattle.std.specs.Prelude.{max}
 use Rattle.pblk_model.specs.Image.{Image}
 use Rattle.pblk_model.specs.declared.run.Front.{Front}
@@ -6,6 +6,7 @@ use Rattle.pblk_world.specs.AtRest.{IsCopyDue}
 use Rattle.pblk_world.specs.Fronts.{synced, taken}
 use Rattle.pblk_world.specs.Orders.{AreReset}
 use Rattle.chronicle.specs.Prefixes.{Prefixes, AreLegalLogs, logs_of}
+use Rattle.pblk_engine.specs.Looks.{front_synced}
 use Rattle.pblk_engine.specs.Hearts.{HeartView}
 use Rattle.pblk_engine.specs.Pumps.{IsNothing}
 use Rattle.pblk_engine.specs.Waits.{WentOn}
@@ -54,6 +55,19 @@ module _ (g : Over) (c : After-synced-synced g) where
 
   its_taken : c.take_filled-filled.new.self.intake.intake.taken ≡ taken (logs_of k 0)
   its_taken = c.take_filled-filled.ensures.taken ∙ ap taken (sym c.tell.ensures.own) ∙ ap (λ (p : Prefixes). taken (logs_of p 0)) (sym same)
+
+pub returns-then-position-synced-clause-flushed : goal.returns-then-position-synced-clause-flushed
+returns-then-position-synced-clause-flushed g c =
+    let d = (goal.at.returns-then-position-synced-clause-flushed g c).After-synced-synced in
+    record {
+      more = [];
+      on = on g d;
+      tells = (
+        refl,
+        c.synced-synced.ensures ∙ ap (λ (p : Prefixes). front_synced (i g d).shape (logs_of p 0)) (sym (known g d)),
+        c.if-position-synced.true,
+      );
+    }
 
 pub returns-then-is_stuck-clause-flushed : goal.returns-then-is_stuck-clause-flushed
 returns-then-is_stuck-clause-flushed g c =

@@ -1,12 +1,12 @@
-use Rattle.std.proofs.Common.{◌≡◌, ◌≤◌, sym, subst, ap, ◌∙◌}
+use Rattle.std.proofs.Common.{◌≤◌, sym, subst, ap, ◌∙◌}
 use Rattle.pblk_world.specs.Fronts.{taken}
-use Rattle.pblk_world.specs.World.{Logs}
 use Rattle.write_ring.specs.declared.view.Key.{Key}
+use Rattle.write_ring.specs.declared.view.LastFound.{LastFound}
+use Rattle.write_ring.specs.declared.view.View.{View}
 use Rattle.write_ring.specs.Handles.{AreAllClaims, pass_view}
 use Rattle.chronicle.specs.Prefixes.{logs_of}
-use Rattle.pblk_core.specs.Stands.{Stands}
-use Rattle.pblk_core.proofs.StandsFacts.{window_taken_is}
 use Rattle.pblk_engine.specs.Hearts.{HeartView}
+use Rattle.pblk_engine.proofs.Held.{its_taken}
 use Rattle.pblk_engine.proofs.RingParts.{settled_by}
 use Rattle.pblk_engine.proofs.heart.Heart.all_claimed.Goals as goal
 
@@ -39,11 +39,11 @@ returns-clause-all g c = λ whole.
 pub returns-clause-log : goal.returns-clause-log
 returns-clause-log g c =
     let k = c.self.invariant.0 in
-    let core = c.self.inside.core in
-    let is : c.self.inside.intake.seat.me.0.intake.taken ≡ taken (logs_of c.self.inside.author.known 0) =
-    k.settled.heart.taken
-    ∙ window_taken_is g.M.Mount.past.image k.legal.world core
-    (subst (λ (logs : Logs). Stands g.M.Mount.past.image logs core) (sym k.legal.logs) k.settled.heart.stands)
-    ∙ ap (λ (logs : Logs). taken (logs 0)) k.legal.logs in
+    let is =
+    its_taken g.M.Mount.past.image c.self.inside.author.known k.legal c.self.inside.core c.self.inside.intake.seat.me.0 k.settled.heart in
     subst (λ (v : HeartView). taken (logs_of v.author.known 0) ≤ c.all_claimed.result) c.self.view_is
     (subst (λ n. n ≤ c.all_claimed.result) is c.all_claimed.ensures.taken)
+
+pub returns-clause-heart_found : goal.returns-clause-heart_found
+returns-clause-heart_found g c = ap (λ (f : LastFound). f.claimed) c.all_claimed.ensures.intake_found
+    ∙ ap (λ (v : View). v.found.claimed) c.all_claimed.ensures.found

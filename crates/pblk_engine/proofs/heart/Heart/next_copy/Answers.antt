@@ -15,10 +15,11 @@ use Rattle.pblk_core.specs.declared.collecting.CopyJob.{CopyJob}
 use Rattle.pblk_core.specs.declared.target_core.Core.{Core}
 use Rattle.pblk_engine.specs.Asks.{IsRaisedByVictims}
 use Rattle.pblk_engine.specs.Hearts.{HeartView, IsHeart, IsHeartOf, parts}
+use Rattle.pblk_engine.specs.Copying.{IsBegunNow}
 use Rattle.pblk_engine.specs.declared.copying.CopyPlace.{CopyPlace}
 use Rattle.pblk_engine.specs.declared.copying.NextCopy.{NextCopy}
 use Rattle.pblk_engine.specs.declared.copying.NextCopy.TheVariants as answer
-use Rattle.pblk_engine.proofs.Copies.{block, has_position, has_room, none_claimed, low_of}
+use Rattle.pblk_engine.proofs.Copies.{begun_now, block, has_position, has_room, none_claimed, low_of}
 use Rattle.pblk_engine.proofs.CopyPlaces.{of_ready, place_by}
 use Rattle.pblk_engine.proofs.CopySearch.{copy_named, found_only, held_searched}
 use Rattle.pblk_engine.proofs.Knowledge.{mount_of}
@@ -218,6 +219,14 @@ returns-clause-unit g c = λ of same.
     its_place (i g d) (w g d) (core g d) (job g d).lba (job g d).line (job g d).at (job g d).position (legal g d) (now g d).stands (its_block g d)
     c.address-unit.result (c.address-unit.ensures (online_now (i g d) (log_of (w g d)) (job g d).line) online) in
     subst (λ n. n < units (i g d).shape) (ap (λ (p : ℕ × ℕ). p.0) place ∙ ap (λ (x : NextCopy). (place_in x of).unit) same) (its_block g d).of_drive
+
+pub returns-clause-begun : goal.returns-clause-begun
+returns-clause-begun g c = λ of same.
+    let d = (goal.at.returns-clause-begun g c).After-reached-claimed in
+    subst (λ (v : HeartView). IsBegunNow (i g d) (logs_of v.author.known) of.job) c.self.view_is
+    (subst (λ (l : Logs). IsBegunNow (i g d) l of.job) c.self.invariant.0.legal.logs
+    (subst (IsBegunNow (i g d) (log_of (w g d))) (ap (λ (x : NextCopy). (place_in x of).job) same)
+    (begun_now (i g d) (w g d) (core g d) (view g d) (legal g d) (now g d) (job g d) c.copy_found.ensures.ready)))
 
 pub returns-clause-room : goal.returns-clause-room
 returns-clause-room g c = λ of same.

@@ -1,17 +1,11 @@
-use Rattle.std.proofs.Common.{◌≡◌, ◌<◌, true, sym, subst, subst₂, ap, ◌∙◌}
-use Rattle.pblk_model.specs.Image.{Image}
-use Rattle.pblk_world.specs.Fronts.{taken}
-use Rattle.pblk_world.specs.World.{Logs}
+use Rattle.std.proofs.Common.{◌≡◌, ◌+◌, ◌<◌, ◌≤◌, true, length, sym, subst, subst₂, ap, ◌∙◌}
 use Rattle.write_ring.specs.declared.view.View.{View}
 use Rattle.pblk_core.specs.Named.{pad_of}
-use Rattle.pblk_core.specs.Stands.{Stands}
-use Rattle.pblk_core.specs.declared.target_core.Core.{Core}
-use Rattle.chronicle.specs.Prefixes.{Prefixes, AreLegalLogs, logs_of}
-use Rattle.pblk_core.proofs.StandsFacts.{window_taken_is}
-use Rattle.pblk_engine.specs.Hearts.{HeartView, IsHeart, heart_view, parts}
+use Rattle.pblk_engine.specs.Hearts.{HeartView, heart_view, parts}
+use Rattle.pblk_engine.specs.Takes.{HasTakenRow}
 use Rattle.pblk_engine.specs.WorkSince.{HasWorkSince}
 use Rattle.pblk_engine.proofs.Asks.{raised_since, raised_then}
-use Rattle.pblk_engine.proofs.Held.{held_then}
+use Rattle.pblk_engine.proofs.Held.{held_then, its_taken}
 use Rattle.pblk_engine.proofs.WorkSince.{taken_work}
 use Rattle.pblk_engine.proofs.heart.Heart.take_filled.Goals as goal
 
@@ -30,18 +24,21 @@ invariant_of-self g c =
           k.since s.takes.decided s.takes.pads),
     )
 
--- what a heart's intake has taken are the takes of the engine's log
-its_taken : (i : Image) (known : Prefixes) (legal : AreLegalLogs i known) (c : Core) (v : View) → IsHeart i (logs_of known) c v
-    → v.intake.taken ≡ taken (logs_of known 0)
-its_taken i known legal c v heart =
-    heart.taken ∙ window_taken_is i legal.world c (subst (λ (logs : Logs). Stands i logs c) (sym legal.logs) heart.stands)
-    ∙ ap (λ (logs : Logs). taken (logs 0)) legal.logs
-
 pub returns-clause-taken : goal.returns-clause-taken
 returns-clause-taken g c =
     let s = c.take_and_settle.ensures in
     let a = c.take_and_settle.new.author in
     its_taken a.past.image a.known s.legal c.take_and_settle.new.core c.take_and_settle.new.intake.seat.me.0 s.settled.heart
+
+pub returns-clause-count : goal.returns-clause-count
+returns-clause-count g c =
+    subst (λ (v : HeartView). length c.take_and_settle.new.intake.seat.me.0.intake.took + v.intake.intake.taken
+    ≡ length v.intake.intake.took + c.take_and_settle.new.intake.seat.me.0.intake.taken) c.self.view_is c.take_and_settle.ensures.takes.count
+
+pub returns-clause-as_put : goal.returns-clause-as_put
+returns-clause-as_put g c = λ r put low high.
+    subst (λ (v : View). HasTakenRow v c.take_and_settle.new.intake.seat.me.0 r) (ap (λ (v : HeartView). v.intake) c.self.view_is)
+    (c.take_and_settle.ensures.takes.as_put r put (subst (λ (v : HeartView). v.intake.intake.taken ≤ r.position) (sym c.self.view_is) low) high)
 
 pub returns-clause-worked : goal.returns-clause-worked
 returns-clause-worked g c = λ rises.

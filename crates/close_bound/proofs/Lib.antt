@@ -1,0 +1,5 @@
+pub mod KnownLengths
+pub mod LonePumps
+pub mod LoneTakes
+pub mod LoneCopies
+pub mod FullRings
