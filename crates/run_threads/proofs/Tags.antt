@@ -1,10 +1,13 @@
 -- Bytes that repeat, and the sectors that they are.
-use Rattle.std.proofs.Common.{ℕ, zero, suc, ◌+◌, ◌-◌, ◌*◌, ◌/◌, ◌≡◌, ◌≤◌, ◌&&◌, ◌<◌, inl, inr, Bool, true, false, List, [], ◌∷◌, ◌++◌, length, map, take, drop, if◌then◌else◌, replicate, nat_eq, ap, ◌∙◌, sym, refl, arith}
-use Rattle.std.specs.List.{repeat}
+use Rattle.std.proofs.Common.{ℕ, zero, suc, ◌+◌, ◌-◌, ◌*◌, ◌/◌, ◌^◌, ◌≡◌, ◌≤◌, ◌&&◌, ◌<◌, inl, inr, Bool, List, [], ◌∷◌, ◌++◌, length, map, take, drop, if◌then◌else◌, replicate, nat_eq, get_or, ap, ◌∙◌, sym, refl, arith}
+use Rattle.std.specs.List.{list_all, repeat}
+use Rattle.std.specs.Simd.{first_chunks}
+use Rattle.std.specs.Int.{from_le_bytes}
+use Rattle.std.proofs.lemmas.Nat.{from_le_bytes-to_le_bytes_8, le_bytes_8, mul-le}
 use Rattle.std.specs.Str.{bytes_eq}
 use Rattle.std.proofs.lemmas.List.{append_assoc, append-nil, length-append, take-append-drop, length-drop, length-take-le}
 use Rattle.std.proofs.Math.Bool.{and_assoc}
-use Rattle.std.proofs.lemmas.Bool.{cases_Bool}
+use Rattle.std.proofs.lemmas.Bool.Decides.{Decides-eqb, same_from_decides}
 use Rattle.std.proofs.lemmas.Slice.Eq.{bytes_eq-Decides}
 use Rattle.std.proofs.lemmas.Slice.{take-put_mid, drop-put_mid}
 use borrow.Rule.Slice.PartMut.{put_mid}
@@ -60,84 +63,68 @@ tagged size count tag h =
     let parts = eighths size count h in
     rw parts.1 (sectors_of_repeat size (size / 8) count (le64 tag) parts.2)
 
-take-append_over : (xs ys : List ℕ) (n : ℕ) → take (length xs + n) (xs ++ ys) ≡ xs ++ take n ys
-take-append_over [] ys n = let e : 0 + n ≡ n = omega arith in rw e refl
-take-append_over (x ∷ xs) ys n = let e : suc (length xs) + n ≡ suc (length xs + n) = omega arith in rw e (ap (λ zs. x ∷ zs) (take-append_over xs ys n))
+-- pieces of pieces
+repeat_repeat : (n m : ℕ) (xs : List ℕ) → repeat n (repeat m xs) ≡ repeat (n * m) xs
+repeat_repeat zero m xs = let e : 0 * m ≡ 0 = grind arith in rw e refl
+repeat_repeat (suc n) m xs = let e : suc n * m ≡ m + n * m = grind arith in
+    rw e (ap (λ ys. repeat m xs ++ ys) (repeat_repeat n m xs) ∙ sym (repeat_append m (n * m) xs))
 
--- where a piece is another, it repeats as that one
-under_eq : (a piece r : List ℕ) (n : ℕ) → (bytes_eq a piece && bytes_eq r (repeat n a)) ≡ (bytes_eq a piece && bytes_eq r (repeat n piece))
-under_eq a piece r n = elim (cases_Bool (bytes_eq a piece)) [
-  | inl e ↦ let same : a ≡ piece = (bytes_eq-Decides a piece).0 e in ap (λ p. bytes_eq a piece && bytes_eq r (repeat n p)) same
-  | inr e ↦ rw e refl
-]
+-- eight numbers are written at a time
+pub filled : (size count tag : ℕ) (block bytes : List ℕ) → IsSectorSize size → block ≡ repeat 8 (le64 tag) → length bytes ≡ count * size
+    → bytes ≡ repeat (count * size / 64) block → sectors_of size count bytes ≡ replicate count (tag_sector size tag)
+filled size count tag block bytes h eight long is =
+    let all : bytes ≡ repeat (count * size / 64 * 8) (le64 tag) = is ∙ ap (repeat (count * size / 64)) eight ∙ repeat_repeat (count * size / 64) 8 (le64 tag) in
+    rw (all, blocks h) (tagged size count tag h)
+  where
+    blocks : IsSectorSize size → count * size / 64 * 8 ≡ count * size / 8
+    blocks (inl e) = rw e (omega arith)
+    blocks (inr e) = rw e (omega arith)
 
--- All bytes but the last eight, which are behind the first eight, are compared with those eight further on.
-shifted : (n : ℕ) (piece rest : List ℕ) → length piece ≡ 8 → length rest ≡ n * 8 → bytes_eq rest (take (n * 8) (piece ++ rest)) ≡ bytes_eq rest (repeat n piece)
-shifted zero piece [] long all = refl
-shifted zero piece (x ∷ rest) long all = absurd (omega (arith, all))
-shifted (suc n) piece rest long all =
-    let a = take 8 rest in
-    let r = drop 8 rest in
-    let whole : a ++ r ≡ rest = take-append-drop 8 rest in
-    let a_long : length (take 8 rest) ≡ 8 = length-take-le 8 rest (omega (arith, all)) in
-    let r_long : length (drop 8 rest) ≡ n * 8 = length-drop 8 rest ∙ omega (arith, all) in
-    let more : suc n * 8 ≡ length piece + n * 8 = omega (arith, long) in
-    let front : take (suc n * 8) (piece ++ rest) ≡ piece ++ take (n * 8) rest = rw more (take-append_over piece rest (n * 8)) in
-    let same : length (take 8 rest) ≡ length piece = a_long ∙ sym long in
-    let one : bytes_eq rest (piece ++ take (n * 8) rest) ≡ (bytes_eq (take 8 rest) piece && bytes_eq (drop 8 rest) (take (n * 8) rest)) =
-    rw whole at (eq_append (take 8 rest) (drop 8 rest) piece (take (n * 8) rest) same) in
-    let other : bytes_eq rest (piece ++ repeat n piece) ≡ (bytes_eq (take 8 rest) piece && bytes_eq (drop 8 rest) (repeat n piece)) =
-    rw whole at (eq_append (take 8 rest) (drop 8 rest) piece (repeat n piece) same) in
-    let next : bytes_eq (drop 8 rest) (take (n * 8) rest) ≡ bytes_eq (drop 8 rest) (repeat n (take 8 rest)) =
-    ap (λ xs. bytes_eq (drop 8 rest) (take (n * 8) xs)) (sym whole) ∙ shifted n (take 8 rest) (drop 8 rest) a_long r_long in
-    ap (bytes_eq rest) front ∙ one ∙ ap (λ b. bytes_eq (take 8 rest) piece && b) next ∙ under_eq (take 8 rest) piece (drop 8 rest) n ∙ sym other
+-- pieces of eight bytes are compared one after another
+pub pieces_eq : (n : ℕ) (piece xs : List ℕ) → length piece ≡ 8 → length xs ≡ n * 8
+    → list_all (λ ys. bytes_eq ys piece) (first_chunks 8 n xs) ≡ bytes_eq xs (repeat n piece)
+pieces_eq zero piece [] long all = refl
+pieces_eq zero piece (x ∷ xs) long all = absurd (omega (arith, all))
+pieces_eq (suc n) piece xs long all =
+    let a_long : length (take 8 xs) ≡ 8 = length-take-le 8 xs (omega (arith, all)) in
+    let r_long : length (drop 8 xs) ≡ n * 8 = length-drop 8 xs ∙ omega (arith, all) in
+    let split : bytes_eq xs (piece ++ repeat n piece) ≡ (bytes_eq (take 8 xs) piece && bytes_eq (drop 8 xs) (repeat n piece)) =
+    rw (take-append-drop 8 xs) at (eq_append (take 8 xs) (drop 8 xs) piece (repeat n piece) (a_long ∙ sym long)) in
+    ap (λ b. bytes_eq (take 8 xs) piece && b) (pieces_eq n piece (drop 8 xs) long r_long) ∙ sym split
 
--- bytes are a piece again and again where they begin with it, and all but these eight are those eight before them
-repeats_is : (xs piece : List ℕ) → length piece ≡ 8 → 8 ≤ length xs → length xs ≡ length xs / 8 * 8
-    → (bytes_eq (take 8 xs) piece && bytes_eq (drop 8 xs) (take (length xs - 8) xs)) ≡ bytes_eq xs (repeat (length xs / 8) piece)
-repeats_is xs piece long some all =
-    let n = length xs / 8 - 1 in
-    let count : length xs / 8 ≡ suc (length xs / 8 - 1) = omega (arith, some, all) in
-    let whole : take 8 xs ++ drop 8 xs ≡ xs = take-append-drop 8 xs in
-    let a_long : length (take 8 xs) ≡ 8 = length-take-le 8 xs some in
-    let r_long : length (drop 8 xs) ≡ (length xs / 8 - 1) * 8 = length-drop 8 xs ∙ omega (arith, some, all) in
-    let less : length xs - 8 ≡ (length xs / 8 - 1) * 8 = omega (arith, some, all) in
-    let next : bytes_eq (drop 8 xs) (take (length xs - 8) xs) ≡ bytes_eq (drop 8 xs) (repeat (length xs / 8 - 1) (take 8 xs)) =
-    ap (λ k. bytes_eq (drop 8 xs) (take k xs)) less ∙ ap (λ ys. bytes_eq (drop 8 xs) (take ((length xs / 8 - 1) * 8) ys)) (sym whole)
-    ∙ shifted (length xs / 8 - 1) (take 8 xs) (drop 8 xs) a_long r_long in
-    let all_in : bytes_eq xs (piece ++ repeat (length xs / 8 - 1) piece) ≡
-    (bytes_eq (take 8 xs) piece && bytes_eq (drop 8 xs) (repeat (length xs / 8 - 1) piece)) =
-    rw whole at (eq_append (take 8 xs) (drop 8 xs) piece (repeat (length xs / 8 - 1) piece) (a_long ∙ sym long)) in
-    ap (λ b. bytes_eq (take 8 xs) piece && b) next ∙ under_eq (take 8 xs) piece (drop 8 xs) (length xs / 8 - 1) ∙ sym all_in
-    ∙ ap (λ k. bytes_eq xs (repeat k piece)) (sym count)
+-- eight bytes are those of a number where theirs is that one
+pub number_eq : (xs : List ℕ) (read number : ℕ) → length xs ≡ 8 → ((i : ℕ) → get_or xs i 0 < 256) → read ≡ from_le_bytes w64 xs → number < 2 ^ 64
+    → nat_eq read number ≡ bytes_eq xs (le64 number)
+number_eq xs read number long each is below =
+    let back : le64 read ≡ xs = le_bytes_8 xs read long each is in
+    same_from_decides (nat_eq read number) (bytes_eq xs (le64 number)) (Decides-eqb read number) (
+      λ t. is ∙ ap (from_le_bytes w64) ((bytes_eq-Decides xs (le64 number)).0 t) ∙ from_le_bytes-to_le_bytes_8 number below,
+      λ e. (bytes_eq-Decides xs (le64 number)).1 (sym back ∙ ap le64 e),
+    )
 
-pub repeats_first : (xs piece : List ℕ) → length piece ≡ 8 → 8 ≤ length xs → length xs ≡ length xs / 8 * 8 → (r : Bool) → bytes_eq (take 8 xs) piece ≡ true
-    → r ≡ bytes_eq (drop 8 xs) (take (length xs - 8) xs) → r ≡ bytes_eq xs (repeat (length xs / 8) piece)
-repeats_first xs piece long some all r first is = is ∙ ap (λ b. b && bytes_eq (drop 8 xs) (take (length xs - 8) xs)) (sym first)
-    ∙ repeats_is xs piece long some all
-
-pub repeats_not : (xs piece : List ℕ) → length piece ≡ 8 → 8 ≤ length xs → length xs ≡ length xs / 8 * 8 → (r : Bool) → bytes_eq (take 8 xs) piece ≡ false
-    → r ≡ false → r ≡ bytes_eq xs (repeat (length xs / 8) piece)
-repeats_not xs piece long some all r first is = is ∙ ap (λ b. b && bytes_eq (drop 8 xs) (take (length xs - 8) xs)) (sym first)
-    ∙ repeats_is xs piece long some all
+-- the next of some pieces stands within them
+pub within : (n k w : ℕ) → k < n → k * w + w ≤ n * w
+within n k w below = let more : (k + 1) * w ≡ k * w + w = grind arith in omega (arith, more, mul-le (k + 1) w n w (omega (arith, below)) (omega arith))
 
 -- one piece more, written
-pub write_step : (n k : ℕ) (piece old ys : List ℕ) → k < n → length piece ≡ 8 → length old ≡ n * 8 → ys ≡ piece → take (k * 8) old ≡ repeat k piece
-    → (length (put_mid (k * 8) (k * 8 + 8 - k * 8) old ys) ≡ n * 8) × (take ((k + 1) * 8) (put_mid (k * 8) (k * 8 + 8 - k * 8) old ys) ≡ repeat (k + 1) piece)
-write_step n k piece old ys below long all same done =
-    let ys_long : length ys ≡ 8 = ap length same ∙ long in
-    let end : (k + 1) * 8 ≡ k * 8 + length ys = omega (arith, ys_long) in
-    let front = take-put_mid (k * 8) (k * 8 + 8 - k * 8) old ys ((k + 1) * 8) end (omega (arith, all, below)) in
-    let back = drop-put_mid (k * 8) (k * 8 + 8 - k * 8) old ys ((k + 1) * 8) (omega arith) (omega (arith, all, below)) (omega (arith, ys_long)) in
-    let whole = take-append-drop ((k + 1) * 8) (put_mid (k * 8) (k * 8 + 8 - k * 8) old ys) in
-    let done_long : length (take (k * 8) old) ≡ k * 8 = length-take-le (k * 8) old (omega (arith, all, below)) in
-    let size = ap length (sym whole) ∙ length-append (take ((k + 1) * 8) (put_mid (k * 8) (k * 8 + 8 - k * 8) old ys))
-    (drop ((k + 1) * 8) (put_mid (k * 8) (k * 8 + 8 - k * 8) old ys)) in
-    let f : length (take ((k + 1) * 8) (put_mid (k * 8) (k * 8 + 8 - k * 8) old ys)) ≡ k * 8 + 8 = ap length front ∙ length-append (take (k * 8) old) ys
+pub write_step : (n k w : ℕ) (piece old ys : List ℕ) → k < n → length piece ≡ w → length old ≡ n * w → ys ≡ piece → take (k * w) old ≡ repeat k piece
+    → (length (put_mid (k * w) (k * w + w - k * w) old ys) ≡ n * w) × (take ((k + 1) * w) (put_mid (k * w) (k * w + w - k * w) old ys) ≡ repeat (k + 1) piece)
+write_step n k w piece old ys below long all same done =
+    let ys_long : length ys ≡ w = ap length same ∙ long in
+    let fits = within n k w below in
+    let next : (k + 1) * w ≡ k * w + w = grind arith in
+    let end : (k + 1) * w ≡ k * w + length ys = omega (arith, ys_long, next) in
+    let front = take-put_mid (k * w) (k * w + w - k * w) old ys ((k + 1) * w) end (omega (arith, all, fits)) in
+    let back = drop-put_mid (k * w) (k * w + w - k * w) old ys ((k + 1) * w) (omega (arith, next)) (omega (arith, all, fits)) (omega (arith, ys_long, next)) in
+    let whole = take-append-drop ((k + 1) * w) (put_mid (k * w) (k * w + w - k * w) old ys) in
+    let done_long : length (take (k * w) old) ≡ k * w = length-take-le (k * w) old (omega (arith, all, fits)) in
+    let size = ap length (sym whole) ∙ length-append (take ((k + 1) * w) (put_mid (k * w) (k * w + w - k * w) old ys))
+    (drop ((k + 1) * w) (put_mid (k * w) (k * w + w - k * w) old ys)) in
+    let f : length (take ((k + 1) * w) (put_mid (k * w) (k * w + w - k * w) old ys)) ≡ k * w + w = ap length front ∙ length-append (take (k * w) old) ys
     ∙ omega (arith, ys_long, done_long) in
-    let b : length (drop ((k + 1) * 8) (put_mid (k * 8) (k * 8 + 8 - k * 8) old ys)) ≡ n * 8 - (k + 1) * 8 = ap length back ∙ length-drop ((k + 1) * 8) old
+    let b : length (drop ((k + 1) * w) (put_mid (k * w) (k * w + w - k * w) old ys)) ≡ n * w - (k + 1) * w = ap length back ∙ length-drop ((k + 1) * w) old
     ∙ omega (arith, all) in
-    (omega (arith, size, f, b, below), front ∙ ap (λ x. x ++ ys) done ∙ ap (λ x. repeat k piece ++ x) same ∙ sym (repeat_last k piece))
+    (omega (arith, size, f, b, fits, next), front ∙ ap (λ x. x ++ ys) done ∙ ap (λ x. repeat k piece ++ x) same ∙ sym (repeat_last k piece))
 
 -- the word of a sector of pieces
 pub word_is : (sector : List ℕ) (tag : ℕ) (same : Bool) → tag ≡ number_at w64 0 sector → same ≡ bytes_eq sector (repeat (length sector / 8) (le64 tag))

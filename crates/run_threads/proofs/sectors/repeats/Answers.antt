@@ -1,16 +1,11 @@
-use Rattle.std.proofs.Common.{◌-◌, length, take, sym, ap, ◌∙◌}
+use Rattle.std.proofs.Common.{◌/◌, ◌∙◌, length, ap, refl}
+use Rattle.std.specs.List.{list_all}
 use Rattle.std.specs.Str.{bytes_eq}
-use Rattle.run_threads.proofs.Tags.{repeats_first, repeats_not}
+use Rattle.pblk_model.specs.Bytes.{le64}
+use Rattle.run_threads.proofs.Tags.{pieces_eq}
 use Rattle.run_threads.proofs.sectors.repeats.Goals as goal
 
-pub returns-then-eq : goal.returns-then-eq
-returns-then-eq c =
-    let xs = c.args.bytes.now in
-    repeats_first xs c.args.piece.now c.requires.piece c.requires.some c.requires.whole c.eq-then-eq.result
-    (ap (λ ys. bytes_eq ys c.args.piece.now) (sym c.split_at.ensures.front) ∙ sym c.eq.ensures ∙ c.if-eq.true)
-    (c.eq-then-eq.ensures ∙ ap (λ ys. bytes_eq ys (take (length xs - 8) xs)) c.split_at.ensures.back)
-
-pub returns-else-eq : goal.returns-else-eq
-returns-else-eq c =
-    repeats_not c.args.bytes.now c.args.piece.now c.requires.piece c.requires.some c.requires.whole c.eq.result
-    (ap (λ ys. bytes_eq ys c.args.piece.now) (sym c.split_at.ensures.front) ∙ sym c.eq.ensures ∙ c.if-eq.false) c.if-eq.false
+pub loop-piece-init : goal.loop-piece-init
+loop-piece-init c =
+    ap (list_all (λ ys. bytes_eq ys (le64 c.args.number))) c.as_chunks.ensures.front
+    ∙ pieces_eq (length c.args.bytes.now / 8) (le64 c.args.number) c.args.bytes.now refl c.requires

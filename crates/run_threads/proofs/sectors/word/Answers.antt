@@ -5,14 +5,11 @@ use Rattle.run_threads.proofs.sectors.word.Goals as goal
 pub first_number-tag-requires : goal.first_number-tag-requires
 first_number-tag-requires c = (eighths _ 1 c.requires).3
 
-pub repeats-requires-clause-some : goal.repeats-requires-clause-some
-repeats-requires-clause-some c = (eighths _ 1 c.requires).3
-
-pub repeats-requires-clause-whole : goal.repeats-requires-clause-whole
-repeats-requires-clause-whole c = (eighths _ 1 c.requires).2
+pub repeats-requires : goal.repeats-requires
+repeats-requires c = (eighths _ 1 c.requires).2
 
 pub returns-then-repeats : goal.returns-then-repeats
-returns-then-repeats c = word_is c.args.sector.now c.first_number-tag.result true c.first_number-tag.ensures (rw c.to_le_bytes.ensures at c.if-repeats.ensures)
+returns-then-repeats c = word_is c.args.sector.now c.first_number-tag.result true c.first_number-tag.ensures c.if-repeats.ensures
 
 pub returns-else-repeats : goal.returns-else-repeats
-returns-else-repeats c = word_is c.args.sector.now c.first_number-tag.result false c.first_number-tag.ensures (rw c.to_le_bytes.ensures at c.if-repeats.ensures)
+returns-else-repeats c = word_is c.args.sector.now c.first_number-tag.result false c.first_number-tag.ensures c.if-repeats.ensures
