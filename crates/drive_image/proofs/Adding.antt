@@ -78,6 +78,25 @@ all_added f xs n old new added count = record {
   capacity = added.capacity;
 }
 
+-- the first elements have room where all have
+pub room_first : {X Z : Type 0} (f : X → List ℕ) (xs : List X) (n : ℕ) (old : Vec ℕ Z) → HasCapacity old (flat_map f xs)
+    → HasCapacity old (flat_map f (take n xs))
+room_first {X = X} f xs n old room = omega (arith, shorter n xs)
+  where
+    shorter : (n : ℕ) (ys : List X) → length (flat_map f (take n ys)) ≤ length (flat_map f ys)
+    shorter zero ys = omega arith
+    shorter (suc n) [] = omega arith
+    shorter (suc n) (y ∷ ys) =
+        omega (arith, shorter n ys, length-append (f y) (flat_map f (take n ys)), length-append (f y) (flat_map f ys))
+
+-- they were added, all of them at once
+pub first_added : {X Z : Type 0} (f : X → List ℕ) (xs : List X) (n : ℕ) (bytes : List ℕ) (old new : Vec ℕ Z) → flat_map f (take n xs) ≡ bytes
+    → WasAdded old new bytes → FirstAdded f xs n old new
+first_added f xs n bytes old new same added = record {
+  items = added.items ∙ ap (λ ys. old.items ++ ys) (sym same);
+  capacity = added.capacity;
+}
+
 pub enumerated : {X : Type 0} (xs : List X) (k : ℕ) (x : X) → slice_get xs k ≡ Some x → slice_get (enumerate_from 0 xs) k ≡ Some (k, x)
 enumerated xs k x is =
     let place : 0 + k ≡ k = omega arith in

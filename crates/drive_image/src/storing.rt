@@ -212,8 +212,11 @@ fn put_chunk(chunk: &Chunk, out: &mut Vec<u8>)
     requires { HasCapacity out.old (flat_map block_bytes chunk.now.chunk.blocks) }
     ensures { WasAdded out.old out.new (flat_map block_bytes chunk.now.chunk.blocks) }
 {
+    // those that it adopted stand as they are to be added
+    let (spelled, adopted) = chunk.adopted();
+    put(out, spelled);
     let (_state, pointer) = chunk.state();
-    for block in 0..pointer {
+    for block in adopted..pointer {
         let Some((sector, mark)) = chunk.written(block) else {
             unreachable!()
         };

@@ -335,6 +335,17 @@ impl Chunk {
         self.state = state;
     }
 
+    /// The bytes that the chunk adopted, and how many blocks they are, its first: in them each is
+    /// its sector and then its mark, two numbers of eight little-endian bytes. None are left after
+    /// a reset.
+    pub fn adopted(&self) -> (&[u8], u32)
+        ensures blocks { AreSpelled result.1 result.0.now (take result.1 self.now.chunk.blocks) }
+        ensures within { result.1 ≤ pointer self.now.chunk }
+    {
+        are_bytes(self.adopted.as_slice());
+        (self.adopted.as_slice(), self.adopted_count)
+    }
+
     // Appends the blocks of these bytes and marks, and leaves this state.
     fn append(&mut self, bytes: &[u8], marks: &[Mark], state: ChunkState)
         requires whole { length bytes.now ≡ length marks.now * self.old.shape.sector }
