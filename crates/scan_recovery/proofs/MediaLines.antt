@@ -1,12 +1,14 @@
 -- The chunks of a drive, and the lines among them.
-use Rattle.std.proofs.Common.{◌≡◌, ℕ, ◌*◌, ◌^◌, ◌<◌, ◌≤◌, zero, suc, List, [], ◌∷◌, length, map, get_or, Some, None, refl, sym, ap, ◌∙◌, subst, arith}
+use Rattle.std.proofs.Common.{◌≡◌, ℕ, ◌*◌, ◌^◌, ◌<◌, ◌≤◌, zero, suc, List, [], ◌∷◌, length, map, get_or, nat_lt, is_some, Option, Some, None, inl, inr, refl, sym, ap, ◌∙◌, subst, arith}
 use Rattle.std.specs.List.{AllByRecursion, slice_get}
+use Rattle.std.specs.Option.{option_and_then}
+use Rattle.std.proofs.lemmas.Bool.{cases_lt, le-ltb, lt-ltb}
 use Rattle.std.proofs.lemmas.List.{length-map}
 use Rattle.std.proofs.lemmas.Option.{none-some, same_Some, slice_get-get_or}
 use Rattle.pblk_model.specs.declared.shape.Shape.{Shape}
 use Rattle.pblk_model.specs.Accepted.{IsAccepted}
 use Rattle.pblk_model.specs.Shape.{units}
-use Rattle.pblk_model.specs.Chunk.{Chunk}
+use Rattle.pblk_model.specs.Chunk.{Chunk, pointer}
 use Rattle.pblk_model.specs.LineOrder.{line_order}
 use Rattle.pblk_model.specs.Image.{Image, IsFit, line_units, width, block_at}
 use Rattle.pblk_model.specs.ImageFile as file
@@ -27,7 +29,7 @@ use Rattle.scan_recovery.proofs.PadLoops.{fit_image}
 use Rattle.scan_recovery.proofs.Tallies.{row_there}
 use Rattle.pblk_model.proofs.AcceptedLemmas.{line_is_short}
 use Rattle.pblk_model.proofs.OrderedBlocks.{order_length}
-use Rattle.pblk_model.proofs.Parts.{all_get, get_past}
+use Rattle.pblk_model.proofs.Parts.{all_get, get_past, within_some}
 use Rattle.pblk_model.proofs.ImageFileLemmas.{kept_chunks}
 
 -- The units of a drive.
@@ -143,3 +145,16 @@ pub count_short : (m : Inside) (i : Image) (t : Shape) (line n : ℕ) → IsMedi
 count_short m i t line n sound view shape n-is =
     let fits = image_fits m i sound view in
     subst (λ k. k ≤ 65536) (sym (count_is m i t line n view shape n-is)) (short_line i line fits.0 fits.1)
+
+-- Whether a block is written, by its chunk's pointer.
+
+-- a list has an element at each place below its length
+has_place : {X : Type 0} (xs : List X) (k : ℕ) → nat_lt k (length xs) ≡ is_some (slice_get xs k)
+has_place xs k = elim (cases_lt k (length xs)) [
+  | inl below ↦ lt-ltb k (length xs) below ∙ sym (within_some xs k below)
+  | inr past ↦ le-ltb k (length xs) past ∙ sym (ap is_some (get_past xs k past))
+]
+
+pub written_is : (o : Option Chunk) (c : Chunk) (block n : ℕ) → o ≡ Some c → n ≡ pointer c
+    → nat_lt block n ≡ is_some (option_and_then (λ (x : Chunk). slice_get x.blocks block) o)
+written_is o c block n is count = rw (is, count) (has_place c.blocks block)

@@ -343,11 +343,6 @@ mount_tops i m rs c mount count = count.tally.tops.count ∙ sym mount.lines
 pub pair_is : (i : Image) (line at : ℕ) (e : EndRecord) (b : Block) → block_at i line at ≡ Some b → pair_at i.shape e at ≡ mark_of i line (Some e) at
 pair_is i line at e b is = sym (ap (option_and_then (mark_at i.shape (Some e) at)) is)
 
--- the mark that a written block counts with
-pub block_is : (i : Image) (line at : ℕ) (e : Option EndRecord) (s : Shape) (b : Block) → s ≡ i.shape → block_at i line at ≡ Some b
-    → mark_at s e at b ≡ mark_of i line e at
-block_is i line at e s b shape is = ap (λ x. mark_at x e at b) shape ∙ sym (ap (option_and_then (mark_at i.shape e at)) is)
-
 -- the mark of a block of a line without an end record
 pub own_is : (i : Image) (line at : ℕ) (o : Option Block) → block_at i line at ≡ o → option_map (λ b. b.mark) o ≡ mark_of i line None at
 own_is i line at o is = own o ∙ sym (ap (option_and_then (mark_at i.shape None at)) is) where

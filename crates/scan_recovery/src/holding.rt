@@ -14,13 +14,14 @@ ghost use Rattle.ocssd_drive.specs.Drive.{stored};
 ghost use Rattle.scan_recovery.specs.Held.{IsHeld, held_by, thin_winner};
 ghost use Rattle.scan_recovery.specs.Holding.{IsContentsOf, IsSummaryOf, head_of};
 ghost use Rattle.scan_recovery.specs.Mounts.{IsMountOf};
+ghost use Rattle.scan_recovery.specs.Reading.{mark_of};
 ghost use Rattle.scan_recovery.specs.Starts.{IsStarts, line_start};
 ghost use Rattle.scan_recovery.specs.Survey.{IsCountTo};
 ghost use Rattle.pblk_model.specs.Tables.{IsTable};
 ghost use Rattle.scan_recovery.specs.Traces.{bare};
 
 use crate::counting::Count;
-use crate::line_records::{count_block, end_in, mark_at};
+use crate::line_records::{count_block, end_in, pair_at};
 use crate::media::Media;
 use crate::mount::Mount;
 use crate::sectors::{Contents, Head, Sectors, Summary};
@@ -29,15 +30,17 @@ use crate::trace::Trace;
 use ocssd_drive::Drive;
 use pblk_layout::Layout;
 use pblk_meta::{EndRecord, StartRecord};
+use pblk_model::{Mark, Shape};
 use std::alloc::{AllocError, Global};
 
 /// What the image of a drive holds: the user sectors, each the newest of its records that count,
 /// and where the mount of its newest start record ends (Bjørling, González, Bonnet, FAST 2017,
 /// recovery).
 ///
-/// All written blocks are looked at where they lie, those of Open chunks too, which can't all be
-/// fetched. No unit is commanded, and the drive stays as it is. Fails only for want of memory:
-/// beside the sectors, each of which is copied once, it takes as much as `summary`.
+/// The blocks are looked at where they lie, those of Open chunks too, which can't all be fetched:
+/// the records of all lines, and each written block of those without a whole end record. No unit is
+/// commanded, and the drive stays as it is. Fails only for want of memory: beside the sectors, each
+/// of which is copied once, it takes as much as `summary`.
 pub fn contents(alloc: Global, drive: &Drive) -> Result<Contents, AllocError>
     ensures { IfOk result (IsContentsOf (image_of (stored drive.now))) }
 {
@@ -211,12 +214,39 @@ fn count_blocks(
     ensures { OnOk result (IsCountTo media.now (line + 1) count.new) }
 {
     for at in 0..media.len(line) {
-        if let Some(block) = media.block(line, at) {
-            let mark = mark_at(layout.shape(), end, at, &block);
-            count_block(count, mount, layout.shape(), line, seq, at, mark)?;
-        }
+        let mark = mark_of(media, layout.shape(), end, line, at);
+        count_block(count, mount, layout.shape(), line, seq, at, mark)?;
     }
     Ok(())
+}
+
+// The mark that the block at a line address counts with, if it is written and has one: that of the
+// line's end record where that is whole, and then the block isn't looked at; else its own.
+fn mark_of(
+    media: &Media<'_>,
+    shape: &Shape,
+    end: &Option<EndRecord>,
+    line: u32,
+    at: u32,
+) -> Option<Mark>
+    requires shape { shape.now ≡ media.now.shape }
+    requires accepted { IsAccepted shape.now }
+    requires line { line < media.now.shape.chunks }
+    ensures { result ≡ mark_of media.now line (option_map end_numbers end.now) at }
+{
+    match end {
+        None => {
+            let block = media.block(line, at)?;
+            Some(block.mark)
+        }
+        Some(end) => {
+            if media.is_written(line, at) {
+                pair_at(shape, end, at)
+            } else {
+                None
+            }
+        }
+    }
 }
 
 fn head_in(head: &Option<StartRecord>) -> Option<Head>

@@ -6,7 +6,7 @@ ghost use Rattle.std.specs.Option.{option_and_then, option_map, option_map_or};
 ghost use Rattle.pblk_model.specs.Accepted.{IsAccepted};
 ghost use Rattle.pblk_model.specs.Shape.{units};
 ghost use Rattle.pblk_model.specs.Marks.{meta_lba};
-ghost use Rattle.pblk_model.specs.Records.{Record, mark_at, named};
+ghost use Rattle.pblk_model.specs.Records.{Record, named};
 ghost use Rattle.pblk_meta.specs.Records.{end_numbers, start_numbers};
 ghost use Rattle.scan_recovery.specs.Mounts.{IsCount, IsMount, head_of, marked};
 ghost use Rattle.scan_recovery.specs.Reading.{have_mark, sectors_of, start_among, end_among, pair_at};
@@ -143,23 +143,6 @@ pub(crate) fn pair_at(shape: &Shape, end: &EndRecord, at: u32) -> Option<Mark>
         None
     } else {
         end.pairs.as_slice().get((at - start) as usize).copied()
-    }
-}
-
-/// The mark that a written block at a line address counts with, if it has one: that of the line's
-/// end record where that is whole, else its own.
-pub(crate) fn mark_at(
-    shape: &Shape,
-    end: &Option<EndRecord>,
-    at: u32,
-    block: &Block<'_>,
-) -> Option<Mark>
-    requires { IsAccepted shape.now }
-    ensures { result ≡ mark_at shape.now (option_map end_numbers end.now) at block.now }
-{
-    match end {
-        None => Some(block.mark),
-        Some(end) => pair_at(shape, end, at),
     }
 }
 

@@ -2,6 +2,7 @@
 
 ghost use Rattle.std.specs.Prelude.{◌≡◌, ◌*◌, ◌-◌, ◌<◌, ◌≤◌, ◌^◌, ℕ, not, length, map, slice_get, Some, IfOk};
 ghost use Rattle.std.specs.List.{AllByRecursion};
+ghost use Rattle.std.specs.Option.{is_some};
 ghost use Rattle.pblk_model.specs.Accepted.{IsAccepted};
 ghost use Rattle.pblk_model.specs.Image.{IsFit, block_at, line_units, width};
 ghost use Rattle.pblk_model.specs.ImageFile as file;
@@ -98,6 +99,20 @@ impl<'a> Media<'a> {
         written_in(self.units, shape, line, unit, block)
     }
 
+    /// Whether the block at a line address is written. It isn't looked at.
+    pub(crate) fn is_written(&self, line: u32, at: u32) -> bool
+        requires { line < self.now.shape.chunks }
+        ensures { result ≡ is_some (block_at self.now line at) }
+    {
+        let shape = self.layout.shape();
+        let online = self.online[line as usize];
+        if at >= online.width() * shape.clba {
+            return false;
+        }
+        let (unit, block) = self.layout.place(online.bits(), at);
+        is_written_in(self.units, shape, line, unit, block)
+    }
+
     /// How many blocks a line has, written or not.
     pub(crate) fn len(&self, line: u32) -> u32
         requires { line < self.now.shape.chunks }
@@ -145,6 +160,20 @@ fn online_by_line(
         online.push(online_units(units, shape, line))?;
     }
     Ok(online)
+}
+
+// Whether a block of a unit's chunk of a line is written.
+fn is_written_in(units: &[MemoryUnit], shape: &Shape, line: u32, unit: u32, block: u32) -> bool
+    requires fit { AreFit shape.now (map (λ u. u.unit) units.now) }
+    requires unit { unit < length units.now }
+    requires line { line < shape.now.chunks }
+    ensures { let i = image_of shape.now (map (λ u. u.unit) units.now)
+        in result ≡ is_some (written_at i line (unit, block)) }
+{
+    // the shape says which chunks there are
+    let _ = shape;
+    let (_state, pointer) = units[unit as usize].chunk(line).state();
+    block < pointer
 }
 
 // A block of a unit's chunk of a line, where it is written.
