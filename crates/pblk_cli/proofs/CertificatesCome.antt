@@ -1,61 +1,42 @@
 -- What making a certificate of a file, and checking one, come to.
-use Rattle.std.proofs.Common.{◌≡◌, ◌++◌, ◌∷◌, [], ℕ, List, length, Some, Result, Ok, Err, sym, ap, ◌∙◌, inl}
+use Rattle.std.proofs.Common.{◌≡◌, ℕ, List, length, Some, Result, Ok, Err, sym, ◌∙◌, inl}
 use Rattle.std.specs.Bool.{IsTrue}
 use Rattle.std.specs.Result.{IfErr, IfOk}
-use Rattle.pblk_outside.specs.declared.file_fault.FileCall.TheVariants as calls
-use Rattle.pblk_outside.specs.Files.{AddsFault, FilesView, IsCalm, SameOthers}
-use Rattle.pblk_model.specs.ImageFile.{Drive, IsImage, image_of}
+use Rattle.pblk_outside.specs.Files.{FilesView, IsCalm, SameOthers}
+use Rattle.pblk_model.specs.ImageFile.{Drive, image_of}
 use Rattle.command_text.specs.Certificates.{certified_text}
 use Rattle.pblk_cli.specs.declared.output.Output.{Output}
 use Rattle.pblk_cli.specs.declared.refusal.Refusal.{Refusal}
 use Rattle.pblk_cli.specs.declared.refusal.Refusal.TheVariants as refusals
 use Rattle.pblk_cli.specs.Certifying.{IsChecked, RefusesChecked, RefusesFor}
-use Rattle.pblk_cli.specs.Commands.{CertificateMade, CertificateWrong, CertifyComesTo, CheckComesTo, IsMadeOf}
+use Rattle.pblk_cli.specs.Commands.{CannotReadDrive, CertificateMade, CertificateWrong, CertifyComesTo, CheckComesTo, IsDriveOf, IsMadeOf}
 use Rattle.pblk_cli.specs.Endings.{ending_of, reason_of}
-use Rattle.pblk_cli.specs.Reading.{CannotRead, ReadsFile, RefusesBytes}
+use Rattle.pblk_cli.specs.Reading.{ReadsFile}
 use Rattle.pblk_cli.specs.Running.{CannotReadBoth}
-use Rattle.pblk_cli.specs.Telling.{AreUntouched, Certificate, Check, FailsWriting, Reason, Refuses}
-use Rattle.pblk_cli.proofs.Reading.{bytes_cases, is_there, unread_both_cases, unread_cases}
+use Rattle.pblk_cli.specs.Telling.{AreUntouched, Certificate, Check, Reason, Refuses}
+use Rattle.pblk_cli.proofs.Reading.{is_there, no_drive_cases, unread_both_cases}
 use Rattle.pblk_cli.proofs.RunComes.{others}
 
--- the image could not be read
-pub unread_comes : (image name : List ℕ) (old new : FilesView) (q : Refusal) → CannotRead image (reason_of q) old new
+-- the image gave no drive
+pub no_drive_comes : (image name : List ℕ) (old new : FilesView) (q : Refusal) → CannotReadDrive image (reason_of q) old new
     → CertifyComesTo image name (Refuses (reason_of q)) old new
-unread_comes image name old new q h =
-    unread_cases (λ r. CertifyComesTo image name (Refuses r) old new) image old new (λ file k. inl k) (λ file k. k) (λ k. k) (reason_of q) h
-
--- the image was read, and its bytes are refused
-pub no_image_comes : (image name found : List ℕ) (old new : FilesView) → ReadsFile image found old new → (q : Refusal) → RefusesBytes found (reason_of q)
-    → CertifyComesTo image name (Refuses (reason_of q)) old new
-no_image_comes image name found old new a q h =
-    bytes_cases (λ r. CertifyComesTo image name (Refuses r) old new) found (λ e is. (found, a.0, is, a.1)) (is_there image found old a.0, a.1) (reason_of q) h
+no_drive_comes image name old new q h =
+    no_drive_cases (λ r. CertifyComesTo image name (Refuses r) old new) image old new (λ e k. k) (λ file k. inl k) (λ file k. k) (λ k. k) (reason_of q) h
 
 -- the certificate was made and stored
-pub certificate_made : (image name found bytes text : List ℕ) (status : ℕ) (d : Drive) (old mid new : FilesView) → ReadsFile image found old mid
-    → IsImage found d
+pub certificate_made : (image name bytes text : List ℕ) (status : ℕ) (d : Drive) (old mid new : FilesView) → IsDriveOf image old d → AreUntouched old mid
     → IsMadeOf (image_of d) bytes → status ≡ 0 → text ≡ certified_text (length bytes)
     → (IsTrue mid.told → new.file name ≡ Some bytes) → IsCalm mid new → SameOthers name mid.file new.file → new.told ≡ mid.told
     → CertificateMade image name status text old new
-certificate_made image name found bytes text status d old mid new a is made done said stored calm same told = record {
+certificate_made image name bytes text status d old mid new is a made done said stored calm same told = record {
   drive = d;
-  drive_is = record { bytes = found; read = a.0; is = is };
+  drive_is = is;
   bytes = bytes;
   made = made;
   status_is = done;
   text_is = said;
-  stored = (λ tells. stored (sym told ∙ tells), others name old mid new a.1.0 same, calm ∙ a.1.1);
+  stored = (λ tells. stored (sym told ∙ tells), others name old mid new a.0 same, calm ∙ a.1);
 }
-
--- it could not be stored
-pub unstored : (name : List ℕ) (old mid new : FilesView) → AreUntouched old mid → AddsFault name calls.Write mid new → SameOthers name mid.file new.file
-    → FailsWriting name old new
-unstored name old mid new a fault same = (
-  others name old mid new a.0 same,
-  fault ∙ ap (λ faults. faults ++ record {
-    name = name;
-    call = calls.Write;
-  } ∷ []) a.1,
-)
 
 -- one of both files could not be read
 pub unread_both_come : (image name : List ℕ) (old new : FilesView) (q : Refusal) → CannotReadBoth image name (reason_of q) old new

@@ -25,15 +25,15 @@ use Rattle.stripe_parity.proofs.OneParity.{never_refused, one_parity}
 use Rattle.stripe_parity.proofs.Refused.{no_difference}
 use Rattle.pblk_cli.specs.declared.refusal.Refusal.{Refusal}
 use Rattle.pblk_cli.specs.declared.refusal.Refusal.TheVariants as refusals
-use Rattle.pblk_cli.specs.Commands.{IsPadded, IsRebuiltFrom, ParityComesTo, RebuildComesTo, RebuildInput}
+use Rattle.pblk_cli.specs.Commands.{CannotReadDrive, IsPadded, IsRebuiltFrom, ParityComesTo, RebuildComesTo, RebuildInput}
 use Rattle.pblk_cli.specs.Endings.{reason_of}
 use Rattle.pblk_cli.specs.Parities.{IsFileOf, IsLostOf, RefusesParity}
-use Rattle.pblk_cli.specs.Reading.{CannotRead, ReadsFile, RefusesBytes}
+use Rattle.pblk_cli.specs.Reading.{ReadsFile, RefusesBytes}
 use Rattle.pblk_cli.specs.Rebuilding.{IsAnew, IsRefusedAs, RefusesRebuild}
 use Rattle.pblk_cli.specs.Running.{CannotReadBoth}
-use Rattle.pblk_cli.specs.Telling.{Refuses, Stores}
+use Rattle.pblk_cli.specs.Telling.{AreUntouched, Refuses, Stores}
 use Rattle.pblk_cli.proofs.HandedDrives.{image_handed}
-use Rattle.pblk_cli.proofs.Reading.{bytes_cases, is_there, unread_both_cases, unread_cases}
+use Rattle.pblk_cli.proofs.Reading.{bytes_cases, is_there, no_drive_cases, unread_both_cases}
 use Rattle.pblk_cli.proofs.RunComes.{others}
 use Rattle.pblk_cli.proofs.StoredUnits.{same_numbers}
 
@@ -146,25 +146,16 @@ rebuild_refused i old new p unit bytes errors.Memory file calm ran refused = inl
 
 -- What the commands come to.
 
--- the image could not be read
-pub unread_image : (image parity : List ℕ) (old new : FilesView) (q : Refusal) → CannotRead image (reason_of q) old new
+-- the image gave no drive
+pub no_drive_comes : (image parity : List ℕ) (old new : FilesView) (q : Refusal) → CannotReadDrive image (reason_of q) old new
     → ParityComesTo image parity (Refuses (reason_of q)) old new
-unread_image image parity old new q h =
-    unread_cases (λ r. ParityComesTo image parity (Refuses r) old new) image old new (λ file k. inl k) (λ file k. k) (λ k. k) (reason_of q) h
+no_drive_comes image parity old new q h =
+    no_drive_cases (λ r. ParityComesTo image parity (Refuses r) old new) image old new (λ e k. k) (λ file k. inl k) (λ file k. k) (λ k. k) (reason_of q) h
 
--- it was read, and its bytes are refused
-pub refused_image : (image parity bytes : List ℕ) (old new : FilesView) → ReadsFile image bytes old new → (q : Refusal) → RefusesBytes bytes (reason_of q)
-    → ParityComesTo image parity (Refuses (reason_of q)) old new
-refused_image image parity bytes old new read q h =
-    bytes_cases (λ r. ParityComesTo image parity (Refuses r) old new) bytes (λ e is. (bytes, read.0, is, read.1)) (is_there image bytes old read.0, read.1)
-    (reason_of q) h
-
--- a file that was written after one was read is stored
-pub stored_after : (image found name bytes : List ℕ) (old mid new : FilesView) → ReadsFile image found old mid → (IsTrue mid.told → new.file name ≡ Some bytes)
-    → IsCalm mid new
-    → SameOthers name mid.file new.file → new.told ≡ mid.told → Stores name bytes old new
-stored_after image found name bytes old mid new a stored calm same told =
-    (λ new_tells. stored (sym told ∙ new_tells), others name old mid new a.1.0 same, calm ∙ a.1.1)
+-- a file that was written after others were read is stored
+pub stored_after : (name bytes : List ℕ) (old mid new : FilesView) → AreUntouched old mid → (IsTrue mid.told → new.file name ≡ Some bytes)
+    → IsCalm mid new → SameOthers name mid.file new.file → new.told ≡ mid.told → Stores name bytes old new
+stored_after name bytes old mid new a stored calm same told = (λ new_tells. stored (sym told ∙ new_tells), others name old mid new a.0 same, calm ∙ a.1)
 
 pub stored_alone : (name bytes : List ℕ) (old new : FilesView) → (IsTrue old.told → new.file name ≡ Some bytes) → IsCalm old new
     → SameOthers name old.file new.file → new.told ≡ old.told

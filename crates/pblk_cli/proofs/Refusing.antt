@@ -81,9 +81,3 @@ refuses bytes r e at refused taken q h = elim (of_error (image_refusal bytes) r 
   | inl memory ↦ rw (h.memory memory.0) memory.1
   | inr is ↦ of_image bytes e is q h
 ]
-
--- there was no memory for what is told of the drive of an image
-pub memory_refuses : {T : Type 0} (bytes : List ℕ) → image_refusal bytes ≡ None → (r : Result T Refusal) → IsErrAnd r (λ q. q ≡ refusals.Memory)
-    → IfErr r (λ q. RefusesBytes bytes (reason_of q))
-memory_refuses bytes accepted (Ok x) h = tt
-memory_refuses bytes accepted (Err q) h = rw h accepted

@@ -11,7 +11,7 @@ use Rattle.pblk_cli.specs.Commands.{RunComesTo, RunInput, RunMade}
 use Rattle.pblk_cli.specs.Endings.{reason_of}
 use Rattle.pblk_cli.specs.Reading.{ReadsFile, RefusesBytes}
 use Rattle.pblk_cli.specs.Running.{IsRunOfScript, RefusesScript}
-use Rattle.pblk_cli.specs.Telling.{FailsWriting, Refuses}
+use Rattle.pblk_cli.specs.Telling.{AreUntouched, FailsWriting, Refuses}
 use Rattle.pblk_cli.proofs.Reading.{bytes_cases, is_there}
 
 -- both files were read, and the image's bytes are refused
@@ -88,13 +88,13 @@ made image script found commands options d status text bytes old mid new a b is 
   stored = (λ new_tells. stored (sym told ∙ new_tells) ∙ ap Some h.run.bytes_are, others image old mid new a.1.0 same, calm ∙ a.1.1);
 }
 
-pub fails : (image found : List ℕ) (old mid new : FilesView) → ReadsFile image found old mid → AddsFault image calls.Write mid new
-    → SameOthers image mid.file new.file
-    → FailsWriting image old new
-fails image found old mid new a fault same = (
-  others image old mid new a.1.0 same,
+-- a file could not be stored
+pub unstored : (name : List ℕ) (old mid new : FilesView) → AreUntouched old mid → AddsFault name calls.Write mid new → SameOthers name mid.file new.file
+    → FailsWriting name old new
+unstored name old mid new a fault same = (
+  others name old mid new a.0 same,
   fault ∙ ap (λ faults. faults ++ record {
-    name = image;
+    name = name;
     call = calls.Write;
-  } ∷ []) a.1.1,
+  } ∷ []) a.1,
 )

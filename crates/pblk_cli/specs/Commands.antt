@@ -71,15 +71,19 @@ pub record IsDriveOf (image : List ℕ) (files : FilesView) (d : Drive) : Type 0
   pub read : Holds image bytes files
   pub is : IsImage bytes d
 
+-- why a file gave no drive: it holds no image, could not be read or isn't there; or there was no memory
+abbrev pub CannotReadDrive : List ℕ → Reason → FilesView → FilesView → Type 0
+CannotReadDrive image (Image e) old new = (bytes : List ℕ) × Holds image bytes old × (image_refusal bytes ≡ Some e) × AreUntouched old new
+CannotReadDrive image (Failed name) old new = (name ≡ image) × FailsReading image old new
+CannotReadDrive image (Missing name) old new = (name ≡ image) × IsMissing image old new
+CannotReadDrive image Memory old new = IsThere image old × AreUntouched old new
+CannotReadDrive image reason old new = ⊥
+
 -- A command that tells of an image: the file is untouched, and the text is what `says` says of the
 -- drive.
 abbrev pub TellsComeTo : (Drive → List ℕ) → List ℕ → Ending → FilesView → FilesView → Type 0
 TellsComeTo says image (Gives status text) old new = (status ≡ 0) × (d : Drive) × IsDriveOf image old d × AreUntouched old new × (text ≡ says d)
-TellsComeTo says image (Refuses (Image e)) old new = (bytes : List ℕ) × Holds image bytes old × (image_refusal bytes ≡ Some e) × AreUntouched old new
-TellsComeTo says image (Refuses (Failed name)) old new = (name ≡ image) × FailsReading image old new
-TellsComeTo says image (Refuses (Missing name)) old new = (name ≡ image) × IsMissing image old new
-TellsComeTo says image (Refuses Memory) old new = IsThere image old × AreUntouched old new
-TellsComeTo says image ending old new = ⊥
+TellsComeTo says image (Refuses reason) old new = CannotReadDrive image reason old new
 
 abbrev pub GeometryComesTo : List ℕ → Ending → FilesView → FilesView → Type 0
 GeometryComesTo = TellsComeTo geometry_text

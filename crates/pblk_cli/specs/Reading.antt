@@ -1,7 +1,7 @@
 -- What reading a file and judging its bytes come to.
 use Rattle.std.specs.Prelude.{ℕ, ◌≡◌, List, Some, None}
 use Rattle.pblk_outside.specs.Files.{FilesView}
-use Rattle.pblk_model.specs.ImageFile.{Drive, IsImage, image_refusal}
+use Rattle.pblk_model.specs.ImageFile.{image_refusal}
 use Rattle.pblk_cli.specs.Telling.{Reason, Image, Failed, Missing, Memory, Holds, IsThere, AreUntouched, FailsReading, IsMissing}
 
 -- a file was read, and nothing else happened
@@ -13,10 +13,6 @@ CannotRead name (Failed other) old new = (other ≡ name) × FailsReading name o
 CannotRead name (Missing other) old new = (other ≡ name) × IsMissing name old new
 CannotRead name Memory old new = IsThere name old × AreUntouched old new
 CannotRead name reason old new = ⊥
-
--- a status and a text on bytes that are an image: the text is what `says` says of its drive
-abbrev pub TellsOf : (Drive → List ℕ) → List ℕ → ℕ → List ℕ → Type 0
-TellsOf says bytes status text = (status ≡ 0) × (d : Drive) × IsImage bytes d × (text ≡ says d)
 
 -- bytes are no image; or they are one, and there was no memory for its drive or for what is told of it
 abbrev pub RefusesBytes : List ℕ → Reason → Type 0

@@ -8,7 +8,7 @@ ghost use Rattle.pblk_cli.specs.Certifying.{IsChecked, RefusesChecked};
 ghost use Rattle.pblk_cli.specs.Commands.{CertifyComesTo, CheckComesTo, IsMadeOf};
 ghost use Rattle.pblk_cli.specs.Endings.{ending_of, reason_of};
 
-use crate::input::{drive_of, read_file};
+use crate::input::{drive_of, read_drive};
 use crate::output::Output;
 use crate::refusal::Refusal;
 use crate::run::read_both;
@@ -30,11 +30,7 @@ pub(crate) fn certify<'a, F: Files>(
         (F.view files.old) (F.view files.new) }
     ensures told { (F.view files.new).told ≡ (F.view files.old).told }
 {
-    let bytes = match read_file(alloc, image, files) {
-        Ok(bytes) => bytes,
-        Err(refusal) => return Err(refusal),
-    };
-    let drive = match drive_of(alloc, bytes) {
+    let drive = match read_drive(alloc, image, files) {
         Ok(drive) => drive,
         Err(refusal) => return Err(refusal),
     };

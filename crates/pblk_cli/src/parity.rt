@@ -10,7 +10,7 @@ ghost use Rattle.pblk_cli.specs.Commands.{ParityComesTo, RebuildComesTo};
 ghost use Rattle.pblk_cli.specs.Endings.{ending_of, reason_of};
 ghost use Rattle.pblk_cli.specs.Rebuilding.{IsAnew, IsParityStored, IsRefusedAs, IsRebuiltStored, RefusesRebuild};
 
-use crate::input::{drive_of, read_file};
+use crate::input::{drive_of, read_drive};
 use crate::output::Output;
 use crate::refusal::Refusal;
 use crate::run::read_both;
@@ -32,11 +32,7 @@ pub(crate) fn make_parity<'a, F: Files>(
         (F.view files.old) (F.view files.new) }
     ensures told { (F.view files.new).told ≡ (F.view files.old).told }
 {
-    let bytes = match read_file(alloc, image, files) {
-        Ok(bytes) => bytes,
-        Err(refusal) => return Err(refusal),
-    };
-    let drive = match drive_of(alloc, bytes) {
+    let drive = match read_drive(alloc, image, files) {
         Ok(drive) => drive,
         Err(refusal) => return Err(refusal),
     };

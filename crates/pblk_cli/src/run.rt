@@ -1,9 +1,10 @@
 //! `run`: a script on the drive of an image.
 
-ghost use Rattle.std.specs.Prelude.{◌≡◌, ◌≤◌, IfOk, IfErr};
+ghost use Rattle.std.specs.Prelude.{◌≡◌, ◌≤◌, List, IfOk, IfErr};
 ghost use Rattle.pblk_model.specs.Contents.{end};
 ghost use Rattle.pblk_model.specs.ImageFile.{image_of};
 ghost use Rattle.pblk_model.specs.Script.{NeverStuck, ScriptFits};
+ghost use Rattle.pblk_model.specs.declared.script.Command.{Command};
 ghost use Rattle.drive_image.specs.Quiet.{IsQuiet};
 ghost use Rattle.ocssd_drive.specs.Drive.{stored};
 ghost use Rattle.run_report.specs.Recorded.{IsRecorded};
@@ -24,7 +25,7 @@ use drive_image::into_image;
 use ocssd_drive::Drive;
 use pblk_model::{Script, ScriptErr};
 use pblk_outside::Files;
-use run_report::{totals, transcript};
+use run_report::{has_history, totals, transcript};
 use run_script::read_script;
 use run_threads::Records;
 use scan_recovery::summary;
@@ -195,9 +196,24 @@ fn run_text(
         IfOk result (λ text. text.items
         ≡ said_by telling script.now (transcript_of script.now records.now (end left))) }
 {
-    let held = summary(alloc, drive)?;
+    let end = end_for(alloc, drive, records)?;
     match telling {
-        Telling::Transcript => transcript(alloc, script, records, held.end),
-        Telling::Totals => totals(alloc, script, records, held.end),
+        Telling::Transcript => transcript(alloc, script, records, end),
+        Telling::Totals => totals(alloc, script, records, end),
+    }
+}
+
+// An end by which a run's transcript is the one by the end of what the drive holds. Where the
+// history is empty any is, and the drive isn't read.
+fn end_for(alloc: Global, drive: &Drive, records: &Records) -> Result<u64, AllocError>
+    ensures { let left = image_of (stored drive.now) in (script : List (List Command))
+        → IfOk result (λ e.
+        transcript_of script records.now e ≡ transcript_of script records.now (end left)) }
+{
+    if has_history(records) {
+        let held = summary(alloc, drive)?;
+        Ok(held.end)
+    } else {
+        Ok(0)
     }
 }

@@ -1,13 +1,12 @@
 //! `show` and `report`: what an image holds.
 
-ghost use Rattle.std.specs.Prelude.{◌≡◌, IfOk, IfErr, string_bytes};
+ghost use Rattle.std.specs.Prelude.{◌≡◌, IfOk, string_bytes};
 ghost use Rattle.ocssd_drive.specs.Drive.{stored};
 ghost use Rattle.pblk_cli.specs.Commands.{ReportComesTo, ShowComesTo};
 ghost use Rattle.pblk_cli.specs.Contents.{numbers_text, show_text};
-ghost use Rattle.pblk_cli.specs.Endings.{ending_of, reason_of};
-ghost use Rattle.pblk_cli.specs.Reading.{RefusesBytes, TellsOf};
+ghost use Rattle.pblk_cli.specs.Endings.{ending_of};
 
-use crate::input::{drive_of, read_file};
+use crate::input::read_drive;
 use crate::output::Output;
 use crate::refusal::Refusal;
 use ocssd_drive::Drive;
@@ -25,9 +24,13 @@ pub(crate) fn show<'a, F: Files>(
     ensures comes { ShowComesTo image.now (ending_of result) (F.view files.old) (F.view files.new) }
     ensures told { (F.view files.new).told ≡ (F.view files.old).told }
 {
-    match read_file(alloc, image, files) {
-        Ok(bytes) => tell_sectors(alloc, bytes),
-        Err(refusal) => Err(refusal),
+    let drive = match read_drive(alloc, image, files) {
+        Ok(drive) => drive,
+        Err(refusal) => return Err(refusal),
+    };
+    match sectors_text(alloc, drive) {
+        Ok(text) => Ok(Output { status: 0, text }),
+        Err(_) => Err(Refusal::Memory),
     }
 }
 
@@ -42,39 +45,13 @@ pub(crate) fn report_numbers<'a, F: Files>(
         (F.view files.old) (F.view files.new) }
     ensures told { (F.view files.new).told ≡ (F.view files.old).told }
 {
-    match read_file(alloc, image, files) {
-        Ok(bytes) => tell_numbers(alloc, bytes),
-        Err(refusal) => Err(refusal),
-    }
-}
-
-// The listing of an image of these bytes.
-fn tell_sectors<'a>(alloc: Global, bytes: Vec<u8>) -> Result<Output, Refusal<'a>>
-    ensures text { IfOk result (λ output.
-        TellsOf show_text bytes.items output.status output.text.items) }
-    ensures refused { IfErr result (λ refusal. RefusesBytes bytes.items (reason_of refusal)) }
-{
-    match drive_of(alloc, bytes) {
-        Ok(drive) => {
-            let text = sectors_text(alloc, drive)?;
-            Ok(Output { status: 0, text })
-        }
-        Err(refusal) => Err(refusal),
-    }
-}
-
-// The numbers of an image of these bytes.
-fn tell_numbers<'a>(alloc: Global, bytes: Vec<u8>) -> Result<Output, Refusal<'a>>
-    ensures text { IfOk result (λ output.
-        TellsOf numbers_text bytes.items output.status output.text.items) }
-    ensures refused { IfErr result (λ refusal. RefusesBytes bytes.items (reason_of refusal)) }
-{
-    match drive_of(alloc, bytes) {
-        Ok(drive) => {
-            let text = numbers_text(alloc, &drive)?;
-            Ok(Output::done(text))
-        }
-        Err(refusal) => Err(refusal),
+    let drive = match read_drive(alloc, image, files) {
+        Ok(drive) => drive,
+        Err(refusal) => return Err(refusal),
+    };
+    match numbers_text(alloc, &drive) {
+        Ok(text) => Ok(Output::done(text)),
+        Err(_) => Err(Refusal::Memory),
     }
 }
 

@@ -11,3 +11,4 @@ pub mod Blanks
 pub mod ListedLines
 pub mod OneListing
 pub mod FewCommands
+pub mod Unplaced

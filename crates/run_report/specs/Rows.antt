@@ -1,6 +1,6 @@
 -- The writes of a run that were answered a place, and the history that they are.
-use Rattle.std.specs.Prelude.{ℕ, ◌+◌, List, [], ◌∷◌, ◌++◌}
-use Rattle.std.specs.List.{range_with_len}
+use Rattle.std.specs.Prelude.{ℕ, ◌+◌, Bool, true, false, List, [], ◌∷◌, ◌++◌}
+use Rattle.std.specs.List.{list_any, range_with_len}
 use Rattle.pblk_model.specs.declared.script.Command.{Command}
 use Rattle.pblk_model.specs.declared.script.Command.TheVariants.{Write}
 use Rattle.pblk_model.specs.Text.{HistoryLine}
@@ -27,6 +27,15 @@ abbrev pub rows_from : ℕ → List (List Command) → List (List Answer) → Li
 rows_from thread (commands ∷ script) (answers ∷ threads) =
     thread_rows thread commands answers ++ rows_from (thread + 1) script threads
 rows_from thread script threads = []
+
+-- whether an answer is a place
+abbrev pub is_placed : Answer → Bool
+is_placed (Placed place) = true
+is_placed answer = false
+
+-- whether a write of these threads was answered a place
+abbrev pub has_placed : List (List Answer) → Bool
+has_placed threads = list_any (list_any is_placed) threads
 
 -- rows in the order of their positions
 abbrev pub in_order : List Row → List Row

@@ -1,12 +1,13 @@
 //! The lines of the history, and how many are kept.
 ghost use Rattle.std.specs.Prelude.{◌≡◌, ◌+◌, ◌^◌, ◌<◌, ◌≤◌, ◌++◌, OnOk, string_bytes};
-ghost use Rattle.std.specs.List.{enumerate_from, flat_map};
+ghost use Rattle.std.specs.List.{enumerate_from, flat_map, list_any};
 ghost use Rattle.pblk_model.specs.History.{users};
 ghost use Rattle.pblk_model.specs.Text.{history_line};
-ghost use Rattle.run_report.specs.Rows.{lines_of, positions_of};
+ghost use Rattle.run_report.specs.Rows.{has_placed, is_placed, lines_of, positions_of};
 ghost use Rattle.run_report.specs.RowFits.{HasSectors, AreRows};
 
 use crate::rows::Row;
+use run_threads::{Answer, Records};
 use std::alloc::AllocError;
 
 /// Adds the lines of the history that these rows are.
@@ -49,6 +50,38 @@ fn put_line(
         ++ history_line (number, record { thread = thread; lba = lba; tag = tag })) }
 {
     writeln!(out, "h {number} {thread} {lba} {tag}")
+}
+
+/// Whether a write of a run was answered a place. Where none was, the history is empty, and the
+/// transcript is the same whatever the image that the run left holds.
+pub fn has_history(records: &Records) -> bool
+    ensures { result ≡ has_placed records.now.threads }
+{
+    for answers in records.threads.as_slice() {
+        if has_placed(answers.as_slice()) {
+            return true;
+        }
+    }
+    false
+}
+
+// Whether one of these answers is a place.
+fn has_placed(answers: &[Answer]) -> bool
+    ensures { result ≡ list_any is_placed answers.now }
+{
+    for answer in answers {
+        if is_placed(answer) {
+            return true;
+        }
+    }
+    false
+}
+
+// Whether an answer is a place.
+fn is_placed(answer: &Answer) -> bool
+    ensures { result ≡ is_placed answer.now }
+{
+    matches!(answer, Answer::Placed(_))
 }
 
 /// How many lines of the history stand at positions below `end`.

@@ -12,6 +12,7 @@ mod rows;
 mod transcripts;
 
 pub use counts::totals;
+pub use history::has_history;
 pub use laws::{a_run_is_recorded, a_run_that_was_not_opened, a_run_through_ports};
 pub use listings::{listing, one_listing};
 pub use numbers::report;

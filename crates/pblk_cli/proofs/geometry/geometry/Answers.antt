@@ -1,8 +1,8 @@
-use Rattle.pblk_model.specs.CommandText.{geometry_text}
-use Rattle.pblk_cli.proofs.Reading.{tells_come}
+use Rattle.std.proofs.Common.{◌∙◌, refl}
+use Rattle.ocssd_drive.specs.Drive.{stored}
+use Rattle.pblk_cli.proofs.Reading.{drive_is_there}
 use Rattle.pblk_cli.proofs.geometry.geometry.Goals as goal
 
-pub returns-in-Ok-clause-comes : goal.returns-in-Ok-clause-comes
-returns-in-Ok-clause-comes g c =
-    tells_come geometry_text c.args.image.now c.in-Ok.bytes.items _ _ c.in-Ok.ensures.read c.tell_geometry.result c.tell_geometry.ensures.text
-    c.tell_geometry.ensures.refused
+pub returns-clause-comes : goal.returns-clause-comes
+returns-clause-comes g c =
+    (drive_is_there c.args.image.now (g.F.Files.view c.args.files.now) (stored c.in-Ok.drive) c.in-Ok.ensures.drive, c.in-Ok.ensures.untouched)

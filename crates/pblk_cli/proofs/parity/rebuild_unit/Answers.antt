@@ -1,7 +1,7 @@
 use Rattle.std.proofs.Common.{◌∙◌, inr, refl, sym}
 use Rattle.ocssd_drive.specs.Drive.{stored}
 use Rattle.pblk_cli.proofs.ParityComes.{input_of, refused_bytes, refused_rebuild, stored_after}
-use Rattle.pblk_cli.proofs.RunComes.{fails}
+use Rattle.pblk_cli.proofs.RunComes.{unstored}
 use Rattle.pblk_cli.proofs.parity.rebuild_unit.Goals as goal
 
 pub returns-in-Err-drive_of-clause-comes : goal.returns-in-Err-drive_of-clause-comes
@@ -25,8 +25,8 @@ returns-in-Ok-write-clause-comes g c =
             (rw c.deref.ensures.value c.in-Ok.ensures.script) c.in-Ok-drive_of.ensures.drive;
         left = h.left;
         rebuilt = h.rebuilt;
-        stored = stored_after c.args.image.now c.in-Ok.read.0.items c.args.image.now _ (g.F.Files.view c.args.files.now) (g.F.Files.view c.read_both.new.files)
-            (g.F.Files.view c.write.new.self) c.in-Ok.ensures.image (rw (sym h.stored_is, sym c.deref-2.ensures.value) c.in-Ok-write.ensures.stored)
+        stored = stored_after c.args.image.now _ (g.F.Files.view c.args.files.now) (g.F.Files.view c.read_both.new.files)
+            (g.F.Files.view c.write.new.self) c.in-Ok.ensures.image.1 (rw (sym h.stored_is, sym c.deref-2.ensures.value) c.in-Ok-write.ensures.stored)
             c.in-Ok-write.ensures.calm c.write.ensures.same_others c.write.ensures.same_told;
       },
     )
@@ -40,8 +40,8 @@ returns-clause-comes g c = inr (inr (
   input_of c.args.image.now c.args.parity.now c.in-Ok.read.0.items c.deref.result.now (stored c.in-Ok-drive_of.drive)
       (g.F.Files.view c.args.files.now) (g.F.Files.view c.read_both.new.files) c.in-Ok.ensures.image
       (rw c.deref.ensures.value c.in-Ok.ensures.script) c.in-Ok-drive_of.ensures.drive,
-  fails c.args.image.now c.in-Ok.read.0.items (g.F.Files.view c.args.files.now) (g.F.Files.view c.read_both.new.files) (g.F.Files.view c.write.new.self)
-      c.in-Ok.ensures.image c.in-Err-write.ensures.failed c.write.ensures.same_others,
+  unstored c.args.image.now (g.F.Files.view c.args.files.now) (g.F.Files.view c.read_both.new.files) (g.F.Files.view c.write.new.self)
+      c.in-Ok.ensures.image.1 c.in-Err-write.ensures.failed c.write.ensures.same_others,
 ))
 
 pub returns-clause-told : goal.returns-clause-told

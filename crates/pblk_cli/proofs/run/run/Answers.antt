@@ -1,7 +1,7 @@
 use Rattle.std.proofs.Common.{◌∙◌, inr, refl}
 use Rattle.command_words.specs.Words.{options_seen}
 use Rattle.ocssd_drive.specs.Drive.{stored}
-use Rattle.pblk_cli.proofs.RunComes.{fails, image_refused_comes, input_of, made, script_refused_comes}
+use Rattle.pblk_cli.proofs.RunComes.{image_refused_comes, input_of, made, script_refused_comes, unstored}
 use Rattle.pblk_cli.proofs.run.run.Goals as goal
 
 pub returns-in-Err-drive_of-clause-comes : goal.returns-in-Err-drive_of-clause-comes
@@ -35,9 +35,9 @@ returns-clause-comes g c = inr (inr (
       c.in-Ok-read_and_run.made.0.items
       (g.F.Files.view c.args.files.now) (g.F.Files.view c.read_both.new.files) c.in-Ok.ensures.image
       (rw c.deref.ensures.value c.in-Ok.ensures.script) c.in-Ok-drive_of.ensures.drive c.in-Ok-read_and_run.ensures.run,
-  fails c.args.image.now c.in-Ok.read.0.items
+  unstored c.args.image.now
       (g.F.Files.view c.args.files.now) (g.F.Files.view c.read_both.new.files)
-      (g.F.Files.view c.write.new.self) c.in-Ok.ensures.image c.in-Err-write.ensures.failed c.write.ensures.same_others,
+      (g.F.Files.view c.write.new.self) c.in-Ok.ensures.image.1 c.in-Err-write.ensures.failed c.write.ensures.same_others,
 ))
 
 pub returns-clause-told : goal.returns-clause-told

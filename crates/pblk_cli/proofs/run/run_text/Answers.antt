@@ -2,17 +2,14 @@ use Rattle.std.proofs.Common.{◌∙◌, ap}
 use Rattle.std.proofs.lemmas.Result.{IfOk-weaker}
 use Rattle.pblk_cli.specs.declared.run.Telling.TheVariants as tellings
 use Rattle.pblk_cli.specs.Running.{said_by}
-use Rattle.run_report.specs.Report.{transcript_of}
 use Rattle.pblk_cli.proofs.run.run_text.Goals as goal
 
 pub returns-in-Transcript : goal.returns-in-Transcript
 returns-in-Transcript c =
     rw c.in-Transcript.is (IfOk-weaker c.transcript.result _ _ (λ text h. h
-    ∙ ap (λ e. said_by tellings.Transcript c.args.script.now (transcript_of c.args.script.now c.args.records.now e)) c.in_ok-held.ensures.end)
-    c.transcript.ensures)
+    ∙ ap (said_by tellings.Transcript c.args.script.now) (c.in_ok-end.ensures c.args.script.now)) c.transcript.ensures)
 
 pub returns-in-Totals : goal.returns-in-Totals
 returns-in-Totals c =
     rw c.in-Totals.is (IfOk-weaker c.totals.result _ _ (λ text h. h
-    ∙ ap (λ e. said_by tellings.Totals c.args.script.now (transcript_of c.args.script.now c.args.records.now e)) c.in_ok-held.ensures.end)
-    c.totals.ensures)
+    ∙ ap (said_by tellings.Totals c.args.script.now) (c.in_ok-end.ensures c.args.script.now)) c.totals.ensures)
