@@ -5,7 +5,8 @@
 //! `times`. A line for each thing has its name, how often it was done in all, and the nanoseconds
 //! that the slowest session took. Without `times` there stands in place of the nanoseconds how
 //! often it was done rightly. `write` writes 16 sectors, `cached` reads a sector that was written
-//! just before, and `written` reads one that is on the drive.
+//! just before, and `written` reads one that is on the drive. `cached16` and `written16` read 16
+//! sectors at once so.
 //!
 //! Then come lines for the pieces of work of one worker, while one session writes at random. As
 //! many pieces are asked for as each session did a thing. A line has the name of a kind, how many
@@ -119,6 +120,8 @@ fn main(rt: HostRuntime) -> Result<()> {
     measure(&rt, alloc, asked, Task::Write, "write")?;
     measure(&rt, alloc, asked, Task::Cached, "cached")?;
     measure(&rt, alloc, asked, Task::Written, "written")?;
+    measure(&rt, alloc, asked, Task::CachedRun, "cached16")?;
+    measure(&rt, alloc, asked, Task::WrittenRun, "written16")?;
     let pieces = pieces::measure(&rt, alloc, asked.turns)?;
     tell(&rt, asked, "program", pieces.programs)?;
     tell(&rt, asked, "opening", pieces.openings)?;

@@ -1,5 +1,5 @@
 //! What sessions do while they are measured.
-ghost use Rattle.std.specs.Prelude.{◌≡◌, length};
+ghost use Rattle.std.specs.Prelude.{◌≡◌, ◌≤◌, length};
 
 use crate::bench_drive::{CAPACITY, SECTOR};
 use crate::moments::now;
@@ -28,6 +28,10 @@ pub(crate) enum Task {
     Cached,
     /// Reads of a sector that is on the drive.
     Written,
+    /// Reads of 16 sectors that were written just before.
+    CachedRun,
+    /// Reads of 16 sectors that are on the drive.
+    WrittenRun,
 }
 
 /// A session that is measured.
@@ -40,9 +44,8 @@ pub(crate) struct Phase<'r, C: Clock> {
     number: u32,
     sessions: u32,
     turns: u32,
-    // What it writes, and where it reads to.
+    // The 16 sectors that it writes. It reads over them, as what is written doesn't matter.
     bytes: Vec<u8>,
-    out: [u8; SECTOR],
     /// How often it did the thing rightly.
     pub(crate) right: u64,
     /// How many nanoseconds all of that took.
@@ -70,7 +73,6 @@ impl<'r, C: Clock> Phase<'r, C> {
             sessions,
             turns,
             bytes: vec![in alloc; 0u8; 16 * SECTOR]?,
-            out: [0; SECTOR],
             right: 0,
             nanos: 0,
         })
@@ -109,20 +111,24 @@ impl<'r, C: Clock> Phase<'r, C> {
             .is_ok()
     }
 
-    // Reads a sector. Tells whether that was done.
+    // Reads so many sectors, 1 to 16. Tells whether that was done.
     fn read<M: Mount, U: Unit, R: Wait>(
         &mut self,
         rt: &R,
         session: &mut Session<'_, M, U>,
         index: u64,
+        count: usize,
     ) -> bool
         requires sector { M.past.image.shape.sector ≡ 4096 }
         requires bytes { length self.old.bytes.items ≡ 65536 }
+        requires some { 1 ≤ count }
+        requires few { count ≤ 16 }
         ensures number { session.new.worker.number ≡ session.old.worker.number }
         ensures bytes { length self.new.bytes.items ≡ 65536 }
     {
         let lba = self.own(index);
-        session.read(rt, lba, &mut self.out).is_ok()
+        let out = &mut self.bytes[..count * SECTOR];
+        session.read(rt, lba, out).is_ok()
     }
 
     // Writes so many of its own sectors, the first ones, and has them put on the drive.
@@ -156,8 +162,10 @@ impl<'r, C: Clock> Phase<'r, C> {
     {
         match self.task {
             Task::Write => self.write(rt, session, turn.wrapping_mul(16)),
-            Task::Cached => self.read(rt, session, turn % 16),
-            Task::Written => self.read(rt, session, turn.wrapping_mul(7) % READ),
+            Task::Cached => self.read(rt, session, turn % 16, 1),
+            Task::Written => self.read(rt, session, turn.wrapping_mul(7) % READ, 1),
+            Task::CachedRun => self.read(rt, session, 0, 16),
+            Task::WrittenRun => self.read(rt, session, turn.wrapping_mul(16) % READ, 16),
         }
     }
 }
@@ -171,10 +179,10 @@ impl<U: Unit, C: Clock> Work<U> for Phase<'_, C> {
         }
         match self.task {
             Task::Write => (),
-            Task::Cached => {
+            Task::Cached | Task::CachedRun => {
                 self.write(rt, session, 0);
             }
-            Task::Written => self.prepare(rt, session, OWN),
+            Task::Written | Task::WrittenRun => self.prepare(rt, session, OWN),
         }
         self.wait(rt);
         let start = now(self.clock);
