@@ -20,7 +20,12 @@ images=drive small ; output=1 ; after=head none/end 0/ ; status=8 ; text=certif
 
 #[test]
 fn certificates_are_made(rt: HostRuntime) -> Result<(), Fail> {
-    check(&rt, rt.alloc(), "call=certify|image|image ; images=drive small 5=17", MADE)
+    check(
+        &rt,
+        rt.alloc(),
+        "call=certify|image|image ; images=drive small 5=17",
+        MADE,
+    )
 }
 
 // Images, and what is told of them by one certificate.
