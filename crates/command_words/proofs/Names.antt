@@ -10,7 +10,7 @@ use Rattle.command_words.specs.Grammar as model
 use Rattle.command_words.specs.Grammar.{Name, IsPlainWord, IsCommandLine, first_word}
 use Rattle.command_words.specs.Words.{AreSoakWords, AreTwoNames, AreWordsOf, IsOneName}
 use Rattle.command_words.proofs.Items.{plain_items}
-use Rattle.command_words.proofs.Numbers.{digits}
+use Rattle.pblk_model.proofs.NumberLemmas.{digits}
 
 one_name : (words : List (List ℕ)) (image : List ℕ) (items : List model.Item) → model.AreItems items words → model.names_in items ≡ image ∷ []
     → model.options_in items ≡ [] → model.flags_in items ≡ [] → IsOneName words image

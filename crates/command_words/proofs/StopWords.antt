@@ -10,7 +10,7 @@ use Rattle.command_words.specs.Grammar.{IsFuse, IsStop}
 use Rattle.command_words.specs.Words.{IsInThree}
 use Rattle.command_words.proofs.ItemWords.{parts_agree}
 use Rattle.command_words.proofs.Items.{all_at}
-use Rattle.command_words.proofs.Numbers.{digits}
+use Rattle.pblk_model.proofs.NumberLemmas.{digits}
 
 -- Words in three parts.
 

@@ -1,5 +1,5 @@
 -- What is seen of the words that are read, and what has been read of them.
-use Rattle.std.specs.Prelude.{ℕ, ◌≡◌, ◌≢◌, ◌<◌, ◌≤◌, ◌^◌, ◌==◌, ◌||◌, ⊤, Bool, false, List, [], ◌∷◌, ◌++◌, length, codes, Option, Some, None}
+use Rattle.std.specs.Prelude.{ℕ, ◌≡◌, ◌≢◌, ◌<◌, ◌≤◌, ◌^◌, ⊤, List, [], ◌∷◌, ◌++◌, length, codes, Option, Some, None}
 use Rattle.std.specs.List.{AllByRecursion}
 use Rattle.std.specs.Borrow.{Bor}
 use Rattle.std.specs.Fmt.{decimal}
@@ -81,14 +81,6 @@ pub record AreSoakWords (words : List (List ℕ)) (image : List ℕ) (number rou
   pub words_are : words ≡ image ∷ decimal number ∷ decimal rounds ∷ []
   pub plain : IsPlainWord image
   pub load : IsLoad number rounds
-
--- Numbers.
-
--- a word that begins with `+`, or with a 0 that more follows
-abbrev pub is_padded : List ℕ → Bool
-is_padded [] = false
-is_padded (byte ∷ []) = byte == 43
-is_padded (byte ∷ (next ∷ bytes)) = byte == 43 || byte == 48
 
 -- Items.
 

@@ -2,7 +2,8 @@
 
 ghost use Rattle.std.specs.Prelude.{◌≡◌, ◌≢◌, ℕ, ◌<◌, ◌≤◌, ◌^◌, IfSome, IfNone};
 ghost use Rattle.std.specs.Fmt.{decimal};
-ghost use Rattle.command_words.specs.Words.{is_padded};
+
+use pblk_model::is_padded;
 
 /// The number that a word spells: `0`, or digits without a leading 0, below 2^64.
 pub(crate) fn read_number(word: &str) -> Option<u64>
@@ -49,12 +50,4 @@ pub(crate) fn read_rounds(word: &str) -> Option<u32>
         return None;
     }
     Some(number)
-}
-
-// Whether a word begins with `+`, or with a 0 that more follows: Rust's own reading of numbers
-// takes both.
-fn is_padded(word: &[u8]) -> bool
-    ensures { result ≡ is_padded word.now }
-{
-    matches!(word, [b'+', ..] | [b'0', _, ..])
 }

@@ -18,6 +18,7 @@ pub mod ImageFileLemmas
 pub mod AcceptedLemmas
 pub mod HistoryLemmas
 pub mod ScriptTextLemmas
+pub mod NumberLemmas
 pub mod GeometryLemmas
 pub mod GeometryBytes
 pub mod MarksLemmas

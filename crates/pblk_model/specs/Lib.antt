@@ -22,6 +22,7 @@ pub mod Contents
 pub mod Sealed
 pub mod Found
 pub mod History
+pub mod Number
 pub mod Script
 pub mod ScriptText
 pub mod Text

@@ -1,5 +1,5 @@
 -- Which words spell a number.
-use Rattle.std.proofs.Common.{rules, ◌≡◌, ◌≢◌, ℕ, ◌+◌, ◌-◌, ◌*◌, ◌^◌, ◌<◌, ◌==◌, ◌||◌, ◌&&◌, true, false, Some, None, if◌then◌else◌, List, [], ◌∷◌, length, get_or, Bool, Result, Ok, Err, refl, sym, ap, ◌∙◌, arith, inl, inr}
+use Rattle.std.proofs.Common.{rules, ◌≡◌, ◌≢◌, ℕ, ◌+◌, ◌-◌, ◌*◌, ◌^◌, ◌<◌, ◌&&◌, true, false, Some, None, if◌then◌else◌, List, Bool, Result, Ok, Err, refl, sym, ◌∙◌, inl, inr}
 use Rattle.std.specs.Fmt.{decimal}
 use Rattle.std.specs.List.{fold}
 use Rattle.std.specs.Bool.{nat_lt}
@@ -7,43 +7,16 @@ use Rattle.std.specs.Str.{bytes_eq}
 use Rattle.std.specs.Result.{result_ok}
 use Rattle.std.specs.Str.{IsUtf8}
 use Rattle.std.specs.Str.Parse.{AllDigits, digits_value, ParsesUnsigned}
-use Rattle.std.proofs.lemmas.Bool.{eqb-true, eqb-false, eq-eqb, false_from_ne_true, true≢false, cases_Bool}
-use Rattle.std.proofs.lemmas.Fmt.{decimal-digits_value, digits_value-decimal, digits_decimal, parse-decimal, IsAscii-decimal}
+use Rattle.std.proofs.lemmas.Bool.{cases_Bool}
+use Rattle.std.proofs.lemmas.Fmt.{decimal-digits_value, digits_value-decimal, parse-decimal, IsAscii-decimal}
 use Rattle.std.proofs.lemmas.Slice.Eq.{bytes_eq-Decides}
 use Rattle.std.proofs.lemmas.Bool.Decides.{Decides-ltb}
 use Rattle.std.proofs.lemmas.Str.{IsUtf8-from_ascii}
-use Rattle.std.proofs.lemmas.Str.Parse.{IsNumeralModel, numerals_by_value, numerals_by_fold, tells_digits, parse_plain, digit_from_value}
+use Rattle.std.proofs.lemmas.Str.Parse.{IsNumeralModel, numerals_by_fold, tells_digits, parse_plain}
 use Rattle.pblk_model.specs.ScriptText as text
 use Rattle.pblk_model.specs.ScriptText.{number_of}
-use Rattle.run_script.specs.Number.{is_padded}
-use Rattle.pblk_model.proofs.Bytes.{short_zero}
-
-digits : IsNumeralModel (AllDigits 10) (digits_value 10)
-digits = numerals_by_value (AllDigits 10) tells_digits
-
-plain_first : (bs : List ℕ) → is_padded bs ≡ false → get_or bs 0 0 ≢ 43
-plain_first [] h e = absurd (omega (arith, e))
-plain_first (x ∷ []) h e = eqb-false x 43 h e
-plain_first (x ∷ (y ∷ bs)) h e = absurd (true≢false (sym (ap (λ b. b || x == 48) (eq-eqb x 43 e)) ∙ h))
-
-plain_zero : (bs : List ℕ) → 0 < length bs → is_padded bs ≡ false → get_or bs 0 0 ≡ 48 → length bs ≡ 1
-plain_zero [] some h e = absurd (omega (arith, some))
-plain_zero (x ∷ []) some h e = refl
-plain_zero (x ∷ (y ∷ bs)) some h e =
-    elim (cases_Bool (x == 43)) [
-      | inl k ↦ absurd (omega (arith, eqb-true x 43 k, e))
-      | inr k ↦ absurd (true≢false (sym (eq-eqb x 48 e) ∙ (rw k at h)))
-    ]
-
-not_padded : (bs : List ℕ) → AllDigits 10 bs → (get_or bs 0 0 ≡ 48 → length bs ≡ 1) → is_padded bs ≡ false
-not_padded [] d short = refl
-not_padded (x ∷ []) d short = false_from_ne_true (x == 43) (λ k. let r = digit_from_value x d.0 in omega (arith, r, eqb-true x 43 k))
-not_padded (x ∷ (y ∷ bs)) d short =
-    let plus : (x == 43) ≡ false = false_from_ne_true (x == 43) (λ k. let r = digit_from_value x d.0 in omega (arith, r, eqb-true x 43 k)) in
-    rw plus (false_from_ne_true (x == 48) (λ k. absurd (omega (arith, short (eqb-true x 48 k)))))
-
-pub decimal_not_padded : (bs : List ℕ) (n : ℕ) → n < 2 ^ 64 → bs ≡ decimal n → is_padded bs ≡ false
-decimal_not_padded bs n small e = rw e (not_padded (decimal n) (digits_decimal digits n small) (short_zero n small))
+use Rattle.pblk_model.specs.Number.{is_padded}
+use Rattle.pblk_model.proofs.NumberLemmas.{digits, plain_first, plain_zero}
 
 pub decimal_utf8 : (bs : List ℕ) (n : ℕ) → n < 2 ^ 64 → bs ≡ decimal n → IsUtf8 bs
 decimal_utf8 bs n small e = rw e (IsUtf8-from_ascii (decimal n) (IsAscii-decimal n small))

@@ -275,9 +275,5 @@ told heard = option_map_or Err (posts_refusal heard) (Ok (script_of heard))
 pub told_unposted : (heard : Heard) (line : ℕ) → unposted (saids heard) heard ≡ Some line → told heard ≡ Err (errors.NeverPosted line)
 told_unposted heard line e = rw e refl
 
-pub none_here : {A : Type 0} (o : Option A) → ((x : A) → o ≡ Some x → ⊥) → o ≡ None
-none_here None h = refl
-none_here (Some x) h = absurd (h x refl)
-
 pub passes_as : (old new : Names) (c : Command) (goes goes' : Bool) → Passes old new c goes → goes ≡ goes' → Passes old new c goes'
 passes_as old new c goes goes' h e = subst (Passes old new c) e h

@@ -1,6 +1,7 @@
 use Rattle.std.proofs.Common.{sym, ◌∙◌}
 use Rattle.std.proofs.lemmas.Bool.{true≢false}
-use Rattle.command_words.proofs.Numbers.{decimal_not_padded, number_found, number_none}
+use Rattle.pblk_model.proofs.NumberLemmas.{decimal_not_padded}
+use Rattle.command_words.proofs.Numbers.{number_found, number_none}
 use Rattle.command_words.proofs.number.read_number.Goals as goal
 
 pub returns-then-is_padded-clause-none : goal.returns-then-is_padded-clause-none

@@ -1,6 +1,7 @@
 use Rattle.std.proofs.Common.{sym, ◌∙◌}
 use Rattle.std.proofs.lemmas.Bool.{true≢false}
-use Rattle.run_script.proofs.NumberSpelling.{decimal_not_padded, decimal_utf8, number_none, number_parsed}
+use Rattle.pblk_model.proofs.NumberLemmas.{decimal_not_padded}
+use Rattle.run_script.proofs.NumberSpelling.{decimal_utf8, number_none, number_parsed}
 use Rattle.run_script.proofs.number.number_of.Goals as goal
 
 pub returns-then-is_padded : goal.returns-then-is_padded
