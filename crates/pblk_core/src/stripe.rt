@@ -181,14 +181,23 @@ fn append_bytes(list: &mut Vec<u8>, bytes: &[u8])
     list.extend_from_slice(bytes).unwrap();
 }
 
-// Fills a list up to `end` bytes with zeros. It has room for them.
+// How many zeros are added at once.
+const PIECE: usize = 4096;
+
+// Fills a list up to `end` bytes with zeros. It has room for them. They are copied in pieces: to
+// write one byte after another takes ten times as long.
 fn fill_zeros(list: &mut Vec<u8>, end: usize)
     requires order { vec_len list.old ≤ end }
     requires room { end ≤ vec_capacity list.old }
     ensures items { list.new.items ≡ list.old.items ++ replicate (end - length list.old.items) 0 }
     ensures room { vec_capacity list.old ≤ vec_capacity list.new }
 {
-    list.resize(end, 0).unwrap();
+    let zeros = [0; PIECE];
+    let missing = end - list.len();
+    for _piece in 0..missing / PIECE {
+        append_bytes(list, &zeros);
+    }
+    append_bytes(list, &zeros[..missing % PIECE]);
 }
 
 // Fills a list up to `end` marks with one. It has room for them.
