@@ -1,22 +1,25 @@
--- A heart whose core names a copy, and that has no stripe under way: nothing else can be done.
-use Rattle.std.proofs.Common.{◌≡◌, ◌⊎◌, ℕ, ◌+◌, ◌<◌, ◌^◌, ◌==◌, ◌&&◌, nat_lt, true, false, Some, None, length, refl, sym, ap, ◌∙◌, le_refl}
+-- Stripes that are under way. A heart whose core names a copy, and that has none: nothing else can be done.
+use Rattle.std.proofs.Common.{◌≡◌, ◌⊎◌, ℕ, ◌+◌, ◌<◌, ◌^◌, ◌==◌, ◌&&◌, nat_lt, true, false, Some, None, Option, List, length, refl, sym, ap, ◌∙◌, le_refl}
 use Rattle.std.specs.Prelude.{slice_get, position}
-use Rattle.std.specs.Option.{is_some}
+use Rattle.std.specs.List.{Contains}
+use Rattle.std.specs.Option.{is_some, option_map_or}
+use Rattle.std.proofs.lemmas.Option.{same_Some}
 use Rattle.pblk_model.specs.Image.{Image}
 use Rattle.pblk_model.specs.Shape.{units}
-use Rattle.pblk_world.specs.World.{World, log_of}
-use Rattle.pblk_world.specs.EngineLog.{openings}
+use Rattle.pblk_world.specs.World.{World, Logs, log_of}
+use Rattle.pblk_world.specs.EngineLog.{Placed, answers, is_answered, openings, placements}
 use Rattle.pblk_world.specs.Fronts.{synced, waiting}
 use Rattle.pblk_world.specs.LegalMounts.{IsLegalMount}
 use Rattle.pblk_world.specs.Orders.{NoneToFree}
 use Rattle.pblk_world.specs.Space.{open_addresses}
 use Rattle.pblk_world.specs.AtRest.{pad_target, logs_at}
 use Rattle.line_table.specs.Rows.{is_free}
-use Rattle.stripe_placer.specs.Placing.{next_stripe, Placing, UnitRow, is_under_way}
+use Rattle.stripe_placer.specs.Placing.{next_stripe, Placing, Program, UnitRow, is_under_way}
 use Rattle.stripe_placer.specs.Placing.UnitRow.{Idle, UnderWay, Stopped}
 use Rattle.core_laws.specs.OpenedLines.{open_lines}
-use Rattle.core_laws.specs.PlacerOf.{placing_of, unit_row_in}
+use Rattle.core_laws.specs.PlacerOf.{placing_of, row_in, unanswered_on, unit_row_in, waits_again}
 use Rattle.core_laws.specs.RowsOf.{rows_of}
+use Rattle.core_laws.proofs.AnsweredUnits.{first_answer}
 use Rattle.core_laws.proofs.IdleRows.{row_there}
 use Rattle.write_ring.specs.declared.view.View.{View}
 use Rattle.pblk_core.specs.Collecting.{Collects}
@@ -26,7 +29,9 @@ use Rattle.pblk_core.specs.Resets.{resets_of}
 use Rattle.pblk_core.specs.Stands.{Stands}
 use Rattle.pblk_core.specs.declared.target_core.Core.{Core}
 use Rattle.pblk_core.specs.declared.work.Work.TheVariants as works
+use Rattle.pblk_model.proofs.Maps.{from_filter}
 use Rattle.pblk_model.proofs.Options.{none_there}
+use Rattle.pblk_model.proofs.Parts.{contained_among}
 use Rattle.pblk_engine.specs.Hearts.{IsHeart}
 use Rattle.pblk_engine.proofs.Decisions.{by_left}
 use Rattle.pblk_engine.proofs.NextWork.{no_reset_named, none_first}
@@ -37,6 +42,32 @@ use Rattle.pblk_engine.specs.Alone.{IsCopyAlone}
 use Rattle.pblk_engine.proofs.NoneToPlace.{answered, none_due_now, none_opened, not_placed, still_idle}
 use Rattle.pblk_engine.proofs.CopySearch.{copy_named}
 use Rattle.pblk_engine.proofs.RestingHearts.{collects_then, pad_kept, stands_then}
+
+-- ---- a stripe that is under way
+
+-- it isn't answered
+pub under_way_waits : (i : Image) (logs : Logs) (again : List ℕ) (unit : ℕ) (of : Program) → unit_row_in i logs again unit ≡ UnderWay of
+    → (p : Placed) × Contains (placements (logs 0)) p × (is_answered (logs 0) p ≡ false)
+under_way_waits i logs again unit of row = go (unanswered_on (logs 0) unit) refl row
+  where
+    go : (o : Option Placed) → unanswered_on (logs 0) unit ≡ o
+        → option_map_or (λ (p : Placed). row_in i logs (waits_again (logs 0) again unit) p.life p) o Idle ≡ UnderWay of
+        → (p : Placed) × Contains (placements (logs 0)) p × (is_answered (logs 0) p ≡ false)
+    go None e row = absurd cc
+    go (Some p) e row = (
+      p,
+      contained_among (placements (logs 0)) p
+          (from_filter (λ (q : Placed). q.stripe.unit == unit) (placements (logs 0)) p (length (answers (logs 0) unit), e)),
+      ap is_some (first_answer (logs 0) unit p e),
+    )
+
+pub waits_on : (i : Image) (logs : Logs) (c : Core) → Stands i logs c → (unit : ℕ) → unit < units i.shape → IsUnderWayOn c unit
+    → (p : Placed) × Contains (placements (logs 0)) p × (is_answered (logs 0) p ≡ false)
+waits_on i logs c st unit inside on =
+    under_way_waits i logs st.again unit on.0 (same_Some (unit_row_in i logs st.again unit) (UnderWay on.0)
+    (sym (row_there i logs st.again unit inside) ∙ ap (λ (p : Placing). slice_get p.units unit) (sym st.placing) ∙ on.1))
+
+-- ---- a copy alone
 
 module _ (i : Image) (w : World) (c : Core) (v : View) (mount : IsLegalMount i w) (is : IsHeart i (log_of w) c v) (none_to_free : NoneToFree i (log_of w))
     (names : named c ≡ works.Copy) (none_going : (unit : ℕ) → unit < units i.shape → ¬ IsUnderWayOn c unit) where

@@ -1,9 +1,10 @@
 //! What a look under the engine's lock gives.
 
-ghost use Rattle.std.specs.Prelude.{◌≡◌, ◌≢◌, ◌≤◌, ◌<◌, ◌^◌, ℕ, false, length, map, slice_get, Some, IfSome, IsSome};
+ghost use Rattle.std.specs.Prelude.{◌≡◌, ◌≢◌, ◌≤◌, ◌<◌, ◌^◌, ℕ, false, length, map, slice_get, Some, IfSome, IsSome, IsTrue};
+ghost use Rattle.std.specs.List.{Contains};
 ghost use Rattle.pblk_model.specs.Bytes.{zeros};
 ghost use Rattle.pblk_model.specs.Shape.{units};
-ghost use Rattle.pblk_world.specs.EngineLog.{takes};
+ghost use Rattle.pblk_world.specs.EngineLog.{Placed, is_answered, placements, takes};
 ghost use Rattle.pblk_world.specs.Fronts.{taken};
 ghost use Rattle.pblk_world.specs.AtRest.{IsAtRest, IsCopyDue, logs_at};
 ghost use Rattle.pblk_world.specs.Orders.{AreReset};
@@ -36,7 +37,8 @@ use write_ring::Ring;
 fn is_any_under_way(core: &Core, count: u32) -> bool
     requires standing { IsStanding core.now }
     requires count { count ≡ units core.now.layout }
-    ensures { result ≡ false → (unit : ℕ) → unit < count → ¬ IsUnderWayOn core.now unit }
+    ensures none { result ≡ false → (unit : ℕ) → unit < count → ¬ IsUnderWayOn core.now unit }
+    ensures some { IsTrue result → (unit : ℕ) × (unit < count) × IsUnderWayOn core.now unit }
 {
     for unit in 0..count {
         if core.is_under_way(unit) {
@@ -69,11 +71,13 @@ impl<M: Mount> Heart<M> {
         self.core.next_work()
     }
 
-    /// Whether a unit has the program of a stripe under way. Where none has and the next work is a
-    /// copy, the copy is all that can be done.
+    /// Whether a unit has the program of a stripe under way. Then that stripe isn't answered. Where
+    /// none has and the next work is a copy, the copy is all that can be done.
     pub(crate) fn has_stripe_under_way(&self) -> bool
         ensures none { result ≡ false → self.now.work ≡ works.Copy
             → IsCopyAlone M.past.image (at_look self.now.author.known) }
+        ensures some { let log = logs_of self.now.author.known 0 in IsTrue result
+            → (p : Placed) × Contains (placements log) p × (is_answered log p ≡ false) }
     {
         let count = self.author.units();
         is_any_under_way(&self.core, count)

@@ -13,6 +13,9 @@ loop-unit-preserved c = λ unit below. go unit (omega (arith, below)) (cases_lt 
         let both : true ≡ false = sym (c.is_under_way.ensures.1 (subst (IsUnderWayOn c.args.core.now) here on)) ∙ c.if-is_under_way.false in
         absurd cc
 
-pub returns : goal.returns
-returns c = λ none unit inside.
+pub returns-clause-none : goal.returns-clause-none
+returns-clause-none c = λ none unit inside.
     let passed : unit < c.loop-unit.unit = omega (arith, inside, c.loop-unit.auto.unit-end, c.loop-unit-test.false) in c.loop-unit.invariant unit passed
+
+pub returns-then-is_under_way-clause-some : goal.returns-then-is_under_way-clause-some
+returns-then-is_under_way-clause-some c = λ is. (c.loop-unit.unit, c.loop-unit-test.true, c.is_under_way.ensures.0 c.if-is_under_way.true)
