@@ -13,7 +13,7 @@ use Rattle.pblk_model.specs.Shape.{units as units_of}
 use Rattle.pblk_model.proofs.Lists.{IsAmong}
 use Rattle.pblk_model.proofs.Parts.{all_at, before_last, get_first, get_last}
 use Rattle.pblk_world.specs.AtRest.{IsAtRest}
-use Rattle.pblk_world.specs.EngineLog.{Begun, Placed, begun, is_answered, placements}
+use Rattle.pblk_world.specs.EngineLog.{Placed, begun, is_answered, placements}
 use Rattle.pblk_model.specs.UnitLog.{UnitEvent}
 use Rattle.pblk_world.specs.Events.{Does, Logged, Maker}
 use Rattle.pblk_world.proofs.VictimsLemmas.{whole_prefix}
@@ -47,7 +47,7 @@ use Rattle.pblk_engine.specs.Closed.{HasClosed, TellsEnd}
 use Rattle.pblk_engine.specs.Workers.{Made, WorkerView}
 use Rattle.pblk_engine.specs.declared.errors.SettleErr.{SettleErr}
 use Rattle.pblk_engine.specs.declared.errors.SettleErr.TheVariants as errors
-use Rattle.pblk_engine.proofs.Accepted.{begun_known}
+use Rattle.pblk_engine.proofs.Accepted.{begun_has_event, begun_known}
 use Rattle.pblk_engine.proofs.InOrder.{after_resets, none_was_left, opened_full}
 use Rattle.pblk_engine.proofs.OpenedPasts.{all_logs}
 use Rattle.block_target.specs.Closes.{AreAllBack, EndsAtSynced, IsClosed, IsKept, IsTidyClose, IsTold, NoneLost, TellsClosed, WasWorkedOff, answer_at, close_faults, close_worns, joined, lost_places, with_workers, writes_from}
@@ -100,11 +100,6 @@ closed_worns i logs (Err (errors.Worn wanted have)) own worns tells ends were =
     let a : WornAnswer = record { written = length (flat_map lines_of own); count = 0; wanted = wanted; have = have } in
     refused_more i logs own (taken (logs 0)) 0 worns a (omega arith) were
     (refused_now i logs own (taken (logs 0)) a refl ends (le_refl (taken (logs 0))) tells.1)
-
--- a log that has begun isn't empty
-some_event : (log : List Logged) (b : Begun) → begun log ≡ Some b → 0 < length log
-some_event [] b is = absurd (none-some b is)
-some_event (l ∷ log) b is = omega arith
 
 -- ---- a closed target
 
@@ -329,7 +324,7 @@ module _ (past : Past) (key : Key) (handed : List ModelUnit) (wear : List (List 
     pumps = closed.count;
     settled = closed.pumps;
     begun =
-        let some : 0 < length (logs_of past.logs 0) = some_event (logs_of past.logs 0) mounted.beginning mounted.has_begun in
+        let some : 0 < length (logs_of past.logs 0) = begun_has_event (logs_of past.logs 0) mounted.beginning mounted.has_begun in
         let longer : length (logs_of past.logs 0) ≤ length (logs_of closed.pumps.first.known 0) =
         begins_length (logs_of past.logs 0) (logs_of closed.pumps.first.known 0)
         ((still_begun past.logs t.worker.known closed.pumps.first.known begins closed.pumps.waited.keeps).each 0) in

@@ -35,9 +35,10 @@ begun_known past key handed wear known mounted more =
     begun_of_first (length (logs_of past.logs 0)) (logs_of known 0) mounted.beginning
     (ap begun (begins_take (logs_of past.logs 0) (logs_of known 0) (more.each 0)) ∙ mounted.has_begun)
 
-some_begun : (log : List Logged) (b : Begun) → begun log ≡ Some b → 0 < length log
-some_begun [] b is = absurd (none-some b is)
-some_begun (l ∷ log) b is = omega arith
+-- a log that has begun isn't empty
+pub begun_has_event : (log : List Logged) (b : Begun) → begun log ≡ Some b → 0 < length log
+begun_has_event [] b is = absurd (none-some b is)
+begun_has_event (l ∷ log) b is = omega arith
 
 -- prefixes of known logs are those of a world
 pub prefixes_of : (a b : Prefixes) (v w : World) → log_of v ≡ logs_of a → log_of w ≡ logs_of b → ArePrefixes a b → early.ArePrefixes w (log_of v)
@@ -72,7 +73,7 @@ accepted past key handed wear looked now mounted then_ now_ begins more lba line
     subst (λ (l : Logs). IsMarkedBlock i l lba line position unit number block) (sym now_.logs) marked in
     let held : slice_get (histories.after (contents (found_image i (log_of w))) (history (take n (log_of w 0)))) lba ≡ Some block.sector =
     looks.accepted i w (log_of v) n lba line at position unit number block (legal_mount past key handed wear now mounted now_)
-    (some_begun (log_of v 0) b has) within same there met in
+    (begun_has_event (log_of v 0) b has) within same there met in
     let image : found_image i (log_of w) ≡ found_image i (log_of v) =
     found_same i w b v (is_earlier i v w b then_.legal prefix has) (begun_now i v w b prefix has) in
     subst (λ (l : Logs). slice_get (latest_by i l) lba ≡ Some block.sector) then_.logs

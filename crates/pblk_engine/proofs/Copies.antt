@@ -1,5 +1,5 @@
 -- The copy that a heart begins next: it is due, its block can be read, and it gets a position.
-use Rattle.std.proofs.Common.{◌≡◌, ◌≢◌, ◌⊎◌, inl, inr, ℕ, ◌+◌, ◌-◌, ◌*◌, ◌^◌, ◌<◌, ◌≤◌, if◌then◌else◌, zero, suc, max, Bool, true, false, Some, List, [], ◌∷◌, ◌++◌, length, refl, sym, subst, ap, ap₂, ◌∙◌, arith, le_refl, le_trans}
+use Rattle.std.proofs.Common.{◌≡◌, ◌≢◌, ◌⊎◌, inl, inr, ℕ, ◌+◌, ◌-◌, ◌*◌, ◌^◌, ◌<◌, ◌≤◌, zero, suc, max, Bool, true, false, Some, List, [], ◌∷◌, ◌++◌, length, refl, sym, subst, ap, ap₂, ◌∙◌, arith, le_refl, le_trans}
 use Rattle.std.proofs.lemmas.Bool.{cases_lt}
 use Rattle.std.proofs.lemmas.Bool.Decides.{nat_tests}
 use Rattle.std.specs.Prelude.{slice_get}
@@ -51,6 +51,7 @@ use Rattle.write_ring.specs.declared.view.Part.{Part}
 use Rattle.write_ring.specs.declared.view.View.{View}
 use Rattle.write_ring.proofs.ClaimLists.{covers_both}
 use Rattle.write_ring.proofs.SomeViews.{last_at}
+use Rattle.write_ring.proofs.Users.{copies_among}
 use Rattle.write_ring.specs.Stock.{HasPut}
 use Rattle.write_ring.specs.declared.view.Row.{Row}
 use Rattle.pblk_core.specs.Collecting.{Collects, IsCopyReady}
@@ -75,17 +76,8 @@ use Rattle.pblk_engine.proofs.SlotPlaces.{can_be_read, here, its_place}
 
 -- ---- lists of claims
 
-copies_fewer : (x : ℕ) (cs : List Claim) → covers_copy x cs ≤ covers x cs
-copies_fewer x [] = le_refl 0
-copies_fewer x (c ∷ cs) = go c.copy (copies_fewer x cs)
-  where
-    go : (b : Bool) → covers_copy x cs ≤ covers x cs
-        → (if b then between c.first (c.first + c.count) x else 0) + covers_copy x cs ≤ between c.first (c.first + c.count) x + covers x cs
-    go true low = omega arith
-    go false low = omega arith
-
 pub no_copy_there : (x : ℕ) (cs : List Claim) → covers x cs ≡ 0 → covers_copy x cs ≡ 0
-no_copy_there x cs none = let low : covers_copy x cs ≤ covers x cs = copies_fewer x cs in omega arith
+no_copy_there x cs none = let low : covers_copy x cs ≤ covers x cs = copies_among x cs in omega arith
 
 one_elsewhere : (x first : ℕ) → x ≢ first → between first (first + 1) x ≡ 0
 one_elsewhere x first apart = go (cases_lt x first)

@@ -72,9 +72,6 @@ answer_kept e going done = ap₂ (λ a b. a || (is_fetch e.command && b)) going 
     no true = refl
     no false = refl
 
-pub stop_lost : (e : UnitEvent) → is_stop e.outcome ≡ true → is_drive_fault e ≡ true
-stop_lost e stop = ap (λ b. b || (is_fetch e.command && is_fail e.outcome)) stop
-
 pub fetch_lost : (e : UnitEvent) → is_fetch e.command ≡ true → is_fail e.outcome ≡ true → is_drive_fault e ≡ true
 fetch_lost e fetch fail = ap₂ (λ a b. is_stop e.outcome || (a && b)) fetch fail ∙ yes (is_stop e.outcome)
   where

@@ -1,22 +1,19 @@
 -- What an author of the engine's log knows after one event more, or after it met what another knew.
-use Rattle.std.proofs.Common.{◌≡◌, ◌⊎◌, inl, inr, ℕ, ◌+◌, zero, suc, List, [], ◌∷◌, ◌++◌, length, map, refl, sym, subst, ap, ap₂, ◌∙◌, arith}
+use Rattle.std.proofs.Common.{◌≡◌, ℕ, ◌+◌, zero, suc, List, [], ◌∷◌, ◌++◌, length, map, refl, sym, subst, ap, ap₂, ◌∙◌, arith}
 use Rattle.std.specs.List.{range_with_len}
 use Rattle.pblk_model.specs.Accepted.{IsAccepted}
 use Rattle.pblk_model.specs.Image.{Image, IsFit}
 use Rattle.pblk_model.specs.Shape.{units}
-use Rattle.pblk_world.specs.AtRest.{AreResetsNoted}
 use Rattle.pblk_world.specs.Events.{EngineEvent, Decides, Logged, Step}
 use Rattle.pblk_world.specs.LegalMounts.{IsLegalMount}
 use Rattle.pblk_world.specs.World.{Logs, log_of}
 use Rattle.pblk_world.proofs.WorldLemmas.{log_elsewhere, log_here}
-use Rattle.world_laws.specs.Merged.{Begins}
 use Rattle.world_laws.specs.SameTold.{AreSameNamed, AreSameTold, UnitsWentOn}
 use Rattle.world_laws.proofs.GrownLogs.{named_grown}
-use Rattle.world_laws.proofs.NotedResets.{noted_merged}
 use Rattle.world_laws.proofs.ToldSince.{same_told}
 use Rattle.step_laws.specs.Whole.{engine_step, knows_all}
-use Rattle.chronicle.specs.Prefixes.{Prefixes, AreLegalLogs, ArePrefixes, logs_of, longer_of, naming, with_event}
-use Rattle.chronicle.proofs.PrefixLemmas.{begins_take, by_longer, longer_at, others_same, own_more}
+use Rattle.chronicle.specs.Prefixes.{Prefixes, AreLegalLogs, ArePrefixes, logs_of, naming, with_event}
+use Rattle.chronicle.proofs.PrefixLemmas.{begins_take, others_same, own_more}
 use Rattle.pblk_model.proofs.Numbers.{fun_same}
 
 -- the logs of a legal mount
@@ -78,25 +75,3 @@ module _ (i : Image) (known more : Prefixes) (k : AreLegalLogs i known) (keeps :
   pub grown_told : AreSameTold i (logs_of known) (logs_of more)
   grown_told = subst (λ (l : Logs). AreSameTold i l (logs_of more)) k.logs
       (same_told i k.world (logs_of more) k.legal (named_grown i k.world (logs_of more) k.legal went_on))
-
--- each reset is noted in what two know together
-pub noted_of_both : (mine its : Prefixes) → ArePrefixes mine (longer_of mine its) → ArePrefixes its (longer_of mine its)
-    → AreResetsNoted (logs_of mine) → AreResetsNoted (logs_of its) → AreResetsNoted (logs_of (longer_of mine its))
-noted_of_both mine its keeps learns = noted_merged (logs_of mine) (logs_of its) (logs_of (longer_of mine its)) (record {
-  engine_of_first = ((keeps.each 0).0, sym (keeps.each 0).1);
-  engine_of_second = ((learns.each 0).0, sym (learns.each 0).1);
-  units = λ unit. one (suc unit);
-})
-  where
-    whole : (log : List Logged) → Begins log log
-    whole log = ([], sym (with_none log))
-      where
-        with_none : (xs : List Logged) → xs ++ [] ≡ xs
-        with_none [] = refl
-        with_none (x ∷ xs) = ap (λ (ys : List Logged). x ∷ ys) (with_none xs)
-
-    one : (author : ℕ) → Begins (logs_of (longer_of mine its) author) (logs_of mine author)
-        ⊎ Begins (logs_of (longer_of mine its) author) (logs_of its author)
-    one author = subst (λ (log : List Logged). Begins log (logs_of mine author) ⊎ Begins log (logs_of its author)) (sym (longer_at mine its author))
-        (by_longer (λ (log : List Logged). Begins log (logs_of mine author) ⊎ Begins log (logs_of its author)) (logs_of mine author) (logs_of its author)
-        (λ _. inl (whole (logs_of mine author))) (λ _. inr (whole (logs_of its author))))

@@ -7,6 +7,7 @@ use Rattle.pblk_core.specs.Filling.{Filling}
 use Rattle.unit_port.specs.Armed.{is_stop}
 use Rattle.unit_port.specs.Unit.{ModelUnit}
 use Rattle.chronicle.specs.Prefixes.{Prefixes, AreLegalLogs, ArePrefixes, logs_of, longer_of}
+use Rattle.scan_recovery.proofs.Losses.{stop_lost}
 use Rattle.pblk_engine.specs.Answers.{IsLastProgram}
 use Rattle.pblk_engine.specs.Arms.{ArmView, number_told}
 use Rattle.pblk_engine.specs.Deeds.{HasProgrammed, IsProgrammed}
@@ -25,7 +26,7 @@ use Rattle.pblk_engine.specs.declared.outcomes.Did.{Did}
 use Rattle.pblk_engine.specs.declared.outcomes.Did.TheVariants as dids
 use Rattle.pblk_engine.specs.declared.outcomes.Role.{Role}
 use Rattle.pblk_engine.specs.declared.outcomes.Role.TheVariants as roles
-use Rattle.pblk_engine.proofs.GoingOn.{fault_one, goes_learned, goes_one, goes_placed, stop_lost, write_kept}
+use Rattle.pblk_engine.proofs.GoingOn.{fault_one, goes_learned, goes_one, goes_placed, write_kept}
 use Rattle.pblk_engine.proofs.RoleCommands.{grown_of_role, write_of_lane}
 use Rattle.pblk_engine.proofs.Stops.{count_grows}
 use Rattle.pblk_engine.proofs.ToldPrograms.{answers_for}

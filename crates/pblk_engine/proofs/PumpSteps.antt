@@ -10,6 +10,7 @@ use Rattle.pblk_world.specs.Events.{EngineEvent, Open}
 use Rattle.pblk_world.specs.Orders.{AreReset}
 use Rattle.rest_laws.specs.Work.{is_work}
 use Rattle.scan_recovery.specs.DriveFaults.{is_drive_fault, is_fetch}
+use Rattle.scan_recovery.proofs.Losses.{stop_lost}
 use Rattle.unit_port.specs.Armed.{is_fail, is_stop}
 use Rattle.unit_port.specs.Did.{failed_or_stopped}
 use Rattle.unit_port.specs.Unit.{ModelUnit}
@@ -35,7 +36,7 @@ use Rattle.pblk_engine.specs.declared.outcomes.Did.TheVariants as dids
 use Rattle.pblk_engine.specs.declared.outcomes.Role.{Role}
 use Rattle.pblk_engine.specs.declared.outcomes.Role.TheVariants as roles
 use Rattle.chronicle.proofs.Rests.{still_begun}
-use Rattle.pblk_engine.proofs.GoingOn.{all_known, answer_kept, fault_one, fetch_lost, goes_learned, goes_still, goes_then, reset_kept, stop_lost}
+use Rattle.pblk_engine.proofs.GoingOn.{all_known, answer_kept, fault_one, fetch_lost, goes_learned, goes_still, goes_then, reset_kept}
 use Rattle.pblk_engine.proofs.WorkSince.{decided_later, opened_work, placed_later}
 
 -- ---- fetches

@@ -1,5 +1,5 @@
 -- The reset of a chunk that the engine names: the unit takes it, and it is legal.
-use Rattle.std.proofs.Common.{◌≡◌, ◌⊎◌, inl, inr, ℕ, suc, ◌+◌, ◌-◌, ◌^◌, ◌<◌, ◌==◌, ◌&&◌, true, false, min, nat_lt, None, Option, Some, List, [], ◌∷◌, ◌++◌, length, refl, sym, subst, ap, ◌∙◌, arith}
+use Rattle.std.proofs.Common.{◌≡◌, ◌⊎◌, inl, inr, ℕ, suc, ◌+◌, ◌-◌, ◌^◌, ◌==◌, ◌&&◌, true, false, min, nat_lt, None, Option, Some, List, [], ◌∷◌, ◌++◌, length, refl, sym, subst, ap, ◌∙◌, arith}
 use Rattle.std.specs.Prelude.{slice_get, Err, Result}
 use Rattle.std.specs.List.{Contains, list_any}
 use Rattle.std.specs.Option.{option_and_then}
@@ -28,7 +28,7 @@ use Rattle.pblk_model.proofs.Lists.{all_of}
 use Rattle.pblk_model.proofs.Parts.{is_in}
 use Rattle.pblk_model.proofs.Tests.{and_false, second_of}
 use Rattle.step_laws.specs.NextEvents.{CanDo}
-use Rattle.step_laws.proofs.GivenUp.{reset_taken}
+use Rattle.step_laws.proofs.GivenUp.{reset_taken, some_given}
 use Rattle.step_laws.proofs.Levels.{ends_by_command}
 use Rattle.world_laws.proofs.EarlierLogs.{some_begun}
 use Rattle.world_laws.proofs.NotedChunks.{used_or_stopped}
@@ -66,10 +66,6 @@ resets_stop line events was =
     any_weaker (is_stopped_reset line) (λ (e : UnitEvent). was_stopped e.outcome) events
     (all_of (λ (e : UnitEvent). is_stopped_reset line e ≡ true → was_stopped e.outcome ≡ true)
     (λ e. second_of ((e.chunk == line) && is_reset e.command) (was_stopped e.outcome)) events) was
-
-some_given : (log : List Logged) (line : ℕ) → is_given_up log line ≡ true → 0 < length log
-some_given [] line e = absurd (cc)
-some_given (l ∷ log) line e = omega arith
 
 module _ (i : Image) (w : World) (number line : ℕ) (handed old : ModelUnit) (mount : IsLegalMount i w) (arm : IsArm i (log_of w) number handed old)
     (noted : AreResetsNoted (log_of w)) (is : IsToReset i (log_of w) line number) where

@@ -1,5 +1,5 @@
 -- The fetches of a run, as the loops make them.
-use Rattle.std.proofs.Common.{◌≡◌, ℕ, zero, suc, get_or, ◌∷◌, ◌+◌, ◌*◌, ◌<◌, ◌≤◌, Some, None, Option, List, [], ◌++◌, length, refl, sym, subst, ap, arith}
+use Rattle.std.proofs.Common.{◌≡◌, ℕ, zero, suc, get_or, ◌∷◌, ◌+◌, ◌*◌, ◌<◌, ◌≤◌, Some, None, List, [], ◌++◌, length, sym, subst, ap, arith}
 use Rattle.std.specs.Prelude.{slice_get, IsErrAnd, Result, Ok, Err}
 use borrow.Rule.Slice.PartMut.{put_mid}
 use Rattle.pblk_model.specs.Image.{Image}
@@ -23,11 +23,6 @@ pub item_there : {X : Type 0} (xs : List X) (k : ℕ) (d x : X) → k < length x
 item_there [] k d x less is = absurd (omega arith)
 item_there (y ∷ xs) zero d x less is = ap (λ z. Some z) is
 item_there (y ∷ xs) (suc k) d x less is = item_there xs k d x (omega arith) is
-
--- one that is nothing else is none
-pub is_none : {X : Type 0} (o : Option X) → ((x : X) → o ≡ Some x → ⊥) → o ≡ None
-is_none None other = refl
-is_none (Some x) other = absurd (other x refl)
 
 -- a place, by the number of the sector that it names
 pub own_place : (i : Image) (logs : Logs) (lba : ℕ) (p : SectorPlace) → IsPlaceOf i logs lba p → IsPlaceOf i logs p.sought.lba p

@@ -1,10 +1,10 @@
 -- What a heart stands for once its core took an entry that the ring's intake took.
-use Rattle.std.proofs.Common.{◌≡◌, ◌≢◌, ◌⊎◌, inl, inr, ℕ, ◌+◌, ◌^◌, ◌<◌, ◌≤◌, ◌==◌, ◌&&◌, suc, Bool, true, false, None, Some, Option, List, [], ◌∷◌, ◌++◌, length, map, refl, sym, subst, ap, ap₂, ◌∙◌, arith, le_refl, length-append, if◌then◌else◌}
+use Rattle.std.proofs.Common.{◌≡◌, ◌≢◌, ◌⊎◌, inl, inr, ℕ, ◌+◌, ◌^◌, ◌<◌, ◌≤◌, suc, Bool, true, false, None, Some, Option, List, [], ◌∷◌, ◌++◌, length, map, refl, sym, subst, ap, ap₂, ◌∙◌, arith, le_refl, length-append, if◌then◌else◌}
 use Rattle.std.specs.Prelude.{slice_index}
 use Rattle.std.specs.List.{AllByRecursion}
 use Rattle.std.specs.Option.{is_some, option_map}
 use Rattle.std.specs.FinMap as fin
-use Rattle.std.proofs.lemmas.Bool.{cases_lt, cases_order, eqb-true}
+use Rattle.std.proofs.lemmas.Bool.{cases_lt, cases_order}
 use Rattle.std.proofs.lemmas.List.{map-append}
 use Rattle.std.proofs.lemmas.Option.{none-some, same_Some}
 use base.Growing.{prefix_trans}
@@ -14,7 +14,6 @@ use Rattle.pblk_model.specs.Marks.{sector_mark, void_mark}
 use Rattle.pblk_model.specs.declared.chunk.Mark.{Mark}
 use Rattle.pblk_model.specs.declared.shape.Shape.{Shape}
 use Rattle.pblk_model.proofs.Lists.{with_last}
-use Rattle.pblk_model.proofs.Tests.{both}
 use Rattle.pblk_world.specs.EngineLog.{takes}
 use Rattle.pblk_world.specs.Events.{EngineEvent, Logged, Source, Take}
 use Rattle.pblk_world.specs.Legal.{MayDecide}
@@ -24,8 +23,7 @@ use Rattle.pblk_world.specs.Reasons.{WasBegun, WasRoom}
 use Rattle.pblk_world.specs.Taking.{IsLatest, MayTake}
 use Rattle.pblk_world.specs.World.{World, Logs, log_of}
 use Rattle.pblk_world.proofs.EngineLogLemmas.{takes_more}
-use Rattle.l2p_map.specs.declared.slot.Slot.{Slot}
-use Rattle.l2p_map.specs.declared.slot.Slot.TheVariants.{Unwritten, Cached, Media}
+use Rattle.l2p_map.specs.declared.slot.Slot.TheVariants.{Cached, Media}
 use Rattle.core_laws.specs.SlotOf.{slot_of}
 use Rattle.core_laws.proofs.SpentBy.{taking_spends_none}
 use Rattle.core_laws.proofs.ToldSpent.{none_by_spent}
@@ -55,7 +53,7 @@ use Rattle.pblk_core.specs.Taken.{HasItsSector, IsClassed, entry_of, is_latest_f
 use Rattle.pblk_core.specs.Taking.{CanTake, with_waiting}
 use Rattle.pblk_core.specs.declared.target_core.Core.{Core}
 use Rattle.pblk_core.proofs.StandsStale.{may_take_stale}
-use Rattle.pblk_core.proofs.StandsTaken.{may_take}
+use Rattle.pblk_core.proofs.StandsTaken.{may_take, source_slot}
 use Rattle.chronicle.specs.Prefixes.{logs_of}
 use Rattle.chronicle.proofs.Parts.{log_grows}
 use Rattle.chronicle.proofs.PrefixLemmas.{begins_take}
@@ -103,18 +101,6 @@ small_mark false position lba low = omega arith
 its_position : (latest : Bool) (position lba : ℕ) → (if latest then sector_mark lba position else void_mark position).position ≡ position
 its_position true position lba = refl
 its_position false position lba = refl
-
--- where the map names a source, it names just that block
-named_source : (slot : Slot) (s : EntrySource) → is_source (Some slot) s ≡ true → slot ≡ Media s.line s.at s.position
-named_source Unwritten s e = absurd cc
-named_source (Cached position) s e = absurd cc
-named_source (Media line at position) s e =
-    let first = both (line == s.line) ((at == s.at) && (position == s.position)) e in
-    let second = both (at == s.at) (position == s.position) first.1 in
-    media_same line s.line at s.at position s.position (eqb-true line s.line first.0) (eqb-true at s.at second.0) (eqb-true position s.position second.1)
-  where
-    media_same : (a b c d m n : ℕ) → a ≡ b → c ≡ d → m ≡ n → Media a c m ≡ Media b d n
-    media_same a b c d m n p q r = λ k. Media (p k) (q k) (r k)
 
 module _ (h : Parts) (b : IsBeating h) (e : FramedEntry) (v : View) (t : HasTaken h.intake e v) where
   abbrev i : Image
@@ -222,7 +208,7 @@ module _ (h : Parts) (b : IsBeating h) (e : FramedEntry) (v : View) (t : HasTake
           let source = claimed.source in
           let lba : e.lba ≡ claimed.row.lba = ap (λ (r : Row). r.lba) its.row in
           let named : slot_of i (log_of w) e.lba ≡ Media source.line source.at source.position =
-          named_source (slot_of i (log_of w) e.lba) (record { line = source.line; at = source.at; position = source.position })
+          source_slot (slot_of i (log_of w) e.lba) (record { line = source.line; at = source.at; position = source.position })
           (sym (ap₂ (λ o s. is_latest_from o s) slot_is (its_source its)) ∙ latest) in
           let still : IsLatest i (log_of w) claimed.row.lba source claimed.block.block =
           source_kept i claimed.world w claimed.beginning claimed.row.lba source.line source.at source.position claimed.legal mount

@@ -41,7 +41,8 @@ done_reset s c (Answered (Refused e)) is ends = absurd is.0
 done_reset s c (Failed k) is ends = tt
 done_reset s c (Stopped k) is ends = absurd cc
 
-some_given : (log : List Logged) (line : ℕ) → is_given_up log line ≡ true → 0 < length log
+-- a log in which a line was given up has an event
+pub some_given : (log : List Logged) (line : ℕ) → is_given_up log line ≡ true → 0 < length log
 some_given [] line e = absurd (cc)
 some_given (l ∷ log) line e = omega arith
 

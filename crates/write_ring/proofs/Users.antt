@@ -92,7 +92,8 @@ copy_counted (s ∷ rs) zero r there copy =
     omega arith
 copy_counted (s ∷ rs) (suc i) r there copy = let later = copy_counted rs i r there copy in omega arith
 
-copies_among : (x : ℕ) (cs : List Claim) → covers_copy x cs ≤ covers x cs
+-- the copies that have a position are among the claims that have it
+pub copies_among : (x : ℕ) (cs : List Claim) → covers_copy x cs ≤ covers x cs
 copies_among x [] = omega arith
 copies_among x (c ∷ cs) = let later = copies_among x cs in let first = few c.copy in omega arith
   where

@@ -1,8 +1,9 @@
 use Rattle.std.proofs.Common.{◌≡◌, ◌*◌, ◌+◌, ◌-◌, ◌<◌, ◌≤◌, Bool, true, false, get_or, Ok, Some, None, length, sym, subst, ap, ◌∙◌, arith}
+use Rattle.pblk_model.proofs.Options.{none_unless}
 use Rattle.pblk_model.proofs.Parts.{part_length}
 use Rattle.chronicle.specs.Prefixes.{logs_of}
 use Rattle.pblk_engine.specs.Reads.{AreLatest, IsLatest}
-use Rattle.pblk_engine.proofs.RunFetches.{fetching_begins, is_none, item_there, next_fetched, next_none, next_place, own_place, run_lost, run_well, told_err}
+use Rattle.pblk_engine.proofs.RunFetches.{fetching_begins, item_there, next_fetched, next_none, next_place, own_place, run_lost, run_well, told_err}
 use Rattle.pblk_engine.proofs.ReadFetches.{well_then}
 use Rattle.pblk_engine.proofs.RunParts.{ends_before}
 use Rattle.pblk_engine.proofs.SectorPlaces.{block_low}
@@ -60,7 +61,7 @@ loop-index-preserved-in_default g c =
     next_none g.M.Mount.past g.M.Mount.handed c.args.worker.now.known c.args.lba c.args.look.now c.args.worker.now c.loop-index.worker c.loop-index.index
     c.loop-index.out c.loop-index.invariant c.loop-index-test.true
     (item_there c.args.look.now.places c.loop-index.index None None room
-    (is_none (get_or c.args.look.now.places c.loop-index.index None) (λ x same. c.in_default.not-Some x same)))
+    (sym (none_unless (get_or c.args.look.now.places c.loop-index.index None) (λ x same. c.in_default.not-Some x same))))
 
 pub loop-index-preserved : goal.loop-index-preserved
 loop-index-preserved g c =

@@ -1,12 +1,13 @@
 use Rattle.std.proofs.Common.{◌≡◌, ◌*◌, ◌+◌, ◌-◌, ◌<◌, ◌≤◌, List, get_or, Some, None, length, refl, sym, subst, ap, ◌∙◌, arith}
 use Rattle.std.specs.Prelude.{slice_get}
+use Rattle.pblk_model.proofs.Options.{none_unless}
 use Rattle.pblk_model.proofs.Parts.{part_length}
 use Rattle.chronicle.specs.Prefixes.{logs_of}
 use Rattle.chronicle.proofs.Rests.{still_begun}
 use Rattle.pblk_engine.specs.Reads.{AreLatest, IsLatest}
 use Rattle.pblk_engine.proofs.GoingOn.{all_known}
 use Rattle.pblk_engine.proofs.HeldFetches.{place_later, same_latest}
-use Rattle.pblk_engine.proofs.RunFetches.{fetching_begins, is_none, item_there, next_fetched, next_none, next_place, own_place, run_lost, run_well, told_err}
+use Rattle.pblk_engine.proofs.RunFetches.{fetching_begins, item_there, next_fetched, next_none, next_place, own_place, run_lost, run_well, told_err}
 use Rattle.pblk_engine.proofs.RunParts.{ends_before}
 use Rattle.pblk_engine.proofs.engine.Engine.fetch_run_held.Goals as goal
 
@@ -50,7 +51,7 @@ loop-index-preserved-in_default g c =
       next_none g.M.Mount.past g.M.Mount.handed c.args.heart.now.author.known c.args.lba c.args.look.now c.args.worker.now c.loop-index.worker
           c.loop-index.index c.loop-index.out c.loop-index.invariant.0 c.loop-index-test.true
           (item_there c.args.look.now.places c.loop-index.index None None room
-          (is_none (get_or c.args.look.now.places c.loop-index.index None) (λ x same. c.in_default.not-Some x same))),
+          (sym (none_unless (get_or c.args.look.now.places c.loop-index.index None) (λ x same. c.in_default.not-Some x same)))),
       c.loop-index.invariant.1,
       c.loop-index.invariant.2,
       c.loop-index.invariant.3,

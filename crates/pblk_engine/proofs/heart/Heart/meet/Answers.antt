@@ -8,7 +8,8 @@ use Rattle.chronicle.specs.Views.{Past}
 use Rattle.chronicle.specs.Prefixes.{Prefixes, AreLegalLogs, ArePrefixes, logs_of, longer_of}
 use Rattle.pblk_engine.proofs.Asks.{raised_named}
 use Rattle.pblk_engine.proofs.Growth.{settled_met}
-use Rattle.pblk_engine.proofs.Knowledge.{grown_named, noted_of_both}
+use Rattle.pblk_engine.proofs.Knowledge.{grown_named}
+use Rattle.pblk_engine.proofs.Noted.{noted_together}
 use Rattle.pblk_engine.proofs.heart.Heart.meet.Goals as goal
 
 pub invariant_of-self : goal.invariant_of-self
@@ -21,7 +22,7 @@ invariant_of-self g c =
     let owns : Contains c.self.inside.author.owned 0 = subst (λ os. Contains os 0) (sym k.engine.owned) (0, omega arith, refl) in
     let known : c.meet.new.self.known ≡ longer_of c.self.inside.author.known c.args.note.known = ap (λ (a : AuthorView). a.known) met in
     let noted : AreResetsNoted (logs_of c.meet.new.self.known) = subst (λ (p : Prefixes). AreResetsNoted (logs_of p)) (sym known)
-    (noted_of_both c.self.inside.author.known c.args.note.known (subst (ArePrefixes c.self.inside.author.known) known c.meet.ensures.keeps)
+    (noted_together c.self.inside.author.known c.args.note.known (subst (ArePrefixes c.self.inside.author.known) known c.meet.ensures.keeps)
     (subst (ArePrefixes c.args.note.known) known c.meet.ensures.learns) k.settled.heart.noted c.requires.noted) in (
       record {
         of = ap (λ (a : AuthorView). a.chronicle) met ∙ k.of;
