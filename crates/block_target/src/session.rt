@@ -98,11 +98,14 @@ pub enum TryWriteErr {
 // How long a session waits at most for what others grant, in microseconds, before it looks again.
 const PATIENCE: u64 = 200;
 
-// Pauses after a pump: for longer and longer where it did nothing that helps who waits.
-fn pause(backoff: &Backoff, did: Did) {
+// Pauses after a pump that did nothing which helps who waits: until more is granted than up to this
+// position, or for a limited time.
+fn pause<R: Wait>(rt: &R, ring: &Ring, granted: u64, did: Did) {
     match did {
-        Did::Nothing(_) | Did::NotCopied | Did::Other => backoff.snooze(),
-        _ => backoff.reset(),
+        Did::Nothing(_) | Did::NotCopied | Did::Other => {
+            ring.await_grant(rt, granted, Duration::from_micros(PATIENCE));
+        }
+        _ => {}
     }
 }
 
@@ -213,7 +216,7 @@ fn put<M: Mount, U: Unit, R: Wait>(
         worker.stands();
         match roomed {
             Ok(Roomed::There) => backoff.reset(),
-            Ok(Roomed::Pumped(did)) => pause(&backoff, did),
+            Ok(Roomed::Pumped(did)) => pause(rt, engine.ring(), full.limit, did),
             Err(e) => match e {
                 SettleErr::Drive { unit, event } => {
                     return Err(SettleErr::Drive { unit, event });
@@ -246,14 +249,14 @@ fn sync<M: Mount, U: Unit, R: Wait>(
     ensures legal { AreLegalLogs M.past.image worker.new.known }
 {
     worker.stands();
-    let backoff = Backoff::new();
     for _ in rt.forever() {
+        let granted = engine.ring().peek_granted();
         let flushed = engine.flush(rt, worker, position);
         worker.stands();
         match flushed {
             Ok(found) => match found {
                 Flushed::Synced(front) => return Ok(front),
-                Flushed::Pumped(did) => pause(&backoff, did),
+                Flushed::Pumped(did) => pause(rt, engine.ring(), granted, did),
             },
             Err(e) => return Err(e),
         }

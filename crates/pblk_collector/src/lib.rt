@@ -16,9 +16,9 @@ use unit_port::{Unit, UnitErr};
 /// unit's it was. None was stopped before. A fetch that failed is made again, after a wait, and
 /// that any number of times.
 ///
-/// A collector that finds nothing to copy, or no room for a copy, lets other threads go first, and
-/// then sleeps. It wakes when an entry is put into the write ring, and after 10 milliseconds
-/// anyhow. Who sets the closing wakes it by `Ring::wake`.
+/// A collector that finds nothing to copy, or no room for a copy, sleeps. It wakes when a claim in
+/// the write ring passes a multiple of 64, and after 10 milliseconds anyhow. Who sets the closing
+/// wakes it by `Ring::wake`.
 ///
 /// Each event that it adds to the logs is legal, and no sector's latest write changes: that holds
 /// of whatever lies under the engine's locks.

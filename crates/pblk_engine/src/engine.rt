@@ -22,7 +22,7 @@ use write_ring::Ring;
 pub struct Engine<M: Mount, U: Unit> {
     pub(crate) shared: Shared<M, U>,
     pub(crate) heart: Mutex<Heart<M>>,
-    // How many threads wait for the engine's lock.
+    // How many threads sleep until the engine's lock is free.
     pub(crate) queue: AtomicU64,
 }
 
@@ -33,11 +33,11 @@ impl<M: Mount, U: Unit> Model for Engine<M, U> {
     ghost view = { λ _. tt };
 }
 
-// How often a thread looks again whether the engine's lock is free before it counts as one that
-// waits, and how often from then on before it sleeps.
-const EARLY: u32 = 8;
+// How often a thread looks again whether the engine's lock is free, before it sleeps.
+const LOOKS: u32 = 8;
 
-const LATE: u32 = 40;
+// Where so many threads sleep for the lock already, another one sleeps at once.
+const SLEEPERS: u64 = 2;
 
 // How many loads there are before the first of these looks, and before a later one at most. A
 // thousand are less than half a microsecond.
@@ -46,36 +46,33 @@ const FEWEST: u32 = 200;
 const MOST: u32 = 3200;
 
 impl<M: Mount, U: Unit> Engine<M, U> {
-    /// Takes the engine's lock. Most holds are shorter than the time in which a thread is put to
-    /// sleep and woken. So where somebody has the lock, the thread looks again for some turns, with
-    /// short pauses, before it sleeps.
+    /// Takes the engine's lock. A hold that looks sectors up is shorter than the time in which a
+    /// thread is put to sleep and woken, so where somebody has the lock, the thread looks again a
+    /// few times. Holds that place stripes and copy sectors are longer. While these go on, other
+    /// threads sleep for the lock, and then it sleeps at once: to look for so long takes the time of
+    /// a processor from those who work.
     pub(crate) fn hold<R: Wait>(&self, rt: &R) -> MutexGuard<'_, Heart<M>> {
         if let Some(heart) = self.heart.try_lock() {
             return heart;
         }
-        if let Some(heart) = self.look_again(EARLY, FEWEST) {
+        if let Some(heart) = self.look_again() {
             return heart;
         }
         self.queue.fetch_add(1, Relaxed);
-        let heart = self.wait(rt);
+        let heart = self.heart.lock(rt);
         self.queue.fetch_sub(1, Relaxed);
         heart
     }
 
-    // Waits for the engine's lock: first it looks again and again, and then it sleeps.
-    fn wait<R: Wait>(&self, rt: &R) -> MutexGuard<'_, Heart<M>> {
-        if let Some(heart) = self.look_again(LATE, MOST) {
-            return heart;
-        }
-        self.heart.lock(rt)
-    }
-
-    // Takes the engine's lock if one of so many looks finds it free. The pause before the first is
-    // of so many loads, and each later one is twice as long, up to the most. A look takes the cache
-    // line of the lock from whoever has it, so looks that come too often make holds longer.
-    fn look_again(&self, looks: u32, loads: u32) -> Option<MutexGuard<'_, Heart<M>>> {
-        let mut loads = loads;
-        for _ in 0..looks {
+    // Takes the engine's lock if one of some looks finds it free. Each pause is twice as long as
+    // the one before it, up to the longest. A look takes the cache line of the lock from whoever
+    // has it, so looks that come too often make holds longer.
+    fn look_again(&self) -> Option<MutexGuard<'_, Heart<M>>> {
+        let mut loads = FEWEST;
+        for _ in 0..LOOKS {
+            if self.queue.load(Relaxed) >= SLEEPERS {
+                return None;
+            }
             self.pause(loads);
             if let Some(heart) = self.heart.try_lock() {
                 return Some(heart);
@@ -99,7 +96,7 @@ impl<M: Mount, U: Unit> Engine<M, U> {
         self.shared.ring.tell_grant();
     }
 
-    /// Whether a thread waits for the engine's lock now. Nothing is promised of the answer.
+    /// Whether a thread sleeps until the engine's lock is free. Nothing is promised of the answer.
     pub fn is_contended(&self) -> bool {
         self.queue.load(Relaxed) != 0
     }

@@ -1,4 +1,4 @@
-//! A thread sleeps until something is claimed.
+//! A thread sleeps until a claim passes a multiple of 64.
 ghost use Rattle.std.specs.Prelude.{◌≡◌};
 ghost use Rattle.std.specs.Thread.{IsSync};
 ghost use Rattle.write_ring.specs.Handles.{IsPassOf, pass_view, ring_key};
@@ -17,14 +17,16 @@ use write_ring::{Batch, Ring};
 // How many milliseconds the other thread has to fall asleep, before a sector is put.
 const BEFORE: u64 = 100;
 
-// Sleeps until something is claimed of a ring that begins at 0, each time for no longer than the
-// limit.
+// The first position of the ring: a claim of it passes a multiple of 64.
+const FIRST: u64 = 63;
+
+// Sleeps until something is claimed of the ring, each time for no longer than the limit.
 fn doze_at_the_first<R: Wait>(rt: &R, ring: &Ring, limit: Duration) {
     for _ in rt.forever() {
-        if ring.peek() != 0 {
+        if ring.peek() != FIRST {
             return;
         }
-        ring.doze(rt, 0, limit);
+        ring.doze(rt, FIRST, limit);
     }
 }
 
@@ -39,12 +41,12 @@ fn doze_until_put<R: Threads + Wait + Clock + Sync>(
         end(pool);
         return Err(AllocError);
     };
-    let Ok((ring, mut intake, mut pass)) = Ring::new(alloc, 1, 0, 0, 1, &mut pool) else {
+    let Ok((ring, mut intake, mut pass)) = Ring::new(alloc, 1, 0, FIRST, 1, &mut pool) else {
         batch.close(&mut pool);
         end(pool);
         return Err(AllocError);
     };
-    ring.grant(&mut intake, 1);
+    ring.grant(&mut intake, FIRST + 1);
     let (told, ()) = join_mut(
         rt,
         &mut || -> Told
@@ -70,7 +72,7 @@ fn a_claim_wakes_a_thread_that_dozes(rt: HostRuntime) -> Result<(), Fail> {
     let began = Instant::now(&rt)?;
     let told = doze_until_put(&rt, rt.alloc(), Duration::from_secs(10))?;
     let took = began.elapsed(&rt)?;
-    assert_eq!(rt; told, Told::Put(0));
+    assert_eq!(rt; told, Told::Put(FIRST));
     assert!(rt; took < Duration::from_secs(5));
     Ok(())
 }

@@ -178,7 +178,7 @@ impl Ring {
             });
         }
         self.put_batch(seat, class, claimed, batch);
-        self.wake();
+        self.wake_past(claimed, end);
         Ok(Place {
             first: claimed,
             count,

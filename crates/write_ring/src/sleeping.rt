@@ -4,6 +4,9 @@ use std::sync::Wait;
 use std::sync::atomic::Ordering::SeqCst;
 use std::time::Duration;
 
+// Those who doze are woken once for so many positions.
+const STEP: u64 = 64;
+
 impl Ring {
     /// Loads `claimed` once, for `doze`. It takes no pass and no intake. Nothing is promised of the
     /// answer.
@@ -11,9 +14,14 @@ impl Ring {
         self.table.shared.peek(CLAIMED)
     }
 
-    /// Sleeps if `claimed` is this number still: until something is claimed, and for no longer than
-    /// the limit. Only the lowest 32 bits are compared. It may also end for no reason. Nothing is
-    /// promised of how long it sleeps, and nothing of what is claimed afterwards.
+    /// Loads what is granted once, for `await_grant`. Nothing is promised of the answer.
+    pub fn peek_granted(&self) -> u64 {
+        self.table.shared.peek(GRANTED)
+    }
+
+    /// Sleeps if `claimed` is this number still: until a claim passes a multiple of 64, and for no
+    /// longer than the limit. Only the lowest 32 bits are compared. It may also end for no reason.
+    /// Nothing is promised of how long it sleeps, and nothing of what is claimed afterwards.
     pub fn doze<R: Wait>(&self, rt: &R, claimed: u64, limit: Duration) {
         self.sleepers.fetch_add(1, SeqCst);
         let low = (claimed & 0xffff_ffff) as u32;
@@ -21,11 +29,19 @@ impl Ring {
         self.sleepers.fetch_sub(1, SeqCst);
     }
 
-    /// Wakes all threads that doze. Each claim that succeeds does so, once its entries are there.
-    /// Where no thread dozes it is one load. Nothing is promised of when they run.
+    /// Wakes all threads that doze. Where none does it is one load. Nothing is promised of when
+    /// they run.
     pub fn wake(&self) {
         if self.sleepers.load(SeqCst) != 0 {
             self.table.shared.wake_all(CLAIMED);
+        }
+    }
+
+    // Wakes all threads that doze, where the claim of these positions passes a multiple of 64: to
+    // wake a thread takes as long as several claims, and fewer entries than a stripe are no work.
+    pub(crate) fn wake_past(&self, first: u64, end: u64) {
+        if first / STEP != end / STEP {
+            self.wake();
         }
     }
 

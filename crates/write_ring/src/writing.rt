@@ -17,8 +17,8 @@ use std::sync::Wait;
 impl Ring {
     /// Claims positions that no other claim has for the filled frames of the batch, by one
     /// exchange, and puts them there. It never waits. Afterwards the batch has as many free frames.
-    /// The place lies past all that the pass had found of `claimed` before. Those who doze on the
-    /// ring are woken once the entries are there.
+    /// The place lies past all that the pass had found of `claimed` before. Where the place
+    /// passes a multiple of 64, those who doze on the ring are woken once the entries are there.
     ///
     /// Refused with `Full` exactly where `claimed`, as it was read, and the number of filled frames
     /// are above `granted`. Refused with `Raced` exactly where the exchange found another number
