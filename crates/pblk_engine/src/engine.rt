@@ -49,8 +49,8 @@ impl<M: Mount, U: Unit> Engine<M, U> {
     /// Takes the engine's lock. A hold that looks sectors up is shorter than the time in which a
     /// thread is put to sleep and woken, so where somebody has the lock, the thread looks again a
     /// few times. Holds that place stripes and copy sectors are longer. While these go on, other
-    /// threads sleep for the lock, and then it sleeps at once: to look for so long takes the time of
-    /// a processor from those who work.
+    /// threads sleep for the lock, and then it sleeps at once: to look for so long takes the time
+    /// of a processor from those who work.
     pub(crate) fn hold<R: Wait>(&self, rt: &R) -> MutexGuard<'_, Heart<M>> {
         if let Some(heart) = self.heart.try_lock() {
             return heart;

@@ -11,9 +11,9 @@ const LONGEST: u64 = 10_000;
 
 /// A thread's wait for work, turn by turn.
 ///
-/// In each turn it sleeps: at first for at most 100 microseconds, and then for twice as long in each
-/// turn, up to 10 milliseconds. A claim in the write ring that passes a multiple of 64 wakes it, and
-/// so does `Ring::wake`. Nothing is promised of how long a turn takes.
+/// In each turn it sleeps: at first for at most 100 microseconds, and then for twice as long in
+/// each turn, up to 10 milliseconds. A claim in the write ring that passes a multiple of 64 wakes
+/// it, and so does `Ring::wake`. Nothing is promised of how long a turn takes.
 #[derive(Drop)]
 pub struct Idle {
     // how long the next sleep lasts at most, in microseconds

@@ -16,8 +16,8 @@ use unit_port::Unit;
 /// was stopped. `Stopped` comes only where the lane's last command was stopped, and tells whose
 /// unit's it was. None was stopped before.
 ///
-/// A lane that finds nothing to do sleeps. It wakes when a claim in the write ring passes a multiple
-/// of 64, and after 10 milliseconds anyhow. Who sets the closing wakes it by `Ring::wake`.
+/// A lane that finds nothing to do sleeps. It wakes when a claim in the write ring passes a
+/// multiple of 64, and after 10 milliseconds anyhow. Who sets the closing wakes it by `Ring::wake`.
 ///
 /// Each event that it adds to the logs is legal: that holds of whatever lies under the engine's
 /// locks.
