@@ -98,8 +98,8 @@ pub enum TryWriteErr {
 // How long a session waits at most for what others grant, in microseconds, before it looks again.
 const PATIENCE: u64 = 200;
 
-// Pauses after a pump that did nothing which helps who waits: until more is granted than up to this
-// position, or for a limited time.
+// Sleeps after a pump that did nothing for the session: until more is granted than `granted`, and
+// for a limited time at most.
 fn pause<R: Wait>(rt: &R, ring: &Ring, granted: u64, did: Did) {
     match did {
         Did::Nothing(_) | Did::NotCopied | Did::Other => {
